@@ -1,0 +1,3 @@
+pub mod Spelling
+pub mod Tables
+pub use Rattle.frames.specs.Fields
