@@ -1,5 +1,5 @@
 -- Which rows a table takes, and which changes fit a catalogue.
-use Rattle.std.specs.Prelude.{◌≡◌, ℕ, ◌^◌, ◌<◌, ◌≤◌, ◌==◌, Bool, true, false, ◌&&◌, not, List, [], ◌∷◌, ◌++◌, length, codes, Option, Some, None, IsSomeAnd, FitsSigned, if◌then◌else◌}
+use Rattle.std.specs.Prelude.{◌≡◌, ℕ, ◌^◌, ◌<◌, ◌≤◌, ◌==◌, Bool, true, false, ◌&&◌, not, List, [], ◌∷◌, ◌++◌, length, codes, find, Option, IsSomeAnd, FitsSigned}
 use Rattle.std.specs.List.{list_all, AllByRecursion}
 use Rattle.std.specs.Int.{w32, w64}
 use Rattle.std.specs.Str.{bytes_eq, is_utf8}
@@ -32,16 +32,14 @@ builtin_tables = item_table ∷ []
 
 -- the table of this OID
 abbrev pub table_of : ℕ → List Table → Option Table
-table_of oid [] = None
-table_of oid (table ∷ tables) = if table.oid == oid then Some table else table_of oid tables
+table_of oid tables = find (λ table. table.oid == oid) tables
 
 -- schema, a dot and name, as one text
 abbrev pub full_name : Table → List ℕ
 full_name table = table.schema ++ 46 ∷ table.name
 
 abbrev pub table_named : List ℕ → List Table → Option Table
-table_named name [] = None
-table_named name (table ∷ tables) = if bytes_eq (full_name table) name then Some table else table_named name tables
+table_named name tables = find (λ table. bytes_eq (full_name table) name) tables
 
 -- no zero byte stands in the text
 abbrev pub has_no_zero : List ℕ → Bool
