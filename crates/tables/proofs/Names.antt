@@ -26,6 +26,6 @@ other_schema schema name text other = by_test (bytes_eq (schema ++ name) text) (
     let found : bytes_eq (take (length schema) text) schema ≡ true = (bytes_eq-Decides (take (length schema) text) schema).1 front in
     cc)
   where
-  by_test : (b : Bool) → (b ≡ true → ⊥) → b ≡ false
-  by_test true f = absurd (f refl)
-  by_test false f = refl
+    by_test : (b : Bool) → (b ≡ true → ⊥) → b ≡ false
+    by_test true f = absurd (f refl)
+    by_test false f = refl

@@ -1,10 +1,11 @@
 -- How the log keeps a change: a row is a count of two bytes and its values, a value is a tag and its bytes, and the body
 -- of an insert is a tag, the table's OID and the new row.
-use Rattle.std.specs.Prelude.{ℕ, ◌+◌, List, [], ◌∷◌, ◌++◌, length, if◌then◌else◌}
+use Rattle.std.specs.Prelude.{ℕ, ◌≤◌, List, [], ◌∷◌, ◌++◌, length, if◌then◌else◌}
 use Rattle.std.specs.List.{flat_map}
 use Rattle.std.specs.Int.{w32, w64, cast_unsigned}
 use Rattle.frames.specs.Fields.{int16, int32, int64}
 use Rattle.tables.specs.declared.body.TheConstants.{NULL_TAG, BOOL_TAG, INT4_TAG, INT8_TAG, TEXT_TAG, INSERT_TAG}
+use Rattle.tables.specs.declared.row.TheConstants.{MAX_ROW_LENGTH}
 use Rattle.tables.specs.declared.value.Value.{Value}
 use Rattle.tables.specs.declared.value.Value.TheVariants as values
 use Rattle.tables.specs.declared.change.Change.{Change}
@@ -28,3 +29,7 @@ row_length row = length (spell_row row)
 
 abbrev pub body_length : Change → ℕ
 body_length change = length (spell_body change)
+
+-- what may be written: a row is of at most 8,000 bytes
+abbrev pub IsShort : Change → Type 0
+IsShort (changes.Insert oid row) = row_length row ≤ MAX_ROW_LENGTH

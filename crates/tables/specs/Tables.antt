@@ -1,6 +1,6 @@
 -- Which rows a table takes, and which changes fit a catalogue.
 use Rattle.std.specs.Prelude.{◌≡◌, ℕ, ◌^◌, ◌<◌, ◌≤◌, ◌==◌, Bool, true, false, ◌&&◌, not, List, [], ◌∷◌, ◌++◌, length, codes, find, Option, IsSomeAnd, FitsSigned}
-use Rattle.std.specs.List.{list_all, AllByRecursion}
+use Rattle.std.specs.List.{list_all, zip, AllByRecursion}
 use Rattle.std.specs.Int.{w32, w64}
 use Rattle.std.specs.Str.{bytes_eq, is_utf8}
 use Rattle.tables.specs.declared.row.TheConstants.{MAX_ROW_LENGTH}
@@ -57,14 +57,9 @@ abbrev pub fits_column : Column → Value → Bool
 fits_column column values.Null = not column.is_key
 fits_column column value = is_of_kind column.kind value
 
--- one value for each column
-abbrev pub fits_columns : List Column → List Value → Bool
-fits_columns [] [] = true
-fits_columns (column ∷ columns) (value ∷ row) = fits_column column value && fits_columns columns row
-fits_columns columns row = false
-
+-- one value for each column, which takes it
 abbrev pub fits_table : Table → List Value → Bool
-fits_table table row = fits_columns table.columns row
+fits_table table row = (length table.columns == length row) && list_all (λ p. fits_column p.0 p.1) (zip table.columns row)
 
 -- what a value of Rust is: an integer of its width, and a text in UTF-8
 abbrev pub IsValue : Value → Type 0

@@ -11,7 +11,9 @@ mod row;
 mod table;
 mod value;
 
-pub use body::{BOOL_TAG, INSERT_TAG, INT4_TAG, INT8_TAG, NULL_TAG, TEXT_TAG};
+pub use body::{
+    BOOL_TAG, INSERT_TAG, INT4_TAG, INT8_TAG, NULL_TAG, TEXT_TAG, body_len, write_body,
+};
 pub use catalog::Catalog;
 pub use change::Change;
 pub use column::Column;

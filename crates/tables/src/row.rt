@@ -1,4 +1,7 @@
-ghost use Rattle.std.specs.Prelude.{◌≡◌};
+ghost use Rattle.std.specs.Prelude.{◌≡◌, ◌+◌, ◌<◌, ◌≤◌, ◌^◌, MatchOption, OnSome, length};
+ghost use Rattle.std.specs.List.{AllByRecursion};
+ghost use Rattle.tables.specs.Spelling.{row_length, spell_value};
+ghost use Rattle.tables.specs.Tables.{IsValue};
 
 use crate::value::Value;
 use frames::Items;
@@ -37,5 +40,46 @@ impl Row {
         ensures { result.now ≡ self.now }
     {
         self.values.as_slice()
+    }
+}
+
+impl Row {
+    /// The length of the row's coding in bytes; None where it passes the limit of 8,000.
+    #[tactic(auto, using(crate::proofs::Lengths::lengths))]
+    pub fn coded_len(&self) -> Option<usize>
+        ensures value { MatchOption result (MAX_ROW_LENGTH < row_length self.now)
+            (λ n. (n ≡ row_length self.now) × (n ≤ MAX_ROW_LENGTH)) }
+        ensures in_range { OnSome result (AllByRecursion IsValue self.now) }
+    {
+        let mut len = 2;
+        for value in self.values() {
+            len += coded_len_of(value);
+            if len > MAX_ROW_LENGTH {
+                return None;
+            }
+        }
+        Some(len)
+    }
+}
+
+/// The length of the value's coding in bytes.
+#[tactic(auto, using(crate::proofs::Lengths::lengths, frames::proofs::Texts::valid_text))]
+fn coded_len_of(value: &Value) -> usize
+    ensures value { result ≡ length (spell_value value.now) }
+    ensures in_range { IsValue value.now }
+    ensures bounded { result < 2 ^ 63 + 5 }
+{
+    match value {
+        Value::Null => 1,
+        Value::Bool(_) => 2,
+        Value::Int4(n) => {
+            let _in_range = *n;
+            5
+        }
+        Value::Int8(n) => {
+            let _in_range = *n;
+            9
+        }
+        Value::Text(text) => 5 + text.as_str().len(),
     }
 }

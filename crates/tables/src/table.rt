@@ -1,9 +1,12 @@
 ghost use Rattle.std.specs.Prelude.{◌≡◌, ◌∷◌};
+ghost use Rattle.std.specs.List.{list_all, zip};
 ghost use Rattle.std.specs.Str.{bytes_eq};
-ghost use Rattle.tables.specs.Tables.{full_name};
+ghost use Rattle.tables.specs.Tables.{fits_column, fits_table, full_name};
 
 use crate::column::Column;
 use crate::identity::Identity;
+use crate::row::Row;
+use crate::value::Value;
 use frames::{Items, Text};
 
 /// A table that sessions write. Its columns stand in table order.
@@ -17,6 +20,18 @@ pub struct Table {
 }
 
 impl Table {
+    /// Whether the row has one value for each column, which takes it.
+    pub fn takes(&self, row: &Row) -> bool
+        ensures { result ≡ fits_table self.now row.now }
+    {
+        let columns = self.columns.as_slice();
+        let values = row.values();
+        if columns.len() != values.len() {
+            return false;
+        }
+        all_take(columns, values)
+    }
+
     /// Whether the name is the table's schema, a dot and its own name.
     #[tactic(auto, using(crate::proofs::Names::split_at_schema, crate::proofs::Names::other_schema))]
     pub fn is_named(&self, name: &str) -> bool
@@ -28,6 +43,13 @@ impl Table {
             None => false,
         }
     }
+}
+
+fn all_take(columns: &[Column], values: &[Value]) -> bool
+    ensures { result ≡ list_all (λ p. fits_column p.0 p.1) (zip columns.now values.now) }
+{
+    let mut pairs = columns.iter().zip(values);
+    pairs.all(|(column, value)| column.takes(value))
 }
 
 fn is_dotted(bytes: &[u8], name: &str) -> bool
