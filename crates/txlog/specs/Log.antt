@@ -49,11 +49,11 @@ number_in (Commit number time) = number
 
 -- whether the record names the number; an Assign names the parent too
 abbrev pub names : ℕ → Body → Bool
-names x (Assign sub parent) = (sub == x) || (parent == x)
-names x (Changed number change) = number == x
-names x (AbortSub number) = number == x
-names x (Abort number) = number == x
-names x (Commit number time) = number == x
+names x (Assign sub parent) = (x == sub) || (x == parent)
+names x (Changed number change) = x == number
+names x (AbortSub number) = x == number
+names x (Abort number) = x == number
+names x (Commit number time) = x == number
 
 abbrev pub is_named : List Record → ℕ → Bool
 is_named log x = list_any (λ r. names x r.body) log
