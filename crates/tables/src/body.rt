@@ -11,6 +11,9 @@ use crate::value::Value;
 use bytes::{BufMut, BytesMut};
 use std::alloc::AllocError;
 
+/// The longest body of a change in bytes: that of an update, with two rows.
+pub const MAX_BODY_LENGTH: usize = 16_005;
+
 /// The first byte of a change's body, by the kind of change.
 pub const INSERT_TAG: u8 = 1;
 
@@ -29,7 +32,8 @@ pub const TEXT_TAG: u8 = 4;
 #[tactic(auto, using(crate::proofs::Lengths::lengths))]
 pub fn body_len(change: &Change) -> usize
     requires { IsShort change.now }
-    ensures { result ≡ body_length change.now }
+    ensures value { result ≡ body_length change.now }
+    ensures bounded { result ≤ MAX_BODY_LENGTH }
 {
     match change {
         Change::Insert(oid, row) => insert_len(*oid, row),
@@ -39,7 +43,8 @@ pub fn body_len(change: &Change) -> usize
 #[tactic(auto, using(crate::proofs::Lengths::body_length_is))]
 fn insert_len(oid: u32, row: &Row) -> usize
     requires { row_length row.now ≤ MAX_ROW_LENGTH }
-    ensures { result ≡ body_length (Change.Insert oid row.now) }
+    ensures value { result ≡ body_length (Change.Insert oid row.now) }
+    ensures bounded { result ≤ MAX_BODY_LENGTH }
 {
     match row.coded_len() {
         Some(len) => 5 + len,

@@ -218,7 +218,7 @@ live-change log start end x c is_open = changed (record { start = start; end = e
         live-more log r (λ e. true) (all_agree _ _ (λ e. same e ∙ and_true (is_live log e)) (entries log))
         ∙ rw (filter_all (live log), one, lives) refl
 
-all_when : {A : Type 0} (P Q : A → Type 0) → ((x : A) → P x → Q x) → (xs : List A) → AllByRecursion P xs → AllByRecursion Q xs
+pub all_when : {A : Type 0} (P Q : A → Type 0) → ((x : A) → P x → Q x) → (xs : List A) → AllByRecursion P xs → AllByRecursion Q xs
 all_when P Q f [] all = tt
 all_when P Q f (x ∷ xs) all = (f x all.0, all_when P Q f xs all.1)
 

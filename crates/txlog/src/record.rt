@@ -1,4 +1,9 @@
-use tables::Change;
+ghost use Rattle.std.specs.Prelude.{◌≡◌, ◌+◌, ◌≤◌, ◌^◌};
+ghost use Rattle.txlog.specs.Log.{payload_length, size_of};
+ghost use Rattle.tables.specs.declared.body.TheConstants.{MAX_BODY_LENGTH};
+ghost use Rattle.txlog.specs.Publishing.{IsShortBody};
+
+use tables::{Change, body_len};
 
 /// The position at which the first record starts, 0/1000000.
 pub const FIRST_POSITION: u64 = 0x100_0000;
@@ -26,4 +31,28 @@ pub enum Body {
     Abort(u32),
     /// A transaction, and when it committed, in microseconds since 2000-01-01.
     Commit(u32, i64),
+}
+
+impl Body {
+    /// The size of a record with this body in bytes: 16, and its payload rounded up to a multiple of 8.
+    pub fn size(&self) -> u64
+        requires { IsShortBody self.now }
+        ensures value { result ≡ size_of self.now }
+        ensures bounded { result ≤ 2 ^ 14 }
+    {
+        16 + (self.payload_len() + 7) / 8 * 8
+    }
+
+    fn payload_len(&self) -> u64
+        requires { IsShortBody self.now }
+        ensures value { result ≡ payload_length self.now }
+        ensures bounded { result ≤ 4 + MAX_BODY_LENGTH }
+    {
+        match self {
+            Body::Assign(_, _) => 8,
+            Body::Change(_, change) => 4 + body_len(change) as u64,
+            Body::AbortSub(_) | Body::Abort(_) => 4,
+            Body::Commit(_, _) => 12,
+        }
+    }
 }
