@@ -143,3 +143,80 @@ released-IsPublisher s number depth h is =
       live = all_changed (IsInProgress s.log s.next) (IsInProgress s.log s.next) number xs s.live h.rising h.live (λ p running other. running)
           (in_progress_cut s.log s.next (depth - 1) (record { number = number; savepoints = savepoints_of number s.live }) o);
     }
+
+-- CALLS THAT WRITE A RECORD
+
+all_innermost : (P : ℕ → Type 0) (y : ℕ) (xs : List ℕ) → AllByRecursion P (y ∷ xs) → P (last_of y xs)
+all_innermost P y [] all = all.0
+all_innermost P y (x ∷ xs) all = all_innermost P x xs all.1
+
+open_at : (s : PublisherState) (number : ℕ) → IsPublisher s → is_live number s.live ≡ true →
+    IsInProgress s.log s.next (record { number = number; savepoints = savepoints_of number s.live })
+open_at s number h is = found (IsInProgress s.log s.next) number s.live is h.live
+
+all_quiet : (body : Body) → ((x : ℕ) → IsQuiet body x) → (xs : List ℕ) → AllByRecursion (IsQuiet body) xs
+all_quiet body quiet [] = tt
+all_quiet body quiet (x ∷ xs) = (quiet x, all_quiet body quiet xs)
+
+innermost_below : (s : PublisherState) (number : ℕ) → IsPublisher s → is_live number s.live ≡ true → innermost number s.live < s.next
+innermost_below s number h is = all_innermost (λ x. x < s.next) number (savepoints_of number s.live) (open_at s number h is).below
+
+pub changed-IsPublisher : (s : PublisherState) (number : ℕ) (change : Change) → IsPublisher s → is_live number s.live ≡ true → 0 < room s →
+    FitsChange s.tables change → size_of (Changed (innermost number s.live) change) ≤ 2 ^ 14 → IsPublisher (changed number change s)
+changed-IsPublisher s number change h is free fits small =
+    let body : Body = Changed (innermost number s.live) change in
+    let r : Record = record_after s.log (Changed (innermost number s.live) change) in
+    let below : innermost number s.live < s.next = innermost_below s number h is in
+    let longer : length (s.log ++ record_after s.log (Changed (innermost number s.live) change) ∷ []) ≡ length s.log + 1 = length-append s.log (r ∷ []) in
+    record {
+      log = log_grown s.tables s.log body h.log (IsOpen-innermost s.log s.next (record { number = number; savepoints = savepoints_of number s.live }) (open_at s number h is))
+          (omega (arith, h.limit, h.numbers, h.reserve), fits) small (omega (arith, h.limit));
+      limit = h.limit;
+      reserve = omega (arith, longer, free);
+      numbers = omega (arith, longer, h.numbers);
+      few = h.few;
+      fresh = fresh_grown s.log r s.next s.next (omega arith) h.fresh (λ x above. later_than (innermost number s.live) s.next x below above);
+      rising = h.rising;
+      live = all_when _ _ (λ (p : Open) (running : IsInProgress s.log s.next p).
+          in_progress_quiet s.log r s.next s.next p (omega arith) (all_quiet body (λ x. record { assigned = refl; ended = refl; undone = refl }) (numbers_of p)) running) s.live h.live;
+    }
+
+-- the end of another transaction does nothing to the numbers of this one
+quiet_by_top : (log : List Record) (next y t : ℕ) (body : Body) (p : Open) → IsInProgress log next p → top_of log y ≡ t → (p.number == t) ≡ false →
+    ((x : ℕ) → (y == x) ≡ false → IsQuiet body x) → AllByRecursion (IsQuiet body) (numbers_of p)
+quiet_by_top log next y t body p running top other quiet =
+    all_when _ _ (λ (x : ℕ) (x_top : top_of log x ≡ p.number). quiet x (tops_apart log y x t p.number top x_top (eqb_comm t p.number ∙ other))) (numbers_of p) (numbers-top log next p running)
+
+ended-IsPublisher : (s : PublisherState) (number : ℕ) (body : Body) → IsPublisher s → is_live number s.live ≡ true →
+    (is_assigned s.log number ≡ false → IsOpen s.log number → IsNext s.log body) → (number < 2 ^ 32 → FitsBody s.tables body) → size_of body ≤ 2 ^ 14 →
+    ((x : ℕ) → names x body ≡ (x == number)) → ((x : ℕ) → (number == x) ≡ false → IsQuiet body x) → IsPublisher (ended number body s)
+ended-IsPublisher s number body h is next fits small naming quiet =
+    let o : IsInProgress s.log s.next (record { number = number; savepoints = savepoints_of number s.live }) = open_at s number h is in
+    let alone : IsOpen s.log number = IsOpen-innermost s.log s.next (record { number = number; savepoints = [] })
+        (in_progress_cut s.log s.next 0 (record { number = number; savepoints = savepoints_of number s.live }) o) in
+    let r : Record = record_after s.log body in
+    let below : number < s.next = o.below.0 in
+    let top : top_of s.log number ≡ number = rw (chain-unassigned s.log number o.top) refl in
+    let longer : length (s.log ++ record_after s.log body ∷ []) ≡ length s.log + 1 = length-append s.log (r ∷ []) in
+    let fewer : length (without number s.live) + 1 ≡ length s.live = length-without number s.live h.rising is in
+    record {
+      log = log_grown s.tables s.log body h.log (next o.top alone) (fits (omega (arith, h.limit, h.numbers, h.reserve))) small (omega (arith, h.limit, h.reserve));
+      limit = h.limit;
+      reserve = omega (arith, longer, fewer, h.reserve);
+      numbers = omega (arith, longer, fewer, h.numbers);
+      few = omega (arith, fewer, h.few);
+      fresh = fresh_grown s.log r s.next s.next (omega arith) h.fresh (λ x above. naming x ∙ later_than number s.next x below above);
+      rising = rising-without number s.live h.rising;
+      live = all_without (IsInProgress s.log s.next) (IsInProgress (s.log ++ r ∷ []) s.next) number s.live h.live
+          (λ p running other. in_progress_quiet s.log r s.next s.next p (omega arith) (quiet_by_top s.log s.next number number body p running top other quiet) running);
+    }
+
+pub after_commit-IsPublisher : (s : PublisherState) (number : ℕ) (time : ℤ) → IsPublisher s → is_live number s.live ≡ true → FitsSigned w64 time → IsPublisher (after_commit number time s)
+after_commit-IsPublisher s number time h is fits =
+    ended-IsPublisher s number (Commit number time) h is (λ top alone. (top, alone)) (λ lt. (lt, fits)) (omega arith) (λ x. refl)
+    (λ x other. record { assigned = refl; ended = other; undone = refl })
+
+pub after_abort-IsPublisher : (s : PublisherState) (number : ℕ) → IsPublisher s → is_live number s.live ≡ true → IsPublisher (after_abort number s)
+after_abort-IsPublisher s number h is =
+    ended-IsPublisher s number (Abort number) h is (λ top alone. (top, alone)) (λ lt. lt) (omega arith) (λ x. refl)
+    (λ x other. record { assigned = refl; ended = other; undone = refl })
