@@ -1,5 +1,5 @@
 -- Transactions in progress: their numbers are open, belong to no other, and stay so where a record names none of them.
-use Rattle.std.proofs.Common.{◌≡◌, ℕ, zero, suc, ◌+◌, ◌<◌, ◌≤◌, ◌==◌, Bool, true, false, List, [], ◌∷◌, ◌++◌, length, take, length-take, refl, sym, ap, ◌∙◌, arith}
+use Rattle.std.proofs.Common.{◌≡◌, ℕ, zero, suc, ◌+◌, ◌<◌, ◌≤◌, ◌==◌, Bool, true, false, List, [], ◌∷◌, ◌++◌, length, take, get_or, length-take, length-append, add-one, refl, sym, ap, ◌∙◌, arith}
 use Rattle.std.specs.List.{list_any, AllByRecursion}
 use Rattle.std.proofs.lemmas.Bool.{eqb-true, eqb-false}
 use Rattle.txlog.specs.declared.limits.TheConstants.{MAX_DEPTH}
@@ -10,17 +10,18 @@ use Rattle.txlog.specs.Log.{names, assigns, is_assigned, chain_step, chain, last
 use Rattle.txlog.specs.Publishing.{Open}
 use Rattle.txlog.specs.Invariants.{IsNested, IsInProgress, numbers_of}
 use Rattle.txlog.proofs.Lists.{or_false}
+use Rattle.txlog.proofs.LiveList.{all_append}
 use Rattle.txlog.proofs.Laws.{has_ended-one, is_assigned-one, is_undone-one, chain-append, chain-unassigned}
 
 -- the chain of the innermost savepoint, from the chain of what is below
-abbrev onto : List ℕ → List ℕ → List ℕ
+abbrev pub onto : List ℕ → List ℕ → List ℕ
 onto below [] = below
 onto below (x ∷ above) = onto (x ∷ below) above
 
 last_of-chain : (y x : ℕ) (ys : List ℕ) → last_of y (x ∷ ys) ≡ last_of x ys
 last_of-chain y x ys = refl
 
-chain-innermost : (log : List Record) (y : ℕ) (below xs : List ℕ) → chain log y ≡ y ∷ below → IsNested log (y ∷ below) xs → chain log (last_of y xs) ≡ onto (y ∷ below) xs
+pub chain-innermost : (log : List Record) (y : ℕ) (below xs : List ℕ) → chain log y ≡ y ∷ below → IsNested log (y ∷ below) xs → chain log (last_of y xs) ≡ onto (y ∷ below) xs
 chain-innermost log y below [] is nested = is
 chain-innermost log y below (x ∷ xs) is nested = chain-innermost log x (y ∷ below) xs nested.0 nested.2
 
@@ -129,3 +130,57 @@ tops_apart log x y s t x_top y_top other = by_test (x == y) (λ same.
   by_test : (b : Bool) → (b ≡ true → ⊥) → b ≡ false
   by_test true f = absurd (f refl)
   by_test false f = refl
+
+-- A SAVEPOINT MORE
+
+all_onto : (P : ℕ → Type 0) (below xs : List ℕ) → AllByRecursion P below → AllByRecursion P xs → AllByRecursion P (onto below xs)
+all_onto P below [] low high = low
+all_onto P below (x ∷ xs) low high = all_onto P (x ∷ below) xs (high.0, low) high.1
+
+nested_push : (log : List Record) (x : ℕ) (below xs : List ℕ) → IsNested log below xs → chain log x ≡ x ∷ onto below xs → AllByRecursion (λ y. y < x) (onto below xs) → IsNested log below (xs ++ x ∷ [])
+nested_push log x below [] h is low = (is, low, tt)
+nested_push log x below (y ∷ xs) h is low = (h.0, h.1, nested_push log x (y ∷ below) xs h.2 is low)
+
+pub in_progress_push : (log : List Record) (next x : ℕ) (o : Open) → IsInProgress log next o → x < next → is_assigned log x ≡ true → is_undone log x ≡ false →
+    chain log x ≡ x ∷ onto (o.number ∷ []) o.savepoints → AllByRecursion (λ y. y < x) (numbers_of o) → length o.savepoints < MAX_DEPTH →
+    IsInProgress log next (record { number = o.number; savepoints = o.savepoints ++ x ∷ [] })
+in_progress_push log next x o h lt sub undropped is low shallow = record {
+  below = (h.below.0, all_append _ o.savepoints (x ∷ []) h.below.1 (lt, tt));
+  top = h.top;
+  running = h.running;
+  subs = all_append _ o.savepoints (x ∷ []) h.subs (sub, tt);
+  undropped = (h.undropped.0, all_append _ o.savepoints (x ∷ []) h.undropped.1 (undropped, tt));
+  nested = nested_push log x (o.number ∷ []) o.savepoints h.nested is (all_onto (λ y. y < x) (o.number ∷ []) o.savepoints (low.0, tt) low.1);
+  deep = omega (arith, shallow, length-append o.savepoints (x ∷ []));
+}
+
+-- A SAVEPOINT AND WHAT IS BELOW IT
+
+all_from_onto : (P : ℕ → Type 0) (below xs : List ℕ) → AllByRecursion P (onto below xs) → AllByRecursion P below × AllByRecursion P xs
+all_from_onto P below [] all = (all, tt)
+all_from_onto P below (x ∷ xs) all = let both = all_from_onto P (x ∷ below) xs all in (both.0.1, (both.0.0, both.1))
+
+nested_at : (log : List Record) (n : ℕ) (below xs : List ℕ) → n < length xs → IsNested log below xs → AllByRecursion (λ y. y < get_or xs n 0) (onto below (take n xs))
+nested_at log n below [] lt h = absurd (omega arith)
+nested_at log zero below (x ∷ xs) lt h = h.1
+nested_at log (suc n) below (x ∷ xs) lt h = nested_at log n (x ∷ below) xs (omega arith) h.2
+
+-- the savepoint at a place is above all numbers before it
+pub above_numbers : (log : List Record) (next n : ℕ) (o : Open) → IsInProgress log next o → n < length o.savepoints →
+    AllByRecursion (λ y. y < get_or o.savepoints n 0) (o.number ∷ take n o.savepoints)
+above_numbers log next n o h lt =
+    let both = all_from_onto (λ y. y < get_or o.savepoints n 0) (o.number ∷ []) (take n o.savepoints) (nested_at log n (o.number ∷ []) o.savepoints lt h.nested) in
+    (both.0.0, both.1)
+
+pub last_of-take : (y n : ℕ) (xs : List ℕ) → n < length xs → last_of y (take (n + 1) xs) ≡ get_or xs n 0
+last_of-take y n xs lt = rw add-one (by_place y n xs lt)
+  where
+  by_place : (y n : ℕ) (xs : List ℕ) → n < length xs → last_of y (take (suc n) xs) ≡ get_or xs n 0
+  by_place y n [] lt = absurd (omega arith)
+  by_place y zero (x ∷ xs) lt = refl
+  by_place y (suc n) (x ∷ xs) lt = by_place x n xs (omega arith)
+
+pub all_at : (P : ℕ → Type 0) (n : ℕ) (xs : List ℕ) → n < length xs → AllByRecursion P xs → P (get_or xs n 0)
+all_at P n [] lt all = absurd (omega arith)
+all_at P zero (x ∷ xs) lt all = all.0
+all_at P (suc n) (x ∷ xs) lt all = all_at P n xs (omega arith) all.1

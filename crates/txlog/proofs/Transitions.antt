@@ -18,7 +18,7 @@ use Rattle.txlog.specs.Invariants.{IsLog, IsNested, IsInProgress, IsRising, IsPu
 use Rattle.txlog.proofs.Lists.{or_false}
 use Rattle.txlog.proofs.Laws.{end_of-append, follows-append, WellFormedAfter-append, is_named-one, is_assigned-one, is_undone-one, chain-append, chain-unassigned, all_when}
 use Rattle.txlog.proofs.LiveList.{eqb_comm, all_append, found, length-with_savepoints, rising-with_savepoints, all_changed, all_without, rising-without, length-without, rising-push}
-use Rattle.txlog.proofs.Progress.{IsOpen-innermost, numbers-top, in_progress_cut, IsQuiet, in_progress_quiet, tops_apart}
+use Rattle.txlog.proofs.Progress.{onto, chain-innermost, IsOpen-innermost, numbers-top, in_progress_push, above_numbers, last_of-take, all_at, in_progress_cut, IsQuiet, in_progress_quiet, tops_apart}
 
 -- THE LOG
 
@@ -220,3 +220,73 @@ pub after_abort-IsPublisher : (s : PublisherState) (number : ℕ) → IsPublishe
 after_abort-IsPublisher s number h is =
     ended-IsPublisher s number (Abort number) h is (λ top alone. (top, alone)) (λ lt. lt) (omega arith) (λ x. refl)
     (λ x other. record { assigned = refl; ended = other; undone = refl })
+
+pub saved-IsPublisher : (s : PublisherState) (number : ℕ) → IsPublisher s → is_live number s.live ≡ true → length (savepoints_of number s.live) < MAX_DEPTH → 0 < room s → IsPublisher (saved number s)
+saved-IsPublisher s number h is shallow free =
+    let xs : List ℕ = savepoints_of number s.live in
+    let parent : ℕ = innermost number s.live in
+    let body : Body = Assign s.next parent in
+    let r : Record = record_after s.log body in
+    let o : Open = record { number = number; savepoints = xs } in
+    let running : IsInProgress s.log s.next o = open_at s number h is in
+    let below : parent < s.next = innermost_below s number h is in
+    let longer : length (s.log ++ r ∷ []) ≡ length s.log + 1 = length-append s.log (r ∷ []) in
+    let same : length (with_savepoints number (xs ++ s.next ∷ []) s.live) ≡ length s.live = length-with_savepoints number (xs ++ s.next ∷ []) s.live in
+    let unheard : is_named s.log s.next ≡ false = h.fresh s.next (omega arith) in
+    let quiet : (p : Open) → IsInProgress s.log s.next p → AllByRecursion (IsQuiet body) (numbers_of p) =
+        λ p progress. all_when _ _ (λ (x : ℕ) (lt : x < s.next). record { assigned = ne_eqb s.next x (λ e. absurd (omega (arith, lt, e))); ended = refl; undone = refl }) (numbers_of p) progress.below in
+    let chained : chain (s.log ++ r ∷ []) s.next ≡ s.next ∷ onto (number ∷ []) xs =
+        chain-append s.log r s.next ∙ rw (eq-eqb s.next s.next refl) (ap (λ ys. s.next ∷ ys) (chain-innermost s.log number [] xs (chain-unassigned s.log number running.top) running.nested)) in
+    let assigned : is_assigned (s.log ++ r ∷ []) s.next ≡ true =
+        is_assigned-one s.log r s.next ∙ rw (unnamed assigns s.next (unnamed-assigns s.next) s.log unheard, eq-eqb s.next s.next refl) refl in
+    let undropped : is_undone (s.log ++ r ∷ []) s.next ≡ false =
+        is_undone-one s.log r s.next ∙ rw (unnamed undoes s.next (unnamed-undoes s.next) s.log unheard) refl in
+    record {
+      log = log_grown s.tables s.log body h.log (unheard, ne_eqb s.next parent (λ e. absurd (omega (arith, below, e))), IsOpen-innermost s.log s.next o running)
+          (omega (arith, h.limit, h.numbers, h.reserve, free), omega (arith, below, h.limit, h.numbers, h.reserve)) (omega arith) (omega (arith, h.limit, free));
+      limit = h.limit;
+      reserve = omega (arith, longer, same, free);
+      numbers = omega (arith, longer, same, h.numbers);
+      few = omega (arith, same, h.few);
+      fresh = fresh_grown s.log r s.next (s.next + 1) (omega arith) h.fresh
+          (λ x above. rw (later_than s.next (s.next + 1) x (omega arith) above, later_than parent (s.next + 1) x (omega (arith, below)) above) refl);
+      rising = rising-with_savepoints number (xs ++ s.next ∷ []) s.live h.rising;
+      live = all_changed (IsInProgress s.log s.next) (IsInProgress (s.log ++ r ∷ []) (s.next + 1)) number (xs ++ s.next ∷ []) s.live h.rising h.live
+          (λ p progress other. in_progress_quiet s.log r s.next (s.next + 1) p (omega arith) (quiet p progress) progress)
+          (in_progress_push (s.log ++ r ∷ []) (s.next + 1) s.next o (in_progress_quiet s.log r s.next (s.next + 1) o (omega arith) (quiet o running) running)
+              (omega arith) assigned undropped chained running.below shallow);
+    }
+
+pub rolled_back-IsPublisher : (s : PublisherState) (number depth : ℕ) → IsPublisher s → is_live number s.live ≡ true → 0 < depth → depth ≤ length (savepoints_of number s.live) → 0 < room s → IsPublisher (rolled_back number depth s)
+rolled_back-IsPublisher s number depth h is some within free =
+    let xs : List ℕ = savepoints_of number s.live in
+    let n : ℕ = depth - 1 in
+    let sub : ℕ = get_or xs n 0 in
+    let lt : n < length xs = omega (arith, some, within) in
+    let body : Body = AbortSub sub in
+    let r : Record = record_after s.log body in
+    let o : Open = record { number = number; savepoints = xs } in
+    let running : IsInProgress s.log s.next o = open_at s number h is in
+    let cut : IsInProgress s.log s.next (record { number = number; savepoints = take n xs }) = in_progress_cut s.log s.next n o running in
+    let below : sub < s.next = all_at (λ x. x < s.next) n xs lt running.below.1 in
+    let longer : length (s.log ++ r ∷ []) ≡ length s.log + 1 = length-append s.log (r ∷ []) in
+    let same : length (with_savepoints number (take n xs) s.live) ≡ length s.live = length-with_savepoints number (take n xs) s.live in
+    let last : last_of number (take (n + 1) xs) ≡ sub = last_of-take number n xs lt in
+    let alive : IsOpen s.log sub = subst (λ (x : ℕ). IsOpen s.log x) last (IsOpen-innermost s.log s.next (record { number = number; savepoints = take (n + 1) xs }) (in_progress_cut s.log s.next (n + 1) o running)) in
+    let top : top_of s.log sub ≡ number = all_at (λ x. top_of s.log x ≡ number) n xs lt (numbers-top s.log s.next o running).1 in
+    let quiet : (x : ℕ) → (sub == x) ≡ false → IsQuiet body x = λ x other. record { assigned = refl; ended = refl; undone = other } in
+    let kept : AllByRecursion (IsQuiet body) (number ∷ take n xs) =
+        all_when _ _ (λ (x : ℕ) (low : x < sub). quiet x (ne_eqb sub x (λ e. absurd (omega (arith, low, e))))) (number ∷ take n xs) (above_numbers s.log s.next n o running lt) in
+    record {
+      log = log_grown s.tables s.log body h.log (all_at (λ x. is_assigned s.log x ≡ true) n xs lt running.subs, alive)
+          (omega (arith, below, h.limit, h.numbers, h.reserve)) (omega arith) (omega (arith, h.limit, free));
+      limit = h.limit;
+      reserve = omega (arith, longer, same, free);
+      numbers = omega (arith, longer, same, h.numbers);
+      few = omega (arith, same, h.few);
+      fresh = fresh_grown s.log r s.next s.next (omega arith) h.fresh (λ x above. later_than sub s.next x below above);
+      rising = rising-with_savepoints number (take n xs) s.live h.rising;
+      live = all_changed (IsInProgress s.log s.next) (IsInProgress (s.log ++ r ∷ []) s.next) number (take n xs) s.live h.rising h.live
+          (λ p progress other. in_progress_quiet s.log r s.next s.next p (omega arith) (quiet_by_top s.log s.next sub number body p progress top other quiet) progress)
+          (in_progress_quiet s.log r s.next s.next (record { number = number; savepoints = take n xs }) (omega arith) kept cut);
+    }
