@@ -1,7 +1,10 @@
 -- Commit (PostgreSQL 15, 55.9): C, a flags byte that is 0, the commit record's position, its end, the commit time.
-use Rattle.std.specs.Prelude.{ℕ, ◌<◌, ◌^◌, FitsSigned, List, [], ◌∷◌, ◌++◌}
+use Rattle.std.specs.Prelude.{ℕ, ◌<◌, ◌^◌, FitsSigned, List, [], ◌∷◌, ◌++◌, Result, Ok}
 use Rattle.std.specs.Int.{w64, cast_unsigned}
-use Rattle.frames.specs.Fields.{int64}
+use Rattle.frames.specs.Fields.{int64, number_at}
+use Rattle.frames.specs.Steps.{◌>>=◌}
+use Rattle.pgoutput.specs.Reading.{short, due, signed64_at}
+use Rattle.pgoutput.specs.declared.fault.OutFault.{OutFault}
 use Rattle.pgoutput.specs.declared.commit.Commit.{Commit}
 use Rattle.pgoutput.specs.declared.commit.TheConstants.{COMMIT_FLAGS}
 
@@ -10,3 +13,11 @@ commit m = (COMMIT_FLAGS ∷ []) ++ (int64 m.position ++ (int64 m.end ++ int64 (
 
 abbrev pub FitsCommit : Commit → Type 0
 FitsCommit m = (m.position < 2 ^ 64) × ((m.end < 2 ^ 64) × FitsSigned w64 m.time)
+
+unfoldable pub commit_at : List ℕ → Result (Commit × List ℕ) OutFault
+commit_at bytes = do
+  flags ← due COMMIT_FLAGS bytes
+  position ← short (number_at w64 flags.1)
+  end ← short (number_at w64 position.1)
+  time ← signed64_at end.1
+  Ok (record { position = position.0; end = end.0; time = time.0 }, time.1)

@@ -1,3 +1,4 @@
+pub mod Reading
 pub mod Begin
 pub mod Commit
 pub mod Relation

@@ -3,15 +3,19 @@
 
 mod begin;
 mod commit;
+mod fault;
+mod fields;
 mod insert;
+mod list;
 mod logical;
 mod relation;
 mod tuple;
 
 pub use begin::{BEGIN, Begin};
 pub use commit::{COMMIT, COMMIT_FLAGS, Commit};
+pub use fault::OutFault;
 pub use insert::{INSERT, Insert, NEW};
-pub use logical::Logical;
+pub use logical::{Logical, read_logical, write_logical};
 pub use relation::{
     Column, IDENTITY_DEFAULT, IDENTITY_FULL, IDENTITY_INDEX, IDENTITY_NOTHING, Identity, KEY_FLAG,
     NO_FLAG, RELATION, Relation,
