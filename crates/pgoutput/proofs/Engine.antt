@@ -5,7 +5,7 @@ use Rattle.std.proofs.Common.{◌≡◌, ◌≢◌, ℕ, zero, suc, ◌+◌, ◌
 use Rattle.std.specs.Prelude.{◌⊎◌}
 use Rattle.std.specs.List.{flat_map, AllByRecursion}
 use Rattle.std.specs.Option.{ok_or}
-use Rattle.std.proofs.lemmas.Bool.{cases_lt, eqb-true, ltb-true, ltb-false, lt-ltb, le-ltb}
+use Rattle.std.proofs.lemmas.Bool.{cases_lt, eqb-true, eqb-false, eq-eqb, ne_eqb}
 use Rattle.std.proofs.lemmas.List.{take-append-le, length-append, length-take}
 use Rattle.std.proofs.Math.Seq.{take-append-add}
 use Rattle.std.proofs.lemmas.List.Concat.{flat_map-cons}
@@ -166,3 +166,118 @@ counted {M} {read} {f} c size k text Fits Stops after =
       stands = (after n).stands;
       cut = λ m i known fits lt. (after n).cut m i (known.0, fits) lt;
     }))
+
+-- n of them, one behind the other
+repeat_stops : {A : Type 0} {read : List ℕ → Result (A × List ℕ) OutFault} {f : FieldOf A} (c : Wire read f) (n : ℕ) (bytes : List ℕ) (e : OutFault)
+    → IsBytes bytes → repeat_at read n bytes ≡ Err e → StopsAmong f n e bytes
+unfolding repeat_at
+repeat_stops c zero bytes e fits is = absurd cc
+repeat_stops {A} {read} {f} c (suc n) bytes e fits is =
+    elim (bind_err (read bytes) (λ first. repeat_at read n first.1 >>= λ others. Ok (first.0 ∷ others.0, others.1)) e is) [
+      | inl first ↦ ([], bytes, omega arith, tt, refl, c.stops bytes e fits first)
+      | inr a ↦ let t = c.codec.takes bytes a.0.0 a.0.1 fits a.1 in
+          elim (bind_err (repeat_at read n a.0.1) (λ others. Ok (a.0.0 ∷ others.0, others.1)) e a.2) [
+            | inl others ↦ let s = repeat_stops c n a.0.1 e t.0.rest_fits others in
+                (a.0.0 ∷ s.0, s.1, omega (arith, s.2), (t.1, s.3), rw flat_map-cons (t.0.parts ∙ ap (λ (y : List ℕ). f.text a.0.0 ++ y) s.4 ∙ sym (append_assoc (f.text a.0.0) (flat_map f.text s.0) s.1)), s.5)
+            | inr b ↦ absurd (let no = b.2 in cc)
+          ]
+    ]
+
+repeat_stands : {A : Type 0} {read : List ℕ → Result (A × List ℕ) OutFault} {f : FieldOf A} (c : Wire read f) (n : ℕ) (xs : List A) (rest : List ℕ) (e : OutFault)
+    → length xs < n → AllByRecursion f.Fits xs → f.Stops e rest → repeat_at read n (flat_map f.text xs ++ rest) ≡ Err e
+unfolding repeat_at
+repeat_stands c zero xs rest e lt fits s = absurd (omega arith)
+repeat_stands c (suc n) [] rest e lt fits s = rw (c.stands rest e s) refl
+repeat_stands {A} {read} {f} c (suc n) (x ∷ xs) rest e lt fits s =
+    let regrouped : flat_map f.text (x ∷ xs) ++ rest ≡ f.text x ++ (flat_map f.text xs ++ rest) = ap (λ (y : List ℕ). y ++ rest) (flat_map-cons f.text x xs) ∙ append_assoc (f.text x) (flat_map f.text xs) rest in
+    ap (repeat_at read (suc n)) regrouped ∙ rw (c.codec.again x (flat_map f.text xs ++ rest) fits.0, repeat_stands c n xs rest e (omega arith) fits.1 s) refl
+
+repeat_cut : {A : Type 0} {read : List ℕ → Result (A × List ℕ) OutFault} {f : FieldOf A} (c : Wire read f) (xs : List A) (i : ℕ)
+    → AllByRecursion f.Fits xs → i < length (flat_map f.text xs) → repeat_at read (length xs) (take i (flat_map f.text xs)) ≡ Err Short
+unfolding repeat_at
+repeat_cut c [] i fits lt = absurd (omega arith)
+repeat_cut {A} {read} {f} c (x ∷ xs) i fits lt =
+    let spelled : flat_map f.text (x ∷ xs) ≡ f.text x ++ flat_map f.text xs = flat_map-cons f.text x xs in
+    let less : i < length (f.text x) + length (flat_map f.text xs) = omega (arith, lt, ap (length {A = ℕ}) spelled, length-append (f.text x) (flat_map f.text xs)) in
+    ap (λ (y : List ℕ). repeat_at read (suc (length xs)) (take i y)) spelled ∙
+    elim (cases_lt i (length (f.text x))) [
+      | inl within ↦ rw (cut_within (f.text x) (flat_map f.text xs) i within, c.cut x i fits.0 within) refl
+      | inr le ↦ rw (cut_behind (f.text x) (flat_map f.text xs) i le, c.codec.again x (take (i - length (f.text x)) (flat_map f.text xs)) fits.0,
+          repeat_cut c xs (i - length (f.text x)) fits.1 (omega arith)) refl
+    ]
+
+pub repeated : {A : Type 0} {read : List ℕ → Result (A × List ℕ) OutFault} {f : FieldOf A} → Wire read f → (n : ℕ)
+    → Wire (repeat_at read n) (record { text = flat_map f.text; Fits = λ xs. (length xs ≡ n) × AllByRecursion f.Fits xs; Stops = StopsAmong f n })
+repeated {A} {read} {f} c n = record {
+  codec = codec.repeated c.codec n;
+  stops = repeat_stops c n;
+  stands = λ bytes e s. rw s.4 (repeat_stands c n s.0 s.1 e s.2 s.3 s.5);
+  cut = λ xs i fits lt. let P : ℕ → Type 0 = λ k. repeat_at read k (take i (flat_map f.text xs)) ≡ Err Short in subst P fits.0 (repeat_cut c xs i fits.1 lt);
+}
+
+-- ---- a choice by the first byte
+
+pub record Chosen {X : Type 0} (read : ℕ → List ℕ → Result (X × List ℕ) OutFault) (text : X → List ℕ) (Fits : X → Type 0) (Stops : ℕ → OutFault → List ℕ → Type 0) : Type 0 where
+  pub chooses : Chooses read text Fits
+  pub stops : (b : ℕ) (bytes : List ℕ) (e : OutFault) → IsBytes bytes → read b bytes ≡ Err e → Stops b e bytes
+  pub stands : (b : ℕ) (bytes : List ℕ) (e : OutFault) → Stops b e bytes → read b bytes ≡ Err e
+
+-- no byte is left to choose
+pub no_choice : {X : Type 0} (d : OutFault) (text : X → List ℕ) (Fits : X → Type 0) → Chosen {X = X} (λ _ _. Err d) text Fits (NoOther d)
+no_choice d text Fits = record {
+  chooses = codec.no_choice d text Fits;
+  stops = λ b bytes e fits is. cc;
+  stands = λ b bytes e s. cc;
+}
+
+-- byte k, and then a value from which the whole is made
+pub choice : {A X : Type 0} {read : List ℕ → Result (A × List ℕ) OutFault} {f : FieldOf A} (k : ℕ) → Wire read f
+    → (make : A → X) (text : X → List ℕ) (Fits : X → Type 0) → ((a : A) → text (make a) ≡ k ∷ f.text a) → ((a : A) → f.Fits a → Fits (make a))
+    → {others : ℕ → List ℕ → Result (X × List ℕ) OutFault} {Stops : ℕ → OutFault → List ℕ → Type 0} → Chosen others text Fits Stops
+    → Chosen (λ b bytes. cond (eqb b k) (read bytes >>= λ a. Ok (make a.0, a.1)) (others b bytes)) text Fits (Behind k f.Stops Stops)
+choice {A} {X} {read} {f} k c make text Fits spelled in_range {others} {Stops} rest_of = record {
+  chooses = codec.choice k c.codec make text Fits spelled in_range rest_of.chooses;
+  stops = λ b bytes e fits is. by_test b bytes e fits (eqb b k) (λ same. eqb-true b k same) (λ other. eqb-false b k other) is;
+  stands = λ b bytes e s.
+      elim s [
+        | inl here ↦ rw (here.0, eq-eqb k k refl, c.stands bytes e here.1) refl
+        | inr there ↦ rw (ne_eqb b k there.0) (rest_of.stands b bytes e there.1)
+      ];
+} where
+  by_test : (b : ℕ) (bytes : List ℕ) (e : OutFault) → IsBytes bytes → (is : Bool) → (is ≡ true → b ≡ k) → (is ≡ false → b ≢ k)
+      → cond is (read bytes >>= λ a. Ok (make a.0, a.1)) (others b bytes) ≡ Err e → Behind k f.Stops Stops b e bytes
+  by_test b bytes e fits true same other is =
+      elim (bind_err (read bytes) (λ a. Ok (make a.0, a.1)) e is) [
+        | inl first ↦ inl (same refl, c.stops bytes e fits first)
+        | inr a ↦ absurd (let no = a.2 in cc)
+      ]
+  by_test b bytes e fits false same other is = inr (other refl, rest_of.stops b bytes e fits is)
+
+abbrev pub by_first : {X : Type 0} → (ℕ → List ℕ → Result (X × List ℕ) OutFault) → List ℕ → Result (X × List ℕ) OutFault
+by_first read bytes = ok_or (byte_at bytes) Short >>= λ b. read b.0 b.1
+
+pub choice_wire : {X : Type 0} {read : ℕ → List ℕ → Result (X × List ℕ) OutFault} {text : X → List ℕ} {Fits : X → Type 0} {Stops : ℕ → OutFault → List ℕ → Type 0} → Chosen read text Fits Stops
+    → ((x : X) (rest : List ℕ) → Fits x → by_first read (text x ++ rest) ≡ Ok (x, rest))
+    → ((x : X) (n : ℕ) → Fits x → suc n < length (text x) → by_first read (take (suc n) (text x)) ≡ Err Short)
+    → Wire (by_first read) (record { text = text; Fits = Fits; Stops = ByFirst Stops })
+choice_wire {X} {read} {text} {Fits} {Stops} chosen again cut = record {
+  codec = codec.choice_codec Short chosen.chooses again;
+  stops = from_front;
+  stands = λ bytes e s.
+      elim s [
+        | inl short ↦ empty bytes e short.0 short.1
+        | inr there ↦ rw there.2 (chosen.stands there.0 there.1 e there.3)
+      ];
+  cut = cut_at;
+} where
+  from_front : (bytes : List ℕ) (e : OutFault) → IsBytes bytes → by_first read bytes ≡ Err e → ByFirst Stops e bytes
+  from_front [] e fits is = let same : Short ≡ e = cc in inl (sym same, omega arith)
+  from_front (b ∷ bytes) e fits is = inr (b, bytes, refl, chosen.stops b bytes e (IsBytes-rest b bytes fits) is)
+
+  empty : (bytes : List ℕ) (e : OutFault) → e ≡ Short → length bytes < 1 → by_first read bytes ≡ Err e
+  empty [] e is lt = cc
+  empty (b ∷ bytes) e is lt = absurd (omega arith)
+
+  cut_at : (x : X) (n : ℕ) → Fits x → n < length (text x) → by_first read (take n (text x)) ≡ Err Short
+  cut_at x zero fits lt = refl
+  cut_at x (suc n) fits lt = cut x n fits lt

@@ -1,3 +1,4 @@
 pub mod Putting
 pub mod Loops
 pub mod Engine
+pub mod Plain
