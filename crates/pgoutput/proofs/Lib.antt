@@ -2,3 +2,4 @@ pub mod Putting
 pub mod Loops
 pub mod Engine
 pub mod Plain
+pub mod Wires

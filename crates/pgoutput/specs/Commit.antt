@@ -5,6 +5,7 @@ use Rattle.frames.specs.Fields.{int64, number_at}
 use Rattle.frames.specs.Steps.{◌>>=◌}
 use Rattle.pgoutput.specs.Reading.{short, due, signed64_at}
 use Rattle.pgoutput.specs.declared.fault.OutFault.{OutFault}
+use Rattle.pgoutput.specs.Stops.{FieldOf, In, due_letter, number64, signed64}
 use Rattle.pgoutput.specs.declared.commit.Commit.{Commit}
 use Rattle.pgoutput.specs.declared.commit.TheConstants.{COMMIT_FLAGS}
 
@@ -21,3 +22,10 @@ commit_at bytes = do
   end ← short (number_at w64 position.1)
   time ← signed64_at end.1
   Ok (record { position = position.0; end = end.0; time = time.0 }, time.1)
+
+abbrev pub commit_field : FieldOf Commit
+commit_field = record {
+  text = commit;
+  Fits = FitsCommit;
+  Stops = In (due_letter COMMIT_FLAGS) (λ flags. In number64 (λ position. In number64 (λ end. signed64.Stops)));
+}

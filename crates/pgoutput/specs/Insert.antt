@@ -5,9 +5,10 @@ use Rattle.frames.specs.Fields.{int32, number_at}
 use Rattle.frames.specs.Steps.{◌>>=◌}
 use Rattle.pgoutput.specs.Reading.{short, due}
 use Rattle.pgoutput.specs.declared.fault.OutFault.{OutFault}
+use Rattle.pgoutput.specs.Stops.{FieldOf, In, due_letter, number32}
 use Rattle.pgoutput.specs.declared.insert.Insert.{Insert}
 use Rattle.pgoutput.specs.declared.insert.TheConstants.{NEW}
-use Rattle.pgoutput.specs.Tuple.{tuple, FitsTuple, IsShortTuple, tuple_at}
+use Rattle.pgoutput.specs.Tuple.{tuple, FitsTuple, IsShortTuple, tuple_at, tuple_field}
 
 abbrev pub insert : Insert → List ℕ
 insert m = int32 m.oid ++ ((NEW ∷ []) ++ tuple m.new)
@@ -24,3 +25,10 @@ insert_at bytes = do
   letter ← due NEW oid.1
   new ← tuple_at letter.1
   Ok (record { oid = oid.0; new = new.0 }, new.1)
+
+abbrev pub insert_field : FieldOf Insert
+insert_field = record {
+  text = insert;
+  Fits = FitsInsert;
+  Stops = In number32 (λ oid. In (due_letter NEW) (λ letter. tuple_field.Stops));
+}
