@@ -72,7 +72,7 @@ field {A} {M} {read} {f} c p Known k text Fits Stops after = record {
         | inl within ↦ rw (cut_within (f.text (p m)) (text m) n within, c.cut (p m) n fits.0 within) refl
         | inr le ↦
             rw (cut_behind (f.text (p m)) (text m) n le, c.codec.again (p m) (take (n - length (f.text (p m))) (text m)) fits.0)
-                ((after (p m)).cut m (n - length (f.text (p m))) (refl, known) fits.1 (omega (arith, length-append (f.text (p m)) (text m))))
+            ((after (p m)).cut m (n - length (f.text (p m))) (refl, known) fits.1 (omega (arith, length-append (f.text (p m)) (text m))))
       ];
 }
 
@@ -202,8 +202,11 @@ repeat_cut {A} {read} {f} c (x ∷ xs) i fits lt =
     ap (λ (y : List ℕ). repeat_at read (suc (length xs)) (take i y)) spelled ∙
     elim (cases_lt i (length (f.text x))) [
       | inl within ↦ rw (cut_within (f.text x) (flat_map f.text xs) i within, c.cut x i fits.0 within) refl
-      | inr le ↦ rw (cut_behind (f.text x) (flat_map f.text xs) i le, c.codec.again x (take (i - length (f.text x)) (flat_map f.text xs)) fits.0,
-          repeat_cut c xs (i - length (f.text x)) fits.1 (omega arith)) refl
+      | inr le ↦ rw (
+        cut_behind (f.text x) (flat_map f.text xs) i le,
+        c.codec.again x (take (i - length (f.text x)) (flat_map f.text xs)) fits.0,
+        repeat_cut c xs (i - length (f.text x)) fits.1 (omega arith),
+      ) refl
     ]
 
 pub repeated : {A : Type 0} {read : List ℕ → Result (A × List ℕ) OutFault} {f : FieldOf A} → Wire read f → (n : ℕ)

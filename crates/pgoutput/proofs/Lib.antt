@@ -3,3 +3,5 @@ pub mod Loops
 pub mod Engine
 pub mod Plain
 pub mod Wires
+pub mod Own
+pub mod Whole

@@ -30,7 +30,7 @@ begin_wire = wire_of (
     field number64 (λ m. m.position) _ _ _ _ _ (λ position.
     field signed64 (λ m. m.time) _ _ _ _ _ (λ time.
     last_field number32 (λ m. m.number) _ (λ number. record { position = position; time = time; number = number })
-        (λ _. refl) (λ _ _. (refl, (refl, tt))) (λ m known. rw (← known.0, ← known.1.0) refl))))
+    (λ _. refl) (λ _ _. (refl, (refl, tt))) (λ m known. rw (← known.0, ← known.1.0) refl))))
 
 commit_wire : Wire commit_at commit_field
 unfolding commit_at
@@ -39,7 +39,7 @@ commit_wire = wire_of (
     field number64 (λ m. m.position) _ _ _ _ _ (λ position.
     field number64 (λ m. m.end) _ _ _ _ _ (λ end.
     last_field signed64 (λ m. m.time) _ (λ time. record { position = position; end = end; time = time })
-        (λ _. refl) (λ _ _. (refl, (refl, (refl, tt)))) (λ m known. rw (← known.0, ← known.1.0) refl)))))
+    (λ _. refl) (λ _ _. (refl, (refl, (refl, tt)))) (λ m known. rw (← known.0, ← known.1.0) refl)))))
 
 is_key_there : (b : ℕ) (x : Bool) → is_key_of b ≡ Some x → key_flag x ≡ b
 is_key_there b true e = grind (arith, nat_tests)
@@ -56,7 +56,7 @@ column_wire = wire_of (
     field name_wire (λ m. m.name) _ _ _ _ _ (λ name.
     field number32 (λ m. m.kind) _ _ _ _ _ (λ kind.
     last_field signed32 (λ m. m.modifier) _ (λ modifier. record { is_key = is_key; name = name; kind = kind; modifier = modifier })
-        (λ _. refl) (λ _ _. (refl, (refl, (refl, tt)))) (λ m known. rw (← known.0, ← known.1.0, ← known.1.1.0) refl)))))
+    (λ _. refl) (λ _ _. (refl, (refl, (refl, tt)))) (λ m known. rw (← known.0, ← known.1.0, ← known.1.1.0) refl)))))
 
 columns_wire : Wire columns_at (list_field column_field)
 unfolding columns_at
@@ -82,7 +82,7 @@ relation_wire = wire_of (
     field name_wire (λ m. m.name) _ _ _ _ _ (λ name.
     free_field (letter_wire identity_of identity_letter identity_there identity_back) (λ _. tt) (λ m. m.identity) _ _ _ _ _ (λ identity.
     last_field columns_wire (λ m. m.columns) _ (λ columns. record { oid = oid; namespace = namespace; name = name; identity = identity; columns = columns })
-        (λ _. refl) (λ _ _. (refl, (refl, (refl, (refl, tt))))) (λ m known. rw (← known.0, ← known.1.0, ← known.1.1.0, ← known.1.1.1.0) refl))))))
+    (λ _. refl) (λ _ _. (refl, (refl, (refl, (refl, tt))))) (λ m known. rw (← known.0, ← known.1.0, ← known.1.1.0, ← known.1.1.1.0) refl))))))
 
 cell_again : (x : Cell) (rest : List ℕ) → FitsCell x → cell_at (cell x ++ rest) ≡ Ok (x, rest)
 unfolding cell_at
@@ -114,7 +114,7 @@ insert_wire = wire_of (
     field number32 (λ m. m.oid) _ _ _ _ _ (λ oid.
     free_field (due_wire NEW) (λ _. tt) (λ _. tt) _ _ _ _ _ (λ letter.
     last_field tuple_wire (λ m. m.new) _ (λ new. record { oid = oid; new = new })
-        (λ _. refl) (λ _ _. (refl, (refl, tt))) (λ m known. rw (← known.1.0) refl))))
+    (λ _. refl) (λ _ _. (refl, (refl, tt))) (λ m known. rw (← known.1.0) refl))))
 
 -- ---- any message
 

@@ -1,9 +1,9 @@
 //! A logical message: one kind byte, and the fields of its kind.
 
-ghost use Rattle.std.specs.Prelude.{◌≡◌, ◌++◌, Ok, IfOk, OnOk, OnErr};
+ghost use Rattle.std.specs.Prelude.{◌≡◌, ◌≢◌, ◌⊎◌, ℕ, List, [], ◌++◌, Ok, Err, IfOk, IfErr, OnOk, OnErr};
 ghost use Rattle.frames.specs.Putting.{Puts};
 ghost use Rattle.pgoutput.specs.Reading.{Gives, Answers};
-ghost use Rattle.pgoutput.specs.Logical.{SpellsLogical, IsShort, spell_logical, kind_byte, logical_at, whole_of};
+ghost use Rattle.pgoutput.specs.Logical.{SpellsLogical, FitsLogical, IsShort, Stands, spell_logical, kind_byte, logical_at, whole_of};
 
 use crate::begin::{BEGIN, Begin, begin_of, put_begin};
 use crate::commit::{COMMIT, Commit, commit_of, put_commit};
@@ -34,6 +34,13 @@ pub fn read_logical(alloc: Global, bytes: &[u8]) -> Result<Logical, OutFault>
     ensures found { IfOk result (λ m. SpellsLogical bytes.now m) }
     // What is spelled is read, unless memory runs out.
     ensures only { (m : Logical) → SpellsLogical bytes.now m → Answers result (Ok m) }
+    // A fault stands in the bytes, behind fields that are spelled right.
+    ensures fault { IfErr result (λ e. Stands e bytes.now) }
+    // And where a fault stands it is answered, unless memory runs out before it.
+    ensures refused { (e : OutFault) → e ≢ OutFault.Memory → Stands e bytes.now → (result ≡ Err e) ⊎ (result ≡ Err OutFault.Memory) }
+    // A message that ends too soon is O1 and nothing else.
+    ensures cut { (text more : List ℕ) (m : Logical) → SpellsLogical text m → text ≡ bytes.now ++ more → more ≢ []
+        → (result ≡ Err OutFault.Short) ⊎ (result ≡ Err OutFault.Memory) }
     // Which fault it is, in the order in which the fields are judged.
     ensures exact { Answers result (whole_of bytes.now) }
 {
@@ -102,3 +109,9 @@ fn kind_of(message: &Logical) -> u8
         Logical::Insert(_) => INSERT,
     }
 }
+
+/// The law of the spellings: of two messages whose spellings begin the same bytes, one is the other. So a message has one
+/// spelling, no text spells two messages, and no spelling is a proper beginning of another.
+pub fn no_message_has_two_spellings()
+    ensures { (m n : Logical) (x y : List ℕ) → FitsLogical m → FitsLogical n → spell_logical m ++ x ≡ spell_logical n ++ y → (m ≡ n) × (x ≡ y) }
+{}
