@@ -7,7 +7,8 @@ ghost use Rattle.frames.specs.CopyData.{copy_data, copy_data_at};
 
 use crate::fault::FrameFault;
 use crate::items::Items;
-use bytes::{BufMut, BytesMut};
+use crate::put::put_bytes;
+use bytes::BytesMut;
 use std::alloc::{AllocError, Global};
 
 /// The type byte of CopyData.
@@ -37,5 +38,5 @@ pub(crate) fn copy_data_len(message: &CopyData) -> usize
 pub(crate) fn put_copy_data(out: &mut BytesMut, message: &CopyData) -> Result<(), AllocError>
     ensures { Puts result out.old.items out.new.items (copy_data message.now) }
 {
-    out.put_slice(message.bytes.as_slice())
+    put_bytes(out, message.bytes.as_slice())
 }

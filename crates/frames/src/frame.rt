@@ -8,7 +8,8 @@ ghost use Rattle.frames.specs.Raw.{lent};
 
 use crate::cursor::Cursor;
 use crate::fault::FrameFault;
-use bytes::{BufMut, BytesMut};
+use crate::put::{put_byte, put_int32};
+use bytes::BytesMut;
 use std::alloc::AllocError;
 
 /// The greatest length field of a frame that has no limit of its own.
@@ -40,11 +41,11 @@ pub(crate) fn body_of<'a>(
 }
 
 /// The type byte and the length of a frame with a body of this many bytes.
-#[tactic(auto, using(crate::proofs::Putting::extends_itself, crate::proofs::Putting::extends_more, crate::proofs::Putting::extends_back), unfolding(crate::specs::Fields::int32))]
+#[tactic(auto, using(crate::proofs::Putting::extends_itself, crate::proofs::Putting::extends_more, crate::proofs::Putting::extends_back))]
 pub(crate) fn put_head(out: &mut BytesMut, kind: u8, body_len: usize) -> Result<(), AllocError>
     requires { 4 + body_len < 2 ^ 32 }
     ensures { Puts result out.old.items out.new.items (kind ∷ int32 (4 + body_len)) }
 {
-    out.put_u8(kind)?;
-    out.put_u32(4 + body_len as u32)
+    put_byte(out, kind)?;
+    put_int32(out, 4 + body_len as u32)
 }

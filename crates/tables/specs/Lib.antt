@@ -1,0 +1,4 @@
+pub mod Putting
+pub mod Spelling
+pub mod Tables
+pub use Rattle.frames.specs.Fields

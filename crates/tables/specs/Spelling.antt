@@ -1,0 +1,35 @@
+-- How the log keeps a change: a row is a count of two bytes and its values, a value is a tag and its bytes, and the body
+-- of an insert is a tag, the table's OID and the new row.
+use Rattle.std.specs.Prelude.{ℕ, ◌≤◌, List, [], ◌∷◌, ◌++◌, length, if◌then◌else◌}
+use Rattle.std.specs.List.{flat_map}
+use Rattle.std.specs.Int.{w32, w64, cast_unsigned}
+use Rattle.frames.specs.Fields.{int16, int32, int64}
+use Rattle.tables.specs.declared.body.TheConstants.{NULL_TAG, BOOL_TAG, INT4_TAG, INT8_TAG, TEXT_TAG, INSERT_TAG}
+use Rattle.tables.specs.declared.row.TheConstants.{MAX_ROW_LENGTH}
+use Rattle.tables.specs.declared.value.Value.{Value}
+use Rattle.tables.specs.declared.value.Value.TheVariants as values
+use Rattle.tables.specs.declared.change.Change.{Change}
+use Rattle.tables.specs.declared.change.Change.TheVariants as changes
+
+abbrev pub spell_value : Value → List ℕ
+spell_value values.Null = NULL_TAG ∷ []
+spell_value (values.Bool b) = BOOL_TAG ∷ (if b then 1 else 0) ∷ []
+spell_value (values.Int4 n) = INT4_TAG ∷ int32 (cast_unsigned w32 n)
+spell_value (values.Int8 n) = INT8_TAG ∷ int64 (cast_unsigned w64 n)
+spell_value (values.Text text) = TEXT_TAG ∷ (int32 (length text) ++ text)
+
+abbrev pub spell_row : List Value → List ℕ
+spell_row row = int16 (length row) ++ flat_map spell_value row
+
+abbrev pub spell_body : Change → List ℕ
+spell_body (changes.Insert oid row) = INSERT_TAG ∷ (int32 oid ++ spell_row row)
+
+abbrev pub row_length : List Value → ℕ
+row_length row = length (spell_row row)
+
+abbrev pub body_length : Change → ℕ
+body_length change = length (spell_body change)
+
+-- what may be written: a row is of at most 8,000 bytes
+abbrev pub IsShort : Change → Type 0
+IsShort (changes.Insert oid row) = row_length row ≤ MAX_ROW_LENGTH

@@ -1,0 +1,80 @@
+-- Which rows a table takes, and which changes fit a catalogue.
+use Rattle.std.specs.Prelude.{◌≡◌, ℕ, ◌^◌, ◌<◌, ◌≤◌, ◌==◌, Bool, true, false, ◌&&◌, not, List, [], ◌∷◌, ◌++◌, length, codes, find, Option, IsSomeAnd, FitsSigned}
+use Rattle.std.specs.List.{list_all, zip, AllByRecursion}
+use Rattle.std.specs.Int.{w32, w64}
+use Rattle.std.specs.Str.{bytes_eq, is_utf8}
+use Rattle.tables.specs.declared.row.TheConstants.{MAX_ROW_LENGTH}
+use Rattle.tables.specs.declared.kind.Kind.{Kind}
+use Rattle.tables.specs.declared.kind.Kind.TheVariants as kinds
+use Rattle.tables.specs.declared.identity.Identity.TheVariants as identities
+use Rattle.tables.specs.declared.value.Value.{Value}
+use Rattle.tables.specs.declared.value.Value.TheVariants as values
+use Rattle.tables.specs.declared.column.Column.{Column}
+use Rattle.tables.specs.declared.table.Table.{Table}
+use Rattle.tables.specs.declared.change.Change.{Change}
+use Rattle.tables.specs.declared.change.Change.TheVariants as changes
+use Rattle.tables.specs.Spelling.{spell_row}
+
+-- the table public.item: id int4 in the key, name text, qty int8
+abbrev pub item_table : Table
+item_table = record {
+  oid = 16384;
+  schema = codes "public";
+  name = codes "item";
+  identity = identities.Default;
+  columns = record { name = codes "id"; kind = kinds.Int4; is_key = true }
+      ∷ record { name = codes "name"; kind = kinds.Text; is_key = false }
+      ∷ record { name = codes "qty"; kind = kinds.Int8; is_key = false } ∷ [];
+}
+
+abbrev pub builtin_tables : List Table
+builtin_tables = item_table ∷ []
+
+-- the table of this OID
+abbrev pub table_of : ℕ → List Table → Option Table
+table_of oid tables = find (λ table. table.oid == oid) tables
+
+-- schema, a dot and name, as one text
+abbrev pub full_name : Table → List ℕ
+full_name table = table.schema ++ 46 ∷ table.name
+
+abbrev pub table_named : List ℕ → List Table → Option Table
+table_named name tables = find (λ table. bytes_eq (full_name table) name) tables
+
+-- no zero byte stands in the text
+abbrev pub has_no_zero : List ℕ → Bool
+has_no_zero text = list_all (λ b. not (b == 0)) text
+
+abbrev pub is_of_kind : Kind → Value → Bool
+is_of_kind kinds.Bool (values.Bool b) = true
+is_of_kind kinds.Int4 (values.Int4 n) = true
+is_of_kind kinds.Int8 (values.Int8 n) = true
+is_of_kind kinds.Text (values.Text text) = has_no_zero text
+is_of_kind kind value = false
+
+-- a column takes null, unless it belongs to the key, and values of its kind
+abbrev pub fits_column : Column → Value → Bool
+fits_column column values.Null = not column.is_key
+fits_column column value = is_of_kind column.kind value
+
+-- one value for each column, which takes it
+abbrev pub fits_table : Table → List Value → Bool
+fits_table table row = (length table.columns == length row) && list_all (λ p. fits_column p.0 p.1) (zip table.columns row)
+
+-- what a value of Rust is: an integer of its width, and a text in UTF-8
+abbrev pub IsValue : Value → Type 0
+IsValue values.Null = Unit {0}
+IsValue (values.Bool b) = Unit {0}
+IsValue (values.Int4 n) = FitsSigned w32 n
+IsValue (values.Int8 n) = FitsSigned w64 n
+IsValue (values.Text text) = is_utf8 text ≡ true
+
+-- a row that may stand in the log for this table
+pub record FitsRow (tables : List Table) (oid : ℕ) (row : List Value) : Type 0 where
+  pub number : oid < 2 ^ 32
+  pub fits : IsSomeAnd (table_of oid tables) (λ table. fits_table table row ≡ true)
+  pub in_range : AllByRecursion IsValue row
+  pub short : length (spell_row row) ≤ MAX_ROW_LENGTH
+
+abbrev pub FitsChange : List Table → Change → Type 0
+FitsChange tables (changes.Insert oid row) = FitsRow tables oid row

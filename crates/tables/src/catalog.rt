@@ -1,0 +1,82 @@
+ghost use Rattle.std.specs.Prelude.{◌≡◌, IfOk};
+ghost use Rattle.std.specs.Option.{option_copied};
+ghost use Rattle.tables.specs.Tables.{builtin_tables, table_named, table_of};
+
+use crate::column::Column;
+use crate::identity::Identity;
+use crate::kind::Kind;
+use crate::table::Table;
+use frames::{Items, Text};
+use std::alloc::{AllocError, Global};
+use std::marker::Model;
+
+/// The tables of a publisher. Contracts see the list of them.
+#[derive(Debug, Drop, PartialEq)]
+pub struct Catalog {
+    tables: Items<Table>,
+}
+
+impl Model for Catalog {
+    ghost use Rattle.std.specs.Prelude.{List};
+    ghost use Rattle.tables.specs.declared.table.Table.{Table};
+
+    ghost Value = { List Table };
+
+    ghost view = { λ c. c.tables };
+
+    ghost inverse = { λ tables. record { tables = tables } };
+}
+
+impl Catalog {
+    pub fn tables(&self) -> &[Table]
+        ensures { result.now ≡ self.now }
+    {
+        self.tables.as_slice()
+    }
+
+    /// The table of this OID.
+    pub fn table(&self, oid: u32) -> Option<&Table>
+        ensures { option_copied result ≡ table_of oid self.now }
+    {
+        self.tables.as_slice().iter().find(|table| table.oid == oid)
+    }
+
+    /// The table of this name: its schema, a dot and its own name.
+    pub fn named(&self, name: &str) -> Option<&Table>
+        ensures { option_copied result ≡ table_named name.now self.now }
+    {
+        let tables = self.tables.as_slice();
+        tables.iter().find(|table| table.is_named(name))
+    }
+
+    /// The catalogue of the one table public.item.
+    pub fn builtin(alloc: Global) -> Result<Self, AllocError>
+        ensures { IfOk result (λ c. c ≡ builtin_tables) }
+    {
+        let columns = vec![in alloc;
+            column(alloc, "id", Kind::Int4, true)?,
+            column(alloc, "name", Kind::Text, false)?,
+            column(alloc, "qty", Kind::Int8, false)?,
+        ]?;
+        let table = Table {
+            oid: 16384,
+            schema: Text::copy_of(alloc, "public")?,
+            name: Text::copy_of(alloc, "item")?,
+            identity: Identity::Default,
+            columns: Items::new(columns),
+        };
+        Ok(Catalog {
+            tables: Items::new(vec![in alloc; table]?),
+        })
+    }
+}
+
+fn column(alloc: Global, name: &str, kind: Kind, is_key: bool) -> Result<Column, AllocError>
+    ensures { IfOk result (λ c. c ≡ record { name = name.now; kind = kind; is_key = is_key }) }
+{
+    Ok(Column {
+        name: Text::copy_of(alloc, name)?,
+        kind,
+        is_key,
+    })
+}

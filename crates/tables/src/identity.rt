@@ -1,0 +1,9 @@
+/// The replica identity of a table: which columns of an old row a subscriber is sent.
+#[derive(Clone, Copy, Debug, PartialEq, Eq)]
+pub enum Identity {
+    /// The primary key.
+    Default,
+    Nothing,
+    /// Every column.
+    Full,
+}

@@ -1,0 +1,25 @@
+//! The tables that a publisher knows, their rows, and the changes of rows as the log keeps them.
+#![tactic(auto)]
+
+mod body;
+mod catalog;
+mod change;
+mod column;
+mod identity;
+mod kind;
+mod row;
+mod table;
+mod value;
+
+pub use body::{
+    BOOL_TAG, INSERT_TAG, INT4_TAG, INT8_TAG, MAX_BODY_LENGTH, NULL_TAG, TEXT_TAG, body_len,
+    write_body,
+};
+pub use catalog::Catalog;
+pub use change::Change;
+pub use column::Column;
+pub use identity::Identity;
+pub use kind::Kind;
+pub use row::{MAX_ROW_LENGTH, Row};
+pub use table::Table;
+pub use value::Value;

@@ -1,0 +1,85 @@
+ghost use Rattle.std.specs.Prelude.{◌≡◌, ◌+◌, ◌<◌, ◌≤◌, ◌^◌, MatchOption, OnSome, length};
+ghost use Rattle.std.specs.List.{AllByRecursion};
+ghost use Rattle.tables.specs.Spelling.{row_length, spell_value};
+ghost use Rattle.tables.specs.Tables.{IsValue};
+
+use crate::value::Value;
+use frames::Items;
+use std::marker::Model;
+
+/// The longest coding of a row, in bytes.
+pub const MAX_ROW_LENGTH: usize = 8000;
+
+/// The values of a row in table order. Contracts see the list of them.
+#[derive(Debug, Drop, PartialEq)]
+pub struct Row {
+    values: Items<Value>,
+}
+
+impl Model for Row {
+    ghost use Rattle.std.specs.Prelude.{List};
+    ghost use Rattle.tables.specs.declared.value.Value.{Value as Datum};
+
+    ghost Value = { List Datum };
+
+    ghost view = { λ r. r.values };
+
+    ghost inverse = { λ values. record { values = values } };
+}
+
+impl Row {
+    pub fn new(values: Vec<Value>) -> Self
+        ensures { result ≡ values.items }
+    {
+        Row {
+            values: Items::new(values),
+        }
+    }
+
+    pub fn values(&self) -> &[Value]
+        ensures { result.now ≡ self.now }
+    {
+        self.values.as_slice()
+    }
+}
+
+impl Row {
+    /// The length of the row's coding in bytes; None where it passes the limit of 8,000.
+    #[tactic(auto, using(crate::proofs::Lengths::lengths))]
+    pub fn coded_len(&self) -> Option<usize>
+        ensures value { MatchOption result (MAX_ROW_LENGTH < row_length self.now)
+            (λ n. (n ≡ row_length self.now) × (n ≤ MAX_ROW_LENGTH)) }
+        ensures in_range { OnSome result (AllByRecursion IsValue self.now) }
+    {
+        let mut len = 2;
+        for value in self.values() {
+            len += coded_len_of(value);
+            if len > MAX_ROW_LENGTH {
+                return None;
+            }
+        }
+        Some(len)
+    }
+}
+
+/// The length of the value's coding in bytes.
+#[tactic(auto, using(crate::proofs::Lengths::lengths, frames::proofs::Texts::valid_text))]
+fn coded_len_of(value: &Value) -> usize
+    ensures value { result ≡ length (spell_value value.now) }
+    ensures in_range { IsValue value.now }
+    ensures bounded { result < 2 ^ 63 + 5 }
+{
+    match value {
+        Value::Null => 1,
+        Value::Bool(_) => 2,
+        Value::Int4(n) => {
+            let _in_range = *n;
+            5
+        }
+        Value::Int8(n) => {
+            let _in_range = *n;
+            9
+        }
+        Value::Text(text) => 5 + text.as_str().len(),
+    }
+}

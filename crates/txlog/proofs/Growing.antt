@@ -1,0 +1,18 @@
+-- The records as they are kept, and one more of them.
+use Rattle.std.proofs.Common.{◌≡◌, ℕ, List, [], ◌∷◌, ◌++◌, map, length, take, drop, refl, ap, ◌∙◌}
+use Rattle.std.specs.declared.sync.Arc.{Arc}
+use Rattle.std.specs.List.{take-map, drop-map}
+use Rattle.std.proofs.lemmas.List.{map-append}
+use Rattle.txlog.specs.declared.record.Record.{Record}
+use Rattle.txlog.specs.Log.{end_of}
+use Rattle.txlog.specs.Publishing.{shared}
+use Rattle.txlog.proofs.Laws.{end_of-append}
+
+pub shared_push : {A : Type 0} (records : List (Arc Record A)) (record' : Arc Record A) → shared (records ++ record' ∷ []) ≡ shared records ++ record'.value ∷ []
+shared_push records record' = map-append (λ r. r.value) records (record' ∷ [])
+
+pub end_of_push : (at : ℕ) (log : List Record) (r : Record) → end_of at (log ++ r ∷ []) ≡ r.end
+end_of_push at log r = end_of-append at log (r ∷ [])
+
+pub shared_part : {A : Type 0} (records : List (Arc Record A)) (place max : ℕ) → shared (take max (drop place records)) ≡ take max (drop place (shared records))
+shared_part records place max = rw (drop-map (λ r. r.value) place records, take-map (λ r. r.value) max (drop place records)) refl

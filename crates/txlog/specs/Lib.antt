@@ -1,0 +1,6 @@
+pub mod Invariants
+pub mod Log
+pub mod Publishing
+pub use Rattle.tables.specs.Spelling
+pub use Rattle.tables.specs.Tables
+pub use Rattle.frames.specs.Fields

@@ -1,0 +1,236 @@
+-- The log in words: which lists of records are one, what each transaction of it holds, and which of them committed.
+-- Each definition speaks of the whole log up to some place. Where a definition judges a record by the records before it,
+-- those are an argument, so that a longer log is judged record by record as a shorter one was.
+use Rattle.std.specs.Prelude.{◌≡◌, ℕ, ◌+◌, ◌*◌, ◌/◌, ◌^◌, ◌<◌, ◌==◌, ℤ, Bool, true, false, ◌&&◌, ◌||◌, not, List, [], ◌∷◌, ◌++◌, length, reverse, filter, nat_le, FitsSigned, if◌then◌else◌}
+use Rattle.std.specs.List.{list_any, flat_map, AllByRecursion}
+use Rattle.std.specs.Int.{w64}
+use Rattle.tables.specs.declared.table.Table.{Table}
+use Rattle.tables.specs.declared.change.Change.{Change}
+use Rattle.tables.specs.Spelling.{body_length}
+use Rattle.tables.specs.Tables.{FitsChange}
+use Rattle.txlog.specs.declared.record.TheConstants.{FIRST_POSITION}
+use Rattle.txlog.specs.declared.record.Record.{Record}
+use Rattle.txlog.specs.declared.record.Body.{Body}
+use Rattle.txlog.specs.declared.record.Body.TheVariants.{Assign, Change as Changed, AbortSub, Abort, Commit}
+
+-- POSITIONS
+
+-- the bytes of a record's payload: numbers have 4, a time has 8
+abbrev pub payload_length : Body → ℕ
+payload_length (Assign sub parent) = 8
+payload_length (Changed number change) = 4 + body_length change
+payload_length (AbortSub number) = 4
+payload_length (Abort number) = 4
+payload_length (Commit number time) = 12
+
+-- 16, and the payload rounded up to a multiple of 8
+abbrev pub size_of : Body → ℕ
+size_of body = 16 + (payload_length body + 7) / 8 * 8
+
+-- the first starts at the position, and each other where the one before it ends
+abbrev pub follows : ℕ → List Record → Bool
+follows at [] = true
+follows at (r ∷ rs) = if r.start == at then follows r.end rs else false
+
+-- where the last record ends, or the position where there is none
+abbrev pub end_of : ℕ → List Record → ℕ
+end_of at [] = at
+end_of at (r ∷ rs) = end_of r.end rs
+
+-- TRANSACTIONS AND SUBTRANSACTIONS
+
+-- the number that a record is about: of an Assign it is the subtransaction's
+abbrev pub number_in : Body → ℕ
+number_in (Assign sub parent) = sub
+number_in (Changed number change) = number
+number_in (AbortSub number) = number
+number_in (Abort number) = number
+number_in (Commit number time) = number
+
+-- whether the record names the number; an Assign names the parent too
+abbrev pub names : ℕ → Body → Bool
+names x (Assign sub parent) = (x == sub) || (x == parent)
+names x (Changed number change) = x == number
+names x (AbortSub number) = x == number
+names x (Abort number) = x == number
+names x (Commit number time) = x == number
+
+abbrev pub is_named : List Record → ℕ → Bool
+is_named log x = list_any (λ r. names x r.body) log
+
+-- whether the record makes the number a subtransaction
+abbrev pub assigns : ℕ → Body → Bool
+assigns x (Assign sub parent) = sub == x
+assigns x (Changed number change) = false
+assigns x (AbortSub number) = false
+assigns x (Abort number) = false
+assigns x (Commit number time) = false
+
+abbrev pub is_assigned : List Record → ℕ → Bool
+is_assigned log x = list_any (λ r. assigns x r.body) log
+
+-- The chain of a number: the number, then the parent that its Assign names, and so on to a number without an Assign. It
+-- is found from the newest record back: in a well-formed log the Assign of a parent stands before that of its child, so
+-- going back from the Assign of a number meets the Assigns of all that are above it.
+abbrev pub chain_step : (ℕ → List ℕ) → Body → ℕ → List ℕ
+chain_step above (Assign sub parent) x = if sub == x then x ∷ above parent else above x
+chain_step above (Changed number change) x = above x
+chain_step above (AbortSub number) x = above x
+chain_step above (Abort number) x = above x
+chain_step above (Commit number time) x = above x
+
+abbrev pub chain_back : List Record → ℕ → List ℕ
+chain_back [] x = x ∷ []
+chain_back (r ∷ older) x = chain_step (chain_back older) r.body x
+
+abbrev pub chain : List Record → ℕ → List ℕ
+chain log x = chain_back (reverse log) x
+
+abbrev pub last_of : ℕ → List ℕ → ℕ
+last_of x [] = x
+last_of x (y ∷ ys) = last_of y ys
+
+-- the transaction that the number belongs to: the last of its chain
+abbrev pub top_of : List Record → ℕ → ℕ
+top_of log x = last_of x (chain log x)
+
+abbrev pub undoes : ℕ → Body → Bool
+undoes x (Assign sub parent) = false
+undoes x (Changed number change) = false
+undoes x (AbortSub number) = number == x
+undoes x (Abort number) = false
+undoes x (Commit number time) = false
+
+-- an AbortSub names the number
+abbrev pub is_undone : List Record → ℕ → Bool
+is_undone log x = list_any (λ r. undoes x r.body) log
+
+-- an AbortSub names a member of the number's chain
+abbrev pub is_dropped : List Record → ℕ → Bool
+is_dropped log x = list_any (is_undone log) (chain log x)
+
+abbrev pub ends : ℕ → Body → Bool
+ends x (Assign sub parent) = false
+ends x (Changed number change) = false
+ends x (AbortSub number) = false
+ends x (Abort number) = number == x
+ends x (Commit number time) = number == x
+
+-- a Commit or an Abort names the number
+abbrev pub has_ended : List Record → ℕ → Bool
+has_ended log x = list_any (λ r. ends x r.body) log
+
+-- CHANGES
+
+-- a change, the position at which its record starts, and the number that made it
+pub record Entry : Type 0 where
+  pub position : ℕ
+  pub number : ℕ
+  pub change : Change
+
+abbrev pub entry_at : ℕ → Body → List Entry
+entry_at start (Assign sub parent) = []
+entry_at start (Changed number change) = record { position = start; number = number; change = change } ∷ []
+entry_at start (AbortSub number) = []
+entry_at start (Abort number) = []
+entry_at start (Commit number time) = []
+
+-- the changes of a log, in order
+abbrev pub entries : List Record → List Entry
+entries log = flat_map (λ r. entry_at r.start r.body) log
+
+-- whether a change belongs to this transaction and is not dropped
+abbrev pub is_kept : List Record → ℕ → Entry → Bool
+is_kept log top e = (top_of log e.number == top) && not (is_dropped log e.number)
+
+-- The changes that a transaction keeps, in order, by the records so far. Of a transaction that commits they are judged by
+-- the records before its Commit.
+abbrev pub kept : List Record → ℕ → List Entry
+kept log top = filter (is_kept log top) (entries log)
+
+-- whether a change is not dropped and its transaction has not ended
+abbrev pub is_live : List Record → Entry → Bool
+is_live log e = not (has_ended log (top_of log e.number)) && not (is_dropped log e.number)
+
+-- the changes of the transactions in progress, in order
+abbrev pub live : List Record → List Entry
+live log = filter (is_live log) (entries log)
+
+-- COMMITTED TRANSACTIONS
+
+-- a transaction: where its Commit record starts and ends, its time and number, and the changes that it keeps
+pub record Transaction : Type 0 where
+  pub start : ℕ
+  pub end : ℕ
+  pub time : ℤ
+  pub number : ℕ
+  pub changes : List Entry
+
+-- what a record commits, if it is a Commit that starts at the start position s or later
+abbrev pub committed_at : ℕ → List Record → ℕ → ℕ → Body → List Transaction
+committed_at s before start end (Assign sub parent) = []
+committed_at s before start end (Changed number change) = []
+committed_at s before start end (AbortSub number) = []
+committed_at s before start end (Abort number) = []
+committed_at s before start end (Commit number time) =
+    if nat_le s start then record { start = start; end = end; time = time; number = number; changes = kept before number } ∷ [] else []
+
+abbrev pub committed_by : ℕ → List Record → Record → List Transaction
+committed_by s before r = committed_at s before r.start r.end r.body
+
+-- the transactions that the records commit, in order, given those before them
+abbrev pub committed_from : ℕ → List Record → List Record → List Transaction
+committed_from s before [] = []
+committed_from s before (r ∷ rs) = committed_by s before r ++ committed_from s (before ++ r ∷ []) rs
+
+-- the transactions of a log that commit at the start position or later
+abbrev pub committed : List Record → ℕ → List Transaction
+committed log s = committed_from s [] log
+
+-- WELL-FORMED LOGS
+
+-- a number may still be named: its transaction has not ended, and no member of its chain has an AbortSub
+pub record IsOpen (before : List Record) (x : ℕ) : Type 0 where
+  pub running : has_ended before (top_of before x) ≡ false
+  pub undropped : is_dropped before x ≡ false
+
+-- What may follow these records. The subtransaction of an Assign is named in no earlier record and is not its own parent.
+-- Commit and Abort name a number without an Assign, AbortSub one with an Assign. A number named earlier is still open.
+abbrev pub IsNext : List Record → Body → Type 0
+IsNext before (Assign sub parent) = (is_named before sub ≡ false) × ((sub == parent) ≡ false) × IsOpen before parent
+IsNext before (Changed number change) = IsOpen before number
+IsNext before (AbortSub number) = (is_assigned before number ≡ true) × IsOpen before number
+IsNext before (Abort number) = (is_assigned before number ≡ false) × IsOpen before number
+IsNext before (Commit number time) = (is_assigned before number ≡ false) × IsOpen before number
+
+-- each record may follow those before it
+abbrev pub WellFormedAfter : List Record → List Record → Type 0
+WellFormedAfter before [] = Unit {0}
+WellFormedAfter before (r ∷ rs) = IsNext before r.body × WellFormedAfter (before ++ r ∷ []) rs
+
+abbrev pub IsSized : Record → Type 0
+IsSized r = r.end ≡ r.start + size_of r.body
+
+pub record IsWellFormedLog (log : List Record) : Type 0 where
+  pub follows : follows FIRST_POSITION log ≡ true
+  pub sizes : AllByRecursion IsSized log
+  pub order : WellFormedAfter [] log
+
+-- RANGES
+
+-- numbers are of 32 bits, times are signed numbers of 64 bits, changes fit the tables
+abbrev pub FitsBody : List Table → Body → Type 0
+FitsBody tables (Assign sub parent) = (sub < 2 ^ 32) × (parent < 2 ^ 32)
+FitsBody tables (Changed number change) = (number < 2 ^ 32) × FitsChange tables change
+FitsBody tables (AbortSub number) = number < 2 ^ 32
+FitsBody tables (Abort number) = number < 2 ^ 32
+FitsBody tables (Commit number time) = (number < 2 ^ 32) × FitsSigned w64 time
+
+-- positions are of 64 bits
+pub record FitsRecord (tables : List Table) (r : Record) : Type 0 where
+  pub start : r.start < 2 ^ 64
+  pub end : r.end < 2 ^ 64
+  pub body : FitsBody tables r.body
+
+abbrev pub IsLogInRange : List Table → List Record → Type 0
+IsLogInRange tables log = AllByRecursion (FitsRecord tables) log

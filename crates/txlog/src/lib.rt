@@ -1,0 +1,15 @@
+//! The log of a publisher: what its sessions write, in one order.
+#![tactic(auto)]
+
+mod fault;
+mod limits;
+mod log;
+mod receipt;
+mod record;
+mod tx;
+
+pub use fault::SessionFault;
+pub use limits::{MAX_DEPTH, MAX_LIVE, MAX_RECORDS};
+pub use receipt::Receipt;
+pub use record::{Body, FIRST_NUMBER, FIRST_POSITION, Record};
+pub use tx::Tx;

@@ -1,0 +1,8 @@
+/// The greatest number of records that a log may be made for.
+pub const MAX_RECORDS: usize = 1_048_576;
+
+/// The greatest number of live transactions.
+pub const MAX_LIVE: usize = 256;
+
+/// The greatest number of open savepoints of a transaction.
+pub const MAX_DEPTH: usize = 16;

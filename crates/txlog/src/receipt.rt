@@ -1,0 +1,11 @@
+/// What a commit tells of its record.
+#[derive(Clone, Copy, Debug, PartialEq, Eq)]
+pub struct Receipt {
+    /// The record's index in the log.
+    pub place: usize,
+    /// The positions where the record starts and ends.
+    pub start: u64,
+    pub end: u64,
+    /// The number of the transaction.
+    pub top: u32,
+}

@@ -1,0 +1,58 @@
+ghost use Rattle.std.specs.Prelude.{◌≡◌, ◌+◌, ◌≤◌, ◌^◌};
+ghost use Rattle.txlog.specs.Log.{payload_length, size_of};
+ghost use Rattle.tables.specs.declared.body.TheConstants.{MAX_BODY_LENGTH};
+ghost use Rattle.txlog.specs.Publishing.{IsShortBody};
+
+use tables::{Change, body_len};
+
+/// The position at which the first record starts, 0/1000000.
+pub const FIRST_POSITION: u64 = 0x100_0000;
+
+/// The number of the first transaction.
+pub const FIRST_NUMBER: u32 = 700;
+
+/// A record of the log. It starts where the one before it ends; both are byte positions of the log.
+#[derive(Debug, Drop, PartialEq)]
+pub struct Record {
+    pub start: u64,
+    pub end: u64,
+    pub body: Body,
+}
+
+#[derive(Debug, Drop, PartialEq)]
+pub enum Body {
+    /// A subtransaction and its parent.
+    Assign(u32, u32),
+    /// The innermost open subtransaction, or the transaction, and what it changed.
+    Change(u32, Change),
+    /// A subtransaction that is rolled back, with all subtransactions under it.
+    AbortSub(u32),
+    /// A transaction that is rolled back.
+    Abort(u32),
+    /// A transaction, and when it committed, in microseconds since 2000-01-01.
+    Commit(u32, i64),
+}
+
+impl Body {
+    /// The size of a record with this body in bytes: 16, and its payload rounded up to a multiple of 8.
+    pub fn size(&self) -> u64
+        requires { IsShortBody self.now }
+        ensures value { result ≡ size_of self.now }
+        ensures bounded { result ≤ 2 ^ 14 }
+    {
+        16 + (self.payload_len() + 7) / 8 * 8
+    }
+
+    fn payload_len(&self) -> u64
+        requires { IsShortBody self.now }
+        ensures value { result ≡ payload_length self.now }
+        ensures bounded { result ≤ 4 + MAX_BODY_LENGTH }
+    {
+        match self {
+            Body::Assign(_, _) => 8,
+            Body::Change(_, change) => 4 + body_len(change) as u64,
+            Body::AbortSub(_) | Body::Abort(_) => 4,
+            Body::Commit(_, _) => 12,
+        }
+    }
+}

@@ -1,0 +1,15 @@
+use std::marker::Model;
+
+/// A session's hold on a transaction, spent by commit, abort or leave. Contracts see the transaction's number.
+#[derive(Debug)]
+pub struct Tx {
+    number: u32,
+}
+
+impl Model for Tx {
+    ghost use Rattle.std.specs.Prelude.{ℕ};
+
+    ghost Value = { ℕ };
+
+    ghost view = { λ t. t.number };
+}
