@@ -6,9 +6,9 @@ ghost use Rattle.pgoutput.specs.Reading.{Gives};
 ghost use Rattle.pgoutput.specs.Begin.{begin, begin_at};
 
 use crate::fault::OutFault;
-use crate::fields::{put_int32, put_int64, put_signed64, signed64_of};
+use crate::fields::{put_signed64, signed64_of};
 use bytes::BytesMut;
-use frames::Cursor;
+use frames::{Cursor, put_int32, put_int64};
 use std::alloc::AllocError;
 
 /// The kind byte of Begin.

@@ -6,9 +6,9 @@ ghost use Rattle.pgoutput.specs.Reading.{Gives};
 ghost use Rattle.pgoutput.specs.Commit.{commit, commit_at};
 
 use crate::fault::OutFault;
-use crate::fields::{due_of, put_byte, put_int64, put_signed64, signed64_of};
+use crate::fields::{due_of, put_signed64, signed64_of};
 use bytes::BytesMut;
-use frames::Cursor;
+use frames::{Cursor, put_byte, put_int64};
 use std::alloc::AllocError;
 
 /// The kind byte of Commit.

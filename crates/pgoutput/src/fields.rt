@@ -1,15 +1,15 @@
 //! The fields of which messages are made.
 
-ghost use Rattle.std.specs.Prelude.{◌≡◌, ◌^◌, ◌<◌, ◌∷◌, [], ◌++◌, length};
+ghost use Rattle.std.specs.Prelude.{◌≡◌, ◌^◌, ◌<◌, length};
 ghost use Rattle.std.specs.Int.{w32, w64, cast_unsigned};
-ghost use Rattle.frames.specs.Fields.{int16, int32, int64, string};
+ghost use Rattle.frames.specs.Fields.{int32, int64};
 ghost use Rattle.frames.specs.Putting.{Puts};
 ghost use Rattle.pgoutput.specs.Reading.{Gives, due, count16_at, count32_at, signed32_at, signed64_at, name_at, text_at};
 ghost use Rattle.pgoutput.specs.Tuple.{counted_text};
 
 use crate::fault::OutFault;
-use bytes::{BufMut, BytesMut};
-use frames::{Cursor, Text, utf8_of};
+use bytes::BytesMut;
+use frames::{Cursor, Text, put_bytes, put_int32, put_int64, utf8_of};
 use std::alloc::{AllocError, Global};
 
 /// Moves past this letter; another one is O3.
@@ -80,34 +80,6 @@ pub(crate) fn text_of(alloc: Global, cursor: &mut Cursor<'_>) -> Result<Text, Ou
     Ok(Text::copy_of(alloc, text)?)
 }
 
-#[tactic(auto, using(crate::proofs::Putting::extends_itself))]
-pub(crate) fn put_byte(out: &mut BytesMut, byte: u8) -> Result<(), AllocError>
-    ensures { Puts result out.old.items out.new.items (byte ∷ []) }
-{
-    out.put_u8(byte)
-}
-
-#[tactic(auto, using(crate::proofs::Putting::extends_itself), unfolding(frames::specs::Fields::int16))]
-pub(crate) fn put_int16(out: &mut BytesMut, number: u16) -> Result<(), AllocError>
-    ensures { Puts result out.old.items out.new.items (int16 number) }
-{
-    out.put_u16(number)
-}
-
-#[tactic(auto, using(crate::proofs::Putting::extends_itself), unfolding(frames::specs::Fields::int32))]
-pub(crate) fn put_int32(out: &mut BytesMut, number: u32) -> Result<(), AllocError>
-    ensures { Puts result out.old.items out.new.items (int32 number) }
-{
-    out.put_u32(number)
-}
-
-#[tactic(auto, using(crate::proofs::Putting::extends_itself), unfolding(frames::specs::Fields::int64))]
-pub(crate) fn put_int64(out: &mut BytesMut, number: u64) -> Result<(), AllocError>
-    ensures { Puts result out.old.items out.new.items (int64 number) }
-{
-    out.put_u64(number)
-}
-
 pub(crate) fn put_signed32(out: &mut BytesMut, number: i32) -> Result<(), AllocError>
     ensures { Puts result out.old.items out.new.items (int32 (cast_unsigned w32 number)) }
 {
@@ -120,15 +92,6 @@ pub(crate) fn put_signed64(out: &mut BytesMut, number: i64) -> Result<(), AllocE
     put_int64(out, number.cast_unsigned())
 }
 
-/// A name, and the zero byte that ends it.
-#[tactic(auto, using(crate::proofs::Putting::extends_itself, crate::proofs::Putting::extends_more, crate::proofs::Putting::extends_back))]
-pub(crate) fn put_name(out: &mut BytesMut, name: &Text) -> Result<(), AllocError>
-    ensures { Puts result out.old.items out.new.items (string name.now) }
-{
-    out.put_slice(name.as_str().as_bytes())?;
-    put_byte(out, 0)
-}
-
 /// A text behind its length.
 #[tactic(auto, using(crate::proofs::Putting::extends_itself, crate::proofs::Putting::extends_more, crate::proofs::Putting::extends_back))]
 pub(crate) fn put_text(out: &mut BytesMut, text: &Text) -> Result<(), AllocError>
@@ -137,5 +100,5 @@ pub(crate) fn put_text(out: &mut BytesMut, text: &Text) -> Result<(), AllocError
 {
     let bytes = text.as_str().as_bytes();
     put_int32(out, bytes.len() as u32)?;
-    out.put_slice(bytes)
+    put_bytes(out, bytes)
 }

@@ -6,10 +6,10 @@ ghost use Rattle.pgoutput.specs.Reading.{Gives};
 ghost use Rattle.pgoutput.specs.Insert.{insert, insert_at, IsShortInsert};
 
 use crate::fault::OutFault;
-use crate::fields::{due_of, put_byte, put_int32};
+use crate::fields::due_of;
 use crate::tuple::{Cell, put_tuple, tuple_of};
 use bytes::BytesMut;
-use frames::{Cursor, Items};
+use frames::{Cursor, Items, put_byte, put_int32};
 use std::alloc::{AllocError, Global};
 
 /// The kind byte of Insert.

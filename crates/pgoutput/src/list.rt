@@ -8,9 +8,8 @@ ghost use Rattle.frames.specs.Putting.{Puts};
 ghost use Rattle.pgoutput.specs.Reading.{Gives};
 
 use crate::fault::OutFault;
-use crate::fields::put_int16;
 use bytes::BytesMut;
-use frames::{Cursor, Items};
+use frames::{Cursor, Items, put_int16};
 use std::alloc::{AllocError, Global};
 
 /// What stands in a list, as it is read.

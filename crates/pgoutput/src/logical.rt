@@ -8,11 +8,10 @@ ghost use Rattle.pgoutput.specs.Logical.{SpellsLogical, FitsLogical, IsShort, St
 use crate::begin::{BEGIN, Begin, begin_of, put_begin};
 use crate::commit::{COMMIT, Commit, commit_of, put_commit};
 use crate::fault::OutFault;
-use crate::fields::put_byte;
 use crate::insert::{INSERT, Insert, insert_of, put_insert};
 use crate::relation::{RELATION, Relation, put_relation, relation_of};
 use bytes::BytesMut;
-use frames::Cursor;
+use frames::{Cursor, put_byte};
 use std::alloc::{AllocError, Global};
 
 /// A logical replication message.

@@ -6,12 +6,10 @@ ghost use Rattle.pgoutput.specs.Reading.{Gives};
 ghost use Rattle.pgoutput.specs.Relation.{identity_letter, identity_of, is_key_of, column_at, columns_at, relation, relation_at, IsShortRelation};
 
 use crate::fault::OutFault;
-use crate::fields::{
-    count16_of, name_of, put_byte, put_int32, put_name, put_signed32, signed32_of,
-};
+use crate::fields::{count16_of, name_of, put_signed32, signed32_of};
 use crate::list::{PutItem, ReadItem, items_of, put_items};
 use bytes::BytesMut;
-use frames::{Cursor, Items, Text};
+use frames::{Cursor, Items, Text, put_byte, put_int32, put_string};
 use std::alloc::{AllocError, Global};
 
 /// The kind byte of Relation.
@@ -134,8 +132,8 @@ pub(crate) fn put_relation(out: &mut BytesMut, message: &Relation) -> Result<(),
     ensures { Puts result out.old.items out.new.items (relation message.now) }
 {
     put_int32(out, message.oid)?;
-    put_name(out, &message.namespace)?;
-    put_name(out, &message.name)?;
+    put_string(out, message.namespace.as_str())?;
+    put_string(out, message.name.as_str())?;
     put_byte(out, letter_of(message.identity))?;
     put_items(out, message.columns.as_slice())?;
     Ok(())
@@ -172,7 +170,7 @@ impl PutItem for Column {
     #[tactic(auto, using(crate::proofs::Putting::extends_itself, crate::proofs::Putting::extends_more, crate::proofs::Putting::extends_back))]
     fn put(&self, out: &mut BytesMut) -> Result<(), AllocError> {
         put_byte(out, if self.is_key { KEY_FLAG } else { NO_FLAG })?;
-        put_name(out, &self.name)?;
+        put_string(out, self.name.as_str())?;
         put_int32(out, self.kind)?;
         put_signed32(out, self.modifier)?;
         Ok(())

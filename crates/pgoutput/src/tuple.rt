@@ -6,10 +6,10 @@ ghost use Rattle.pgoutput.specs.Reading.{Gives};
 ghost use Rattle.pgoutput.specs.Tuple.{cell_at, tuple, tuple_at, IsShortTuple};
 
 use crate::fault::OutFault;
-use crate::fields::{count16_of, put_byte, put_text, text_of};
+use crate::fields::{count16_of, put_text, text_of};
 use crate::list::{PutItem, ReadItem, items_of, put_items};
 use bytes::BytesMut;
-use frames::{Cursor, Items, Text};
+use frames::{Cursor, Items, Text, put_byte};
 use std::alloc::{AllocError, Global};
 
 /// The letters of the cells.
