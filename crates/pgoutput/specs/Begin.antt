@@ -1,7 +1,11 @@
 -- Begin (PostgreSQL 15, 55.9): B, the commit record's position, the commit time, the transaction's number.
-use Rattle.std.specs.Prelude.{ℕ, ◌<◌, ◌^◌, FitsSigned, List, ◌++◌}
-use Rattle.std.specs.Int.{w64, cast_unsigned}
-use Rattle.frames.specs.Fields.{int32, int64}
+use Rattle.std.specs.Prelude.{ℕ, ◌<◌, ◌^◌, FitsSigned, List, ◌++◌, Result, Ok}
+use Rattle.std.specs.Int.{w32, w64, cast_unsigned}
+use Rattle.frames.specs.Fields.{int32, int64, number_at}
+use Rattle.frames.specs.Steps.{◌>>=◌}
+use Rattle.pgoutput.specs.Reading.{short, signed64_at}
+use Rattle.pgoutput.specs.declared.fault.OutFault.{OutFault}
+use Rattle.pgoutput.specs.Stops.{FieldOf, In, number32, number64, signed64}
 use Rattle.pgoutput.specs.declared.begin.Begin.{Begin}
 
 abbrev pub begin : Begin → List ℕ
@@ -9,3 +13,17 @@ begin m = int64 m.position ++ (int64 (cast_unsigned w64 m.time) ++ int32 m.numbe
 
 abbrev pub FitsBegin : Begin → Type 0
 FitsBegin m = (m.position < 2 ^ 64) × (FitsSigned w64 m.time × (m.number < 2 ^ 32))
+
+unfoldable pub begin_at : List ℕ → Result (Begin × List ℕ) OutFault
+begin_at bytes = do
+  position ← short (number_at w64 bytes)
+  time ← signed64_at position.1
+  number ← short (number_at w32 time.1)
+  Ok (record { position = position.0; time = time.0; number = number.0 }, number.1)
+
+abbrev pub begin_field : FieldOf Begin
+begin_field = record {
+  text = begin;
+  Fits = FitsBegin;
+  Stops = In number64 (λ position. In signed64 (λ time. number32.Stops));
+}

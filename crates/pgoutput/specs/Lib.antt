@@ -1,3 +1,5 @@
+pub mod Reading
+pub mod Stops
 pub mod Begin
 pub mod Commit
 pub mod Relation

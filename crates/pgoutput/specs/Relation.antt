@@ -1,10 +1,14 @@
 -- Relation (PostgreSQL 15, 55.9): R, the table's OID, its namespace and name, its identity, the count of its columns,
 -- and for each column its flags (1: part of the key), its name, the OID of its type and the type modifier.
-use Rattle.std.specs.Prelude.{◌≡◌, ℕ, ◌<◌, ◌^◌, FitsSigned, Bool, true, false, List, [], ◌∷◌, ◌++◌, length}
+use Rattle.std.specs.Prelude.{◌≡◌, ℕ, ◌<◌, ◌^◌, ◌==◌, FitsSigned, Bool, true, false, List, [], ◌∷◌, ◌++◌, length, Option, Some, None, Result, Ok, if◌then◌else◌}
 use Rattle.std.specs.List.{flat_map, AllByRecursion}
 use Rattle.std.specs.Int.{w32, cast_unsigned}
 use Rattle.std.specs.Str.{is_utf8}
-use Rattle.frames.specs.Fields.{int16, int32, string, has_zero}
+use Rattle.frames.specs.Fields.{int16, int32, string, has_zero, number_at}
+use Rattle.frames.specs.Steps.{◌>>=◌, repeat_at}
+use Rattle.pgoutput.specs.Reading.{short, one_of, count16_at, signed32_at, name_at}
+use Rattle.pgoutput.specs.declared.fault.OutFault.{OutFault}
+use Rattle.pgoutput.specs.Stops.{FieldOf, In, letter_of, name_field, number32, signed32, list_field}
 use Rattle.pgoutput.specs.declared.relation.Relation.{Relation}
 use Rattle.pgoutput.specs.declared.relation.Column.{Column}
 use Rattle.pgoutput.specs.declared.relation.Identity.{Identity}
@@ -36,3 +40,52 @@ FitsColumn c = FitsName c.name × ((c.kind < 2 ^ 32) × FitsSigned w32 c.modifie
 
 abbrev pub FitsRelation : Relation → Type 0
 FitsRelation m = (m.oid < 2 ^ 32) × (FitsName m.namespace × (FitsName m.name × ((length m.columns < 2 ^ 15) × AllByRecursion FitsColumn m.columns)))
+
+-- what a writer asks: the count fits its field
+abbrev pub IsShortRelation : Relation → Type 0
+IsShortRelation m = length m.columns < 2 ^ 15
+
+abbrev pub identity_of : ℕ → Option Identity
+identity_of b =
+    if b == IDENTITY_DEFAULT then Some Default
+    else if b == IDENTITY_NOTHING then Some Nothing
+    else if b == IDENTITY_FULL then Some Full
+    else if b == IDENTITY_INDEX then Some Index
+    else None
+
+abbrev pub is_key_of : ℕ → Option Bool
+is_key_of b = if b == KEY_FLAG then Some true else if b == NO_FLAG then Some false else None
+
+unfoldable pub column_at : List ℕ → Result (Column × List ℕ) OutFault
+column_at bytes = do
+  is_key ← one_of is_key_of bytes
+  name ← name_at is_key.1
+  kind ← short (number_at w32 name.1)
+  modifier ← signed32_at kind.1
+  Ok (record { is_key = is_key.0; name = name.0; kind = kind.0; modifier = modifier.0 }, modifier.1)
+
+unfoldable pub columns_at : List ℕ → Result (List Column × List ℕ) OutFault
+columns_at bytes = count16_at bytes >>= λ n. repeat_at column_at n.0 n.1
+
+unfoldable pub relation_at : List ℕ → Result (Relation × List ℕ) OutFault
+relation_at bytes = do
+  oid ← short (number_at w32 bytes)
+  namespace ← name_at oid.1
+  name ← name_at namespace.1
+  identity ← one_of identity_of name.1
+  columns ← columns_at identity.1
+  Ok (record { oid = oid.0; namespace = namespace.0; name = name.0; identity = identity.0; columns = columns.0 }, columns.1)
+
+abbrev pub column_field : FieldOf Column
+column_field = record {
+  text = column;
+  Fits = FitsColumn;
+  Stops = In (letter_of key_flag) (λ flags. In name_field (λ name. In number32 (λ kind. signed32.Stops)));
+}
+
+abbrev pub relation_field : FieldOf Relation
+relation_field = record {
+  text = relation;
+  Fits = FitsRelation;
+  Stops = In number32 (λ oid. In name_field (λ namespace. In name_field (λ name. In (letter_of identity_letter) (λ identity. (list_field column_field).Stops))));
+}

@@ -1,9 +1,14 @@
 -- TupleData (PostgreSQL 15, 55.9): the count of the cells, and each cell: n for null, u for an unchanged value that
 -- isn't sent, or t, a length and that many bytes of text.
-use Rattle.std.specs.Prelude.{◌≡◌, ℕ, ◌<◌, ◌^◌, true, List, [], ◌∷◌, ◌++◌, length}
+use Rattle.std.specs.Prelude.{◌≡◌, ℕ, ◌<◌, ◌^◌, ◌==◌, true, List, [], ◌∷◌, ◌++◌, length, Result, Ok, Err, if◌then◌else◌}
 use Rattle.std.specs.List.{flat_map, AllByRecursion}
 use Rattle.std.specs.Str.{is_utf8}
-use Rattle.frames.specs.Fields.{int16, int32}
+use Rattle.frames.specs.Fields.{int16, int32, byte_at}
+use Rattle.frames.specs.Steps.{◌>>=◌, repeat_at}
+use Rattle.pgoutput.specs.Reading.{short, count16_at, text_at}
+use Rattle.pgoutput.specs.declared.fault.OutFault.{OutFault}
+use Rattle.pgoutput.specs.Stops.{FieldOf, ByFirst, Behind, NoOther, Nothing, text_field, list_field}
+use Rattle.pgoutput.specs.declared.fault.OutFault.TheVariants.{BadMark}
 use Rattle.pgoutput.specs.declared.tuple.Cell.{Cell}
 use Rattle.pgoutput.specs.declared.tuple.Cell.TheVariants as cells
 use Rattle.pgoutput.specs.declared.tuple.TheConstants.{NULL, UNCHANGED, TEXT}
@@ -29,3 +34,32 @@ FitsCell (cells.Text text) = FitsText text
 
 abbrev pub FitsTuple : List Cell → Type 0
 FitsTuple cells = (length cells < 2 ^ 15) × AllByRecursion FitsCell cells
+
+-- what a writer asks: the count and the lengths fit their fields
+abbrev pub IsShortCell : Cell → Type 0
+IsShortCell cells.Null = Unit {0}
+IsShortCell cells.Unchanged = Unit {0}
+IsShortCell (cells.Text text) = length text < 2 ^ 31
+
+abbrev pub IsShortTuple : List Cell → Type 0
+IsShortTuple cells = (length cells < 2 ^ 15) × AllByRecursion IsShortCell cells
+
+unfoldable pub cell_at : List ℕ → Result (Cell × List ℕ) OutFault
+cell_at bytes = short (byte_at bytes) >>= λ b.
+    if b.0 == NULL then Ok (cells.Null, b.1)
+    else if b.0 == UNCHANGED then Ok (cells.Unchanged, b.1)
+    else if b.0 == TEXT then (text_at b.1 >>= λ t. Ok (cells.Text t.0, t.1))
+    else Err BadMark
+
+unfoldable pub tuple_at : List ℕ → Result (List Cell × List ℕ) OutFault
+tuple_at bytes = count16_at bytes >>= λ n. repeat_at cell_at n.0 n.1
+
+abbrev pub cell_field : FieldOf Cell
+cell_field = record {
+  text = cell;
+  Fits = FitsCell;
+  Stops = ByFirst (Behind NULL Nothing (Behind UNCHANGED Nothing (Behind TEXT text_field.Stops (NoOther BadMark))));
+}
+
+abbrev pub tuple_field : FieldOf (List Cell)
+tuple_field = list_field cell_field

@@ -1,5 +1,16 @@
 //! Begin: a transaction's messages follow.
 
+ghost use Rattle.std.specs.Prelude.{◌≡◌};
+ghost use Rattle.frames.specs.Putting.{Puts};
+ghost use Rattle.pgoutput.specs.Reading.{Gives};
+ghost use Rattle.pgoutput.specs.Begin.{begin, begin_at};
+
+use crate::fault::OutFault;
+use crate::fields::{put_signed64, signed64_of};
+use bytes::BytesMut;
+use frames::{Cursor, put_int32, put_int64};
+use std::alloc::AllocError;
+
 /// The kind byte of Begin.
 pub const BEGIN: u8 = b'B';
 
@@ -12,4 +23,28 @@ pub struct Begin {
     pub time: i64,
     /// The transaction's number.
     pub number: u32,
+}
+
+#[tactic(auto, unfolding(crate::specs::Begin::begin_at))]
+pub(crate) fn begin_of(cursor: &mut Cursor<'_>) -> Result<Begin, OutFault>
+    ensures { Gives result cursor.new (begin_at cursor.old) }
+{
+    let position = cursor.u64().ok_or(OutFault::Short)?;
+    let time = signed64_of(cursor)?;
+    let number = cursor.u32().ok_or(OutFault::Short)?;
+    Ok(Begin {
+        position,
+        time,
+        number,
+    })
+}
+
+#[tactic(auto, using(crate::proofs::Putting::extends_itself, crate::proofs::Putting::extends_more, crate::proofs::Putting::extends_back))]
+pub(crate) fn put_begin(out: &mut BytesMut, message: &Begin) -> Result<(), AllocError>
+    ensures { Puts result out.old.items out.new.items (begin message.now) }
+{
+    put_int64(out, message.position)?;
+    put_signed64(out, message.time)?;
+    put_int32(out, message.number)?;
+    Ok(())
 }

@@ -1,5 +1,16 @@
 //! Commit: a transaction's messages are all there.
 
+ghost use Rattle.std.specs.Prelude.{◌≡◌};
+ghost use Rattle.frames.specs.Putting.{Puts};
+ghost use Rattle.pgoutput.specs.Reading.{Gives};
+ghost use Rattle.pgoutput.specs.Commit.{commit, commit_at};
+
+use crate::fault::OutFault;
+use crate::fields::{due_of, put_signed64, signed64_of};
+use bytes::BytesMut;
+use frames::{Cursor, put_byte, put_int64};
+use std::alloc::AllocError;
+
 /// The kind byte of Commit.
 pub const COMMIT: u8 = b'C';
 
@@ -15,4 +26,30 @@ pub struct Commit {
     pub end: u64,
     /// The commit time, in microseconds since 2000-01-01.
     pub time: i64,
+}
+
+#[tactic(auto, unfolding(crate::specs::Commit::commit_at))]
+pub(crate) fn commit_of(cursor: &mut Cursor<'_>) -> Result<Commit, OutFault>
+    ensures { Gives result cursor.new (commit_at cursor.old) }
+{
+    due_of(cursor, COMMIT_FLAGS)?;
+    let position = cursor.u64().ok_or(OutFault::Short)?;
+    let end = cursor.u64().ok_or(OutFault::Short)?;
+    let time = signed64_of(cursor)?;
+    Ok(Commit {
+        position,
+        end,
+        time,
+    })
+}
+
+#[tactic(auto, using(crate::proofs::Putting::extends_itself, crate::proofs::Putting::extends_more, crate::proofs::Putting::extends_back))]
+pub(crate) fn put_commit(out: &mut BytesMut, message: &Commit) -> Result<(), AllocError>
+    ensures { Puts result out.old.items out.new.items (commit message.now) }
+{
+    put_byte(out, COMMIT_FLAGS)?;
+    put_int64(out, message.position)?;
+    put_int64(out, message.end)?;
+    put_signed64(out, message.time)?;
+    Ok(())
 }

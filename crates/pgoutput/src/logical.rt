@@ -1,9 +1,18 @@
 //! A logical message: one kind byte, and the fields of its kind.
 
-use crate::begin::Begin;
-use crate::commit::Commit;
-use crate::insert::Insert;
-use crate::relation::Relation;
+ghost use Rattle.std.specs.Prelude.{◌≡◌, ◌≢◌, ◌⊎◌, ℕ, List, [], ◌++◌, Ok, Err, IfOk, IfErr, OnOk, OnErr};
+ghost use Rattle.frames.specs.Putting.{Puts};
+ghost use Rattle.pgoutput.specs.Reading.{Gives, Answers};
+ghost use Rattle.pgoutput.specs.Logical.{SpellsLogical, FitsLogical, IsShort, Stands, spell_logical, kind_byte, logical_at, whole_of};
+
+use crate::begin::{BEGIN, Begin, begin_of, put_begin};
+use crate::commit::{COMMIT, Commit, commit_of, put_commit};
+use crate::fault::OutFault;
+use crate::insert::{INSERT, Insert, insert_of, put_insert};
+use crate::relation::{RELATION, Relation, put_relation, relation_of};
+use bytes::BytesMut;
+use frames::{Cursor, put_byte};
+use std::alloc::{AllocError, Global};
 
 /// A logical replication message.
 #[derive(Debug, Drop, PartialEq)]
@@ -13,3 +22,95 @@ pub enum Logical {
     Relation(Relation),
     Insert(Insert),
 }
+
+/// The message that the bytes spell, all of them.
+///
+/// The leftmost fault is answered: O1 where the bytes end inside a field, O2 where no message has the first byte, O3 at
+/// a letter, flag, count or length that is none of its field, O4 at a text that isn't UTF-8, O5 at bytes behind the
+/// message; or O6, out of memory.
+pub fn read_logical(alloc: Global, bytes: &[u8]) -> Result<Logical, OutFault>
+    // What is read is spelled so.
+    ensures found { IfOk result (λ m. SpellsLogical bytes.now m) }
+    // What is spelled is read, unless memory runs out.
+    ensures only { (m : Logical) → SpellsLogical bytes.now m → Answers result (Ok m) }
+    // A fault stands in the bytes, behind fields that are spelled right.
+    ensures fault { IfErr result (λ e. Stands e bytes.now) }
+    // And where a fault stands it is answered, unless memory runs out before it.
+    ensures refused { (e : OutFault) → e ≢ OutFault.Memory → Stands e bytes.now → (result ≡ Err e) ⊎ (result ≡ Err OutFault.Memory) }
+    // A message that ends too soon is O1 and nothing else.
+    ensures cut { (text more : List ℕ) (m : Logical) → SpellsLogical text m → text ≡ bytes.now ++ more → more ≢ []
+        → (result ≡ Err OutFault.Short) ⊎ (result ≡ Err OutFault.Memory) }
+    // Which fault it is, in the order in which the fields are judged.
+    ensures exact { Answers result (whole_of bytes.now) }
+{
+    whole(alloc, bytes)
+}
+
+fn whole(alloc: Global, bytes: &[u8]) -> Result<Logical, OutFault>
+    ensures { Answers result (whole_of bytes.now) }
+{
+    let mut cursor = Cursor::new(bytes);
+    let message = logical_of(alloc, &mut cursor)?;
+    if cursor.rest().is_empty() {
+        return Ok(message);
+    }
+    Err(OutFault::Trailing)
+}
+
+#[tactic(auto, unfolding(crate::specs::Logical::logical_at))]
+fn logical_of(alloc: Global, cursor: &mut Cursor<'_>) -> Result<Logical, OutFault>
+    ensures { Gives result cursor.new (logical_at cursor.old) }
+{
+    match cursor.u8().ok_or(OutFault::Short)? {
+        BEGIN => Ok(Logical::Begin(begin_of(cursor)?)),
+        COMMIT => Ok(Logical::Commit(commit_of(cursor)?)),
+        RELATION => Ok(Logical::Relation(relation_of(alloc, cursor)?)),
+        INSERT => Ok(Logical::Insert(insert_of(alloc, cursor)?)),
+        _ => Err(OutFault::UnknownKind),
+    }
+}
+
+/// Adds the message at the end of `out`; refused, adds nothing.
+pub fn write_logical(message: &Logical, out: &mut BytesMut) -> Result<(), AllocError>
+    requires { IsShort message.now }
+    ensures ok { OnOk result (out.new.items ≡ out.old.items ++ spell_logical message.now) }
+    ensures err { OnErr result (out.new.items ≡ out.old.items) }
+{
+    let start = out.len();
+    let written = put_logical(out, message);
+    if written.is_err() {
+        out.truncate(start);
+    }
+    written
+}
+
+#[tactic(auto, using(crate::proofs::Putting::extends_itself, crate::proofs::Putting::extends_more, crate::proofs::Putting::extends_back))]
+fn put_logical(out: &mut BytesMut, message: &Logical) -> Result<(), AllocError>
+    requires { IsShort message.now }
+    ensures { Puts result out.old.items out.new.items (spell_logical message.now) }
+{
+    put_byte(out, kind_of(message))?;
+    match message {
+        Logical::Begin(message) => put_begin(out, message),
+        Logical::Commit(message) => put_commit(out, message),
+        Logical::Relation(message) => put_relation(out, message),
+        Logical::Insert(message) => put_insert(out, message),
+    }
+}
+
+fn kind_of(message: &Logical) -> u8
+    ensures { result ≡ kind_byte message.now }
+{
+    match message {
+        Logical::Begin(_) => BEGIN,
+        Logical::Commit(_) => COMMIT,
+        Logical::Relation(_) => RELATION,
+        Logical::Insert(_) => INSERT,
+    }
+}
+
+/// The law of the spellings: of two messages whose spellings begin the same bytes, one is the other. So a message has one
+/// spelling, no text spells two messages, and no spelling is a proper beginning of another.
+pub fn no_message_has_two_spellings()
+    ensures { (m n : Logical) (x y : List ℕ) → FitsLogical m → FitsLogical n → spell_logical m ++ x ≡ spell_logical n ++ y → (m ≡ n) × (x ≡ y) }
+{}

@@ -1,6 +1,16 @@
 //! Relation: what the columns of a table are, before the first message that names it.
 
-use frames::{Items, Text};
+ghost use Rattle.std.specs.Prelude.{◌≡◌};
+ghost use Rattle.frames.specs.Putting.{Puts};
+ghost use Rattle.pgoutput.specs.Reading.{Gives};
+ghost use Rattle.pgoutput.specs.Relation.{identity_letter, identity_of, is_key_of, column_at, columns_at, relation, relation_at, IsShortRelation};
+
+use crate::fault::OutFault;
+use crate::fields::{count16_of, name_of, put_signed32, signed32_of};
+use crate::list::{PutItem, ReadItem, items_of, put_items};
+use bytes::BytesMut;
+use frames::{Cursor, Items, Text, put_byte, put_int32, put_string};
+use std::alloc::{AllocError, Global};
 
 /// The kind byte of Relation.
 pub const RELATION: u8 = b'R';
@@ -48,4 +58,121 @@ pub struct Column {
     pub kind: u32,
     /// The type modifier, -1 for none.
     pub modifier: i32,
+}
+
+#[tactic(auto, unfolding(crate::specs::Relation::relation_at))]
+pub(crate) fn relation_of(alloc: Global, cursor: &mut Cursor<'_>) -> Result<Relation, OutFault>
+    ensures { Gives result cursor.new (relation_at cursor.old) }
+{
+    let oid = cursor.u32().ok_or(OutFault::Short)?;
+    let namespace = name_of(alloc, cursor)?;
+    let name = name_of(alloc, cursor)?;
+    let letter = cursor.u8().ok_or(OutFault::Short)?;
+    let identity = identity_by(letter).ok_or(OutFault::BadMark)?;
+    let columns = columns_of(alloc, cursor)?;
+    Ok(Relation {
+        oid,
+        namespace,
+        name,
+        identity,
+        columns,
+    })
+}
+
+fn identity_by(letter: u8) -> Option<Identity>
+    ensures { result ≡ identity_of letter }
+{
+    match letter {
+        IDENTITY_DEFAULT => Some(Identity::Default),
+        IDENTITY_NOTHING => Some(Identity::Nothing),
+        IDENTITY_FULL => Some(Identity::Full),
+        IDENTITY_INDEX => Some(Identity::Index),
+        _ => None,
+    }
+}
+
+#[tactic(auto, unfolding(crate::specs::Relation::columns_at))]
+fn columns_of(alloc: Global, cursor: &mut Cursor<'_>) -> Result<Items<Column>, OutFault>
+    ensures { Gives result cursor.new (columns_at cursor.old) }
+{
+    let count = count16_of(cursor)?;
+    items_of(alloc, cursor, count)
+}
+
+#[tactic(auto, unfolding(crate::specs::Relation::column_at))]
+fn column_of(alloc: Global, cursor: &mut Cursor<'_>) -> Result<Column, OutFault>
+    ensures { Gives result cursor.new (column_at cursor.old) }
+{
+    let flags = cursor.u8().ok_or(OutFault::Short)?;
+    let is_key = is_key_by(flags).ok_or(OutFault::BadMark)?;
+    let name = name_of(alloc, cursor)?;
+    let kind = cursor.u32().ok_or(OutFault::Short)?;
+    let modifier = signed32_of(cursor)?;
+    Ok(Column {
+        is_key,
+        name,
+        kind,
+        modifier,
+    })
+}
+
+fn is_key_by(flags: u8) -> Option<bool>
+    ensures { result ≡ is_key_of flags }
+{
+    match flags {
+        KEY_FLAG => Some(true),
+        NO_FLAG => Some(false),
+        _ => None,
+    }
+}
+
+#[tactic(auto, using(crate::proofs::Putting::extends_itself, crate::proofs::Putting::extends_more, crate::proofs::Putting::extends_back))]
+pub(crate) fn put_relation(out: &mut BytesMut, message: &Relation) -> Result<(), AllocError>
+    requires { IsShortRelation message.now }
+    ensures { Puts result out.old.items out.new.items (relation message.now) }
+{
+    put_int32(out, message.oid)?;
+    put_string(out, message.namespace.as_str())?;
+    put_string(out, message.name.as_str())?;
+    put_byte(out, letter_of(message.identity))?;
+    put_items(out, message.columns.as_slice())?;
+    Ok(())
+}
+
+fn letter_of(identity: Identity) -> u8
+    ensures { result ≡ identity_letter identity }
+{
+    match identity {
+        Identity::Default => IDENTITY_DEFAULT,
+        Identity::Nothing => IDENTITY_NOTHING,
+        Identity::Full => IDENTITY_FULL,
+        Identity::Index => IDENTITY_INDEX,
+    }
+}
+
+impl ReadItem for Column {
+    ghost use Rattle.pgoutput.specs.Relation.{column_at};
+
+    ghost item_at = { column_at };
+
+    fn read(alloc: Global, cursor: &mut Cursor<'_>) -> Result<Self, OutFault> {
+        column_of(alloc, cursor)
+    }
+}
+
+impl PutItem for Column {
+    ghost use Rattle.pgoutput.specs.Relation.{column};
+
+    ghost spelled = { column };
+
+    ghost is_short = { λ _. Unit {0} };
+
+    #[tactic(auto, using(crate::proofs::Putting::extends_itself, crate::proofs::Putting::extends_more, crate::proofs::Putting::extends_back))]
+    fn put(&self, out: &mut BytesMut) -> Result<(), AllocError> {
+        put_byte(out, if self.is_key { KEY_FLAG } else { NO_FLAG })?;
+        put_string(out, self.name.as_str())?;
+        put_int32(out, self.kind)?;
+        put_signed32(out, self.modifier)?;
+        Ok(())
+    }
 }

@@ -1,6 +1,16 @@
 //! Tuples: the values of a row as texts.
 
-use frames::Text;
+ghost use Rattle.std.specs.Prelude.{◌≡◌};
+ghost use Rattle.frames.specs.Putting.{Puts};
+ghost use Rattle.pgoutput.specs.Reading.{Gives};
+ghost use Rattle.pgoutput.specs.Tuple.{cell_at, tuple, tuple_at, IsShortTuple};
+
+use crate::fault::OutFault;
+use crate::fields::{count16_of, put_text, text_of};
+use crate::list::{PutItem, ReadItem, items_of, put_items};
+use bytes::BytesMut;
+use frames::{Cursor, Items, Text, put_byte};
+use std::alloc::{AllocError, Global};
 
 /// The letters of the cells.
 pub const NULL: u8 = b'n';
@@ -16,4 +26,61 @@ pub enum Cell {
     /// A long value that didn't change and isn't sent.
     Unchanged,
     Text(Text),
+}
+
+#[tactic(auto, unfolding(crate::specs::Tuple::cell_at))]
+fn cell_of(alloc: Global, cursor: &mut Cursor<'_>) -> Result<Cell, OutFault>
+    ensures { Gives result cursor.new (cell_at cursor.old) }
+{
+    match cursor.u8().ok_or(OutFault::Short)? {
+        NULL => Ok(Cell::Null),
+        UNCHANGED => Ok(Cell::Unchanged),
+        TEXT => Ok(Cell::Text(text_of(alloc, cursor)?)),
+        _ => Err(OutFault::BadMark),
+    }
+}
+
+#[tactic(auto, unfolding(crate::specs::Tuple::tuple_at))]
+pub(crate) fn tuple_of(alloc: Global, cursor: &mut Cursor<'_>) -> Result<Items<Cell>, OutFault>
+    ensures { Gives result cursor.new (tuple_at cursor.old) }
+{
+    let count = count16_of(cursor)?;
+    items_of(alloc, cursor, count)
+}
+
+pub(crate) fn put_tuple(out: &mut BytesMut, cells: &Items<Cell>) -> Result<(), AllocError>
+    requires { IsShortTuple cells.now }
+    ensures { Puts result out.old.items out.new.items (tuple cells.now) }
+{
+    put_items(out, cells.as_slice())
+}
+
+impl ReadItem for Cell {
+    ghost use Rattle.pgoutput.specs.Tuple.{cell_at};
+
+    ghost item_at = { cell_at };
+
+    fn read(alloc: Global, cursor: &mut Cursor<'_>) -> Result<Self, OutFault> {
+        cell_of(alloc, cursor)
+    }
+}
+
+impl PutItem for Cell {
+    ghost use Rattle.pgoutput.specs.Tuple.{cell, IsShortCell};
+
+    ghost spelled = { cell };
+
+    ghost is_short = { IsShortCell };
+
+    #[tactic(auto, using(crate::proofs::Putting::extends_itself, crate::proofs::Putting::extends_more, crate::proofs::Putting::extends_back))]
+    fn put(&self, out: &mut BytesMut) -> Result<(), AllocError> {
+        match self {
+            Cell::Null => put_byte(out, NULL),
+            Cell::Unchanged => put_byte(out, UNCHANGED),
+            Cell::Text(text) => {
+                put_byte(out, TEXT)?;
+                put_text(out, text)
+            }
+        }
+    }
 }

@@ -1,0 +1,17 @@
+-- A reader's loop over a count that ends at a fault.
+use Rattle.std.proofs.Common.{◌≡◌, ℕ, ◌-◌, ◌<◌, List, Result}
+use Rattle.frames.specs.Steps.{repeat_at}
+use Rattle.frames.proofs.Loop as loop
+use Rattle.frames.proofs.Loop.{with_front}
+use Rattle.pgoutput.specs.declared.fault.OutFault.{OutFault}
+use Rattle.pgoutput.specs.declared.fault.OutFault.TheVariants.{Short, UnknownKind, BadMark, BadText, Trailing, Memory}
+use Rattle.pgoutput.specs.Reading.{Fails}
+
+pub ends : {A : Type 0} (d : OutFault) (f : List ℕ → Result (A × List ℕ) OutFault) (front : List A) (count i : ℕ) (bytes : List ℕ) (total : Result (List A × List ℕ) OutFault)
+    → i < count → Fails d (f bytes) → with_front front (repeat_at f (count - i) bytes) ≡ total → Fails d total
+ends Short f front count i bytes total lt h so_far = loop.ends Short f front count i bytes total lt h so_far
+ends UnknownKind f front count i bytes total lt h so_far = loop.ends UnknownKind f front count i bytes total lt h so_far
+ends BadMark f front count i bytes total lt h so_far = loop.ends BadMark f front count i bytes total lt h so_far
+ends BadText f front count i bytes total lt h so_far = loop.ends BadText f front count i bytes total lt h so_far
+ends Trailing f front count i bytes total lt h so_far = loop.ends Trailing f front count i bytes total lt h so_far
+ends Memory f front count i bytes total lt h so_far = tt

@@ -1,0 +1,197 @@
+-- The laws of a whole message: what is read, what is spelled, and where each fault stands.
+use Rattle.std.proofs.Common.{◌≡◌, ◌≢◌, ℕ, zero, suc, ◌+◌, ◌≤◌, ◌<◌, List, [], ◌∷◌, ◌++◌, length, take, Result, Ok, Err, pos, refl, sym, ap, subst, ◌∙◌, arith, inl, inr}
+use Rattle.std.specs.Prelude.{◌⊎◌, IfOk, IfErr}
+use Rattle.std.proofs.lemmas.List.{append-nil, take_at, length-append}
+use Rattle.frames.specs.Steps.{◌>>=◌}
+use Rattle.frames.proofs.Codec.{IsBytes, bind_ok, done, ok_is}
+use Rattle.pgoutput.specs.declared.fault.OutFault.{OutFault}
+use Rattle.pgoutput.specs.declared.fault.OutFault.TheVariants.{Short, UnknownKind, BadMark, BadText, Trailing, Memory}
+use Rattle.pgoutput.specs.declared.logical.Logical.{Logical}
+use Rattle.pgoutput.specs.declared.logical.Logical.TheVariants as logical
+use Rattle.pgoutput.specs.declared.begin.TheConstants.{BEGIN}
+use Rattle.pgoutput.specs.declared.commit.TheConstants.{COMMIT}
+use Rattle.pgoutput.specs.declared.relation.TheConstants.{RELATION}
+use Rattle.pgoutput.specs.declared.relation.Identity.TheVariants.{Default}
+use Rattle.pgoutput.specs.declared.insert.TheConstants.{INSERT}
+use Rattle.pgoutput.specs.Reading.{Answers}
+use Rattle.pgoutput.specs.Logical.{logical_at, logical_field, alone, whole_of, spell_logical, kind_byte, FitsLogical, SpellsLogical, Stands}
+use Rattle.pgoutput.proofs.Engine.{bind_err}
+use Rattle.pgoutput.proofs.Wires.{logical_wire}
+use Rattle.pgoutput.proofs.Own.{IsFieldFault, is_own, in_begin, in_commit, in_relation, in_insert}
+
+-- ---- what is read and what is spelled
+
+left_alone : (m n : Logical) (rest : List ℕ) → alone m rest ≡ Ok n → (m ≡ n) × (rest ≡ [])
+left_alone m n [] e = (ok_is OutFault m n e, refl)
+left_alone m n (b ∷ rest) e = absurd cc
+
+whole_takes : (bytes : List ℕ) (m : Logical) → IsBytes bytes → whole_of bytes ≡ Ok m → SpellsLogical bytes m
+whole_takes bytes m fits e =
+    let a = bind_ok (logical_at bytes) (λ a. alone a.0 a.1) m e in
+    let t = logical_wire.codec.takes bytes a.0.0 a.0.1 fits a.1 in
+    let l = left_alone a.0.0 m a.0.1 a.2 in
+    let text : bytes ≡ spell_logical a.0.0 = t.0.parts ∙ ap (λ (r : List ℕ). spell_logical a.0.0 ++ r) l.1 ∙ append-nil (spell_logical a.0.0) in
+    let P : Logical → Type 0 = λ n. SpellsLogical bytes n in
+    subst P l.0 (record { in_range = t.1; text = text })
+
+whole_again : (bytes : List ℕ) (m : Logical) → SpellsLogical bytes m → whole_of bytes ≡ Ok m
+whole_again bytes m s =
+    let text : bytes ≡ spell_logical m ++ [] = s.text ∙ sym (append-nil (spell_logical m)) in
+    rw (text, logical_wire.codec.again m [] s.in_range) refl
+
+pub is_found : (bytes : List ℕ) (result : Result Logical OutFault) → IsBytes bytes → Answers result (whole_of bytes) → IfOk result (λ m. SpellsLogical bytes m)
+is_found bytes (Ok m) fits e = whole_takes bytes m fits e
+is_found bytes (Err d) fits e = tt
+
+-- the answer is what reading gives, or memory ran out
+answered : (result read : Result Logical OutFault) → Answers result read → (read ≡ result) ⊎ (result ≡ Err Memory)
+answered (Ok m) read e = inl e
+answered (Err Short) read e = inl e
+answered (Err UnknownKind) read e = inl e
+answered (Err BadMark) read e = inl e
+answered (Err BadText) read e = inl e
+answered (Err Trailing) read e = inl e
+answered (Err Memory) read e = inr refl
+
+pub is_only : (bytes : List ℕ) (result : Result Logical OutFault) → Answers result (whole_of bytes) → (m : Logical) → SpellsLogical bytes m → Answers result (Ok m)
+is_only bytes result e m s = subst (λ (read : Result Logical OutFault). Answers result read) (whole_again bytes m s) e
+
+-- ---- where a fault stands
+
+-- in the fields behind this kind byte, or behind another
+past : {Is Here Other Others R : Type 0} → (Here → R) → (Is × Here) ⊎ (Other × Others) → (Other → Others → R) → R
+past here s others = elim s [
+  | inl a ↦ here a.1
+  | inr a ↦ others a.0 a.1
+]
+
+no_message : (b : ℕ) → b ≢ BEGIN → b ≢ COMMIT → b ≢ RELATION → b ≢ INSERT → (m : Logical) → kind_byte m ≢ b
+no_message b begin commit relation insert (logical.Begin m) = λ same. begin (sym same)
+no_message b begin commit relation insert (logical.Commit m) = λ same. commit (sym same)
+no_message b begin commit relation insert (logical.Relation m) = λ same. relation (sym same)
+no_message b begin commit relation insert (logical.Insert m) = λ same. insert (sym same)
+
+judged : (bytes : List ℕ) (e : OutFault) → logical_field.Stops e bytes → IsFieldFault e ⊎ ((e ≡ UnknownKind) × Stands UnknownKind bytes)
+judged bytes e s = elim s [
+  | inl short ↦ inl (is_own Short e short.0 tt)
+  | inr a ↦
+      past (λ here. inl (in_begin.own e a.1 here)) a.3 (λ begin s.
+      past (λ here. inl (in_commit.own e a.1 here)) s (λ commit s.
+      past (λ here. inl (in_relation.own e a.1 here)) s (λ relation s.
+      past (λ here. inl (in_insert.own e a.1 here)) s (λ insert s.
+      inr (s, (a.0, a.1, a.2, no_message a.0 begin commit relation insert))))))
+]
+
+-- a message of each kind
+a_begin : Logical
+a_begin = logical.Begin (record { position = 0; time = pos 0; number = 0 })
+
+a_commit : Logical
+a_commit = logical.Commit (record { position = 0; end = 0; time = pos 0 })
+
+a_relation : Logical
+a_relation = logical.Relation (record { oid = 0; namespace = []; name = []; identity = Default; columns = [] })
+
+an_insert : Logical
+an_insert = logical.Insert (record { oid = 0; new = [] })
+
+kind_stops : (bytes : List ℕ) → Stands UnknownKind bytes → logical_field.Stops UnknownKind bytes
+unfolding a_begin a_commit a_relation an_insert
+kind_stops bytes s = inr (
+  s.0,
+  s.1,
+  s.2,
+  inr (
+    λ same. s.3 a_begin (sym same),
+    inr (
+      λ same. s.3 a_commit (sym same),
+      inr (
+        λ same. s.3 a_relation (sym same),
+        inr (
+          λ same. s.3 an_insert (sym same),
+          refl,
+        ),
+      ),
+    ),
+  ),
+)
+
+field_fault : (bytes : List ℕ) (e : OutFault) → logical_field.Stops e bytes → IsFieldFault e → Stands e bytes
+field_fault bytes Short s own = s
+field_fault bytes BadMark s own = s
+field_fault bytes BadText s own = s
+field_fault bytes UnknownKind s own = absurd own
+field_fault bytes Trailing s own = absurd own
+field_fault bytes Memory s own = absurd own
+
+behind_message : (m : Logical) (rest : List ℕ) (e : OutFault) → alone m rest ≡ Err e → (e ≡ Trailing) × (rest ≢ [])
+behind_message m [] e is = absurd cc
+behind_message m (b ∷ rest) e is = let same : Trailing ≡ e = cc in (sym same, λ none. absurd cc)
+
+left_over : (m : Logical) (rest : List ℕ) → rest ≢ [] → alone m rest ≡ Err Trailing
+left_over m [] some = absurd (some refl)
+left_over m (b ∷ rest) some = refl
+
+whole_stops : (bytes : List ℕ) (e : OutFault) → IsBytes bytes → whole_of bytes ≡ Err e → Stands e bytes
+whole_stops bytes e fits is =
+    elim (bind_err (logical_at bytes) (λ a. alone a.0 a.1) e is) [
+      | inl here ↦ let s = logical_wire.stops bytes e fits here in
+          elim (judged bytes e s) [
+            | inl own ↦ field_fault bytes e s own
+            | inr kind ↦ subst (λ (d : OutFault). Stands d bytes) (sym kind.0) kind.1
+          ]
+      | inr a ↦
+          let t = logical_wire.codec.takes bytes a.0.0 a.0.1 fits a.1 in
+          let over = behind_message a.0.0 a.0.1 e a.2 in
+          subst (λ (d : OutFault). Stands d bytes) (sym over.0) (a.0.0, a.0.1, t.1, t.0.parts, over.1)
+    ]
+
+whole_stands : (bytes : List ℕ) (e : OutFault) → e ≢ Memory → Stands e bytes → whole_of bytes ≡ Err e
+whole_stands bytes Short some s = rw (logical_wire.stands bytes Short s) refl
+whole_stands bytes BadMark some s = rw (logical_wire.stands bytes BadMark s) refl
+whole_stands bytes BadText some s = rw (logical_wire.stands bytes BadText s) refl
+whole_stands bytes UnknownKind some s = rw (logical_wire.stands bytes UnknownKind (kind_stops bytes s)) refl
+whole_stands bytes Trailing some s = rw (s.3, logical_wire.codec.again s.0 s.1 s.2) (left_over s.0 s.1 s.4)
+whole_stands bytes Memory some s = absurd (some refl)
+
+pub is_fault : (bytes : List ℕ) (result : Result Logical OutFault) → IsBytes bytes → Answers result (whole_of bytes) → IfErr result (λ e. Stands e bytes)
+is_fault bytes (Ok m) fits a = tt
+is_fault bytes (Err e) fits a = elim (answered (Err e) (whole_of bytes) a) [
+  | inl is ↦ whole_stops bytes e fits is
+  | inr memory ↦ let same : e ≡ Memory = cc in subst (λ (d : OutFault). Stands d bytes) (sym same) tt
+]
+
+refused_so : (bytes : List ℕ) (result : Result Logical OutFault) (e : OutFault) → Answers result (whole_of bytes) → whole_of bytes ≡ Err e → (result ≡ Err e) ⊎ (result ≡ Err Memory)
+refused_so bytes result e a is = elim (answered result (whole_of bytes) a) [
+  | inl same ↦ inl (sym same ∙ is)
+  | inr memory ↦ inr memory
+]
+
+pub is_refused : (bytes : List ℕ) (result : Result Logical OutFault) → Answers result (whole_of bytes) → (e : OutFault) → e ≢ Memory → Stands e bytes
+    → (result ≡ Err e) ⊎ (result ≡ Err Memory)
+is_refused bytes result a e some s = refused_so bytes result e a (whole_stands bytes e some s)
+
+-- ---- a message that ends too soon
+
+pub is_cut : (bytes : List ℕ) (result : Result Logical OutFault) → Answers result (whole_of bytes) → (text more : List ℕ) (m : Logical) → SpellsLogical text m → text ≡ bytes ++ more → more ≢ []
+    → (result ≡ Err Short) ⊎ (result ≡ Err Memory)
+is_cut bytes result a text more m s parts some =
+    let spelled : spell_logical m ≡ bytes ++ more = sym s.text ∙ parts in
+    let front : take (length bytes) (spell_logical m) ≡ bytes = ap (take (length bytes)) spelled ∙ take_at bytes more (length bytes) refl in
+    let less : length bytes < length (spell_logical m) = omega (arith, ap (length {A = ℕ}) spelled, length-append bytes more, not_empty more some) in
+    let short : logical_at bytes ≡ Err Short = ap logical_at (sym front) ∙ logical_wire.cut m (length bytes) s.in_range less in
+    refused_so bytes result Short a (rw short refl)
+  where
+    not_empty : (xs : List ℕ) → xs ≢ [] → 0 < length xs
+    not_empty [] some = absurd (some refl)
+    not_empty (x ∷ xs) some = omega arith
+
+-- ---- one spelling
+
+pub two_spellings : (m n : Logical) (x y : List ℕ) → FitsLogical m → FitsLogical n → spell_logical m ++ x ≡ spell_logical n ++ y → (m ≡ n) × (x ≡ y)
+two_spellings m n x y m_fits n_fits same =
+    let one : logical_at (spell_logical n ++ y) ≡ Ok (m, x) = ap logical_at (sym same) ∙ logical_wire.codec.again m x m_fits in
+    let other : logical_at (spell_logical n ++ y) ≡ Ok (n, y) = logical_wire.codec.again n y n_fits in
+    let both : Logical × List ℕ = (m, x) in
+    let pairs = ok_is OutFault both (n, y) (sym one ∙ other) in
+    (ap (λ (p : Logical × List ℕ). p.0) pairs, ap (λ (p : Logical × List ℕ). p.1) pairs)

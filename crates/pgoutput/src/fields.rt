@@ -1,0 +1,104 @@
+//! The fields of which messages are made.
+
+ghost use Rattle.std.specs.Prelude.{◌≡◌, ◌^◌, ◌<◌, length};
+ghost use Rattle.std.specs.Int.{w32, w64, cast_unsigned};
+ghost use Rattle.frames.specs.Fields.{int32, int64};
+ghost use Rattle.frames.specs.Putting.{Puts};
+ghost use Rattle.pgoutput.specs.Reading.{Gives, due, count16_at, count32_at, signed32_at, signed64_at, name_at, text_at};
+ghost use Rattle.pgoutput.specs.Tuple.{counted_text};
+
+use crate::fault::OutFault;
+use bytes::BytesMut;
+use frames::{Cursor, Text, put_bytes, put_int32, put_int64, utf8_of};
+use std::alloc::{AllocError, Global};
+
+/// Moves past this letter; another one is O3.
+pub(crate) fn due_of(cursor: &mut Cursor<'_>, letter: u8) -> Result<(), OutFault>
+    ensures { Gives result cursor.new (due letter cursor.old) }
+{
+    let found = cursor.u8().ok_or(OutFault::Short)?;
+    if found != letter {
+        return Err(OutFault::BadMark);
+    }
+    Ok(())
+}
+
+/// A count of two bytes; one with its top bit set is O3.
+pub(crate) fn count16_of(cursor: &mut Cursor<'_>) -> Result<u16, OutFault>
+    ensures { Gives result cursor.new (count16_at cursor.old) }
+{
+    let count = cursor.u16().ok_or(OutFault::Short)?;
+    if count < 1 << 15 {
+        return Ok(count);
+    }
+    Err(OutFault::BadMark)
+}
+
+/// A length of four bytes; one with its top bit set is O3.
+pub(crate) fn count32_of(cursor: &mut Cursor<'_>) -> Result<u32, OutFault>
+    ensures { Gives result cursor.new (count32_at cursor.old) }
+{
+    let count = cursor.u32().ok_or(OutFault::Short)?;
+    if count < 1 << 31 {
+        return Ok(count);
+    }
+    Err(OutFault::BadMark)
+}
+
+pub(crate) fn signed32_of(cursor: &mut Cursor<'_>) -> Result<i32, OutFault>
+    ensures { Gives result cursor.new (signed32_at cursor.old) }
+{
+    let number = cursor.u32().ok_or(OutFault::Short)?;
+    Ok(number.cast_signed())
+}
+
+pub(crate) fn signed64_of(cursor: &mut Cursor<'_>) -> Result<i64, OutFault>
+    ensures { Gives result cursor.new (signed64_at cursor.old) }
+{
+    let number = cursor.u64().ok_or(OutFault::Short)?;
+    Ok(number.cast_signed())
+}
+
+/// The text up to a zero byte; one that isn't UTF-8 is O4.
+#[tactic(auto, unfolding(crate::specs::Reading::name_at))]
+pub(crate) fn name_of(alloc: Global, cursor: &mut Cursor<'_>) -> Result<Text, OutFault>
+    ensures { Gives result cursor.new (name_at cursor.old) }
+{
+    let bytes = cursor.cstr().ok_or(OutFault::Short)?;
+    let text = utf8_of(bytes).ok_or(OutFault::BadText)?;
+    Ok(Text::copy_of(alloc, text)?)
+}
+
+/// The text behind a length; one that isn't UTF-8 is O4.
+#[tactic(auto, unfolding(crate::specs::Reading::text_at))]
+pub(crate) fn text_of(alloc: Global, cursor: &mut Cursor<'_>) -> Result<Text, OutFault>
+    ensures { Gives result cursor.new (text_at cursor.old) }
+{
+    let len = count32_of(cursor)?;
+    let bytes = cursor.take(len as usize).ok_or(OutFault::Short)?;
+    let text = utf8_of(bytes).ok_or(OutFault::BadText)?;
+    Ok(Text::copy_of(alloc, text)?)
+}
+
+pub(crate) fn put_signed32(out: &mut BytesMut, number: i32) -> Result<(), AllocError>
+    ensures { Puts result out.old.items out.new.items (int32 (cast_unsigned w32 number)) }
+{
+    put_int32(out, number.cast_unsigned())
+}
+
+pub(crate) fn put_signed64(out: &mut BytesMut, number: i64) -> Result<(), AllocError>
+    ensures { Puts result out.old.items out.new.items (int64 (cast_unsigned w64 number)) }
+{
+    put_int64(out, number.cast_unsigned())
+}
+
+/// A text behind its length.
+#[tactic(auto, using(crate::proofs::Putting::extends_itself, crate::proofs::Putting::extends_more, crate::proofs::Putting::extends_back))]
+pub(crate) fn put_text(out: &mut BytesMut, text: &Text) -> Result<(), AllocError>
+    requires { length text.now < 2 ^ 31 }
+    ensures { Puts result out.old.items out.new.items (counted_text text.now) }
+{
+    let bytes = text.as_str().as_bytes();
+    put_int32(out, bytes.len() as u32)?;
+    put_bytes(out, bytes)
+}

@@ -1,0 +1,66 @@
+//! Lists: a count of two bytes, and that many items.
+
+ghost use Rattle.std.specs.Prelude.{◌≡◌, ◌^◌, ◌<◌, ◌++◌, length, take};
+ghost use Rattle.std.specs.List.{flat_map, AllByRecursion};
+ghost use Rattle.frames.specs.Fields.{int16};
+ghost use Rattle.frames.specs.Steps.{repeat_at};
+ghost use Rattle.frames.specs.Putting.{Puts};
+ghost use Rattle.pgoutput.specs.Reading.{Gives};
+
+use crate::fault::OutFault;
+use bytes::BytesMut;
+use frames::{Cursor, Items, put_int16};
+use std::alloc::{AllocError, Global};
+
+/// What stands in a list, as it is read.
+pub(crate) trait ReadItem: Sized {
+    ghost use Rattle.std.specs.Prelude.{List, ℕ, Result};
+    ghost use Rattle.pgoutput.specs.declared.fault.OutFault.{OutFault};
+
+    ghost item_at: { List ℕ → Result (Self × List ℕ) OutFault };
+
+    fn read(alloc: Global, cursor: &mut Cursor<'_>) -> Result<Self, OutFault>
+        ensures { Gives result cursor.new (item_at cursor.old) };
+}
+
+pub(crate) fn items_of<T: ReadItem + Drop>(
+    alloc: Global,
+    cursor: &mut Cursor<'_>,
+    count: u16,
+) -> Result<Items<T>, OutFault>
+    ensures { Gives result cursor.new (repeat_at T.item_at count cursor.old) }
+{
+    let mut items = Vec::new(alloc);
+    for _ in 0..count {
+        let item = T::read(alloc, cursor)?;
+        items.push(item)?;
+    }
+    Ok(Items::new(items))
+}
+
+/// What stands in a list, as it is written.
+pub(crate) trait PutItem {
+    ghost use Rattle.std.specs.Prelude.{List, ℕ};
+
+    ghost spelled: { Self → List ℕ };
+
+    ghost is_short: { Self → Type 0 };
+
+    fn put(&self, out: &mut BytesMut) -> Result<(), AllocError>
+        requires { is_short self.now }
+        ensures { Puts result out.old.items out.new.items (spelled self.now) };
+}
+
+/// The count of the items, and each item.
+#[tactic(auto, using(crate::proofs::Putting::extends_itself, crate::proofs::Putting::extends_more, crate::proofs::Putting::extends_back))]
+pub(crate) fn put_items<T: PutItem>(out: &mut BytesMut, items: &[T]) -> Result<(), AllocError>
+    requires count { length items.now < 2 ^ 15 }
+    requires each { AllByRecursion T.is_short items.now }
+    ensures { Puts result out.old.items out.new.items (int16 (length items.now) ++ flat_map T.spelled items.now) }
+{
+    put_int16(out, items.len() as u16)?;
+    for item in items {
+        item.put(out)?;
+    }
+    Ok(())
+}
