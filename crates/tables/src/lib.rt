@@ -12,7 +12,8 @@ mod table;
 mod value;
 
 pub use body::{
-    BOOL_TAG, INSERT_TAG, INT4_TAG, INT8_TAG, MAX_BODY_LENGTH, NULL_TAG, TEXT_TAG, body_len, write_body,
+    BOOL_TAG, INSERT_TAG, INT4_TAG, INT8_TAG, MAX_BODY_LENGTH, NULL_TAG, TEXT_TAG, body_len,
+    write_body,
 };
 pub use catalog::Catalog;
 pub use change::Change;

@@ -3,9 +3,11 @@
 
 mod fault;
 mod limits;
+mod live;
 mod log;
 mod receipt;
 mod record;
+mod running;
 mod tx;
 
 pub use fault::SessionFault;
