@@ -170,6 +170,11 @@ abbrev pub JudgedBack : {A T : Type 0} → Option SessionFault → Result A (T �
 JudgedBack refusal (Ok x) = refusal ≡ None
 JudgedBack refusal (Err back) = JudgedFault refusal back.1
 
+-- a test of a call: it is Ok exactly where there is no refusal
+abbrev pub Refuses : {A : Type 0} → Option SessionFault → Result A SessionFault → Type 0
+Refuses refusal (Ok x) = refusal ≡ None
+Refuses refusal (Err fault) = refusal ≡ Some fault
+
 -- the text of a fault's code
 abbrev pub code_of : SessionFault → List ℕ
 code_of faults.UnknownTable = codes "S1"
