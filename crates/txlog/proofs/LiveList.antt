@@ -1,8 +1,9 @@
 -- The live transactions as a list: one found, changed or taken out by its number.
-use Rattle.std.proofs.Common.{◌≡◌, ℕ, zero, suc, ◌+◌, ◌-◌, ◌<◌, ◌≤◌, ◌==◌, eqb, Bool, true, false, cond, ◌||◌, not, List, [], ◌∷◌, ◌++◌, length, get_or, set, Option, Some, None, refl, sym, ap, subst, ◌∙◌, arith, eq-eqb}
-use Rattle.std.specs.List.{filter, list_any, position, position_from, AllByRecursion}
+use Rattle.std.proofs.Common.{◌≡◌, ℕ, zero, suc, ◌+◌, ◌-◌, ◌<◌, ◌==◌, Bool, true, false, cond, ◌||◌, not, List, [], ◌∷◌, ◌++◌, length, take, get_or, set, Some, None, refl, sym, ap, subst, ◌∙◌, arith, eq-eqb}
+use Rattle.std.specs.List.{position, position_from, AllByRecursion}
 use Rattle.std.proofs.lemmas.Iterator.Adapters.{position_from-zero}
 use Rattle.std.proofs.lemmas.List.Quantifiers.{position-Some}
+use Rattle.std.proofs.Math.Seq.{take-append_seam}
 use Rattle.std.proofs.lemmas.Bool.{eqb-true, eqb-false, ne_eqb}
 use Rattle.txlog.specs.Log.{last_of}
 use Rattle.txlog.specs.Publishing.{Open, is_live, savepoints_of, with_savepoints, without}
@@ -177,3 +178,56 @@ last_at y (x ∷ []) lt = refl
 last_at y (x ∷ z ∷ xs) lt =
     let e : length (x ∷ z ∷ xs) - 1 ≡ suc (length (z ∷ xs) - 1) = omega arith in
     rw e (last_at x (z ∷ xs) (omega arith))
+
+-- PUSHED AND TAKEN OFF
+
+with-here : (number : ℕ) (xs : List ℕ) (o : Open) (live : List Open) → (o.number == number) ≡ true → with_savepoints number xs (o ∷ live) ≡ record { number = o.number; savepoints = xs } ∷ live
+with-here number xs o live is = rw is refl
+
+with-later : (number : ℕ) (xs : List ℕ) (o : Open) (live : List Open) → (o.number == number) ≡ false → with_savepoints number xs (o ∷ live) ≡ o ∷ with_savepoints number xs live
+with-later number xs o live is = rw is refl
+
+of-here : (number : ℕ) (o : Open) (live : List Open) → (o.number == number) ≡ true → savepoints_of number (o ∷ live) ≡ o.savepoints
+of-here number o live is = rw is refl
+
+of-later : (number : ℕ) (o : Open) (live : List Open) → (o.number == number) ≡ false → savepoints_of number (o ∷ live) ≡ savepoints_of number live
+of-later number o live is = rw is refl
+
+with-again : (number : ℕ) (xs ys : List ℕ) (live : List Open) → with_savepoints number ys (with_savepoints number xs live) ≡ with_savepoints number ys live
+with-again number xs ys [] = refl
+with-again number xs ys (o ∷ live) = by_test (o.number == number) refl (with-again number xs ys live)
+  where
+    by_test : (b : Bool) → (o.number == number) ≡ b → with_savepoints number ys (with_savepoints number xs live) ≡ with_savepoints number ys live →
+        with_savepoints number ys (with_savepoints number xs (o ∷ live)) ≡ with_savepoints number ys (o ∷ live)
+    by_test true is rest = ap (with_savepoints number ys) (with-here number xs o live is) ∙ with-here number ys (record { number = o.number; savepoints = xs }) live is ∙ sym (with-here number ys o live is)
+    by_test false is rest = ap (with_savepoints number ys) (with-later number xs o live is) ∙ with-later number ys o (with_savepoints number xs live) is ∙ ap (λ ls. o ∷ ls) rest ∙ sym (with-later number ys o live is)
+
+of-with : (number : ℕ) (xs : List ℕ) (live : List Open) → is_live number live ≡ true → savepoints_of number (with_savepoints number xs live) ≡ xs
+of-with number xs [] is = let never : false ≡ true = is in cc
+of-with number xs (o ∷ live) is = by_test (o.number == number) refl is (of-with number xs live)
+  where
+    by_test : (b : Bool) → (o.number == number) ≡ b → (b || is_live number live) ≡ true → (is_live number live ≡ true → savepoints_of number (with_savepoints number xs live) ≡ xs) →
+        savepoints_of number (with_savepoints number xs (o ∷ live)) ≡ xs
+    by_test true is any rest = ap (savepoints_of number) (with-here number xs o live is) ∙ of-here number (record { number = o.number; savepoints = xs }) live is
+    by_test false is any rest = ap (savepoints_of number) (with-later number xs o live is) ∙ of-later number o (with_savepoints number xs live) is ∙ rest any
+
+with-own : (number : ℕ) (live : List Open) → with_savepoints number (savepoints_of number live) live ≡ live
+with-own number [] = refl
+with-own number (o ∷ live) = by_test (o.number == number) refl (with-own number live)
+  where
+    by_test : (b : Bool) → (o.number == number) ≡ b → with_savepoints number (savepoints_of number live) live ≡ live →
+        with_savepoints number (savepoints_of number (o ∷ live)) (o ∷ live) ≡ o ∷ live
+    by_test true is rest = ap (λ xs. with_savepoints number xs (o ∷ live)) (of-here number o live is) ∙ with-here number o.savepoints o live is
+    by_test false is rest = ap (λ xs. with_savepoints number xs (o ∷ live)) (of-later number o live is) ∙ with-later number (savepoints_of number live) o live is ∙ ap (λ ls. o ∷ ls) rest
+
+-- a savepoint that was pushed is taken off again
+pub restored : (number y n : ℕ) (live more less : List Open) → is_live number live ≡ true → n ≡ length (savepoints_of number live) →
+    more ≡ with_savepoints number (savepoints_of number live ++ y ∷ []) live → less ≡ with_savepoints number (take n (savepoints_of number more)) more → less ≡ live
+restored number y n live more less is at pushed cut =
+    let xs : List ℕ = savepoints_of number live ++ y ∷ [] in
+    cut
+    ∙ ap (λ ls. with_savepoints number (take n (savepoints_of number ls)) ls) pushed
+    ∙ ap (λ ys. with_savepoints number (take n ys) (with_savepoints number xs live)) (of-with number xs live is)
+    ∙ with-again number xs (take n xs) live
+    ∙ ap (λ ys. with_savepoints number ys live) (ap (λ m. take m xs) at ∙ take-append_seam (savepoints_of number live) (y ∷ []))
+    ∙ with-own number live

@@ -6,10 +6,9 @@ use Rattle.txlog.specs.declared.limits.TheConstants.{MAX_DEPTH}
 use Rattle.txlog.specs.declared.record.Record.{Record}
 use Rattle.txlog.specs.declared.record.Body.{Body}
 use Rattle.txlog.specs.declared.record.Body.TheVariants.{Assign, Change as Changed, AbortSub, Abort, Commit}
-use Rattle.txlog.specs.Log.{names, assigns, is_assigned, chain_step, chain, last_of, top_of, undoes, is_undone, is_dropped, ends, has_ended, IsOpen}
+use Rattle.txlog.specs.Log.{assigns, is_assigned, chain_step, chain, last_of, top_of, undoes, is_undone, ends, IsOpen}
 use Rattle.txlog.specs.Publishing.{Open}
 use Rattle.txlog.specs.Invariants.{IsNested, IsInProgress, numbers_of}
-use Rattle.txlog.proofs.Lists.{or_false}
 use Rattle.txlog.proofs.LiveList.{all_append}
 use Rattle.txlog.proofs.Laws.{has_ended-one, is_assigned-one, is_undone-one, chain-append, chain-unassigned}
 

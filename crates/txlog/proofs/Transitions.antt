@@ -1,9 +1,9 @@
 -- What is true of a publisher stays true with each call.
-use Rattle.std.proofs.Common.{◌≡◌, ℕ, ℤ, suc, ◌+◌, ◌-◌, ◌*◌, ◌^◌, ◌<◌, ◌≤◌, ◌==◌, Bool, true, false, cond, ◌&&◌, ◌||◌, not, List, [], ◌∷◌, ◌++◌, length, take, get_or, refl, sym, ap, subst, ◌∙◌, arith, eq-eqb, length-append, lit<}
-use Rattle.std.specs.Prelude.{FitsSigned, slice_index}
+use Rattle.std.proofs.Common.{◌≡◌, ℕ, ℤ, ◌+◌, ◌-◌, ◌^◌, ◌<◌, ◌≤◌, ◌==◌, Bool, true, false, ◌||◌, List, [], ◌∷◌, ◌++◌, length, take, get_or, refl, ap, subst, ◌∙◌, arith, eq-eqb, length-append}
+use Rattle.std.specs.Prelude.{FitsSigned}
 use Rattle.std.specs.Int.{w64}
-use Rattle.std.specs.List.{filter, list_any, AllByRecursion}
-use Rattle.std.proofs.lemmas.Bool.{eqb-true, eqb-false, ne_eqb}
+use Rattle.std.specs.List.{list_any, AllByRecursion}
+use Rattle.std.proofs.lemmas.Bool.{ne_eqb}
 use Rattle.tables.specs.declared.table.Table.{Table}
 use Rattle.tables.specs.declared.change.Change.{Change}
 use Rattle.tables.specs.Tables.{FitsChange}
@@ -12,10 +12,9 @@ use Rattle.txlog.specs.declared.record.TheConstants.{FIRST_POSITION, FIRST_NUMBE
 use Rattle.txlog.specs.declared.record.Record.{Record}
 use Rattle.txlog.specs.declared.record.Body.{Body}
 use Rattle.txlog.specs.declared.record.Body.TheVariants.{Assign, Change as Changed, AbortSub, Abort, Commit}
-use Rattle.txlog.specs.Log.{IsWellFormedLog, IsLogInRange, IsSized, IsOpen, IsNext, FitsBody, FitsRecord, WellFormedAfter, size_of, follows, end_of, names, is_named, assigns, is_assigned, chain, last_of, top_of, undoes, is_undone, ends, has_ended}
-use Rattle.txlog.specs.Publishing.{Open, PublisherState, record_after, with_record, room, is_live, savepoints_of, innermost, with_savepoints, without, begun, changed, saved, released, rolled_back, ended, after_commit, after_abort}
-use Rattle.txlog.specs.Invariants.{IsLog, IsNested, IsInProgress, IsRising, IsPublisher, numbers_of}
-use Rattle.txlog.proofs.Lists.{or_false}
+use Rattle.txlog.specs.Log.{IsSized, IsOpen, IsNext, FitsBody, FitsRecord, size_of, end_of, names, is_named, assigns, is_assigned, chain, last_of, top_of, undoes, is_undone, ends}
+use Rattle.txlog.specs.Publishing.{Open, PublisherState, record_after, room, is_live, savepoints_of, innermost, with_savepoints, without, begun, changed, saved, released, rolled_back, ended, after_commit, after_abort}
+use Rattle.txlog.specs.Invariants.{IsLog, IsInProgress, IsPublisher, numbers_of}
 use Rattle.txlog.proofs.Laws.{end_of-append, follows-append, WellFormedAfter-append, is_named-one, is_assigned-one, is_undone-one, chain-append, chain-unassigned, all_when}
 use Rattle.txlog.proofs.LiveList.{eqb_comm, all_append, found, length-with_savepoints, rising-with_savepoints, all_changed, all_without, rising-without, length-without, rising-push}
 use Rattle.txlog.proofs.Progress.{onto, chain-innermost, IsOpen-innermost, numbers-top, in_progress_push, above_numbers, last_of-take, all_at, in_progress_cut, IsQuiet, in_progress_quiet, tops_apart}

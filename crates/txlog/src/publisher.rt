@@ -1,10 +1,10 @@
-ghost use Rattle.std.specs.Prelude.{◌≡◌, ◌≤◌, ◌<◌, IfErr, IfOk, Ok, OnErr, OnOk, Some, None, drop, take, true};
+ghost use Rattle.std.specs.Prelude.{◌≡◌, ◌+◌, ◌-◌, ◌≤◌, ◌<◌, IfErr, IfOk, Ok, OnErr, OnOk, Some, None, drop, length, slice_index, take, true};
 ghost use Rattle.tables.specs.Tables.{FitsChange};
 ghost use Rattle.txlog.specs.Invariants.{IsPublisher};
-ghost use Rattle.txlog.specs.Publishing.{Judged, JudgedBack, Refuses, after_abort, after_commit, at_first, begin_refusal, begun, changed, end_refusal, insert_refusal, is_live, log_end, receipt_of, release_refusal, released, rollback_refusal, rolled_back, room, saved, savepoint_refusal, shared};
+ghost use Rattle.txlog.specs.Publishing.{Judged, JudgedBack, Refuses, after_abort, after_commit, at_first, begin_refusal, begun, changed, end_refusal, insert_refusal, is_live, log_end, receipt_of, release_refusal, released, rollback_refusal, rolled_back, room, saved, savepoint_refusal, savepoints_of, shared};
 
 use crate::fault::SessionFault;
-use crate::limits::{MAX_LIVE, MAX_RECORDS};
+use crate::limits::{MAX_DEPTH, MAX_LIVE, MAX_RECORDS};
 use crate::live::Live;
 use crate::log::Log;
 use crate::receipt::Receipt;
@@ -166,6 +166,127 @@ impl Publisher {
             end: self.log.end(),
             top: number,
         })
+    }
+
+    /// Aborts the transaction. It is never refused for room; S14 and S11 give it back.
+    pub fn abort(&mut self, tx: Tx) -> Result<(), (Tx, SessionFault)>
+        ensures ok { OnOk result (self.new ≡ after_abort tx self.old) }
+        ensures err { IfErr result (λ back. (back.0 ≡ tx) × (self.new ≡ self.old)) }
+        ensures refused { JudgedBack (end_refusal tx self.old) result }
+        ensures publisher { IsPublisher self.new }
+    {
+        let number = tx.number();
+        if !self.live.contains(number) {
+            return Err((tx, SessionFault::NoTransaction));
+        }
+        match self.log.push(Body::Abort(number)) {
+            Ok(()) => {}
+            Err(_) => return Err((tx, SessionFault::Memory)),
+        }
+        self.live.remove(number);
+        tx.spend();
+        Ok(())
+    }
+
+    /// Sets a savepoint, and answers its depth. S14, S9 at depth 16, S7, S11 in this order.
+    pub fn savepoint(&mut self, tx: &mut Tx) -> Result<u32, SessionFault>
+        ensures depth { IfOk result (λ depth. depth ≡ length (savepoints_of tx.old self.old.live) + 1) }
+        ensures ok { OnOk result (self.new ≡ saved tx.old self.old) }
+        ensures err { OnErr result (self.new ≡ self.old) }
+        ensures refused { Judged (savepoint_refusal tx.old self.old) result }
+        ensures tx { tx.new ≡ tx.old }
+        ensures publisher { IsPublisher self.new }
+    {
+        let number = tx.number();
+        let depth = self.test_savepoint(number)?;
+        let parent = self.live.innermost(number);
+        let savepoint = self.next;
+        self.live.push_savepoint(number, savepoint)?;
+        match self.log.push(Body::Assign(savepoint, parent)) {
+            Ok(()) => {}
+            Err(_) => {
+                self.live.truncate_savepoints(number, depth);
+                return Err(SessionFault::Memory);
+            }
+        }
+        self.next = savepoint + 1;
+        Ok(depth as u32 + 1)
+    }
+
+    /// The depth before a savepoint.
+    fn test_savepoint(&self, number: u32) -> Result<usize, SessionFault>
+        ensures refused { Refuses (savepoint_refusal number self.now) result }
+        ensures live { OnOk result (is_live number self.now.live ≡ true) }
+        ensures room { OnOk result (0 < room self.now) }
+        ensures depth { IfOk result (λ depth. (depth ≡ length (savepoints_of number self.now.live)) × (depth < MAX_DEPTH)) }
+    {
+        if !self.live.contains(number) {
+            return Err(SessionFault::NoTransaction);
+        }
+        let depth = self.live.savepoints(number).len();
+        if depth >= MAX_DEPTH {
+            return Err(SessionFault::TooDeep);
+        }
+        if self.room() == 0 {
+            return Err(SessionFault::LogFull);
+        }
+        Ok(depth)
+    }
+
+    /// Rolls back to the savepoint of this depth, 1 for the outermost, and closes it. S14, S8, S7, S11 in this order.
+    pub fn rollback_to(&mut self, tx: &mut Tx, depth: u32) -> Result<(), SessionFault>
+        ensures ok { OnOk result (self.new ≡ rolled_back tx.old depth self.old) }
+        ensures err { OnErr result (self.new ≡ self.old) }
+        ensures refused { Judged (rollback_refusal tx.old depth self.old) result }
+        ensures tx { tx.new ≡ tx.old }
+        ensures publisher { IsPublisher self.new }
+    {
+        let number = tx.number();
+        let savepoint = self.test_rollback(number, depth as usize)?;
+        self.log.push(Body::AbortSub(savepoint))?;
+        self.live.truncate_savepoints(number, depth as usize - 1);
+        Ok(())
+    }
+
+    /// The savepoint of this depth.
+    fn test_rollback(&self, number: u32, depth: usize) -> Result<u32, SessionFault>
+        ensures refused { Refuses (rollback_refusal number depth self.now) result }
+        ensures live { OnOk result (is_live number self.now.live ≡ true) }
+        ensures room { OnOk result (0 < room self.now) }
+        ensures depth { OnOk result ((0 < depth) × (depth ≤ length (savepoints_of number self.now.live))) }
+        ensures value { IfOk result (λ s. s ≡ slice_index (savepoints_of number self.now.live) (depth - 1)) }
+    {
+        if !self.live.contains(number) {
+            return Err(SessionFault::NoTransaction);
+        }
+        let savepoints = self.live.savepoints(number);
+        if depth == 0 || savepoints.len() < depth {
+            return Err(SessionFault::NoSavepoint);
+        }
+        if self.room() == 0 {
+            return Err(SessionFault::LogFull);
+        }
+        Ok(savepoints[depth - 1])
+    }
+
+    /// Releases the savepoint of this depth, 1 for the outermost, and those above. S14, S8 in this order.
+    pub fn release(&mut self, tx: &mut Tx, depth: u32) -> Result<(), SessionFault>
+        ensures ok { OnOk result (self.new ≡ released tx.old depth self.old) }
+        ensures err { OnErr result (self.new ≡ self.old) }
+        ensures refused { Refuses (release_refusal tx.old depth self.old) result }
+        ensures tx { tx.new ≡ tx.old }
+        ensures publisher { IsPublisher self.new }
+    {
+        let number = tx.number();
+        if !self.live.contains(number) {
+            return Err(SessionFault::NoTransaction);
+        }
+        let depth = depth as usize;
+        if depth == 0 || self.live.savepoints(number).len() < depth {
+            return Err(SessionFault::NoSavepoint);
+        }
+        self.live.truncate_savepoints(number, depth - 1);
+        Ok(())
     }
 
     /// The transaction stays live.

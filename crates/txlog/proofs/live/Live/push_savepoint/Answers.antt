@@ -1,4 +1,4 @@
-use Rattle.std.proofs.Common.{◌≡◌, ℕ, List, [], ◌∷◌, ◌++◌, sym}
+use Rattle.std.proofs.Common.{[], ◌∷◌, ◌++◌, sym}
 use Rattle.txlog.proofs.LiveList.{changed_at, absent}
 use Rattle.txlog.proofs.live.Live.push_savepoint.Goals as goal
 

@@ -1,4 +1,4 @@
-use Rattle.std.proofs.Common.{◌≡◌, take, sym, ◌∙◌}
+use Rattle.std.proofs.Common.{take, sym, ◌∙◌}
 use Rattle.txlog.proofs.LiveList.{changed_at, absent}
 use Rattle.txlog.proofs.live.Live.truncate_savepoints.Goals as goal
 
