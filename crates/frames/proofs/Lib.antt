@@ -1,1 +1,7 @@
 pub mod Texts
+pub mod Codec
+pub mod Numbers
+pub mod Loop
+pub mod Putting
+pub mod Frames
+pub mod Bodies

@@ -1,7 +1,8 @@
 -- The fields of which every message is made (PostgreSQL 15, 55.6 Message Data Types): bytes, numbers of two, four and
 -- eight bytes with the highest first, and texts that end in a zero byte. Each field is spelled by a function of its
 -- value, and read from the front of a list: its value with what follows it, or None where it isn't there.
-use Rattle.std.specs.Prelude.{◌≡◌, ℕ, ◌+◌, ◌==◌, List, [], ◌∷◌, ◌++◌, length, take, drop, position, Option, Some, None, option_map, nat_lt, if◌then◌else◌}
+use Rattle.std.specs.Prelude.{◌≡◌, ℕ, ◌+◌, ◌==◌, List, [], ◌∷◌, ◌++◌, length, take, drop, position, Option, Some, None, option_map, nat_lt, Bool, if◌then◌else◌}
+use Rattle.std.specs.List.{list_any}
 use Rattle.std.specs.Int.{Width, w16, w32, w64, byte_len, to_be_bytes, from_be_bytes}
 
 -- Int16, Int32 and Int64
@@ -13,6 +14,10 @@ int32 n = to_be_bytes w32 n
 
 unfoldable pub int64 : ℕ → List ℕ
 int64 n = to_be_bytes w64 n
+
+-- a text that can't be a String, since a zero byte ends it
+abbrev pub has_zero : List ℕ → Bool
+has_zero text = list_any (λ b. b == 0) text
 
 -- String
 abbrev pub string : List ℕ → List ℕ

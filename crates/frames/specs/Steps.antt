@@ -1,10 +1,33 @@
--- Reading one field after the other, up to the first fault. The names of the faults are each reader's own.
-use Rattle.std.specs.Prelude.{ℕ, zero, suc, List, [], ◌∷◌, Result, Ok, Err}
+-- Reading one field after the other, up to the first fault. The faults are each reader's own: `short` where the field
+-- isn't there whole, `other` where it is there and can't be read.
+use Rattle.std.specs.Prelude.{◌≡◌, ℕ, ℤ, zero, suc, ◌==◌, nat_lt, List, [], ◌∷◌, Option, Result, Ok, Err, Bool, if◌then◌else◌}
+use Rattle.std.specs.Option.{ok_or}
+use Rattle.std.specs.Int.{Width, cast_signed}
+use Rattle.frames.specs.Fields.{byte_at, number_at}
 
 infixl 10 ◌>>=◌
 abbrev pub ◌>>=◌ : {A B E : Type 0} → Result A E → (A → Result B E) → Result B E
 (Ok x) >>= f = f x
 (Err e) >>= f = Err e
+
+-- the byte k and no other
+abbrev pub mark_at : {E : Type 0} → E → E → ℕ → List ℕ → Result (Unit {0} × List ℕ) E
+mark_at short other k bytes = ok_or (byte_at bytes) short >>= λ b. if b.0 == k then Ok (tt, b.1) else Err other
+
+-- a byte that stands for one of a few values
+abbrev pub letter_at : {X E : Type 0} → E → E → (ℕ → Option X) → List ℕ → Result (X × List ℕ) E
+letter_at short other of bytes = do
+  b ← ok_or (byte_at bytes) short
+  x ← ok_or (of b.0) other
+  Ok (x, b.1)
+
+-- a number below a limit
+abbrev pub count_at : {E : Type 0} → E → E → Width → ℕ → List ℕ → Result (ℕ × List ℕ) E
+count_at short other w limit bytes = ok_or (number_at w bytes) short >>= λ n. if nat_lt n.0 limit then Ok n else Err other
+
+-- a number in two's complement
+abbrev pub signed_at : {E : Type 0} → E → Width → List ℕ → Result (ℤ × List ℕ) E
+signed_at short w bytes = ok_or (number_at w bytes) short >>= λ n. Ok (cast_signed w n.0, n.1)
 
 -- n of them, one behind the other
 unfoldable pub repeat_at : {A E : Type 0} → (List ℕ → Result (A × List ℕ) E) → ℕ → List ℕ → Result (List A × List ℕ) E

@@ -8,7 +8,7 @@ use std::str;
 
 /// Reads fields from the front of a message. Contracts see the bytes that are left. A call answers the next field and
 /// moves past it, or, where it isn't there whole, None, and moves nothing. Nothing is copied.
-#[derive(Debug)]
+#[derive(Debug, Drop)]
 pub struct Cursor<'a> {
     bytes: &'a [u8],
 }

@@ -1,10 +1,25 @@
 //! Frames of the PostgreSQL frontend/backend protocol: a type byte, a length and a body.
 #![tactic(auto)]
 
+mod back;
+mod copy_data;
 mod cursor;
+mod fault;
+mod frame;
+mod front;
 mod items;
+mod put;
 mod text;
 
+pub use back::{Back, no_back_begins_another, read_back, write_back};
+pub use copy_data::{COPY_DATA, CopyData};
 pub use cursor::{Cursor, utf8_of};
+pub use fault::FrameFault;
+pub use frame::FRAME_LIMIT;
+pub use front::{Front, no_front_begins_another, read_front, write_front};
 pub use items::Items;
+pub use put::{put_byte, put_bytes, put_int16, put_int32, put_int64, put_string};
 pub use text::Text;
+
+#[cfg(test)]
+mod tests;

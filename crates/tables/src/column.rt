@@ -1,9 +1,10 @@
-ghost use Rattle.std.specs.Prelude.{◌≡◌};
+ghost use Rattle.std.specs.Prelude.{◌≡◌, IfOk};
 ghost use Rattle.tables.specs.Tables.{fits_column};
 
 use crate::kind::Kind;
 use crate::value::Value;
 use frames::Text;
+use std::alloc::{AllocError, Global};
 
 #[derive(Debug, Drop, PartialEq)]
 pub struct Column {
@@ -14,6 +15,16 @@ pub struct Column {
 }
 
 impl Column {
+    pub fn copy(&self, alloc: Global) -> Result<Self, AllocError>
+        ensures { IfOk result (λ c. c ≡ self.now) }
+    {
+        Ok(Column {
+            name: self.name.copy(alloc)?,
+            kind: self.kind,
+            is_key: self.is_key,
+        })
+    }
+
     /// Whether the value may stand in this column.
     pub fn takes(&self, value: &Value) -> bool
         ensures { result ≡ fits_column self.now value.now }

@@ -1,4 +1,4 @@
-ghost use Rattle.std.specs.Prelude.{◌≡◌, ◌∷◌};
+ghost use Rattle.std.specs.Prelude.{◌≡◌, ◌∷◌, IfOk};
 ghost use Rattle.std.specs.List.{list_all, zip};
 ghost use Rattle.std.specs.Str.{bytes_eq};
 ghost use Rattle.tables.specs.Tables.{fits_column, fits_table, full_name};
@@ -8,6 +8,7 @@ use crate::identity::Identity;
 use crate::row::Row;
 use crate::value::Value;
 use frames::{Items, Text};
+use std::alloc::{AllocError, Global};
 
 /// A table that sessions write. Its columns stand in table order.
 #[derive(Debug, Drop, PartialEq)]
@@ -20,6 +21,18 @@ pub struct Table {
 }
 
 impl Table {
+    pub fn copy(&self, alloc: Global) -> Result<Self, AllocError>
+        ensures { IfOk result (λ t. t ≡ self.now) }
+    {
+        Ok(Table {
+            oid: self.oid,
+            schema: self.schema.copy(alloc)?,
+            name: self.name.copy(alloc)?,
+            identity: self.identity,
+            columns: copy_of(alloc, self.columns.as_slice())?,
+        })
+    }
+
     /// Whether the row has one value for each column, which takes it.
     pub fn takes(&self, row: &Row) -> bool
         ensures { result ≡ fits_table self.now row.now }
@@ -43,6 +56,16 @@ impl Table {
             None => false,
         }
     }
+}
+
+fn copy_of(alloc: Global, columns: &[Column]) -> Result<Items<Column>, AllocError>
+    ensures { IfOk result (λ cs. cs ≡ columns.now) }
+{
+    let mut copies = Vec::new(alloc);
+    for column in columns {
+        copies.push(column.copy(alloc)?)?;
+    }
+    Ok(Items::new(copies))
 }
 
 fn all_take(columns: &[Column], values: &[Value]) -> bool

@@ -1,0 +1,2 @@
+pub mod XLogData
+pub mod Keepalive

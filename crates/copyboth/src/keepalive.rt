@@ -1,0 +1,55 @@
+//! Primary keepalive: the server's position, between pieces of the stream.
+
+ghost use Rattle.std.specs.Prelude.{◌≡◌, ◌++◌, OnOk, OnErr};
+ghost use Rattle.frames.specs.Putting.{Puts};
+ghost use Rattle.copyboth.specs.Keepalive.{keepalive, ask_byte};
+
+use bytes::BytesMut;
+use frames::{put_byte, put_int64};
+use std::alloc::AllocError;
+
+/// The kind byte of a primary keepalive.
+pub const KEEPALIVE: u8 = b'k';
+
+/// The last byte of a message that asks for an answer at once, and of one that doesn't.
+pub const ASKS: u8 = 1;
+
+pub const SILENT: u8 = 0;
+
+/// Adds the body of a primary keepalive at the end of `out`; refused, adds nothing.
+///
+/// `end` is a position of the log, `clock` is in microseconds since 2000-01-01; `ask` asks the client for a status at
+/// once.
+pub fn write_keepalive(
+    end: u64,
+    clock: i64,
+    ask: bool,
+    out: &mut BytesMut,
+) -> Result<(), AllocError>
+    ensures ok { OnOk result (out.new.items ≡ out.old.items ++ keepalive end clock ask) }
+    ensures err { OnErr result (out.new.items ≡ out.old.items) }
+{
+    let length = out.len();
+    let written = put_keepalive(end, clock, ask, out);
+    if written.is_err() {
+        out.truncate(length);
+    }
+    written
+}
+
+#[tactic(auto, using(frames::proofs::Putting::extends_itself, frames::proofs::Putting::extends_more, frames::proofs::Putting::extends_back))]
+fn put_keepalive(end: u64, clock: i64, ask: bool, out: &mut BytesMut) -> Result<(), AllocError>
+    ensures { Puts result out.old.items out.new.items (keepalive end clock ask) }
+{
+    put_byte(out, KEEPALIVE)?;
+    put_int64(out, end)?;
+    put_int64(out, clock.cast_unsigned())?;
+    put_byte(out, byte_of(ask))?;
+    Ok(())
+}
+
+fn byte_of(ask: bool) -> u8
+    ensures { result ≡ ask_byte ask }
+{
+    if ask { ASKS } else { SILENT }
+}

@@ -1,0 +1,51 @@
+//! XLogData: a piece of the stream of changes.
+
+ghost use Rattle.std.specs.Prelude.{◌≡◌, ◌++◌, OnOk, OnErr};
+ghost use Rattle.frames.specs.Putting.{Puts};
+ghost use Rattle.copyboth.specs.XLogData.{xlogdata};
+
+use bytes::BytesMut;
+use frames::{put_byte, put_bytes, put_int64};
+use std::alloc::AllocError;
+
+/// The kind byte of XLogData.
+pub const XLOGDATA: u8 = b'w';
+
+/// Adds the body of an XLogData at the end of `out`; refused, adds nothing.
+///
+/// `start` and `end` are positions of the log, `clock` is in microseconds since 2000-01-01.
+pub fn write_xlogdata(
+    start: u64,
+    end: u64,
+    clock: i64,
+    payload: &[u8],
+    out: &mut BytesMut,
+) -> Result<(), AllocError>
+    ensures ok { OnOk result (out.new.items ≡ out.old.items ++ xlogdata start end clock payload.now) }
+    ensures err { OnErr result (out.new.items ≡ out.old.items) }
+{
+    let length = out.len();
+    let written = put_xlogdata(start, end, clock, payload, out);
+    if written.is_err() {
+        out.truncate(length);
+    }
+    written
+}
+
+#[tactic(auto, using(frames::proofs::Putting::extends_itself, frames::proofs::Putting::extends_more, frames::proofs::Putting::extends_back))]
+fn put_xlogdata(
+    start: u64,
+    end: u64,
+    clock: i64,
+    payload: &[u8],
+    out: &mut BytesMut,
+) -> Result<(), AllocError>
+    ensures { Puts result out.old.items out.new.items (xlogdata start end clock payload.now) }
+{
+    put_byte(out, XLOGDATA)?;
+    put_int64(out, start)?;
+    put_int64(out, end)?;
+    put_int64(out, clock.cast_unsigned())?;
+    put_bytes(out, payload)?;
+    Ok(())
+}

@@ -1,0 +1,8 @@
+-- A frame's body as the bytes that a reader lends.
+use Rattle.std.specs.Prelude.{ℕ, List, Option, Result, Ok, Err, option_map}
+use Rattle.std.specs.Borrow.{Bor}
+use Rattle.frames.specs.declared.fault.FrameFault.{FrameFault}
+
+abbrev pub lent : Result (Option (Bor (List ℕ) × ℕ)) FrameFault → Result (Option (List ℕ × ℕ)) FrameFault
+lent (Ok found) = Ok (option_map (λ body. (body.0.now, body.1)) found)
+lent (Err e) = Err e

@@ -1,0 +1,42 @@
+//! CopyData: a piece of the stream in copy mode, either way.
+
+ghost use Rattle.std.specs.Prelude.{◌≡◌, length};
+ghost use Rattle.frames.specs.Frame.{Gives};
+ghost use Rattle.frames.specs.Putting.{Puts};
+ghost use Rattle.frames.specs.CopyData.{copy_data, copy_data_at};
+
+use crate::fault::FrameFault;
+use crate::items::Items;
+use crate::put::put_bytes;
+use bytes::BytesMut;
+use std::alloc::{AllocError, Global};
+
+/// The type byte of CopyData.
+pub const COPY_DATA: u8 = b'd';
+
+/// CopyData. What its bytes mean is told by the replication protocol, not by the frame.
+#[derive(Debug, Drop, PartialEq)]
+pub struct CopyData {
+    pub bytes: Items<u8>,
+}
+
+pub(crate) fn copy_data_of(alloc: Global, body: &[u8]) -> Result<CopyData, FrameFault>
+    ensures { Gives result (copy_data_at body.now) }
+{
+    let bytes = Vec::from_slice(alloc, body)?;
+    Ok(CopyData {
+        bytes: Items::new(bytes),
+    })
+}
+
+pub(crate) fn copy_data_len(message: &CopyData) -> usize
+    ensures { result ≡ length (copy_data message.now) }
+{
+    message.bytes.len()
+}
+
+pub(crate) fn put_copy_data(out: &mut BytesMut, message: &CopyData) -> Result<(), AllocError>
+    ensures { Puts result out.old.items out.new.items (copy_data message.now) }
+{
+    put_bytes(out, message.bytes.as_slice())
+}

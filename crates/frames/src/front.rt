@@ -1,0 +1,120 @@
+//! The frames that a client sends.
+
+ghost use Rattle.std.specs.Prelude.{◌≡◌, ◌<◌, ◌≤◌, ◌++◌, List, ℕ, length, take, Ok, Err, Some, None, IfOk, IfErr, IfSome, OnOk, OnErr};
+ghost use Rattle.frames.specs.Frame.{FitsLength, frame, Gives, StandsAt, IsWhole, raw_at};
+ghost use Rattle.frames.specs.Putting.{Puts};
+ghost use Rattle.frames.specs.Front.{front_kind, front_body, front_limit, front_at, framed_front, SpellsFront, IsShortFront};
+
+use crate::copy_data::{COPY_DATA, CopyData, copy_data_len, copy_data_of, put_copy_data};
+use crate::cursor::Cursor;
+use crate::fault::FrameFault;
+use crate::frame::{FRAME_LIMIT, body_of, put_head};
+use bytes::BytesMut;
+use std::alloc::{AllocError, Global};
+
+/// A frame that a client sends.
+#[derive(Debug, Drop, PartialEq)]
+pub enum Front {
+    CopyData(CopyData),
+}
+
+/// The frame at the front of the bytes, and how many of them it takes; None while it isn't there whole.
+///
+/// A type byte that no frame has is F3 at once; a length under 4 is F1, and one over the limit of its frames F6, as
+/// soon as it is there; F7 is answered only where a whole frame stands.
+pub fn read_front(alloc: Global, bytes: &[u8]) -> Result<Option<(Front, usize)>, FrameFault>
+    // What is read stands at the front, spelled so.
+    ensures found { IfOk result (λ o. IfSome o (λ x. (x.1 ≤ length bytes.now) × SpellsFront (take x.1 bytes.now) x.0 × IsShortFront x.0)) }
+    // What is spelled at the front is read, whatever follows it, unless memory runs out.
+    ensures only { (text rest : List ℕ) (f : Front) → SpellsFront text f → IsShortFront f → bytes.now ≡ text ++ rest
+        → Gives result (Ok (Some (f, length text))) }
+    // A front of a spelling that isn't the whole is waited on.
+    ensures waits { (text more : List ℕ) (f : Front) → SpellsFront text f → IsShortFront f → text ≡ bytes.now ++ more
+        → length bytes.now < length text → result ≡ Ok None }
+    // A fault stands in the bytes.
+    ensures fault { IfErr result (λ e. StandsAt front_limit e bytes.now) }
+    // Which fault it is, in the order in which the bytes are judged.
+    ensures exact { Gives result (framed_front bytes.now) }
+{
+    front_of(alloc, bytes)
+}
+
+fn front_of(alloc: Global, bytes: &[u8]) -> Result<Option<(Front, usize)>, FrameFault>
+    ensures exact { Gives result (framed_front bytes.now) }
+    ensures memory { result ≡ Err FrameFault.Memory → IsWhole (raw_at front_limit bytes.now) }
+{
+    let mut cursor = Cursor::new(bytes);
+    let Some(kind) = cursor.u8() else {
+        return Ok(None);
+    };
+    let Some((body, size)) = body_of(&mut cursor, limit_of(kind))? else {
+        return Ok(None);
+    };
+    let frame = whole_of(alloc, kind, body)?;
+    Ok(Some((frame, size)))
+}
+
+fn limit_of(kind: u8) -> Option<u32>
+    ensures { result ≡ front_limit kind }
+{
+    match kind {
+        COPY_DATA => Some(FRAME_LIMIT),
+        _ => None,
+    }
+}
+
+fn whole_of(alloc: Global, kind: u8, body: &[u8]) -> Result<Front, FrameFault>
+    ensures { Gives result (front_at kind body.now) }
+{
+    match kind {
+        COPY_DATA => Ok(Front::CopyData(copy_data_of(alloc, body)?)),
+        _ => Err(FrameFault::UnknownType),
+    }
+}
+
+/// Adds the frame at the end of `out`; refused, adds nothing.
+pub fn write_front(message: &Front, out: &mut BytesMut) -> Result<(), AllocError>
+    requires { FitsLength (front_body message.now) }
+    ensures ok { OnOk result (out.new.items ≡ out.old.items ++ frame (front_kind message.now) (front_body message.now)) }
+    ensures err { OnErr result (out.new.items ≡ out.old.items) }
+{
+    let start = out.len();
+    let written = put_front(out, message);
+    if written.is_err() {
+        out.truncate(start);
+    }
+    written
+}
+
+#[tactic(auto, using(crate::proofs::Putting::extends_itself, crate::proofs::Putting::extends_more, crate::proofs::Putting::extends_back))]
+fn put_front(out: &mut BytesMut, message: &Front) -> Result<(), AllocError>
+    requires { FitsLength (front_body message.now) }
+    ensures { Puts result out.old.items out.new.items (frame (front_kind message.now) (front_body message.now)) }
+{
+    put_head(out, kind_of(message), body_len(message))?;
+    match message {
+        Front::CopyData(data) => put_copy_data(out, data),
+    }
+}
+
+fn kind_of(message: &Front) -> u8
+    ensures { result ≡ front_kind message.now }
+{
+    match message {
+        Front::CopyData(_) => COPY_DATA,
+    }
+}
+
+fn body_len(message: &Front) -> usize
+    ensures { result ≡ length (front_body message.now) }
+{
+    match message {
+        Front::CopyData(data) => copy_data_len(data),
+    }
+}
+
+/// The law of the grammar: of two frames whose spellings begin the same bytes, one is the other. So no spelling of a
+/// frame is a proper beginning of another's, and frames that stand one behind the other are read in one way.
+pub fn no_front_begins_another()
+    ensures { (a b x y : List ℕ) (f g : Front) → SpellsFront a f → SpellsFront b g → a ++ x ≡ b ++ y → (a ≡ b) × (f ≡ g) × (x ≡ y) }
+{}

@@ -1,0 +1,43 @@
+-- The message of a change: an insert into a selected table is an Insert of the row's values as texts. What doesn't fit the
+-- catalogue has no message.
+use Rattle.std.specs.Prelude.{ℕ, ◌&&◌, Bool, List, map, codes, nat_le, Option, Some, None, if◌then◌else◌}
+use Rattle.std.specs.Fmt.{signed_decimal}
+use Rattle.pgoutput.specs.declared.logical.Logical.{Logical}
+use Rattle.pgoutput.specs.declared.logical.Logical.TheVariants as logical
+use Rattle.pgoutput.specs.declared.insert.Insert.{Insert}
+use Rattle.pgoutput.specs.declared.tuple.Cell.{Cell}
+use Rattle.pgoutput.specs.declared.tuple.Cell.TheVariants as cells
+use Rattle.tables.specs.declared.row.TheConstants.{MAX_ROW_LENGTH}
+use Rattle.tables.specs.declared.value.Value.{Value}
+use Rattle.tables.specs.declared.value.Value.TheVariants as values
+use Rattle.tables.specs.declared.table.Table.{Table}
+use Rattle.tables.specs.declared.change.Change.{Change}
+use Rattle.tables.specs.declared.change.Change.TheVariants as changes
+use Rattle.tables.specs.Spelling.{row_length}
+use Rattle.tables.specs.Tables.{table_of, fits_table}
+use Rattle.publication.specs.declared.projection.Projected.{Projected}
+use Rattle.publication.specs.declared.projection.Projected.TheVariants.{Nothing, Message}
+
+-- bool is t or f, an integer its decimal digits, a text its bytes
+abbrev pub cell_of : Value → Cell
+cell_of values.Null = cells.Null
+cell_of (values.Bool b) = cells.Text (if b then codes "t" else codes "f")
+cell_of (values.Int4 n) = cells.Text (signed_decimal n)
+cell_of (values.Int8 n) = cells.Text (signed_decimal n)
+cell_of (values.Text text) = cells.Text text
+
+-- whether the row may stand in the table
+abbrev pub stands_in : Table → List Value → Bool
+stands_in table row = fits_table table row && nat_le (row_length row) MAX_ROW_LENGTH
+
+abbrev pub inserted_in : Option Table → List Value → Option Logical
+inserted_in None row = None
+inserted_in (Some table) row =
+    if stands_in table row then Some (logical.Insert (record { oid = table.oid; new = map cell_of row })) else None
+
+abbrev pub message : List Table → Change → Option Logical
+message selection (changes.Insert oid row) = inserted_in (table_of oid selection) row
+
+abbrev pub projected : Option Logical → Projected
+projected None = Nothing
+projected (Some m) = Message m

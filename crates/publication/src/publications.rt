@@ -1,0 +1,81 @@
+//! The publications of a publisher.
+
+ghost use Rattle.std.specs.Prelude.{◌≡◌, ◌++◌, IfOk, Err, false, true, not};
+ghost use Rattle.std.specs.List.{list_any};
+ghost use Rattle.std.specs.Str.{bytes_eq};
+ghost use Rattle.publication.specs.declared.fault.PubFault.{PubFault};
+ghost use Rattle.publication.specs.Publications.{builtin_publication, selected, is_unknown};
+
+use crate::fault::PubFault;
+use crate::selection::Selection;
+use frames::{Items, Text};
+use std::alloc::{AllocError, Global};
+use std::marker::Model;
+use tables::{Catalog, Table};
+
+/// The publications of a publisher: for now one, of whole tables.
+#[derive(Debug, Drop)]
+pub struct Publications {
+    name: Text,
+    tables: Items<Table>,
+}
+
+impl Model for Publications {
+    ghost use Rattle.publication.specs.Publications.{Publication};
+
+    ghost Value = { Publication };
+
+    ghost view = { λ p. record { name = p.name; tables = p.tables } };
+}
+
+impl Publications {
+    /// The publication `p` of the table public.item.
+    pub fn builtin(alloc: Global) -> Result<Self, AllocError>
+        ensures { IfOk result (λ p. p ≡ builtin_publication) }
+    {
+        let catalog = Catalog::builtin(alloc)?;
+        Ok(Publications {
+            name: Text::copy_of(alloc, "p")?,
+            tables: copies(alloc, catalog.tables())?,
+        })
+    }
+
+    /// The tables of the publications of these names. A name that no publication has is P1.
+    pub fn select(&self, alloc: Global, names: &[Text]) -> Result<Selection, PubFault>
+        ensures ok { IfOk result (λ s. s ≡ selected self.now names.now) }
+        ensures known { IfOk result (λ s. is_unknown self.now names.now ≡ false) }
+        ensures unknown { result ≡ Err PubFault.Unknown → is_unknown self.now names.now ≡ true }
+        ensures memory { result ≡ Err PubFault.Memory → is_unknown self.now names.now ≡ false }
+    {
+        if is_other_named(names, self.name.as_str()) {
+            return Err(PubFault::Unknown);
+        }
+        if !is_named(names, self.name.as_str()) {
+            return Ok(Selection::new(Items::new(Vec::new(alloc))));
+        }
+        let tables = copies(alloc, self.tables.as_slice())?;
+        Ok(Selection::new(tables))
+    }
+}
+
+fn is_named(names: &[Text], name: &str) -> bool
+    ensures { result ≡ list_any (λ n. bytes_eq n name.now) names.now }
+{
+    names.iter().any(|n| n.as_str() == name)
+}
+
+fn is_other_named(names: &[Text], name: &str) -> bool
+    ensures { result ≡ list_any (λ n. not (bytes_eq n name.now)) names.now }
+{
+    names.iter().any(|n| n.as_str() != name)
+}
+
+fn copies(alloc: Global, tables: &[Table]) -> Result<Items<Table>, AllocError>
+    ensures { IfOk result (λ ts. ts ≡ tables.now) }
+{
+    let mut copies = Vec::with_capacity(alloc, tables.len())?;
+    for table in tables {
+        copies.push(table.copy(alloc)?)?;
+    }
+    Ok(Items::new(copies))
+}

@@ -1,0 +1,94 @@
+//! The Relation message of a table.
+
+ghost use Rattle.std.specs.Prelude.{◌≡◌, ◌++◌, IfOk, map, pos, negsuc};
+ghost use Rattle.publication.specs.Selection.{relation_of, relation_column, identity_of, is_identity, type_oid};
+
+use frames::Items;
+use pgoutput::{Column, Identity, Relation};
+use std::alloc::{AllocError, Global};
+use tables::{Kind, Table};
+
+/// The OIDs of the types.
+pub const BOOL_OID: u32 = 16;
+
+pub const INT8_OID: u32 = 20;
+
+pub const INT4_OID: u32 = 23;
+
+pub const TEXT_OID: u32 = 25;
+
+/// The modifier of a column whose type has none.
+pub const NO_MODIFIER: i32 = -1;
+
+pub(crate) fn relation_message(alloc: Global, table: &Table) -> Result<Relation, AllocError>
+    ensures { IfOk result (λ m. m ≡ relation_of table.now) }
+{
+    Ok(Relation {
+        oid: table.oid,
+        namespace: table.schema.copy(alloc)?,
+        name: table.name.copy(alloc)?,
+        identity: identity(table.identity),
+        columns: columns(alloc, table.identity, table.columns.as_slice())?,
+    })
+}
+
+fn columns(
+    alloc: Global,
+    identity: tables::Identity,
+    columns: &[tables::Column],
+) -> Result<Items<Column>, AllocError>
+    ensures { IfOk result (λ cs. cs ≡ map (relation_column identity) columns.now) }
+{
+    let mut told = Vec::with_capacity(alloc, columns.len())?;
+    for column in columns {
+        told.push(column_of(alloc, identity, column)?)?;
+    }
+    Ok(Items::new(told))
+}
+
+fn column_of(
+    alloc: Global,
+    identity: tables::Identity,
+    column: &tables::Column,
+) -> Result<Column, AllocError>
+    ensures { IfOk result (λ c. c ≡ relation_column identity column.now) }
+{
+    Ok(Column {
+        is_key: is_in_identity(identity, column.is_key),
+        name: column.name.copy(alloc)?,
+        kind: oid_of(column.kind),
+        modifier: NO_MODIFIER,
+    })
+}
+
+fn identity(identity: tables::Identity) -> Identity
+    ensures { result ≡ identity_of identity }
+{
+    match identity {
+        tables::Identity::Default => Identity::Default,
+        tables::Identity::Nothing => Identity::Nothing,
+        tables::Identity::Full => Identity::Full,
+    }
+}
+
+/// Whether a column belongs to the identity, by whether it belongs to the primary key.
+fn is_in_identity(identity: tables::Identity, is_key: bool) -> bool
+    ensures { result ≡ is_identity identity is_key }
+{
+    match identity {
+        tables::Identity::Default => is_key,
+        tables::Identity::Nothing => false,
+        tables::Identity::Full => true,
+    }
+}
+
+fn oid_of(kind: Kind) -> u32
+    ensures { result ≡ type_oid kind }
+{
+    match kind {
+        Kind::Bool => BOOL_OID,
+        Kind::Int4 => INT4_OID,
+        Kind::Int8 => INT8_OID,
+        Kind::Text => TEXT_OID,
+    }
+}

@@ -1,0 +1,131 @@
+-- The items of a stream, and the words that say them. An item is a keepalive, or a block: one published transaction
+-- whole, under one clock. Before the first message of the stream that names a table stands the table's Relation.
+use Rattle.std.specs.Prelude.{◌≡◌, ℕ, ℤ, ◌+◌, ◌<◌, ◌≤◌, ◌^◌, FitsSigned, Bool, ◌==◌, if◌then◌else◌, List, [], ◌∷◌, ◌++◌, map, length}
+use Rattle.std.specs.List.{list_any, AllByRecursion}
+use Rattle.std.specs.Int.{w64}
+use Rattle.pgoutput.specs.declared.logical.Logical.{Logical}
+use Rattle.pgoutput.specs.declared.logical.Logical.TheVariants as logical
+use Rattle.pgoutput.specs.declared.relation.Relation.{Relation}
+use Rattle.pgoutput.specs.declared.begin.Begin.{Begin}
+use Rattle.pgoutput.specs.declared.commit.Commit.{Commit}
+use Rattle.pgoutput.specs.Logical.{spell_logical, FitsLogical}
+use Rattle.stream.specs.declared.word.Word.{Word}
+use Rattle.stream.specs.declared.word.Word.TheVariants as words
+use Rattle.stream.specs.declared.word.Keepalive.{Keepalive}
+use Rattle.stream.specs.declared.word.Sent.{Sent}
+use Rattle.stream.specs.declared.published.Published.{Published}
+use Rattle.stream.specs.declared.published.PublishedChange.{PublishedChange}
+use Rattle.frames.specs.declared.frame.TheConstants.{FRAME_LIMIT}
+use Rattle.stream.specs.Words.{frames_of}
+
+pub data Item : Type 0 where
+  Alive : Keepalive → Item
+  Block : (clock : ℤ) → Published → Item
+
+-- ---- Words.
+
+-- one message at a position: the second number of its XLogData repeats the first
+abbrev pub said : ℕ → ℤ → Logical → Word
+said position clock message = words.Sent (record { start = position; end = position; clock = clock; message = message })
+
+-- the tables that a message names, in the order in which it names them
+abbrev pub tables_of : Logical → List ℕ
+tables_of (logical.Insert m) = m.oid ∷ []
+tables_of (logical.Begin m) = []
+tables_of (logical.Commit m) = []
+tables_of (logical.Relation m) = []
+
+abbrev pub is_named : List ℕ → ℕ → Bool
+is_named named oid = list_any (λ n. n == oid) named
+
+-- those of the tables that weren't named before, each once
+abbrev pub due : List ℕ → List ℕ → List ℕ
+due named [] = []
+due named (oid ∷ oids) = if is_named named oid then due named oids else oid ∷ due (oid ∷ named) oids
+
+-- the tables named so far, once the change is said too
+abbrev pub named_by : List ℕ → PublishedChange → List ℕ
+named_by named c = tables_of c.message ++ named
+
+abbrev pub named_by_all : List ℕ → List PublishedChange → List ℕ
+named_by_all named [] = named
+named_by_all named (c ∷ cs) = named_by_all (named_by named c) cs
+
+-- a change: the Relations that are due, and its message, all at its position
+abbrev pub change_words : (ℕ → Relation) → List ℕ → ℤ → PublishedChange → List Word
+change_words relation named clock c =
+    map (λ oid. said c.position clock (logical.Relation (relation oid))) (due named (tables_of c.message)) ++ (said c.position clock c.message ∷ [])
+
+abbrev pub changes_words : (ℕ → Relation) → List ℕ → ℤ → List PublishedChange → List Word
+changes_words relation named clock [] = []
+changes_words relation named clock (c ∷ cs) = change_words relation named clock c ++ changes_words relation (named_by named c) clock cs
+
+-- a block: Begin at the start of the commit record, the changes in order, Commit at its end
+abbrev pub block_words : (ℕ → Relation) → List ℕ → ℤ → Published → List Word
+block_words relation named clock t =
+    said t.start clock (logical.Begin (record { position = t.start; time = t.time; number = t.number }))
+    ∷ (changes_words relation named clock t.changes
+    ++ (said t.end clock (logical.Commit (record { position = t.start; end = t.end; time = t.time })) ∷ []))
+
+abbrev pub item_words : (ℕ → Relation) → List ℕ → Item → List Word
+item_words relation named (Alive k) = words.Keepalive k ∷ []
+item_words relation named (Block clock t) = block_words relation named clock t
+
+abbrev pub named_after : List ℕ → Item → List ℕ
+named_after named (Alive k) = named
+named_after named (Block clock t) = named_by_all named t.changes
+
+-- the words of the items, where these tables were named before them
+abbrev pub words_of : (ℕ → Relation) → List ℕ → List Item → List Word
+words_of relation named [] = []
+words_of relation named (item ∷ items) = item_words relation named item ++ words_of relation (named_after named item) items
+
+-- what the items spell
+abbrev pub spelled : (ℕ → Relation) → List ℕ → List Item → List ℕ
+spelled relation named items = frames_of (words_of relation named items)
+
+-- the transactions that the items send
+abbrev pub sent : List Item → List Published
+sent [] = []
+sent (Alive k ∷ items) = sent items
+sent (Block clock t ∷ items) = t ∷ sent items
+
+-- ---- Ranges, told without the tables named so far.
+
+-- Its XLogData, which has 25 bytes before the message, is within the limit of a frame.
+abbrev pub IsShortMessage : Logical → Type 0
+IsShortMessage m = 29 + length (spell_logical m) ≤ FRAME_LIMIT
+
+-- the Relation of a table: it tells that table, fits its fields and its frame
+pub record FitsRelationOf (relation : ℕ → Relation) (oid : ℕ) : Type 0 where
+  pub tells : (relation oid).oid ≡ oid
+  pub fits : FitsLogical (logical.Relation (relation oid))
+  pub short : IsShortMessage (logical.Relation (relation oid))
+
+-- a message of a change: an Insert whose tuple has as many cells as the table's Relation has columns
+abbrev pub IsOfChange : (ℕ → Relation) → Logical → Type 0
+IsOfChange relation (logical.Insert m) = length m.new ≡ length (relation m.oid).columns
+IsOfChange relation (logical.Begin m) = ⊥
+IsOfChange relation (logical.Commit m) = ⊥
+IsOfChange relation (logical.Relation m) = ⊥
+
+pub record FitsChange (relation : ℕ → Relation) (c : PublishedChange) : Type 0 where
+  pub position : c.position < 2 ^ 64
+  pub of_change : IsOfChange relation c.message
+  pub fits : FitsLogical c.message
+  pub short : IsShortMessage c.message
+  pub relations : AllByRecursion (FitsRelationOf relation) (tables_of c.message)
+
+pub record FitsPublished (relation : ℕ → Relation) (t : Published) : Type 0 where
+  pub start : t.start < 2 ^ 64
+  pub end : t.end < 2 ^ 64
+  pub time : FitsSigned w64 t.time
+  pub number : t.number < 2 ^ 32
+  pub changes : AllByRecursion (FitsChange relation) t.changes
+
+abbrev pub FitsItem : (ℕ → Relation) → Item → Type 0
+FitsItem relation (Alive k) = (k.position < 2 ^ 64) × FitsSigned w64 k.clock
+FitsItem relation (Block clock t) = FitsSigned w64 clock × FitsPublished relation t
+
+abbrev pub FitItems : (ℕ → Relation) → List Item → Type 0
+FitItems relation items = AllByRecursion (FitsItem relation) items

@@ -1,0 +1,3 @@
+pub mod Words
+pub mod Items
+pub mod Stream

@@ -1,0 +1,25 @@
+//! A published transaction: what a subscriber is to apply.
+
+use frames::Items;
+use pgoutput::Logical;
+
+/// A transaction as it is published.
+#[derive(Debug, Drop, PartialEq)]
+pub struct Published {
+    /// The position at which the commit record starts.
+    pub start: u64,
+    /// The position at which the commit record ends.
+    pub end: u64,
+    /// The commit time, in microseconds since 2000-01-01.
+    pub time: i64,
+    pub number: u32,
+    pub changes: Items<PublishedChange>,
+}
+
+/// A change as it is published.
+#[derive(Debug, Drop, PartialEq)]
+pub struct PublishedChange {
+    /// The position at which the change's record starts.
+    pub position: u64,
+    pub message: Logical,
+}
