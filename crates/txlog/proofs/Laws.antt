@@ -1,6 +1,6 @@
 -- Laws of the definitions: what one more record, or a further list of them, does to each.
-use Rattle.std.proofs.Common.{◌≡◌, ℕ, ℤ, ◌+◌, ◌==◌, eqb, Bool, true, false, cond, ◌&&◌, ◌||◌, not, List, [], ◌∷◌, ◌++◌, reverse, refl, sym, ap, ◌∙◌, append_assoc}
-use Rattle.std.specs.List.{filter, flat_map, list_any, AllByRecursion}
+use Rattle.std.proofs.Common.{◌≡◌, ℕ, ℤ, ◌==◌, Bool, true, false, cond, ◌&&◌, ◌||◌, not, List, [], ◌∷◌, ◌++◌, reverse, refl, sym, ap, ◌∙◌, append_assoc}
+use Rattle.std.specs.List.{filter, list_any, AllByRecursion}
 use Rattle.std.proofs.lemmas.Bool.{eqb-true}
 use Rattle.std.proofs.lemmas.Grind.{flat_map-append}
 use Rattle.std.proofs.lemmas.List.{reverse-append, append-nil}
@@ -11,7 +11,7 @@ use Rattle.tables.specs.declared.change.Change.{Change}
 use Rattle.txlog.specs.declared.record.Record.{Record}
 use Rattle.txlog.specs.declared.record.Body.{Body}
 use Rattle.txlog.specs.declared.record.Body.TheVariants.{Assign, Change as Changed, AbortSub, Abort, Commit}
-use Rattle.txlog.specs.Log.{follows, end_of, names, is_named, assigns, is_assigned, chain_step, chain_back, chain, last_of, top_of, undoes, is_undone, is_dropped, ends, has_ended, Entry, entry_at, entries, is_kept, kept, is_live, live, Transaction, committed_by, committed_from, committed, IsOpen, IsNext, WellFormedAfter}
+use Rattle.txlog.specs.Log.{follows, end_of, names, is_named, assigns, is_assigned, chain_step, chain_back, chain, last_of, top_of, undoes, is_undone, is_dropped, ends, has_ended, Entry, entry_at, entries, is_kept, kept, is_live, live, committed_by, committed_from, IsOpen, WellFormedAfter}
 use Rattle.txlog.proofs.Lists.{or_false, filter_agrees, all_agree, filter_twice, list_any_agrees, list_any_or}
 
 -- A FURTHER LIST

@@ -1,5 +1,5 @@
 -- Filters and tests of lists.
-use Rattle.std.proofs.Common.{◌≡◌, ℕ, Bool, true, false, cond, ◌&&◌, ◌||◌, List, [], ◌∷◌, ◌++◌, refl, sym, ap, ◌∙◌}
+use Rattle.std.proofs.Common.{◌≡◌, Bool, true, false, cond, ◌&&◌, ◌||◌, List, [], ◌∷◌, refl}
 use Rattle.std.specs.List.{filter, list_any, AllByRecursion}
 
 pub or_false : (b : Bool) → (b || false) ≡ b

@@ -6,10 +6,9 @@ use Rattle.txlog.specs.declared.limits.TheConstants.{MAX_DEPTH}
 use Rattle.txlog.specs.declared.record.Record.{Record}
 use Rattle.txlog.specs.declared.record.Body.{Body}
 use Rattle.txlog.specs.declared.record.Body.TheVariants.{Assign, Change as Changed, AbortSub, Abort, Commit}
-use Rattle.txlog.specs.Log.{names, assigns, is_assigned, chain_step, chain, last_of, top_of, undoes, is_undone, is_dropped, ends, has_ended, IsOpen}
+use Rattle.txlog.specs.Log.{assigns, is_assigned, chain_step, chain, last_of, top_of, undoes, is_undone, ends, IsOpen}
 use Rattle.txlog.specs.Publishing.{Open}
 use Rattle.txlog.specs.Invariants.{IsNested, IsInProgress, numbers_of}
-use Rattle.txlog.proofs.Lists.{or_false}
 use Rattle.txlog.proofs.LiveList.{all_append}
 use Rattle.txlog.proofs.Laws.{has_ended-one, is_assigned-one, is_undone-one, chain-append, chain-unassigned}
 
@@ -38,7 +37,7 @@ any-onto p below (x ∷ xs) none more = any-onto p (x ∷ below) xs (more.0, non
 pub IsOpen-innermost : (log : List Record) (next : ℕ) (o : Open) → IsInProgress log next o → IsOpen log (last_of o.number o.savepoints)
 IsOpen-innermost log next o h =
     let whole : chain log (last_of o.number o.savepoints) ≡ onto (o.number ∷ []) o.savepoints =
-        chain-innermost log o.number [] o.savepoints (chain-unassigned log o.number h.top) h.nested in
+    chain-innermost log o.number [] o.savepoints (chain-unassigned log o.number h.top) h.nested in
     record {
       running = rw (whole, last_of-onto (last_of o.number o.savepoints) o.number [] o.savepoints) h.running;
       undropped = rw whole (any-onto (is_undone log) (o.number ∷ []) o.savepoints (h.undropped.0, tt) h.undropped.1);
@@ -127,9 +126,9 @@ tops_apart log x y s t x_top y_top other = by_test (x == y) (λ same.
     let one : s ≡ t = sym x_top ∙ ap (top_of log) (eqb-true x y same) ∙ y_top in
     eqb-false s t other one)
   where
-  by_test : (b : Bool) → (b ≡ true → ⊥) → b ≡ false
-  by_test true f = absurd (f refl)
-  by_test false f = refl
+    by_test : (b : Bool) → (b ≡ true → ⊥) → b ≡ false
+    by_test true f = absurd (f refl)
+    by_test false f = refl
 
 -- A SAVEPOINT MORE
 
@@ -175,10 +174,10 @@ above_numbers log next n o h lt =
 pub last_of-take : (y n : ℕ) (xs : List ℕ) → n < length xs → last_of y (take (n + 1) xs) ≡ get_or xs n 0
 last_of-take y n xs lt = rw add-one (by_place y n xs lt)
   where
-  by_place : (y n : ℕ) (xs : List ℕ) → n < length xs → last_of y (take (suc n) xs) ≡ get_or xs n 0
-  by_place y n [] lt = absurd (omega arith)
-  by_place y zero (x ∷ xs) lt = refl
-  by_place y (suc n) (x ∷ xs) lt = by_place x n xs (omega arith)
+    by_place : (y n : ℕ) (xs : List ℕ) → n < length xs → last_of y (take (suc n) xs) ≡ get_or xs n 0
+    by_place y n [] lt = absurd (omega arith)
+    by_place y zero (x ∷ xs) lt = refl
+    by_place y (suc n) (x ∷ xs) lt = by_place x n xs (omega arith)
 
 pub all_at : (P : ℕ → Type 0) (n : ℕ) (xs : List ℕ) → n < length xs → AllByRecursion P xs → P (get_or xs n 0)
 all_at P n [] lt all = absurd (omega arith)

@@ -1,5 +1,5 @@
 -- Whole logs with what they commit, as worked by hand: the definitions compute to it.
-use Rattle.std.proofs.Common.{◌≡◌, ℕ, ℤ, pos, Bool, true, false, List, [], ◌∷◌, refl}
+use Rattle.std.proofs.Common.{◌≡◌, ℕ, pos, List, [], ◌∷◌, refl}
 use Rattle.std.specs.Prelude.{codes}
 use Rattle.frames.specs.Fields.{int16, int32, int64}
 use Rattle.tables.specs.declared.value.Value.TheVariants as values
@@ -7,8 +7,8 @@ use Rattle.tables.specs.declared.change.Change.{Change}
 use Rattle.tables.specs.declared.change.Change.TheVariants as changes
 use Rattle.txlog.specs.declared.record.Record.{Record}
 use Rattle.txlog.specs.declared.record.Body.{Body}
-use Rattle.txlog.specs.declared.record.Body.TheVariants.{Assign, Change as Changed, AbortSub, Abort, Commit}
-use Rattle.txlog.specs.Log.{Entry, Transaction, IsOpen, IsWellFormedLog, committed, entries, live}
+use Rattle.txlog.specs.declared.record.Body.TheVariants.{Assign, Change as Changed, AbortSub, Commit}
+use Rattle.txlog.specs.Log.{Entry, Transaction, IsWellFormedLog, committed, live}
 
 -- inserts into public.item of a row with this id, name and quantity
 abbrev insert : ℕ → List ℕ → ℕ → Change

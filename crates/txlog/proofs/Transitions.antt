@@ -1,9 +1,9 @@
 -- What is true of a publisher stays true with each call.
-use Rattle.std.proofs.Common.{◌≡◌, ℕ, ℤ, suc, ◌+◌, ◌-◌, ◌*◌, ◌^◌, ◌<◌, ◌≤◌, ◌==◌, Bool, true, false, cond, ◌&&◌, ◌||◌, not, List, [], ◌∷◌, ◌++◌, length, take, get_or, refl, sym, ap, subst, ◌∙◌, arith, eq-eqb, length-append, lit<}
-use Rattle.std.specs.Prelude.{FitsSigned, slice_index}
+use Rattle.std.proofs.Common.{◌≡◌, ℕ, ℤ, ◌+◌, ◌-◌, ◌^◌, ◌<◌, ◌≤◌, ◌==◌, Bool, true, false, ◌||◌, List, [], ◌∷◌, ◌++◌, length, take, get_or, refl, ap, subst, ◌∙◌, arith, eq-eqb, length-append}
+use Rattle.std.specs.Prelude.{FitsSigned}
 use Rattle.std.specs.Int.{w64}
-use Rattle.std.specs.List.{filter, list_any, AllByRecursion}
-use Rattle.std.proofs.lemmas.Bool.{eqb-true, eqb-false, ne_eqb}
+use Rattle.std.specs.List.{list_any, AllByRecursion}
+use Rattle.std.proofs.lemmas.Bool.{ne_eqb}
 use Rattle.tables.specs.declared.table.Table.{Table}
 use Rattle.tables.specs.declared.change.Change.{Change}
 use Rattle.tables.specs.Tables.{FitsChange}
@@ -12,10 +12,9 @@ use Rattle.txlog.specs.declared.record.TheConstants.{FIRST_POSITION, FIRST_NUMBE
 use Rattle.txlog.specs.declared.record.Record.{Record}
 use Rattle.txlog.specs.declared.record.Body.{Body}
 use Rattle.txlog.specs.declared.record.Body.TheVariants.{Assign, Change as Changed, AbortSub, Abort, Commit}
-use Rattle.txlog.specs.Log.{IsWellFormedLog, IsLogInRange, IsSized, IsOpen, IsNext, FitsBody, FitsRecord, WellFormedAfter, size_of, follows, end_of, names, is_named, assigns, is_assigned, chain, last_of, top_of, undoes, is_undone, ends, has_ended}
-use Rattle.txlog.specs.Publishing.{Open, PublisherState, record_after, with_record, room, is_live, savepoints_of, innermost, with_savepoints, without, begun, changed, saved, released, rolled_back, ended, after_commit, after_abort}
-use Rattle.txlog.specs.Invariants.{IsLog, IsNested, IsInProgress, IsRising, IsPublisher, numbers_of}
-use Rattle.txlog.proofs.Lists.{or_false}
+use Rattle.txlog.specs.Log.{IsSized, IsOpen, IsNext, FitsBody, FitsRecord, size_of, end_of, names, is_named, assigns, is_assigned, chain, last_of, top_of, undoes, is_undone, ends}
+use Rattle.txlog.specs.Publishing.{Open, PublisherState, record_after, room, is_live, savepoints_of, innermost, with_savepoints, without, begun, changed, saved, released, rolled_back, ended, after_commit, after_abort}
+use Rattle.txlog.specs.Invariants.{IsLog, IsInProgress, IsPublisher, numbers_of}
 use Rattle.txlog.proofs.Laws.{end_of-append, follows-append, WellFormedAfter-append, is_named-one, is_assigned-one, is_undone-one, chain-append, chain-unassigned, all_when}
 use Rattle.txlog.proofs.LiveList.{eqb_comm, all_append, found, length-with_savepoints, rising-with_savepoints, all_changed, all_without, rising-without, length-without, rising-push}
 use Rattle.txlog.proofs.Progress.{onto, chain-innermost, IsOpen-innermost, numbers-top, in_progress_push, above_numbers, last_of-take, all_at, in_progress_cut, IsQuiet, in_progress_quiet, tops_apart}
@@ -48,10 +47,10 @@ unnamed : (test : ℕ → Body → Bool) (x : ℕ) → ((body : Body) → names 
 unnamed test x each [] none = refl
 unnamed test x each (r ∷ log) none = by_test (names x r.body) refl none (unnamed test x each log)
   where
-  by_test : (b : Bool) → names x r.body ≡ b → (b || is_named log x) ≡ false → (is_named log x ≡ false → list_any (λ r. test x r.body) log ≡ false) →
-      (test x r.body || list_any (λ r. test x r.body) log) ≡ false
-  by_test true is none rest = cc
-  by_test false is none rest = rw (each r.body is, rest none) refl
+    by_test : (b : Bool) → names x r.body ≡ b → (b || is_named log x) ≡ false → (is_named log x ≡ false → list_any (λ r. test x r.body) log ≡ false) →
+        (test x r.body || list_any (λ r. test x r.body) log) ≡ false
+    by_test true is none rest = cc
+    by_test false is none rest = rw (each r.body is, rest none) refl
 
 or_first : (a b : Bool) → (a || b) ≡ false → a ≡ false
 or_first true b e = cc
@@ -115,16 +114,18 @@ begun-IsPublisher s h few free =
       few = omega (arith, longer, few);
       fresh = λ x above. h.fresh x (omega arith);
       rising = rising-push s.live (record { number = s.next; savepoints = [] }) (all_when _ _ (λ (p : Open) (running : IsInProgress s.log s.next p). running.below.0) s.live h.live) h.rising;
-      live = all_append _ s.live (record { number = s.next; savepoints = [] } ∷ []) (all_when _ _ (in_progress_later s.log s.next (s.next + 1) (omega arith)) s.live h.live)
-          (record {
-            below = (omega arith, tt);
-            top = unnamed assigns s.next (unnamed-assigns s.next) s.log (h.fresh s.next (omega arith));
-            running = unnamed ends s.next (unnamed-ends s.next) s.log (h.fresh s.next (omega arith));
-            subs = tt;
-            undropped = (unnamed undoes s.next (unnamed-undoes s.next) s.log (h.fresh s.next (omega arith)), tt);
-            nested = tt;
-            deep = omega arith;
-          }, tt);
+      live = all_append _ s.live (record { number = s.next; savepoints = [] } ∷ []) (all_when _ _ (in_progress_later s.log s.next (s.next + 1) (omega arith)) s.live h.live) (
+        record {
+          below = (omega arith, tt);
+          top = unnamed assigns s.next (unnamed-assigns s.next) s.log (h.fresh s.next (omega arith));
+          running = unnamed ends s.next (unnamed-ends s.next) s.log (h.fresh s.next (omega arith));
+          subs = tt;
+          undropped = (unnamed undoes s.next (unnamed-undoes s.next) s.log (h.fresh s.next (omega arith)), tt);
+          nested = tt;
+          deep = omega arith;
+        },
+        tt,
+      );
     }
 
 pub released-IsPublisher : (s : PublisherState) (number depth : ℕ) → IsPublisher s → is_live number s.live ≡ true → IsPublisher (released number depth s)
@@ -193,7 +194,7 @@ ended-IsPublisher : (s : PublisherState) (number : ℕ) (body : Body) → IsPubl
 ended-IsPublisher s number body h is next fits small naming quiet =
     let o : IsInProgress s.log s.next (record { number = number; savepoints = savepoints_of number s.live }) = open_at s number h is in
     let alone : IsOpen s.log number = IsOpen-innermost s.log s.next (record { number = number; savepoints = [] })
-        (in_progress_cut s.log s.next 0 (record { number = number; savepoints = savepoints_of number s.live }) o) in
+    (in_progress_cut s.log s.next 0 (record { number = number; savepoints = savepoints_of number s.live }) o) in
     let r : Record = record_after s.log body in
     let below : number < s.next = o.below.0 in
     let top : top_of s.log number ≡ number = rw (chain-unassigned s.log number o.top) refl in
@@ -234,13 +235,13 @@ saved-IsPublisher s number h is shallow free =
     let same : length (with_savepoints number (xs ++ s.next ∷ []) s.live) ≡ length s.live = length-with_savepoints number (xs ++ s.next ∷ []) s.live in
     let unheard : is_named s.log s.next ≡ false = h.fresh s.next (omega arith) in
     let quiet : (p : Open) → IsInProgress s.log s.next p → AllByRecursion (IsQuiet body) (numbers_of p) =
-        λ p progress. all_when _ _ (λ (x : ℕ) (lt : x < s.next). record { assigned = ne_eqb s.next x (λ e. absurd (omega (arith, lt, e))); ended = refl; undone = refl }) (numbers_of p) progress.below in
+    λ p progress. all_when _ _ (λ (x : ℕ) (lt : x < s.next). record { assigned = ne_eqb s.next x (λ e. absurd (omega (arith, lt, e))); ended = refl; undone = refl }) (numbers_of p) progress.below in
     let chained : chain (s.log ++ r ∷ []) s.next ≡ s.next ∷ onto (number ∷ []) xs =
-        chain-append s.log r s.next ∙ rw (eq-eqb s.next s.next refl) (ap (λ ys. s.next ∷ ys) (chain-innermost s.log number [] xs (chain-unassigned s.log number running.top) running.nested)) in
+    chain-append s.log r s.next ∙ rw (eq-eqb s.next s.next refl) (ap (λ ys. s.next ∷ ys) (chain-innermost s.log number [] xs (chain-unassigned s.log number running.top) running.nested)) in
     let assigned : is_assigned (s.log ++ r ∷ []) s.next ≡ true =
-        is_assigned-one s.log r s.next ∙ rw (unnamed assigns s.next (unnamed-assigns s.next) s.log unheard, eq-eqb s.next s.next refl) refl in
+    is_assigned-one s.log r s.next ∙ rw (unnamed assigns s.next (unnamed-assigns s.next) s.log unheard, eq-eqb s.next s.next refl) refl in
     let undropped : is_undone (s.log ++ r ∷ []) s.next ≡ false =
-        is_undone-one s.log r s.next ∙ rw (unnamed undoes s.next (unnamed-undoes s.next) s.log unheard) refl in
+    is_undone-one s.log r s.next ∙ rw (unnamed undoes s.next (unnamed-undoes s.next) s.log unheard) refl in
     record {
       log = log_grown s.tables s.log body h.log (unheard, ne_eqb s.next parent (λ e. absurd (omega (arith, below, e))), IsOpen-innermost s.log s.next o running)
           (omega (arith, h.limit, h.numbers, h.reserve, free), omega (arith, below, h.limit, h.numbers, h.reserve)) (omega arith) (omega (arith, h.limit, free));
@@ -254,7 +255,7 @@ saved-IsPublisher s number h is shallow free =
       live = all_changed (IsInProgress s.log s.next) (IsInProgress (s.log ++ r ∷ []) (s.next + 1)) number (xs ++ s.next ∷ []) s.live h.rising h.live
           (λ p progress other. in_progress_quiet s.log r s.next (s.next + 1) p (omega arith) (quiet p progress) progress)
           (in_progress_push (s.log ++ r ∷ []) (s.next + 1) s.next o (in_progress_quiet s.log r s.next (s.next + 1) o (omega arith) (quiet o running) running)
-              (omega arith) assigned undropped chained running.below shallow);
+          (omega arith) assigned undropped chained running.below shallow);
     }
 
 pub rolled_back-IsPublisher : (s : PublisherState) (number depth : ℕ) → IsPublisher s → is_live number s.live ≡ true → 0 < depth → depth ≤ length (savepoints_of number s.live) → 0 < room s → IsPublisher (rolled_back number depth s)
@@ -276,7 +277,7 @@ rolled_back-IsPublisher s number depth h is some within free =
     let top : top_of s.log sub ≡ number = all_at (λ x. top_of s.log x ≡ number) n xs lt (numbers-top s.log s.next o running).1 in
     let quiet : (x : ℕ) → (sub == x) ≡ false → IsQuiet body x = λ x other. record { assigned = refl; ended = refl; undone = other } in
     let kept : AllByRecursion (IsQuiet body) (number ∷ take n xs) =
-        all_when _ _ (λ (x : ℕ) (low : x < sub). quiet x (ne_eqb sub x (λ e. absurd (omega (arith, low, e))))) (number ∷ take n xs) (above_numbers s.log s.next n o running lt) in
+    all_when _ _ (λ (x : ℕ) (low : x < sub). quiet x (ne_eqb sub x (λ e. absurd (omega (arith, low, e))))) (number ∷ take n xs) (above_numbers s.log s.next n o running lt) in
     record {
       log = log_grown s.tables s.log body h.log (all_at (λ x. is_assigned s.log x ≡ true) n xs lt running.subs, alive)
           (omega (arith, below, h.limit, h.numbers, h.reserve)) (omega arith) (omega (arith, h.limit, free));

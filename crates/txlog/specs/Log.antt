@@ -1,7 +1,7 @@
 -- The log in words: which lists of records are one, what each transaction of it holds, and which of them committed.
 -- Each definition speaks of the whole log up to some place. Where a definition judges a record by the records before it,
 -- those are an argument, so that a longer log is judged record by record as a shorter one was.
-use Rattle.std.specs.Prelude.{◌≡◌, ℕ, ◌+◌, ◌*◌, ◌/◌, ◌^◌, ◌<◌, ◌==◌, ℤ, Bool, true, false, ◌&&◌, ◌||◌, not, List, [], ◌∷◌, ◌++◌, length, reverse, filter, nat_le, FitsSigned, if◌then◌else◌}
+use Rattle.std.specs.Prelude.{◌≡◌, ℕ, ◌+◌, ◌*◌, ◌/◌, ◌^◌, ◌<◌, ◌==◌, ℤ, Bool, true, false, ◌&&◌, ◌||◌, not, List, [], ◌∷◌, ◌++◌, reverse, filter, nat_le, FitsSigned, if◌then◌else◌}
 use Rattle.std.specs.List.{list_any, flat_map, AllByRecursion}
 use Rattle.std.specs.Int.{w64}
 use Rattle.tables.specs.declared.table.Table.{Table}

@@ -1,13 +1,12 @@
 -- What sessions do to a publisher: each call as a function of its state, and the refusal that a call meets, if any. Want of
 -- memory apart, a call is refused exactly where there is such a refusal, and with the first one.
-use Rattle.std.specs.Prelude.{◌≡◌, ℕ, ◌+◌, ◌-◌, ◌==◌, ℤ, Bool, true, false, ◌||◌, not, List, [], ◌∷◌, ◌++◌, length, take, map, filter, slice_index, codes, nat_le, nat_lt, Option, Some, None, Result, Ok, Err, if◌then◌else◌}
+use Rattle.std.specs.Prelude.{◌≡◌, ℕ, ◌+◌, ◌-◌, ◌==◌, ℤ, Bool, ◌||◌, not, List, [], ◌∷◌, ◌++◌, length, take, map, filter, slice_index, codes, nat_le, nat_lt, Option, Some, None, Result, Ok, Err, if◌then◌else◌}
 use Rattle.std.specs.List.{list_any}
 use Rattle.std.specs.declared.sync.Arc.{Arc}
 use Rattle.tables.specs.declared.row.TheConstants.{MAX_ROW_LENGTH}
 use Rattle.tables.specs.declared.value.Value.{Value}
 use Rattle.tables.specs.declared.table.Table.{Table}
 use Rattle.tables.specs.declared.change.Change.{Change}
-use Rattle.tables.specs.declared.change.Change.TheVariants as changes
 use Rattle.tables.specs.Spelling.{row_length, IsShort}
 use Rattle.tables.specs.Tables.{table_of, fits_table}
 use Rattle.txlog.specs.declared.limits.TheConstants.{MAX_LIVE, MAX_DEPTH}
@@ -169,6 +168,11 @@ Judged refusal (Err fault) = JudgedFault refusal fault
 abbrev pub JudgedBack : {A T : Type 0} → Option SessionFault → Result A (T × SessionFault) → Type 0
 JudgedBack refusal (Ok x) = refusal ≡ None
 JudgedBack refusal (Err back) = JudgedFault refusal back.1
+
+-- a test of a call: it is Ok exactly where there is no refusal
+abbrev pub Refuses : {A : Type 0} → Option SessionFault → Result A SessionFault → Type 0
+Refuses refusal (Ok x) = refusal ≡ None
+Refuses refusal (Err fault) = refusal ≡ Some fault
 
 -- the text of a fault's code
 abbrev pub code_of : SessionFault → List ℕ

@@ -1,0 +1,94 @@
+-- The steps of the calls, by plain values: s is the state when a call begins, as its fields say, and now as its caller sees it.
+use Rattle.std.proofs.Common.{◌≡◌, ℕ, ℤ, ◌+◌, ◌-◌, ◌^◌, ◌<◌, ◌≤◌, true, List, [], ◌∷◌, ◌++◌, length, take, refl, sym, ap, subst, ◌∙◌, arith}
+use Rattle.std.specs.Prelude.{FitsSigned, slice_index}
+use Rattle.std.specs.Int.{w64}
+use Rattle.tables.specs.declared.row.TheConstants.{MAX_ROW_LENGTH}
+use Rattle.tables.specs.declared.value.Value.{Value}
+use Rattle.tables.specs.declared.change.Change.TheVariants as changes
+use Rattle.tables.specs.Spelling.{row_length}
+use Rattle.tables.specs.Tables.{FitsChange}
+use Rattle.tables.proofs.Lengths.{body_length_is}
+use Rattle.txlog.specs.declared.limits.TheConstants.{MAX_DEPTH}
+use Rattle.txlog.specs.declared.record.TheConstants.{FIRST_POSITION}
+use Rattle.txlog.specs.declared.record.Record.{Record}
+use Rattle.txlog.specs.declared.record.Body.TheVariants.{Assign, Change as Changed, AbortSub, Abort, Commit}
+use Rattle.txlog.specs.Log.{end_of, size_of}
+use Rattle.txlog.specs.Publishing.{Open, PublisherState, log_end, record_after, room, is_live, savepoints_of, innermost, with_savepoints, without, after_commit, receipt_of}
+use Rattle.txlog.specs.Invariants.{IsPublisher}
+use Rattle.txlog.proofs.Growing.{end_of_push}
+use Rattle.txlog.proofs.LiveList.{restored}
+use Rattle.txlog.proofs.Transitions.{changed-IsPublisher, after_commit-IsPublisher, after_abort-IsPublisher, saved-IsPublisher, rolled_back-IsPublisher, released-IsPublisher}
+
+pub some_room : (s now : PublisherState) (n : ℕ) → s ≡ now → n ≡ room now → (n ≡ 0 → ⊥) → 0 < room s
+some_room s now n same is some = omega (arith, is, some, ap room same)
+
+-- every record ends far below the limit of positions
+pub record_fits : (s : PublisherState) (size : ℕ) → IsPublisher s → size ≤ 2 ^ 14 → end_of FIRST_POSITION s.log + size < 2 ^ 64
+record_fits s size h small = omega (arith, h.log.near, h.reserve, h.limit, small)
+
+pub insert_small : (x oid : ℕ) (row : List Value) → row_length row ≤ MAX_ROW_LENGTH → size_of (Changed x (changes.Insert oid row)) ≤ 2 ^ 14
+insert_small x oid row short = omega (arith, body_length_is oid row, short)
+
+pub insert_fits : (s now : PublisherState) (x oid : ℕ) (row : List Value) → s ≡ now → IsPublisher s → FitsChange now.tables (changes.Insert oid row) →
+    end_of FIRST_POSITION s.log + size_of (Changed x (changes.Insert oid row)) < 2 ^ 64
+insert_fits s now x oid row same h fits = record_fits s (size_of (Changed x (changes.Insert oid row))) h (insert_small x oid row fits.short)
+
+pub inserted : (s now : PublisherState) (number x oid : ℕ) (row : List Value) (log : List Record) → s ≡ now → IsPublisher s →
+    is_live number now.live ≡ true → 0 < room now → FitsChange now.tables (changes.Insert oid row) → x ≡ innermost number s.live →
+    log ≡ s.log ++ record_after s.log (Changed x (changes.Insert oid row)) ∷ [] → IsPublisher (record s { log = log })
+inserted s now number x oid row log same h is free fits inner grown =
+    rw (grown, inner) (changed-IsPublisher s number (changes.Insert oid row) h (ap (λ (n : PublisherState). is_live number n.live) same ∙ is)
+    (omega (arith, free, ap room same)) (subst (λ (n : PublisherState). FitsChange n.tables (changes.Insert oid row)) (sym same) fits)
+    (insert_small (innermost number s.live) oid row fits.short))
+
+pub committed_is : (s now : PublisherState) (tx number place start end : ℕ) (time kept : ℤ) (log : List Record) (live : List Open) → s ≡ now →
+    number ≡ tx → kept ≡ time → place ≡ length s.log → start ≡ log_end s → log ≡ s.log ++ record_after s.log (Commit number kept) ∷ [] →
+    end ≡ end_of FIRST_POSITION log → live ≡ without number s.live →
+    (record { place = place; start = start; end = end; top = number } ≡ receipt_of tx time now) × (record s { log = log; live = live } ≡ after_commit tx time now)
+committed_is s now tx number place start end time kept log live same n t p b grown e fewer =
+    let ends : end ≡ log_end s + size_of (Commit number kept) = e ∙ ap (end_of FIRST_POSITION) grown ∙ end_of_push FIRST_POSITION s.log (record_after s.log (Commit number kept)) in
+    let told : record { place = place; start = start; end = end; top = number } ≡ receipt_of number kept s = rw (p, b, ends) refl in
+    let moved : record s { log = log; live = live } ≡ after_commit number kept s = rw (grown, fewer) refl in
+    (told ∙ ap (receipt_of number kept) same ∙ ap (λ (x : ℕ). receipt_of x kept now) n, moved ∙ ap (after_commit number kept) same ∙ rw (n, t) refl)
+
+pub committed_kept : (s : PublisherState) (number : ℕ) (time kept : ℤ) (log : List Record) (live : List Open) → IsPublisher s →
+    true ≡ is_live number s.live → FitsSigned w64 time → kept ≡ time → log ≡ s.log ++ record_after s.log (Commit number kept) ∷ [] → live ≡ without number s.live →
+    IsPublisher (record s { log = log; live = live })
+committed_kept s number time kept log live h is fits t grown fewer = rw (grown, fewer) (after_commit-IsPublisher s number kept h (sym is) (rw t fits))
+
+pub aborted_kept : (s : PublisherState) (number : ℕ) (log : List Record) (live : List Open) → IsPublisher s →
+    true ≡ is_live number s.live → log ≡ s.log ++ record_after s.log (Abort number) ∷ [] → live ≡ without number s.live →
+    IsPublisher (record s { log = log; live = live })
+aborted_kept s number log live h is grown fewer = rw (grown, fewer) (after_abort-IsPublisher s number h (sym is))
+
+pub saved_kept : (s now : PublisherState) (number parent depth : ℕ) (log : List Record) (live : List Open) → s ≡ now → IsPublisher s →
+    is_live number now.live ≡ true → 0 < room now → depth ≡ length (savepoints_of number now.live) → depth < MAX_DEPTH → parent ≡ innermost number s.live →
+    live ≡ with_savepoints number (savepoints_of number s.live ++ s.next ∷ []) s.live → log ≡ s.log ++ record_after s.log (Assign s.next parent) ∷ [] →
+    IsPublisher (record s { log = log; live = live; next = s.next + 1 })
+saved_kept s now number parent depth log live same h is free at shallow inner more grown =
+    let here : length (savepoints_of number s.live) ≡ length (savepoints_of number now.live) = ap (λ (n : PublisherState). length (savepoints_of number n.live)) same in
+    rw (grown, inner, more) (saved-IsPublisher s number h (ap (λ (n : PublisherState). is_live number n.live) same ∙ is)
+    (omega (arith, at, shallow, here)) (omega (arith, free, ap room same)))
+
+pub rolled_back_kept : (s now : PublisherState) (number depth savepoint : ℕ) (log : List Record) (live : List Open) → s ≡ now → IsPublisher s →
+    is_live number now.live ≡ true → 0 < room now → 0 < depth → depth ≤ length (savepoints_of number now.live) → savepoint ≡ slice_index (savepoints_of number now.live) (depth - 1) →
+    log ≡ s.log ++ record_after s.log (AbortSub savepoint) ∷ [] → live ≡ with_savepoints number (take (depth - 1) (savepoints_of number s.live)) s.live →
+    IsPublisher (record s { log = log; live = live })
+rolled_back_kept s now number depth savepoint log live same h is free some within at grown less =
+    let here : savepoints_of number now.live ≡ savepoints_of number s.live = ap (λ (n : PublisherState). savepoints_of number n.live) (sym same) in
+    let value : savepoint ≡ slice_index (savepoints_of number s.live) (depth - 1) = at ∙ ap (λ xs. slice_index xs (depth - 1)) here in
+    rw (grown, value, less) (rolled_back-IsPublisher s number depth h (ap (λ (n : PublisherState). is_live number n.live) same ∙ is)
+    some (omega (arith, within, ap length here)) (omega (arith, free, ap room same)))
+
+pub released_kept : (s : PublisherState) (number depth : ℕ) (live : List Open) → IsPublisher s → true ≡ is_live number s.live →
+    live ≡ with_savepoints number (take (depth - 1) (savepoints_of number s.live)) s.live → IsPublisher (record s { live = live })
+released_kept s number depth live h is less = rw less (released-IsPublisher s number depth h (sym is))
+
+-- without memory for the record, the savepoint is taken off again
+pub unsaved : (s now : PublisherState) (number depth : ℕ) (log : List Record) (more less : List Open) → s ≡ now → is_live number now.live ≡ true →
+    depth ≡ length (savepoints_of number now.live) → more ≡ with_savepoints number (savepoints_of number s.live ++ s.next ∷ []) s.live →
+    log ≡ s.log → less ≡ with_savepoints number (take depth (savepoints_of number more)) more → record s { log = log; live = less } ≡ s
+unsaved s now number depth log more less same is at pushed unwritten cut =
+    let back : less ≡ s.live = restored number s.next depth s.live more less (ap (λ (n : PublisherState). is_live number n.live) same ∙ is)
+    (at ∙ ap (λ (n : PublisherState). length (savepoints_of number n.live)) (sym same)) pushed cut in
+    rw (unwritten, back) refl

@@ -1,0 +1,296 @@
+ghost use Rattle.std.specs.Prelude.{◌≡◌, ◌+◌, ◌-◌, ◌≤◌, ◌<◌, IfErr, IfOk, Ok, OnErr, OnOk, Some, None, drop, length, slice_index, take, true};
+ghost use Rattle.tables.specs.Tables.{FitsChange};
+ghost use Rattle.txlog.specs.Invariants.{IsPublisher};
+ghost use Rattle.txlog.specs.Publishing.{Judged, JudgedBack, Refuses, after_abort, after_commit, at_first, begin_refusal, begun, changed, end_refusal, insert_refusal, is_live, log_end, receipt_of, release_refusal, released, rollback_refusal, rolled_back, room, saved, savepoint_refusal, savepoints_of, shared};
+
+use crate::fault::SessionFault;
+use crate::limits::{MAX_DEPTH, MAX_LIVE, MAX_RECORDS};
+use crate::live::Live;
+use crate::log::Log;
+use crate::receipt::Receipt;
+use crate::record::{Body, FIRST_NUMBER, Record};
+use crate::tx::Tx;
+use std::alloc::{AllocError, Global};
+use std::marker::Model;
+use std::sync::Arc;
+use tables::{Catalog, Change, Row};
+
+/// The log, and the transactions that write it. A place in the log is kept in reserve for the end of each of them.
+#[derive(Debug, Drop)]
+pub struct Publisher {
+    catalog: Catalog,
+    capacity: usize,
+    log: Log,
+    next: u32,
+    live: Live,
+}
+
+impl Model for Publisher {
+    ghost use Rattle.txlog.specs.Publishing.{PublisherState};
+    ghost use Rattle.txlog.specs.Invariants.{IsPublisher};
+
+    ghost Value = { PublisherState };
+
+    ghost view = { λ p. record { tables = p.catalog; capacity = p.capacity; log = p.log; next = p.next; live = p.live } };
+
+    ghost invariant = { λ p. IsPublisher (record { tables = p.catalog; capacity = p.capacity; log = p.log; next = p.next; live = p.live }) };
+}
+
+impl Publisher {
+    /// A publisher of an empty log for this many records.
+    pub fn new(alloc: Global, catalog: Catalog, records: usize) -> Result<Self, SessionFault>
+        requires some { 1 ≤ records }
+        requires few { records ≤ MAX_RECORDS }
+        ensures ok { IfOk result (λ p. p ≡ at_first catalog records) }
+        ensures err { IfErr result (λ e. e ≡ SessionFault.Memory) }
+    {
+        Ok(Publisher {
+            catalog,
+            capacity: records,
+            log: Log::new(alloc),
+            next: FIRST_NUMBER,
+            live: Live::new(alloc),
+        })
+    }
+
+    pub fn catalog(&self) -> &Catalog
+        ensures { result.now ≡ self.now.tables }
+    {
+        &self.catalog
+    }
+
+    /// The position where the log ends.
+    pub fn end(&self) -> u64
+        ensures value { result ≡ log_end self.now }
+        ensures publisher { IsPublisher self.now }
+    {
+        self.log.end()
+    }
+
+    /// Up to `max` records from the place on, shared and not copied.
+    pub fn tail(&self, place: usize, max: usize) -> Result<Vec<Arc<Record>>, AllocError>
+        ensures records { IfOk result (λ v. shared v.items ≡ take max (drop place self.now.log)) }
+        ensures publisher { IsPublisher self.now }
+    {
+        self.log.tail(place, max)
+    }
+
+    /// The records that may still be written.
+    fn room(&self) -> usize
+        ensures { result ≡ room self.now }
+    {
+        self.capacity - (self.log.len() + self.live.len())
+    }
+
+    /// A new transaction. S10 where 256 are live, then S7 without room, then S11.
+    pub fn begin(&mut self) -> Result<Tx, SessionFault>
+        ensures ok { IfOk result (λ tx. (tx ≡ self.old.next) × (self.new ≡ begun self.old)) }
+        ensures err { OnErr result (self.new ≡ self.old) }
+        ensures refused { Judged (begin_refusal self.old) result }
+        ensures publisher { IsPublisher self.new }
+    {
+        if self.live.len() >= MAX_LIVE {
+            return Err(SessionFault::TooManyLive);
+        }
+        if self.room() == 0 {
+            return Err(SessionFault::LogFull);
+        }
+        let number = self.next;
+        self.live.push(number)?;
+        self.next = number + 1;
+        Ok(Tx::new(number))
+    }
+
+    /// Inserts a row. S14, S1, S2, S6, S7, S11 in this order.
+    pub fn insert(&mut self, tx: &mut Tx, oid: u32, row: Row) -> Result<(), SessionFault>
+        ensures ok { OnOk result (self.new ≡ changed tx.old (Change.Insert oid row) self.old) }
+        ensures err { OnErr result (self.new ≡ self.old) }
+        ensures refused { Judged (insert_refusal tx.old oid row self.old) result }
+        ensures tx { tx.new ≡ tx.old }
+        ensures publisher { IsPublisher self.new }
+    {
+        let number = tx.number();
+        self.test_insert(number, oid, &row)?;
+        let innermost = self.live.innermost(number);
+        self.log
+            .push(Body::Change(innermost, Change::Insert(oid, row)))?;
+        Ok(())
+    }
+
+    fn test_insert(&self, number: u32, oid: u32, row: &Row) -> Result<(), SessionFault>
+        ensures refused { Refuses (insert_refusal number oid row.now self.now) result }
+        ensures live { OnOk result (is_live number self.now.live ≡ true) }
+        ensures room { OnOk result (0 < room self.now) }
+        ensures fits { OnOk result (FitsChange self.now.tables (Change.Insert oid row.now)) }
+    {
+        if !self.live.contains(number) {
+            return Err(SessionFault::NoTransaction);
+        }
+        let Some(table) = self.catalog.table(oid) else {
+            return Err(SessionFault::UnknownTable);
+        };
+        if !table.takes(row) {
+            return Err(SessionFault::RowShape);
+        }
+        if row.coded_len().is_none() {
+            return Err(SessionFault::TooLarge);
+        }
+        if self.room() == 0 {
+            return Err(SessionFault::LogFull);
+        }
+        Ok(())
+    }
+
+    /// Commits the transaction. It is never refused for room; S14 and S11 give it back.
+    pub fn commit(&mut self, tx: Tx, time: i64) -> Result<Receipt, (Tx, SessionFault)>
+        ensures ok { IfOk result (λ receipt. (receipt ≡ receipt_of tx time self.old) × (self.new ≡ after_commit tx time self.old)) }
+        ensures err { IfErr result (λ back. (back.0 ≡ tx) × (self.new ≡ self.old)) }
+        ensures refused { JudgedBack (end_refusal tx self.old) result }
+        ensures publisher { IsPublisher self.new }
+    {
+        let number = tx.number();
+        if !self.live.contains(number) {
+            return Err((tx, SessionFault::NoTransaction));
+        }
+        let place = self.log.len();
+        let start = self.log.end();
+        match self.log.push(Body::Commit(number, time)) {
+            Ok(()) => {}
+            Err(_) => return Err((tx, SessionFault::Memory)),
+        }
+        self.live.remove(number);
+        tx.spend();
+        Ok(Receipt {
+            place,
+            start,
+            end: self.log.end(),
+            top: number,
+        })
+    }
+
+    /// Aborts the transaction. It is never refused for room; S14 and S11 give it back.
+    pub fn abort(&mut self, tx: Tx) -> Result<(), (Tx, SessionFault)>
+        ensures ok { OnOk result (self.new ≡ after_abort tx self.old) }
+        ensures err { IfErr result (λ back. (back.0 ≡ tx) × (self.new ≡ self.old)) }
+        ensures refused { JudgedBack (end_refusal tx self.old) result }
+        ensures publisher { IsPublisher self.new }
+    {
+        let number = tx.number();
+        if !self.live.contains(number) {
+            return Err((tx, SessionFault::NoTransaction));
+        }
+        match self.log.push(Body::Abort(number)) {
+            Ok(()) => {}
+            Err(_) => return Err((tx, SessionFault::Memory)),
+        }
+        self.live.remove(number);
+        tx.spend();
+        Ok(())
+    }
+
+    /// Sets a savepoint, and answers its depth. S14, S9 at depth 16, S7, S11 in this order.
+    pub fn savepoint(&mut self, tx: &mut Tx) -> Result<u32, SessionFault>
+        ensures depth { IfOk result (λ depth. depth ≡ length (savepoints_of tx.old self.old.live) + 1) }
+        ensures ok { OnOk result (self.new ≡ saved tx.old self.old) }
+        ensures err { OnErr result (self.new ≡ self.old) }
+        ensures refused { Judged (savepoint_refusal tx.old self.old) result }
+        ensures tx { tx.new ≡ tx.old }
+        ensures publisher { IsPublisher self.new }
+    {
+        let number = tx.number();
+        let depth = self.test_savepoint(number)?;
+        let parent = self.live.innermost(number);
+        let savepoint = self.next;
+        self.live.push_savepoint(number, savepoint)?;
+        match self.log.push(Body::Assign(savepoint, parent)) {
+            Ok(()) => {}
+            Err(_) => {
+                self.live.truncate_savepoints(number, depth);
+                return Err(SessionFault::Memory);
+            }
+        }
+        self.next = savepoint + 1;
+        Ok(depth as u32 + 1)
+    }
+
+    /// The depth before a savepoint.
+    fn test_savepoint(&self, number: u32) -> Result<usize, SessionFault>
+        ensures refused { Refuses (savepoint_refusal number self.now) result }
+        ensures live { OnOk result (is_live number self.now.live ≡ true) }
+        ensures room { OnOk result (0 < room self.now) }
+        ensures depth { IfOk result (λ depth. (depth ≡ length (savepoints_of number self.now.live)) × (depth < MAX_DEPTH)) }
+    {
+        if !self.live.contains(number) {
+            return Err(SessionFault::NoTransaction);
+        }
+        let depth = self.live.savepoints(number).len();
+        if depth >= MAX_DEPTH {
+            return Err(SessionFault::TooDeep);
+        }
+        if self.room() == 0 {
+            return Err(SessionFault::LogFull);
+        }
+        Ok(depth)
+    }
+
+    /// Rolls back to the savepoint of this depth, 1 for the outermost, and closes it. S14, S8, S7, S11 in this order.
+    pub fn rollback_to(&mut self, tx: &mut Tx, depth: u32) -> Result<(), SessionFault>
+        ensures ok { OnOk result (self.new ≡ rolled_back tx.old depth self.old) }
+        ensures err { OnErr result (self.new ≡ self.old) }
+        ensures refused { Judged (rollback_refusal tx.old depth self.old) result }
+        ensures tx { tx.new ≡ tx.old }
+        ensures publisher { IsPublisher self.new }
+    {
+        let number = tx.number();
+        let savepoint = self.test_rollback(number, depth as usize)?;
+        self.log.push(Body::AbortSub(savepoint))?;
+        self.live.truncate_savepoints(number, depth as usize - 1);
+        Ok(())
+    }
+
+    /// The savepoint of this depth.
+    fn test_rollback(&self, number: u32, depth: usize) -> Result<u32, SessionFault>
+        ensures refused { Refuses (rollback_refusal number depth self.now) result }
+        ensures live { OnOk result (is_live number self.now.live ≡ true) }
+        ensures room { OnOk result (0 < room self.now) }
+        ensures depth { OnOk result ((0 < depth) × (depth ≤ length (savepoints_of number self.now.live))) }
+        ensures value { IfOk result (λ s. s ≡ slice_index (savepoints_of number self.now.live) (depth - 1)) }
+    {
+        if !self.live.contains(number) {
+            return Err(SessionFault::NoTransaction);
+        }
+        let savepoints = self.live.savepoints(number);
+        if depth == 0 || savepoints.len() < depth {
+            return Err(SessionFault::NoSavepoint);
+        }
+        if self.room() == 0 {
+            return Err(SessionFault::LogFull);
+        }
+        Ok(savepoints[depth - 1])
+    }
+
+    /// Releases the savepoint of this depth, 1 for the outermost, and those above. S14, S8 in this order.
+    pub fn release(&mut self, tx: &mut Tx, depth: u32) -> Result<(), SessionFault>
+        ensures ok { OnOk result (self.new ≡ released tx.old depth self.old) }
+        ensures err { OnErr result (self.new ≡ self.old) }
+        ensures refused { Refuses (release_refusal tx.old depth self.old) result }
+        ensures tx { tx.new ≡ tx.old }
+        ensures publisher { IsPublisher self.new }
+    {
+        let number = tx.number();
+        if !self.live.contains(number) {
+            return Err(SessionFault::NoTransaction);
+        }
+        let depth = depth as usize;
+        if depth == 0 || self.live.savepoints(number).len() < depth {
+            return Err(SessionFault::NoSavepoint);
+        }
+        self.live.truncate_savepoints(number, depth - 1);
+        Ok(())
+    }
+
+    /// The transaction stays live.
+    pub fn leave(&self, tx: Tx) {
+        tx.spend();
+    }
+}
