@@ -91,13 +91,14 @@ word_body_once once (words.Keepalive k) (words.Keepalive l) fits_a fits_b e =
     let asks : k.ask ≡ l.ask = same_ask k.ask l.ask clocks.1 in
     ap words.Keepalive (ap (λ (p : ℕ). keepalive_of p k.clock k.ask) at.0 ∙ ap (λ (c : ℤ). keepalive_of l.position c k.ask) clocks.0 ∙ ap (keepalive_of l.position l.clock) asks)
   where
-  keepalive_of : ℕ → ℤ → Bool → Keepalive
-  keepalive_of position clock ask = record { position = position; clock = clock; ask = ask }
-  same_ask : (a b : Bool) → ask_byte a ∷ [] ≡ ask_byte b ∷ [] → a ≡ b
-  same_ask true true e = refl
-  same_ask true false e = absurd (omega (arith, heads 1 0 [] [] e))
-  same_ask false true e = absurd (omega (arith, heads 0 1 [] [] e))
-  same_ask false false e = refl
+    keepalive_of : ℕ → ℤ → Bool → Keepalive
+    keepalive_of position clock ask = record { position = position; clock = clock; ask = ask }
+
+    same_ask : (a b : Bool) → ask_byte a ∷ [] ≡ ask_byte b ∷ [] → a ≡ b
+    same_ask true true e = refl
+    same_ask true false e = absurd (omega (arith, heads 1 0 [] [] e))
+    same_ask false true e = absurd (omega (arith, heads 0 1 [] [] e))
+    same_ask false false e = refl
 word_body_once once (words.Keepalive k) (words.Sent s) fits_a fits_b e = absurd (omega (arith, heads 107 119 _ _ e))
 word_body_once once (words.Sent s) (words.Keepalive k) fits_a fits_b e = absurd (omega (arith, heads 119 107 _ _ e))
 word_body_once once (words.Sent s) (words.Sent t) fits_a fits_b e =
@@ -108,8 +109,8 @@ word_body_once once (words.Sent s) (words.Sent t) fits_a fits_b e =
     let messages = once s.message t.message fits_a.fields.3 fits_b.fields.3 clocks.1 in
     ap words.Sent (ap (λ (p : ℕ). sent_of p s.end s.clock s.message) starts.0 ∙ ap (λ (p : ℕ). sent_of t.start p s.clock s.message) ends.0 ∙ ap (λ (c : ℤ). sent_of t.start t.end c s.message) clocks.0 ∙ ap (sent_of t.start t.end t.clock) messages)
   where
-  sent_of : ℕ → ℕ → ℤ → Logical → Sent
-  sent_of start end clock message = record { start = start; end = end; clock = clock; message = message }
+    sent_of : ℕ → ℕ → ℤ → Logical → Sent
+    sent_of start end clock message = record { start = start; end = end; clock = clock; message = message }
 
 pub words_are_code : IsSpelledOnce → IsCode word_bytes FitsWord
 words_are_code once a b x y fits_a fits_b e =
@@ -170,15 +171,17 @@ change_of position message = record { position = position; message = message }
 same_said : (p q : ℕ) (c d : ℤ) (m n : Logical) → said p c m ≡ said q d n → (p ≡ q) × (c ≡ d) × (m ≡ n)
 same_said p q c d m n e = (ap position_in e, ap (clock_in c) e, ap (message_in m) e)
   where
-  position_in : Word → ℕ
-  position_in (words.Keepalive k) = 0
-  position_in (words.Sent s) = s.start
-  clock_in : ℤ → Word → ℤ
-  clock_in z (words.Keepalive k) = z
-  clock_in z (words.Sent s) = s.clock
-  message_in : Logical → Word → Logical
-  message_in z (words.Keepalive k) = z
-  message_in z (words.Sent s) = s.message
+    position_in : Word → ℕ
+    position_in (words.Keepalive k) = 0
+    position_in (words.Sent s) = s.start
+
+    clock_in : ℤ → Word → ℤ
+    clock_in z (words.Keepalive k) = z
+    clock_in z (words.Sent s) = s.clock
+
+    message_in : Logical → Word → Logical
+    message_in z (words.Keepalive k) = z
+    message_in z (words.Sent s) = s.message
 
 same_changes : (relation : ℕ → Relation) (named : List ℕ) (clock : ℤ) (cs ds : List PublishedChange) (w v : Word) (x y : List Word)
     → AllByRecursion (FitsChange relation) cs → AllByRecursion (FitsChange relation) ds → kind_of w ≡ 2 → kind_of v ≡ 2
@@ -187,20 +190,20 @@ same_changes relation named clock [] [] w v x y fits_c fits_d is_w is_v e = (ref
 same_changes relation named clock [] (d ∷ ds) w v x y fits_c fits_d is_w is_v e =
     let kinds = change_kind relation d.message fits_d.0.of_change in
     let met = past_relations [] (relation_words relation d.position clock (due named (tables_of d.message))) w (said d.position clock d.message) x (changes_words relation (named_by named d) clock ds ++ (v ∷ y))
-        tt (are_relations relation d.position clock (due named (tables_of d.message))) (λ is. omega (arith, is, is_w)) kinds.1 (e ∙ regrouped relation named clock d ds (v ∷ y)) in
+    tt (are_relations relation d.position clock (due named (tables_of d.message))) (λ is. omega (arith, is, is_w)) kinds.1 (e ∙ regrouped relation named clock d ds (v ∷ y)) in
     absurd (kinds.0 (sym (ap kind_of met.0) ∙ is_w))
 same_changes relation named clock (c ∷ cs) [] w v x y fits_c fits_d is_w is_v e =
     let kinds = change_kind relation c.message fits_c.0.of_change in
     let met = past_relations (relation_words relation c.position clock (due named (tables_of c.message))) [] (said c.position clock c.message) v (changes_words relation (named_by named c) clock cs ++ (w ∷ x)) y
-        (are_relations relation c.position clock (due named (tables_of c.message))) tt kinds.1 (λ is. omega (arith, is, is_v)) (sym (regrouped relation named clock c cs (w ∷ x)) ∙ e) in
+    (are_relations relation c.position clock (due named (tables_of c.message))) tt kinds.1 (λ is. omega (arith, is, is_v)) (sym (regrouped relation named clock c cs (w ∷ x)) ∙ e) in
     absurd (kinds.0 (ap kind_of met.0 ∙ is_v))
 same_changes relation named clock (c ∷ cs) (d ∷ ds) w v x y fits_c fits_d is_w is_v e =
     let kinds_c = change_kind relation c.message fits_c.0.of_change in
     let kinds_d = change_kind relation d.message fits_d.0.of_change in
     let met = past_relations (relation_words relation c.position clock (due named (tables_of c.message))) (relation_words relation d.position clock (due named (tables_of d.message)))
-        (said c.position clock c.message) (said d.position clock d.message) (changes_words relation (named_by named c) clock cs ++ (w ∷ x)) (changes_words relation (named_by named d) clock ds ++ (v ∷ y))
-        (are_relations relation c.position clock (due named (tables_of c.message))) (are_relations relation d.position clock (due named (tables_of d.message))) kinds_c.1 kinds_d.1
-        (sym (regrouped relation named clock c cs (w ∷ x)) ∙ e ∙ regrouped relation named clock d ds (v ∷ y)) in
+    (said c.position clock c.message) (said d.position clock d.message) (changes_words relation (named_by named c) clock cs ++ (w ∷ x)) (changes_words relation (named_by named d) clock ds ++ (v ∷ y))
+    (are_relations relation c.position clock (due named (tables_of c.message))) (are_relations relation d.position clock (due named (tables_of d.message))) kinds_c.1 kinds_d.1
+    (sym (regrouped relation named clock c cs (w ∷ x)) ∙ e ∙ regrouped relation named clock d ds (v ∷ y)) in
     let parts = same_said c.position d.position clock clock c.message d.message met.0 in
     let change : c ≡ d = ap (λ (p : ℕ). change_of p c.message) parts.0 ∙ ap (change_of d.position) parts.2 in
     let aligned : changes_words relation (named_by named d) clock cs ++ (w ∷ x) ≡ changes_words relation (named_by named d) clock ds ++ (v ∷ y) = ap (λ (a : PublishedChange). changes_words relation (named_by named a) clock cs ++ (w ∷ x)) (sym change) ∙ met.1 in
@@ -228,26 +231,27 @@ same_item relation named (Block clock t) (Block other u) x y fits_i fits_j e =
     let tails : (changes_words relation named clock t.changes ++ (ended ∷ [])) ++ x ≡ (changes_words relation named other u.changes ++ (ended_too ∷ [])) ++ y = cc in
     let clocks : clock ≡ other = front.1 in
     let aligned : changes_words relation named other t.changes ++ (ended ∷ x) ≡ changes_words relation named other u.changes ++ (ended_too ∷ y) =
-        ap (λ (z : ℤ). changes_words relation named z t.changes ++ (ended ∷ x)) (sym clocks)
-        ∙ sym (append_assoc (changes_words relation named clock t.changes) (ended ∷ []) x) ∙ tails ∙ append_assoc (changes_words relation named other u.changes) (ended_too ∷ []) y in
+    ap (λ (z : ℤ). changes_words relation named z t.changes ++ (ended ∷ x)) (sym clocks)
+    ∙ sym (append_assoc (changes_words relation named clock t.changes) (ended ∷ []) x) ∙ tails ∙ append_assoc (changes_words relation named other u.changes) (ended_too ∷ []) y in
     let inner = same_changes relation named other t.changes u.changes ended ended_too x y fits_i.1.changes fits_j.1.changes refl refl aligned in
     let last = same_said t.end u.end clock other (logical.Commit (record { position = t.start; end = t.end; time = t.time })) (logical.Commit (record { position = u.start; end = u.end; time = u.time })) inner.1 in
     let times : t.time ≡ u.time = ap (time_in t.time) front.2 in
     let numbers : t.number ≡ u.number = ap (number_in t.number) front.2 in
     let whole : t ≡ u = ap (λ (n : ℕ). published_of n t.end t.time t.number t.changes) front.0 ∙ ap (λ (n : ℕ). published_of u.start n t.time t.number t.changes) last.0
-        ∙ ap (λ (z : ℤ). published_of u.start u.end z t.number t.changes) times ∙ ap (λ (n : ℕ). published_of u.start u.end u.time n t.changes) numbers ∙ ap (published_of u.start u.end u.time u.number) inner.0 in
+    ∙ ap (λ (z : ℤ). published_of u.start u.end z t.number t.changes) times ∙ ap (λ (n : ℕ). published_of u.start u.end u.time n t.changes) numbers ∙ ap (published_of u.start u.end u.time u.number) inner.0 in
     (ap (λ (z : ℤ). Block z t) clocks ∙ ap (Block other) whole, inner.2)
   where
-  time_in : ℤ → Logical → ℤ
-  time_in z (logical.Begin m) = m.time
-  time_in z (logical.Commit m) = z
-  time_in z (logical.Relation m) = z
-  time_in z (logical.Insert m) = z
-  number_in : ℕ → Logical → ℕ
-  number_in z (logical.Begin m) = m.number
-  number_in z (logical.Commit m) = z
-  number_in z (logical.Relation m) = z
-  number_in z (logical.Insert m) = z
+    time_in : ℤ → Logical → ℤ
+    time_in z (logical.Begin m) = m.time
+    time_in z (logical.Commit m) = z
+    time_in z (logical.Relation m) = z
+    time_in z (logical.Insert m) = z
+
+    number_in : ℕ → Logical → ℕ
+    number_in z (logical.Begin m) = m.number
+    number_in z (logical.Commit m) = z
+    number_in z (logical.Relation m) = z
+    number_in z (logical.Insert m) = z
 
 -- items whose words begin the words of others are a beginning of those
 pub begun_words : (relation : ℕ → Relation) (named : List ℕ) (a b : List Item) (x : List Word) → FitItems relation a → FitItems relation b
@@ -272,25 +276,34 @@ all_due : (P : ℕ → Type 0) (named oids : List ℕ) → AllByRecursion P oids
 all_due P named [] all = tt
 all_due P named (oid ∷ oids) all = by_test (is_named named oid) (all_due P named oids all.1) (all_due P (oid ∷ named) oids all.1)
   where
-  by_test : (b : Bool) → AllByRecursion P (due named oids) → AllByRecursion P (due (oid ∷ named) oids) → AllByRecursion P (cond b (due named oids) (oid ∷ due (oid ∷ named) oids))
-  by_test true old new = old
-  by_test false old new = (all.0, new)
+    by_test : (b : Bool) → AllByRecursion P (due named oids) → AllByRecursion P (due (oid ∷ named) oids) → AllByRecursion P (cond b (due named oids) (oid ∷ due (oid ∷ named) oids))
+    by_test true old new = old
+    by_test false old new = (all.0, new)
 
 said_fits : (position : ℕ) (clock : ℤ) (m : Logical) → position < 2 ^ 64 → FitsSigned w64 clock → FitsLogical m → IsShortMessage m → FitsWord (said position clock m)
 said_fits position clock m lt fits in_range short = record {
   fields = (lt, lt, fits, in_range);
-  short = omega (arith, short, length-int64 position, length-int64 (cast_unsigned w64 clock),
-      length-append (int64 position) (int64 position ++ (int64 (cast_unsigned w64 clock) ++ spell_logical m)),
-      length-append (int64 position) (int64 (cast_unsigned w64 clock) ++ spell_logical m),
-      length-append (int64 (cast_unsigned w64 clock)) (spell_logical m));
+  short = omega (
+    arith,
+    short,
+    length-int64 position,
+    length-int64 (cast_unsigned w64 clock),
+    length-append (int64 position) (int64 position ++ (int64 (cast_unsigned w64 clock) ++ spell_logical m)),
+    length-append (int64 position) (int64 (cast_unsigned w64 clock) ++ spell_logical m),
+    length-append (int64 (cast_unsigned w64 clock)) (spell_logical m),
+  );
 }
 
 alive_fits : (k : Keepalive) → (k.position < 2 ^ 64) × FitsSigned w64 k.clock → FitsWord (words.Keepalive k)
 alive_fits k fits = record {
   fields = fits;
-  short = omega (arith, length-int64 k.position, length-int64 (cast_unsigned w64 k.clock),
-      length-append (int64 k.position) (int64 (cast_unsigned w64 k.clock) ++ (ask_byte k.ask ∷ [])),
-      length-append (int64 (cast_unsigned w64 k.clock)) (ask_byte k.ask ∷ []));
+  short = omega (
+    arith,
+    length-int64 k.position,
+    length-int64 (cast_unsigned w64 k.clock),
+    length-append (int64 k.position) (int64 (cast_unsigned w64 k.clock) ++ (ask_byte k.ask ∷ [])),
+    length-append (int64 (cast_unsigned w64 k.clock)) (ask_byte k.ask ∷ []),
+  );
 }
 
 relations_fit : (relation : ℕ → Relation) (position : ℕ) (clock : ℤ) (oids : List ℕ) → position < 2 ^ 64 → FitsSigned w64 clock → AllByRecursion (FitsRelationOf relation) oids
@@ -304,22 +317,24 @@ changes_fit : (relation : ℕ → Relation) (named : List ℕ) (clock : ℤ) (cs
 changes_fit relation named clock [] fits all = tt
 changes_fit relation named clock (c ∷ cs) fits all =
     all_of_both FitsWord (change_words relation named clock c) (changes_words relation (named_by named c) clock cs)
-        (all_of_both FitsWord (relation_words relation c.position clock (due named (tables_of c.message))) (said c.position clock c.message ∷ [])
-            (relations_fit relation c.position clock (due named (tables_of c.message)) all.0.position fits (all_due (FitsRelationOf relation) named (tables_of c.message) all.0.relations))
-            (said_fits c.position clock c.message all.0.position fits all.0.fits all.0.short, tt))
-        (changes_fit relation (named_by named c) clock cs fits all.1)
+    (all_of_both FitsWord (relation_words relation c.position clock (due named (tables_of c.message))) (said c.position clock c.message ∷ [])
+    (relations_fit relation c.position clock (due named (tables_of c.message)) all.0.position fits (all_due (FitsRelationOf relation) named (tables_of c.message) all.0.relations))
+    (said_fits c.position clock c.message all.0.position fits all.0.fits all.0.short, tt))
+    (changes_fit relation (named_by named c) clock cs fits all.1)
 
 item_fits : (relation : ℕ → Relation) (named : List ℕ) (i : Item) → FitsItem relation i → AllByRecursion FitsWord (item_words relation named i)
 item_fits relation named (Alive k) fits = (alive_fits k fits, tt)
 item_fits relation named (Block clock t) fits =
     let begun : FitsWord (said t.start clock (logical.Begin (record { position = t.start; time = t.time; number = t.number }))) =
-        said_fits t.start clock (logical.Begin (record { position = t.start; time = t.time; number = t.number })) fits.1.start fits.0 (fits.1.start, (fits.1.time, fits.1.number))
-            (omega (arith, length-int64 t.start, length-int64 (cast_unsigned w64 t.time), length-int32 t.number, length-append (int64 t.start) (int64 (cast_unsigned w64 t.time) ++ int32 t.number), length-append (int64 (cast_unsigned w64 t.time)) (int32 t.number))) in
+    said_fits t.start clock (logical.Begin (record { position = t.start; time = t.time; number = t.number })) fits.1.start fits.0 (fits.1.start, (fits.1.time, fits.1.number))
+    (omega (arith, length-int64 t.start, length-int64 (cast_unsigned w64 t.time), length-int32 t.number, length-append (int64 t.start) (int64 (cast_unsigned w64 t.time) ++ int32 t.number), length-append (int64 (cast_unsigned w64 t.time)) (int32 t.number))) in
     let ended : FitsWord (said t.end clock (logical.Commit (record { position = t.start; end = t.end; time = t.time }))) =
-        said_fits t.end clock (logical.Commit (record { position = t.start; end = t.end; time = t.time })) fits.1.end fits.0 (fits.1.start, (fits.1.end, fits.1.time))
-            (omega (arith, length-int64 t.start, length-int64 t.end, length-int64 (cast_unsigned w64 t.time), length-append (int64 t.start) (int64 t.end ++ int64 (cast_unsigned w64 t.time)), length-append (int64 t.end) (int64 (cast_unsigned w64 t.time)))) in
-    (begun, all_of_both FitsWord (changes_words relation named clock t.changes) (said t.end clock (logical.Commit (record { position = t.start; end = t.end; time = t.time })) ∷ [])
-        (changes_fit relation named clock t.changes fits.0 fits.1.changes) (ended, tt))
+    said_fits t.end clock (logical.Commit (record { position = t.start; end = t.end; time = t.time })) fits.1.end fits.0 (fits.1.start, (fits.1.end, fits.1.time))
+    (omega (arith, length-int64 t.start, length-int64 t.end, length-int64 (cast_unsigned w64 t.time), length-append (int64 t.start) (int64 t.end ++ int64 (cast_unsigned w64 t.time)), length-append (int64 t.end) (int64 (cast_unsigned w64 t.time)))) in (
+      begun,
+      all_of_both FitsWord (changes_words relation named clock t.changes) (said t.end clock (logical.Commit (record { position = t.start; end = t.end; time = t.time })) ∷ [])
+          (changes_fit relation named clock t.changes fits.0 fits.1.changes) (ended, tt),
+    )
 
 pub words_fit : (relation : ℕ → Relation) (named : List ℕ) (items : List Item) → FitItems relation items → AllByRecursion FitsWord (words_of relation named items)
 words_fit relation named [] fits = tt

@@ -15,10 +15,13 @@ use Rattle.stream.specs.Items.{Item, Alive, Block, said, words_of, spelled}
 -- public.item: id int4, the key; name text; qty int8
 abbrev item : Relation
 item = record {
-  oid = 16384; namespace = codes "public"; name = codes "item"; identity = identities.Default;
+  oid = 16384;
+  namespace = codes "public";
+  name = codes "item";
+  identity = identities.Default;
   columns = record { is_key = true; name = codes "id"; kind = 23; modifier = negsuc 0 }
-    ∷ record { is_key = false; name = codes "name"; kind = 25; modifier = negsuc 0 }
-    ∷ record { is_key = false; name = codes "qty"; kind = 20; modifier = negsuc 0 } ∷ [];
+      ∷ record { is_key = false; name = codes "name"; kind = 25; modifier = negsuc 0 }
+      ∷ record { is_key = false; name = codes "qty"; kind = 20; modifier = negsuc 0 } ∷ [];
 }
 
 -- the insert of (1,'ab',7) at 0/1000000
@@ -27,7 +30,10 @@ insert = logical.Insert (record { oid = 16384; new = cells.Text (codes "1") ∷ 
 
 abbrev transaction : Published
 transaction = record {
-  start = 0x1000030; end = 0x1000050; time = pos 5; number = 700;
+  start = 0x1000030;
+  end = 0x1000050;
+  time = pos 5;
+  number = 700;
   changes = record { position = 0x1000000; message = insert } ∷ [];
 }
 

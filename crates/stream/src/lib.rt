@@ -2,7 +2,9 @@
 #![tactic(auto)]
 
 mod published;
+mod reading;
 mod word;
 
 pub use published::{Published, PublishedChange};
+pub use reading::a_stream_has_one_reading;
 pub use word::{Keepalive, Sent, Word};
