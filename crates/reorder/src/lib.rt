@@ -2,7 +2,6 @@
 #![tactic(auto)]
 
 mod fault;
-mod parents;
 mod ready;
 mod reorder;
 

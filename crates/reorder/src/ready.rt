@@ -1,7 +1,7 @@
 //! What a commit makes ready.
 
-ghost use Rattle.std.specs.Prelude.{◌≡◌, ◌<◌, length, slice_index_or};
-ghost use Rattle.reorder.specs.Entries.{kept_entry, is_changed};
+ghost use Rattle.std.specs.Prelude.{◌≡◌, ◌<◌, length, true};
+ghost use Rattle.reorder.specs.Kept.{IsEntryAt};
 
 use std::marker::Model;
 use std::sync::Arc;
@@ -11,6 +11,77 @@ use txlog::{Body, Record};
 /// A change that is kept until its transaction ends, by the record that made it.
 #[derive(Debug, Drop)]
 pub(crate) struct Kept {
-    pub(crate) record: Arc<Record>,
-    ghost is_change: { is_changed record.value.body ≡ true },
+    record: Arc<Record>,
+}
+
+impl Model for Kept {
+    ghost use Rattle.std.specs.Prelude.{◌≡◌, true};
+    ghost use Rattle.txlog.specs.Log.{Entry};
+    ghost use Rattle.reorder.specs.Kept.{is_changed, kept_entry};
+
+    ghost Value = { Entry };
+
+    ghost view = { λ k. kept_entry k.record.value };
+
+    ghost invariant = { λ k. is_changed k.record.value.body ≡ true };
+}
+
+impl Kept {
+    /// The position at which the change's record starts, and the change.
+    pub(crate) fn entry(&self) -> (u64, &Change)
+        ensures position { result.0 ≡ self.now.position }
+        ensures change { result.1.now ≡ self.now.change }
+    {
+        match &self.record.body {
+            Body::Change(_, change) => (self.record.start, change),
+            _ => unreachable!(),
+        }
+    }
+}
+
+/// The changes that a committed transaction keeps, in log order. It goes back by `Reorder::finish`.
+#[derive(Debug)]
+pub struct Ready {
+    changes: Vec<Kept>,
+}
+
+impl Model for Ready {
+    ghost use Rattle.std.specs.Prelude.{List};
+    ghost use Rattle.txlog.specs.Log.{Entry};
+
+    ghost Value = { List Entry };
+
+    ghost view = { λ r. r.changes.items };
+}
+
+impl Ready {
+    /// How many changes there are.
+    pub fn count(&self) -> usize
+        ensures { result ≡ length self.now }
+    {
+        self.changes.len()
+    }
+
+    pub(crate) fn entry(&self, k: usize) -> (u64, &Change)
+        requires { k < length self.now }
+        ensures { IsEntryAt self.now k result.0 result.1.now }
+    {
+        self.changes[k].entry()
+    }
+
+    pub(crate) fn into_changes(self) -> Vec<Kept>
+        ensures { result.items ≡ self }
+    {
+        let Ready { changes } = self;
+        changes
+    }
+}
+
+/// What a record brings.
+#[derive(Debug)]
+pub enum Step {
+    /// Nothing to publish yet.
+    Quiet,
+    /// A transaction committed.
+    Ready(Ready),
 }

@@ -1,0 +1,70 @@
+//! Regrouping the changes of a log by transaction.
+
+ghost use Rattle.std.specs.Prelude.{◌≡◌, ◌<◌, [], length, false, true, Err, IfOk, OnErr, OnOk};
+ghost use Rattle.reorder.specs.Kept.{IsEntryAt};
+ghost use Rattle.reorder.specs.Taking.{HasTaken, Takes, readied};
+
+use crate::fault::ReorderFault;
+use crate::ready::{Kept, Ready, Step};
+use std::alloc::Global;
+use std::marker::Model;
+use std::sync::Arc;
+use tables::Change;
+use txlog::Record;
+
+/// The changes of the transactions in progress. Contracts see them in log order.
+#[derive(Debug, Drop)]
+pub struct Reorder {
+    live: Vec<Kept>,
+    failed: bool,
+}
+
+impl Model for Reorder {
+    ghost use Rattle.reorder.specs.Taking.{ReorderState};
+
+    ghost Value = { ReorderState };
+
+    ghost view = { λ r. record { live = r.live.items; failed = r.failed } };
+}
+
+impl Reorder {
+    pub fn new(alloc: Global) -> Self
+        ensures untaken { HasTaken result [] }
+        ensures running { result.failed ≡ false }
+    {
+        Reorder {
+            live: Vec::new(alloc),
+            failed: false,
+        }
+    }
+
+    /// Takes the next record of a log. Refused for memory (Q2), or after that (Q3), it is failed for good.
+    pub fn take(&mut self, alloc: Global, record: &Arc<Record>) -> Result<Step, ReorderFault>
+        ensures ok { IfOk result (λ step. Takes self.old self.new record.now.value (readied step)) }
+        ensures running { OnOk result ((self.old.failed ≡ false) × (self.new.failed ≡ false)) }
+        ensures fails { OnErr result (self.new.failed ≡ true) }
+        ensures failed { result ≡ Err ReorderFault.Failed → (self.old.failed ≡ true) × (self.new ≡ self.old) }
+        ensures memory { result ≡ Err ReorderFault.Memory → self.old.failed ≡ false }
+    {
+        if self.failed {
+            return Err(ReorderFault::Failed);
+        }
+        self.failed = true;
+        Err(ReorderFault::Memory)
+    }
+
+    /// The k-th change that is ready: the position at which its record starts, and the change.
+    pub fn entry<'a>(&self, ready: &'a Ready, k: usize) -> (u64, &'a Change)
+        requires { k < length ready.now }
+        ensures { IsEntryAt ready.now k result.0 result.1.now }
+    {
+        ready.entry(k)
+    }
+
+    /// Gives back what was ready.
+    pub fn finish(&mut self, ready: Ready)
+        ensures { self.new ≡ self.old }
+    {
+        let _ = ready.into_changes();
+    }
+}
