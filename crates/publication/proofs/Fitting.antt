@@ -1,6 +1,8 @@
 -- What is published fits the stream: its fields, its Relation, and a frame.
 use Rattle.std.proofs.Common.{◌≡◌, ℕ, ℤ, negsuc, zero, suc, ◌+◌, ◌*◌, ◌^◌, ◌<◌, ◌≤◌, Bool, true, false, cond, eqb, leb, ltb, List, [], ◌∷◌, ◌++◌, length, map, Option, Some, None, refl, sym, ap, subst, ◌∙◌, arith}
-use Rattle.std.specs.Prelude.{FitsSigned, ◌&&◌, codes}
+use Rattle.std.specs.Prelude.{FitsSigned, ◌&&◌, codes, IfSome}
+use Rattle.std.specs.Borrow.{Bor}
+use Rattle.std.specs.Option.{option_copied}
 use Rattle.std.specs.List.{flat_map, list_all, AllByRecursion}
 use Rattle.std.specs.Int.{w32, w64, cast_unsigned}
 use Rattle.std.specs.Str.{IsUtf8, IsAscii, is_utf8}
@@ -29,10 +31,10 @@ use Rattle.tables.specs.declared.table.Table.{Table}
 use Rattle.tables.specs.declared.change.Change.{Change}
 use Rattle.tables.specs.declared.change.Change.TheVariants as changes
 use Rattle.tables.specs.Spelling.{spell_value, spell_row, row_length}
-use Rattle.tables.specs.Tables.{table_of, fits_table, IsValue, FitsChange, item_table}
+use Rattle.tables.specs.Tables.{table_of, fits_table, IsValue, FitsChange, item_table, builtin_tables}
 use Rattle.stream.specs.Items.{tables_of, IsShortMessage, IsOfChange, FitsRelationOf}
 use Rattle.publication.specs.Selection.{relation, relation_in, relation_of, relation_column, type_oid, FitsTable}
-use Rattle.publication.specs.Projection.{cell_of, stands_in, inserted_in, message}
+use Rattle.publication.specs.Projection.{cell_of, stands_in, inserted_in, message, projected, MessageFits, FitsProjected}
 
 both_true : (a b : Bool) → (a && b) ≡ true → (a ≡ true) × (b ≡ true)
 both_true true b e = (refl, e)
@@ -47,9 +49,9 @@ pub found_table : (P : Table → Type 0) (oid : ℕ) (tables : List Table) (tabl
 found_table P oid [] table all e = absurd cc
 found_table P oid (t ∷ tables) table all e = by_test (eqb t.oid oid) (λ is. eqb-true t.oid oid is) e (found_table P oid tables table all.1)
   where
-  by_test : (b : Bool) → (b ≡ true → t.oid ≡ oid) → cond b (Some t) (table_of oid tables) ≡ Some table → (table_of oid tables ≡ Some table → P table × (table.oid ≡ oid)) → P table × (table.oid ≡ oid)
-  by_test true same e others = let Q : Table → Type 0 = λ u. P u × (u.oid ≡ oid) in subst Q (some_is t table e) (all.0, same refl)
-  by_test false same e others = others e
+    by_test : (b : Bool) → (b ≡ true → t.oid ≡ oid) → cond b (Some t) (table_of oid tables) ≡ Some table → (table_of oid tables ≡ Some table → P table × (table.oid ≡ oid)) → P table × (table.oid ≡ oid)
+    by_test true same e others = let Q : Table → Type 0 = λ u. P u × (u.oid ≡ oid) in subst Q (some_is t table e) (all.0, same refl)
+    by_test false same e others = others e
 
 -- ---- the cells of a row
 
@@ -131,9 +133,15 @@ columns_fit identity (c ∷ cs) all =
     let told = relation_column identity c in
     let others = columns_fit identity cs all.1 in
     let parted : length (flat_map column (map (relation_column identity) (c ∷ cs))) ≡ length (column told) + length (flat_map column (map (relation_column identity) cs)) =
-        ap length (flat_map-cons column told (map (relation_column identity) cs)) ∙ length-append (column told) (flat_map column (map (relation_column identity) cs)) in
-    let here : length (column told) ≡ 1 + (length c.name + 1 + 8) = omega (arith, length-append (string c.name) (int32 told.kind ++ int32 (cast_unsigned w32 told.modifier)), name_length c.name,
-        length-append (int32 told.kind) (int32 (cast_unsigned w32 told.modifier)), length-int32 told.kind, length-int32 (cast_unsigned w32 told.modifier)) in
+    ap length (flat_map-cons column told (map (relation_column identity) cs)) ∙ length-append (column told) (flat_map column (map (relation_column identity) cs)) in
+    let here : length (column told) ≡ 1 + (length c.name + 1 + 8) = omega (
+      arith,
+      length-append (string c.name) (int32 told.kind ++ int32 (cast_unsigned w32 told.modifier)),
+      name_length c.name,
+      length-append (int32 told.kind) (int32 (cast_unsigned w32 told.modifier)),
+      length-int32 told.kind,
+      length-int32 (cast_unsigned w32 told.modifier),
+    ) in
     record {
       fits = ((all.0.0, (type_fits c.kind, no_modifier)), others.fits);
       short = omega (arith, parted, here, all.0.1, others.short);
@@ -151,9 +159,21 @@ relation_fits t table =
     let behind_name = (identity_letter told.identity ∷ []) ++ (int16 (length told.columns) ++ flat_map column told.columns) in
     record {
       fits = (table.oid, (table.schema, (table.name, (omega (arith, count, table.count), columns.fits))));
-      short = omega (arith, table.count, table.schema_length, table.name_length, columns.short, length-int32 t.oid, name_length t.schema, name_length t.name, length-int16 (length told.columns),
-          length-append (int32 t.oid) (string t.schema ++ (string t.name ++ behind_name)), length-append (string t.schema) (string t.name ++ behind_name), length-append (string t.name) behind_name,
-          length-append (int16 (length told.columns)) (flat_map column told.columns));
+      short = omega (
+        arith,
+        table.count,
+        table.schema_length,
+        table.name_length,
+        columns.short,
+        length-int32 t.oid,
+        name_length t.schema,
+        name_length t.name,
+        length-int16 (length told.columns),
+        length-append (int32 t.oid) (string t.schema ++ (string t.name ++ behind_name)),
+        length-append (string t.schema) (string t.name ++ behind_name),
+        length-append (string t.name) behind_name,
+        length-append (int16 (length told.columns)) (flat_map column told.columns),
+      );
     }
 
 relation_tells : (selection : List Table) (t : Table) → table_of t.oid selection ≡ Some t → FitsTable t → FitsRelationOf (relation selection) t.oid
@@ -166,13 +186,6 @@ relation_tells selection t found table =
     }
 
 -- ---- a message
-
--- what the stream asks of the message of a change
-pub record MessageFits (selection : List Table) (m : Logical) : Type 0 where
-  pub of_change : IsOfChange (relation selection) m
-  pub fits : FitsLogical m
-  pub short : IsShortMessage m
-  pub relations : AllByRecursion (FitsRelationOf (relation selection)) (tables_of m)
 
 insert_fits : (selection : List Table) (t : Table) (row : List Value) → table_of t.oid selection ≡ Some t → FitsTable t → AllByRecursion IsValue row → stands_in t row ≡ true
     → MessageFits selection (logical.Insert (record { oid = t.oid; new = map cell_of row }))
@@ -198,18 +211,19 @@ IsChange (changes.Insert oid row) = AllByRecursion IsValue row
 pub message_fits : (selection : List Table) (c : Change) (m : Logical) → AllByRecursion FitsTable selection → IsChange c → message selection c ≡ Some m → MessageFits selection m
 message_fits selection (changes.Insert oid row) m tables in_range e = by_table (table_of oid selection) refl e
   where
-  by_stand : (t : Table) → table_of t.oid selection ≡ Some t → FitsTable t → (b : Bool) → stands_in t row ≡ b
-      → cond b (Some (logical.Insert (record { oid = t.oid; new = map cell_of row }))) None ≡ Some m → MessageFits selection m
-  by_stand t found table true stands e =
-      let P : Logical → Type 0 = λ n. MessageFits selection n in
-      subst P (some_is (logical.Insert (record { oid = t.oid; new = map cell_of row })) m e) (insert_fits selection t row found table in_range stands)
-  by_stand t found table false stands e = absurd cc
-  by_table : (o : Option Table) → table_of oid selection ≡ o → inserted_in o row ≡ Some m → MessageFits selection m
-  by_table None found e = absurd cc
-  by_table (Some t) found e =
-      let p = found_table FitsTable oid selection t tables found in
-      let same : table_of t.oid selection ≡ Some t = ap (λ (n : ℕ). table_of n selection) p.1 ∙ found in
-      by_stand t same p.0 (stands_in t row) refl e
+    by_stand : (t : Table) → table_of t.oid selection ≡ Some t → FitsTable t → (b : Bool) → stands_in t row ≡ b
+        → cond b (Some (logical.Insert (record { oid = t.oid; new = map cell_of row }))) None ≡ Some m → MessageFits selection m
+    by_stand t found table true stands e =
+        let P : Logical → Type 0 = λ n. MessageFits selection n in
+        subst P (some_is (logical.Insert (record { oid = t.oid; new = map cell_of row })) m e) (insert_fits selection t row found table in_range stands)
+    by_stand t found table false stands e = absurd cc
+
+    by_table : (o : Option Table) → table_of oid selection ≡ o → inserted_in o row ≡ Some m → MessageFits selection m
+    by_table None found e = absurd cc
+    by_table (Some t) found e =
+        let p = found_table FitsTable oid selection t tables found in
+        let same : table_of t.oid selection ≡ Some t = ap (λ (n : ℕ). table_of n selection) p.1 ∙ found in
+        by_stand t same p.0 (stands_in t row) refl e
 
 -- ---- the built-in table
 
@@ -223,3 +237,25 @@ item_fits = record {
   columns = (((refl, ascii_fits (codes "id") refl), omega arith), (((refl, ascii_fits (codes "name") refl), omega arith), (((refl, ascii_fits (codes "qty") refl), omega arith), tt)));
   count = omega arith;
 }
+
+-- ---- what the selection answers
+
+all_unit : (tables : List Table) → AllByRecursion (λ _. Unit {0}) tables
+all_unit [] = tt
+all_unit (t ∷ tables) = (tt, all_unit tables)
+
+pub found_fits : (selection : List Table) (oid : ℕ) (o : Option (Bor Table)) → AllByRecursion FitsTable selection → option_copied o ≡ table_of oid selection → IfSome o (λ t. FitsTable t.now)
+found_fits selection oid None tables e = tt
+found_fits selection oid (Some t) tables e = (found_table FitsTable oid selection t.now tables (sym e)).0
+
+pub inserted_fits : (selection : List Table) (oid : ℕ) (t : Table) (row : List Value) → table_of oid selection ≡ Some t → FitsTable t → AllByRecursion IsValue row → stands_in t row ≡ true
+    → MessageFits selection (logical.Insert (record { oid = t.oid; new = map cell_of row }))
+inserted_fits selection oid t row found table in_range stands =
+    let same : t.oid ≡ oid = (found_table (λ _. Unit {0}) oid selection t (all_unit selection) found).1 in
+    insert_fits selection t row (ap (λ (n : ℕ). table_of n selection) same ∙ found) table in_range stands
+
+pub relation_answer_fits : (t : Table) → FitsTable t → FitsLogical (logical.Relation (relation_of t)) × IsShortMessage (logical.Relation (relation_of t))
+relation_answer_fits t table = let f = relation_fits t table in (f.fits, f.short)
+
+pub builtin_fits : AllByRecursion FitsTable builtin_tables
+builtin_fits = (item_fits, tt)

@@ -15,6 +15,10 @@ use Rattle.tables.specs.declared.change.Change.{Change}
 use Rattle.tables.specs.declared.change.Change.TheVariants as changes
 use Rattle.tables.specs.Spelling.{row_length}
 use Rattle.tables.specs.Tables.{table_of, fits_table}
+use Rattle.std.specs.List.{AllByRecursion}
+use Rattle.pgoutput.specs.Logical.{FitsLogical}
+use Rattle.stream.specs.Items.{tables_of, IsShortMessage, IsOfChange, FitsRelationOf}
+use Rattle.publication.specs.Selection.{relation}
 use Rattle.publication.specs.declared.projection.Projected.{Projected}
 use Rattle.publication.specs.declared.projection.Projected.TheVariants.{Nothing, Message}
 
@@ -41,3 +45,15 @@ message selection (changes.Insert oid row) = inserted_in (table_of oid selection
 abbrev pub projected : Option Logical → Projected
 projected None = Nothing
 projected (Some m) = Message m
+
+-- What the stream asks of the message of a change: it fits its fields and a frame, and so do the Relations of the tables that
+-- it names, with as many columns as its tuples have cells.
+pub record MessageFits (selection : List Table) (m : Logical) : Type 0 where
+  pub of_change : IsOfChange (relation selection) m
+  pub fits : FitsLogical m
+  pub short : IsShortMessage m
+  pub relations : AllByRecursion (FitsRelationOf (relation selection)) (tables_of m)
+
+abbrev pub FitsProjected : List Table → Projected → Type 0
+FitsProjected selection Nothing = Unit {0}
+FitsProjected selection (Message m) = MessageFits selection m

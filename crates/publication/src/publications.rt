@@ -22,10 +22,14 @@ pub struct Publications {
 
 impl Model for Publications {
     ghost use Rattle.publication.specs.Publications.{Publication};
+    ghost use Rattle.std.specs.List.{AllByRecursion};
+    ghost use Rattle.publication.specs.Selection.{FitsTable};
 
     ghost Value = { Publication };
 
     ghost view = { λ p. record { name = p.name; tables = p.tables } };
+
+    ghost invariant = { λ p. AllByRecursion FitsTable p.tables };
 }
 
 impl Publications {

@@ -1,6 +1,6 @@
 -- The items of a stream, and the words that say them. An item is a keepalive, or a block: one published transaction
 -- whole, under one clock. Before the first message of the stream that names a table stands the table's Relation.
-use Rattle.std.specs.Prelude.{◌≡◌, ℕ, ℤ, ◌+◌, ◌<◌, ◌≤◌, ◌^◌, FitsSigned, Bool, ◌==◌, if◌then◌else◌, List, [], ◌∷◌, ◌++◌, map, length}
+use Rattle.std.specs.Prelude.{◌≡◌, ℕ, ℤ, ◌+◌, ◌<◌, ◌≤◌, ◌^◌, FitsSigned, Bool, ◌==◌, if◌then◌else◌, List, [], ◌∷◌, ◌++◌, map, reverse, length}
 use Rattle.std.specs.List.{list_any, AllByRecursion}
 use Rattle.std.specs.Int.{w64}
 use Rattle.pgoutput.specs.declared.logical.Logical.{Logical}
@@ -43,9 +43,9 @@ abbrev pub due : List ℕ → List ℕ → List ℕ
 due named [] = []
 due named (oid ∷ oids) = if is_named named oid then due named oids else oid ∷ due (oid ∷ named) oids
 
--- the tables named so far, once the change is said too
+-- the tables named so far, the newest first, once the change is said too
 abbrev pub named_by : List ℕ → PublishedChange → List ℕ
-named_by named c = tables_of c.message ++ named
+named_by named c = reverse (due named (tables_of c.message)) ++ named
 
 abbrev pub named_by_all : List ℕ → List PublishedChange → List ℕ
 named_by_all named [] = named
@@ -83,6 +83,11 @@ words_of relation named (item ∷ items) = item_words relation named item ++ wor
 -- what the items spell
 abbrev pub spelled : (ℕ → Relation) → List ℕ → List Item → List ℕ
 spelled relation named items = frames_of (words_of relation named items)
+
+-- the tables named so far, once these transactions are said too
+abbrev pub named_through : List ℕ → List Published → List ℕ
+named_through named [] = named
+named_through named (t ∷ ts) = named_through (named_by_all named t.changes) ts
 
 -- the transactions that the items send
 abbrev pub sent : List Item → List Published
