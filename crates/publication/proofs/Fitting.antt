@@ -198,6 +198,7 @@ insert_fits selection t row found table in_range stands =
     let count : length (map cell_of row) ≡ length row = length-map cell_of row in
     let told : length (relation_of t).columns ≡ length t.columns = length-map (relation_column t.identity) t.columns in
     record {
+      known = (rw found refl, tt);
       of_change = rw found (count ∙ sym counts ∙ sym told);
       fits = (table.oid, (omega (arith, table.count), cells.fits));
       short = omega (arith, cells.short, length-int32 t.oid, length-int16 (length (map cell_of row)), length-append (int32 t.oid) ((78 ∷ []) ++ tuple (map cell_of row)), length-append (int16 (length (map cell_of row))) (flat_map cell (map cell_of row)));

@@ -1,6 +1,6 @@
 -- The message of a change: an insert into a selected table is an Insert of the row's values as texts. What doesn't fit the
 -- catalogue has no message.
-use Rattle.std.specs.Prelude.{ℕ, ◌&&◌, Bool, List, map, codes, nat_le, Option, Some, None, if◌then◌else◌}
+use Rattle.std.specs.Prelude.{ℕ, ◌&&◌, Bool, List, map, codes, nat_le, Option, Some, None, IsSome, if◌then◌else◌}
 use Rattle.std.specs.Fmt.{signed_decimal}
 use Rattle.pgoutput.specs.declared.logical.Logical.{Logical}
 use Rattle.pgoutput.specs.declared.logical.Logical.TheVariants as logical
@@ -46,9 +46,10 @@ abbrev pub projected : Option Logical → Projected
 projected None = Nothing
 projected (Some m) = Message m
 
--- What the stream asks of the message of a change: it fits its fields and a frame, and so do the Relations of the tables that
+-- What the stream asks of the message of a change: the selection has the tables that it names; it fits its fields and a frame, and so do the Relations of the tables that
 -- it names, with as many columns as its tuples have cells.
 pub record MessageFits (selection : List Table) (m : Logical) : Type 0 where
+  pub known : AllByRecursion (λ oid. IsSome (table_of oid selection)) (tables_of m)
   pub of_change : IsOfChange (relation selection) m
   pub fits : FitsLogical m
   pub short : IsShortMessage m

@@ -32,7 +32,7 @@ use Rattle.stream.specs.declared.word.Sent.{Sent}
 use Rattle.stream.specs.declared.published.Published.{Published}
 use Rattle.stream.specs.declared.published.PublishedChange.{PublishedChange}
 use Rattle.stream.specs.Words.{word_body, word_bytes, frames_of, FitsWord}
-use Rattle.stream.specs.Items.{Item, Alive, Block, said, tables_of, is_named, due, named_by, change_words, changes_words, item_words, named_after, words_of, spelled, IsShortMessage, FitsRelationOf, IsOfChange, FitsChange, FitsPublished, FitsItem, FitItems}
+use Rattle.stream.specs.Items.{Item, Alive, Block, said, tables_of, is_named, due, named_by, relation_words, change_words, changes_words, item_words, named_after, words_of, spelled, IsShortMessage, FitsRelationOf, IsOfChange, FitsChange, FitsPublished, FitsItem, FitItems}
 
 -- ---- frames to words
 
@@ -148,9 +148,6 @@ past_relations [] [] w v u t all_x all_y not_w not_v e = (cc, cc)
 past_relations [] (y ∷ ys) w v u t all_x all_y not_w not_v e = let same : w ≡ y = cc in absurd (not_w (ap kind_of same ∙ all_y.0))
 past_relations (x ∷ xs) [] w v u t all_x all_y not_w not_v e = let same : v ≡ x = cc in absurd (not_v (ap kind_of same ∙ all_x.0))
 past_relations (x ∷ xs) (y ∷ ys) w v u t all_x all_y not_w not_v e = let tails : xs ++ (w ∷ u) ≡ ys ++ (v ∷ t) = cc in past_relations xs ys w v u t all_x.1 all_y.1 not_w not_v tails
-
-abbrev relation_words : (ℕ → Relation) → ℕ → ℤ → List ℕ → List Word
-relation_words relation position clock oids = map (λ oid. said position clock (logical.Relation (relation oid))) oids
 
 are_relations : (relation : ℕ → Relation) (position : ℕ) (clock : ℤ) (oids : List ℕ) → AllByRecursion (λ w. kind_of w ≡ 3) (relation_words relation position clock oids)
 are_relations relation position clock [] = tt

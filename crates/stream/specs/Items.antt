@@ -28,6 +28,9 @@ pub data Item : Type 0 where
 abbrev pub said : ℕ → ℤ → Logical → Word
 said position clock message = words.Sent (record { start = position; end = position; clock = clock; message = message })
 
+abbrev pub alive : ℕ → ℤ → Bool → Word
+alive position clock ask = words.Keepalive (record { position = position; clock = clock; ask = ask })
+
 -- the tables that a message names, in the order in which it names them
 abbrev pub tables_of : Logical → List ℕ
 tables_of (logical.Insert m) = m.oid ∷ []
@@ -51,21 +54,31 @@ abbrev pub named_by_all : List ℕ → List PublishedChange → List ℕ
 named_by_all named [] = named
 named_by_all named (c ∷ cs) = named_by_all (named_by named c) cs
 
+-- the Relations of these tables, at a position
+abbrev pub relation_words : (ℕ → Relation) → ℕ → ℤ → List ℕ → List Word
+relation_words relation position clock oids = map (λ oid. said position clock (logical.Relation (relation oid))) oids
+
 -- a change: the Relations that are due, and its message, all at its position
 abbrev pub change_words : (ℕ → Relation) → List ℕ → ℤ → PublishedChange → List Word
 change_words relation named clock c =
-    map (λ oid. said c.position clock (logical.Relation (relation oid))) (due named (tables_of c.message)) ++ (said c.position clock c.message ∷ [])
+    relation_words relation c.position clock (due named (tables_of c.message)) ++ (said c.position clock c.message ∷ [])
 
 abbrev pub changes_words : (ℕ → Relation) → List ℕ → ℤ → List PublishedChange → List Word
 changes_words relation named clock [] = []
 changes_words relation named clock (c ∷ cs) = change_words relation named clock c ++ changes_words relation (named_by named c) clock cs
 
+abbrev pub begin_message : Published → Logical
+begin_message t = logical.Begin (record { position = t.start; time = t.time; number = t.number })
+
+abbrev pub commit_message : Published → Logical
+commit_message t = logical.Commit (record { position = t.start; end = t.end; time = t.time })
+
 -- a block: Begin at the start of the commit record, the changes in order, Commit at its end
 abbrev pub block_words : (ℕ → Relation) → List ℕ → ℤ → Published → List Word
 block_words relation named clock t =
-    said t.start clock (logical.Begin (record { position = t.start; time = t.time; number = t.number }))
+    said t.start clock (begin_message t)
     ∷ (changes_words relation named clock t.changes
-    ++ (said t.end clock (logical.Commit (record { position = t.start; end = t.end; time = t.time })) ∷ []))
+    ++ (said t.end clock (commit_message t) ∷ []))
 
 abbrev pub item_words : (ℕ → Relation) → List ℕ → Item → List Word
 item_words relation named (Alive k) = words.Keepalive k ∷ []

@@ -1,0 +1,87 @@
+-- The frames of words, as they are written: a head with the body's length, and the body.
+use Rattle.std.proofs.Common.{◌≡◌, ℕ, ℤ, ◌+◌, List, [], ◌∷◌, ◌++◌, length, refl, sym, ap, ◌∙◌, append_assoc, arith}
+use Rattle.std.specs.Prelude.{Bool}
+use Rattle.std.specs.Int.{w64, cast_unsigned}
+use Rattle.std.proofs.lemmas.List.{length-append, append-nil}
+use Rattle.std.proofs.lemmas.List.Concat.{flat_map-cons, flat_map-append}
+use Rattle.frames.specs.Fields.{int32, int64}
+use Rattle.frames.specs.declared.copy_data.TheConstants.{COPY_DATA}
+use Rattle.frames.proofs.Numbers.{length-int32, length-int64}
+use Rattle.copyboth.specs.XLogData.{xlogdata}
+use Rattle.copyboth.specs.Keepalive.{keepalive, ask_byte}
+use Rattle.pgoutput.specs.declared.logical.Logical.{Logical}
+use Rattle.pgoutput.specs.declared.logical.Logical.TheVariants as logical
+use Rattle.pgoutput.specs.declared.begin.Begin.{Begin}
+use Rattle.pgoutput.specs.declared.commit.Commit.{Commit}
+use Rattle.pgoutput.specs.Logical.{spell_logical}
+use Rattle.pgoutput.specs.declared.relation.Relation.{Relation}
+use Rattle.stream.specs.declared.word.Word.{Word}
+use Rattle.stream.specs.declared.published.Published.{Published}
+use Rattle.stream.specs.Words.{word_bytes, frames_of}
+use Rattle.stream.specs.Items.{said, alive, begin_message, commit_message, changes_words, block_words, IsShortMessage}
+
+length-xlogdata : (start end : ℕ) (clock : ℤ) (payload : List ℕ) → length (xlogdata start end clock payload) ≡ 25 + length payload
+length-xlogdata start end clock payload =
+    omega (
+      arith,
+      length-int64 start,
+      length-int64 end,
+      length-int64 (cast_unsigned w64 clock),
+      length-append (int64 start) (int64 end ++ (int64 (cast_unsigned w64 clock) ++ payload)),
+      length-append (int64 end) (int64 (cast_unsigned w64 clock) ++ payload),
+      length-append (int64 (cast_unsigned w64 clock)) payload,
+    )
+
+length-keepalive : (end : ℕ) (clock : ℤ) (ask : Bool) → length (keepalive end clock ask) ≡ 18
+length-keepalive end clock ask =
+    omega (arith, length-int64 end, length-int64 (cast_unsigned w64 clock), length-append (int64 end) (int64 (cast_unsigned w64 clock) ++ (ask_byte ask ∷ [])), length-append (int64 (cast_unsigned w64 clock)) (ask_byte ask ∷ []))
+
+-- a body behind its head
+behind_head : (old headed whole body : List ℕ) (n : ℕ) → n ≡ length body → headed ≡ old ++ (COPY_DATA ∷ int32 (4 + n)) → whole ≡ headed ++ body → whole ≡ old ++ (COPY_DATA ∷ (int32 (4 + length body) ++ body))
+behind_head old headed whole body n len head tail =
+    tail ∙ ap (λ (l : List ℕ). l ++ body) head ∙ append_assoc old (COPY_DATA ∷ int32 (4 + n)) body ∙ ap (λ (k : ℕ). old ++ (COPY_DATA ∷ (int32 (4 + k) ++ body))) len
+
+pub said_whole : (old headed whole scratch : List ℕ) (position : ℕ) (clock : ℤ) (m : Logical) → scratch ≡ spell_logical m → headed ≡ old ++ (COPY_DATA ∷ int32 (4 + (25 + length scratch)))
+    → whole ≡ headed ++ xlogdata position position clock scratch → whole ≡ old ++ word_bytes (said position clock m)
+said_whole old headed whole scratch position clock m spelled head tail =
+    let body : xlogdata position position clock scratch ≡ xlogdata position position clock (spell_logical m) = ap (xlogdata position position clock) spelled in
+    behind_head old headed whole (xlogdata position position clock (spell_logical m)) (25 + length scratch)
+    (sym (length-xlogdata position position clock scratch) ∙ ap length body) head (tail ∙ ap (λ (l : List ℕ). headed ++ l) body)
+
+pub alive_whole : (old headed whole : List ℕ) (position : ℕ) (clock : ℤ) (ask : Bool) → headed ≡ old ++ (COPY_DATA ∷ int32 (4 + 18)) → whole ≡ headed ++ keepalive position clock ask → whole ≡ old ++ word_bytes (alive position clock ask)
+alive_whole old headed whole position clock ask head tail = behind_head old headed whole (keepalive position clock ask) 18 (sym (length-keepalive position clock ask)) head tail
+
+-- ---- blocks
+
+frames_append : (ws vs : List Word) → frames_of (ws ++ vs) ≡ frames_of ws ++ frames_of vs
+frames_append ws vs = flat_map-append word_bytes ws vs
+
+frames_one : (w : Word) → frames_of (w ∷ []) ≡ word_bytes w
+frames_one w = flat_map-cons word_bytes w [] ∙ append-nil (word_bytes w)
+
+pub block_is : (relation : ℕ → Relation) (named : List ℕ) (clock : ℤ) (t : Published) → frames_of (block_words relation named clock t)
+    ≡ (word_bytes (said t.start clock (begin_message t)) ++ frames_of (changes_words relation named clock t.changes)) ++ word_bytes (said t.end clock (commit_message t))
+block_is relation named clock t =
+    let begun = said t.start clock (begin_message t) in
+    let ended = said t.end clock (commit_message t) in
+    let changes = changes_words relation named clock t.changes in
+    flat_map-cons word_bytes begun (changes ++ (ended ∷ [])) ∙ ap (λ (l : List ℕ). word_bytes begun ++ l) (frames_append changes (ended ∷ []) ∙ ap (λ (l : List ℕ). frames_of changes ++ l) (frames_one ended))
+    ∙ sym (append_assoc (word_bytes begun) (frames_of changes) (word_bytes ended))
+
+pub begin_short : (m : Begin) → IsShortMessage (logical.Begin m)
+begin_short m = omega (arith, length-int64 m.position, length-int64 (cast_unsigned w64 m.time), length-int32 m.number, length-append (int64 m.position) (int64 (cast_unsigned w64 m.time) ++ int32 m.number), length-append (int64 (cast_unsigned w64 m.time)) (int32 m.number))
+
+pub commit_short : (m : Commit) → IsShortMessage (logical.Commit m)
+commit_short m = omega (arith, length-int64 m.position, length-int64 m.end, length-int64 (cast_unsigned w64 m.time), length-append (int64 m.position) (int64 m.end ++ int64 (cast_unsigned w64 m.time)), length-append (int64 m.end) (int64 (cast_unsigned w64 m.time)))
+
+pub block_whole : (relation : ℕ → Relation) (named : List ℕ) (clock : ℤ) (t : Published) (old begun changed ended : List ℕ) (m n : Logical) → m ≡ begin_message t → n ≡ commit_message t
+    → begun ≡ old ++ word_bytes (said t.start clock m) → changed ≡ begun ++ frames_of (changes_words relation named clock t.changes) → ended ≡ changed ++ word_bytes (said t.end clock n)
+    → ended ≡ old ++ frames_of (block_words relation named clock t)
+block_whole relation named clock t old begun changed ended m n is_m is_n e f g =
+    let first = word_bytes (said t.start clock (begin_message t)) in
+    let middle = frames_of (changes_words relation named clock t.changes) in
+    let last = word_bytes (said t.end clock (commit_message t)) in
+    let one : begun ≡ old ++ first = e ∙ ap (λ (k : Logical). old ++ word_bytes (said t.start clock k)) is_m in
+    let two : changed ≡ old ++ (first ++ middle) = f ∙ ap (λ (l : List ℕ). l ++ middle) one ∙ append_assoc old first middle in
+    let three : ended ≡ old ++ ((first ++ middle) ++ last) = g ∙ ap (λ (k : Logical). changed ++ word_bytes (said t.end clock k)) is_n ∙ ap (λ (l : List ℕ). l ++ last) two ∙ append_assoc old (first ++ middle) last in
+    three ∙ ap (λ (l : List ℕ). old ++ l) (sym (block_is relation named clock t))

@@ -1,0 +1,155 @@
+//! What is on its way out: the bytes that are held, and the tables that they named.
+
+ghost use Rattle.std.specs.Prelude.{◌≡◌, ◌++◌, ◌∷◌, [], OnOk, reverse, IsSome};
+ghost use Rattle.std.specs.List.{AllByRecursion};
+ghost use Rattle.frames.specs.Putting.{Puts};
+ghost use Rattle.pgoutput.specs.Logical.{IsShort};
+ghost use Rattle.tables.specs.Tables.{table_of};
+ghost use Rattle.publication.specs.Selection.{relation};
+ghost use Rattle.publication.specs.Projection.{MessageFits};
+ghost use Rattle.stream.specs.Words.{frames_of, word_bytes};
+ghost use Rattle.stream.specs.Items.{IsShortMessage, begin_message, commit_message, is_named, due, named_by, named_by_all, said, relation_words, change_words, changes_words, block_words};
+
+use crate::word::put_said;
+use bytes::BytesMut;
+use pgoutput::{Begin, Commit, Logical};
+use publication::Selection;
+use std::alloc::{AllocError, Global};
+use stream::{Published, PublishedChange};
+
+/// Bytes on their way out. Where a call is refused, what was held before still stands at the front.
+#[derive(Debug, Drop)]
+pub(crate) struct Outgoing {
+    pub(crate) held: BytesMut,
+    /// One message, before its frame is made.
+    pub(crate) scratch: BytesMut,
+    /// The tables that were named so far, the oldest first.
+    pub(crate) named: Vec<u32>,
+}
+
+impl Outgoing {
+    /// Adds a message at a position.
+    fn say(&mut self, position: u64, clock: i64, message: &Logical) -> Result<(), AllocError>
+        requires counts { IsShort message.now }
+        requires fits { IsShortMessage message.now }
+        ensures held { Puts result self.old.held.items self.new.held.items (word_bytes (said position clock message.now)) }
+        ensures named { self.new.named ≡ self.old.named }
+    {
+        put_said(&mut self.held, &mut self.scratch, position, clock, message)
+    }
+
+    /// Adds the Relation of a table, unless it was named before.
+    #[tactic(auto, using(frames::proofs::Putting::extends_itself, frames::proofs::Putting::extends_more, frames::proofs::Putting::extends_back))]
+    fn introduce(
+        &mut self,
+        alloc: Global,
+        selection: &Selection,
+        position: u64,
+        clock: i64,
+        oid: u32,
+    ) -> Result<(), AllocError>
+        requires { IsSome (table_of oid selection.now) }
+        ensures held { Puts result self.old.held.items self.new.held.items
+            (frames_of (relation_words (relation selection.now) position clock (due (reverse self.old.named.items) (oid ∷ [])))) }
+        ensures named { OnOk result (reverse self.new.named.items
+            ≡ reverse (due (reverse self.old.named.items) (oid ∷ [])) ++ reverse self.old.named.items) }
+    {
+        if is_known(self.named.as_slice(), oid) {
+            return Ok(());
+        }
+        let Some(message) = selection.relation(alloc, oid)? else {
+            unreachable!();
+        };
+        self.say(position, clock, &message)?;
+        self.named.push(oid)?;
+        Ok(())
+    }
+
+    /// Adds a change: the Relations that are due, and its message.
+    fn change(
+        &mut self,
+        alloc: Global,
+        selection: &Selection,
+        clock: i64,
+        change: &PublishedChange,
+    ) -> Result<(), AllocError>
+        requires { MessageFits selection.now change.now.message }
+        ensures held { Puts result self.old.held.items self.new.held.items
+            (frames_of (change_words (relation selection.now) (reverse self.old.named.items) clock change.now)) }
+        ensures named { OnOk result (reverse self.new.named.items ≡ named_by (reverse self.old.named.items) change.now) }
+    {
+        if let Logical::Insert(insert) = &change.message {
+            self.introduce(alloc, selection, change.position, clock, insert.oid)?;
+        }
+        self.say(change.position, clock, &change.message)?;
+        Ok(())
+    }
+
+    #[tactic(auto, using(frames::proofs::Putting::extends_itself, frames::proofs::Putting::extends_more, frames::proofs::Putting::extends_back))]
+    fn changes(
+        &mut self,
+        alloc: Global,
+        selection: &Selection,
+        clock: i64,
+        changes: &[PublishedChange],
+    ) -> Result<(), AllocError>
+        requires { AllByRecursion (λ c. MessageFits selection.now c.message) changes.now }
+        ensures held { Puts result self.old.held.items self.new.held.items
+            (frames_of (changes_words (relation selection.now) (reverse self.old.named.items) clock changes.now)) }
+        ensures named { OnOk result (reverse self.new.named.items ≡ named_by_all (reverse self.old.named.items) changes.now) }
+    {
+        for change in changes {
+            self.change(alloc, selection, clock, change)?;
+        }
+        Ok(())
+    }
+
+    /// Adds the block of a transaction.
+    #[tactic(auto, using(frames::proofs::Putting::extends_itself, frames::proofs::Putting::extends_more, frames::proofs::Putting::extends_back, crate::proofs::Framing::block_is))]
+    pub(crate) fn block(
+        &mut self,
+        alloc: Global,
+        selection: &Selection,
+        clock: i64,
+        transaction: &Published,
+    ) -> Result<(), AllocError>
+        requires { AllByRecursion (λ c. MessageFits selection.now c.message) transaction.now.changes }
+        ensures held { Puts result self.old.held.items self.new.held.items
+            (frames_of (block_words (relation selection.now) (reverse self.old.named.items) clock transaction.now)) }
+        ensures named { OnOk result (reverse self.new.named.items ≡ named_by_all (reverse self.old.named.items) transaction.now.changes) }
+    {
+        let begin = begin_of(transaction);
+        self.say(transaction.start, clock, &begin)?;
+        self.changes(alloc, selection, clock, transaction.changes.as_slice())?;
+        let commit = commit_of(transaction);
+        self.say(transaction.end, clock, &commit)?;
+        Ok(())
+    }
+}
+
+fn begin_of(transaction: &Published) -> Logical
+    ensures { result ≡ begin_message transaction.now }
+{
+    Logical::Begin(Begin {
+        position: transaction.start,
+        time: transaction.time,
+        number: transaction.number,
+    })
+}
+
+fn commit_of(transaction: &Published) -> Logical
+    ensures { result ≡ commit_message transaction.now }
+{
+    Logical::Commit(Commit {
+        position: transaction.start,
+        end: transaction.end,
+        time: transaction.time,
+    })
+}
+
+#[tactic(auto, using(crate::proofs::Lists::any_reverse))]
+fn is_known(named: &[u32], oid: u32) -> bool
+    ensures { result ≡ is_named (reverse named.now) oid }
+{
+    named.contains(&oid)
+}

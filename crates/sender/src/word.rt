@@ -1,0 +1,68 @@
+//! Words of the stream as frames.
+
+ghost use Rattle.std.specs.Prelude.{◌≡◌, ◌+◌, ◌<◌, ◌≤◌, ◌^◌, ◌∷◌, ◌++◌, OnOk, OnErr, length};
+ghost use Rattle.frames.specs.Fields.{int32};
+ghost use Rattle.frames.specs.Putting.{Puts};
+ghost use Rattle.frames.specs.declared.frame.TheConstants.{FRAME_LIMIT};
+ghost use Rattle.pgoutput.specs.Logical.{IsShort, spell_logical};
+ghost use Rattle.stream.specs.Words.{word_bytes};
+ghost use Rattle.stream.specs.Items.{said, alive, IsShortMessage};
+
+use bytes::BytesMut;
+use copyboth::{write_keepalive, write_xlogdata};
+use frames::{COPY_DATA, put_byte, put_int32};
+use pgoutput::{Logical, write_logical};
+use std::alloc::AllocError;
+
+/// The bytes of an XLogData's body before the message: its kind, two positions and a clock.
+const XLOGDATA_HEAD: u32 = 25;
+
+/// The bytes of a keepalive's body.
+const KEEPALIVE_SIZE: u32 = 18;
+
+/// Adds the frame of a message at a position. The message is spelled into `scratch` first, since the frame begins with its
+/// length.
+#[tactic(auto, using(frames::proofs::Putting::extends_itself, frames::proofs::Putting::extends_more, frames::proofs::Putting::extends_back))]
+pub(crate) fn put_said(
+    out: &mut BytesMut,
+    scratch: &mut BytesMut,
+    position: u64,
+    clock: i64,
+    message: &Logical,
+) -> Result<(), AllocError>
+    requires counts { IsShort message.now }
+    requires fits { IsShortMessage message.now }
+    ensures { Puts result out.old.items out.new.items (word_bytes (said position clock message.now)) }
+{
+    scratch.clear();
+    write_logical(message, scratch)?;
+    put_head(out, XLOGDATA_HEAD + scratch.len() as u32)?;
+    write_xlogdata(position, position, clock, scratch.as_slice(), out)?;
+    Ok(())
+}
+
+/// Adds the frame of a keepalive.
+#[tactic(auto, using(frames::proofs::Putting::extends_itself, frames::proofs::Putting::extends_more, frames::proofs::Putting::extends_back))]
+pub(crate) fn put_keepalive(
+    out: &mut BytesMut,
+    position: u64,
+    clock: i64,
+    ask: bool,
+) -> Result<(), AllocError>
+    ensures { Puts result out.old.items out.new.items (word_bytes (alive position clock ask)) }
+{
+    put_head(out, KEEPALIVE_SIZE)?;
+    write_keepalive(position, clock, ask, out)?;
+    Ok(())
+}
+
+/// Adds the type byte and the length of a CopyData with a body of this many bytes.
+#[tactic(auto, using(frames::proofs::Putting::extends_itself, frames::proofs::Putting::extends_more, frames::proofs::Putting::extends_back))]
+fn put_head(out: &mut BytesMut, body_len: u32) -> Result<(), AllocError>
+    requires { 4 + body_len < 2 ^ 32 }
+    ensures { Puts result out.old.items out.new.items (COPY_DATA ∷ int32 (4 + body_len)) }
+{
+    put_byte(out, COPY_DATA)?;
+    put_int32(out, 4 + body_len)?;
+    Ok(())
+}
