@@ -1,14 +1,16 @@
 -- A sender between its calls, and what a feed adds.
-use Rattle.std.specs.Prelude.{◌≡◌, ◌<◌, ℕ, ℤ, Bool, true, false, List, [], ◌∷◌, ◌++◌, length, take, map, Option, Some, None}
+use Rattle.std.specs.Prelude.{◌≡◌, ◌<◌, ℕ, ℤ, Bool, true, false, List, [], ◌∷◌, ◌++◌, length, take, map, filter, nat_le, Option, Some, None, if◌then◌else◌}
 use Rattle.std.specs.List.{AllByRecursion}
 use Rattle.tables.specs.declared.table.Table.{Table}
 use Rattle.txlog.specs.declared.record.Record.{Record}
-use Rattle.txlog.specs.Log.{IsNext, end_of}
-use Rattle.reorder.specs.Taking.{ReorderState, HasTaken, StartsBehind}
+use Rattle.txlog.specs.declared.record.Body.{Body}
+use Rattle.txlog.specs.declared.record.Body.TheVariants.{Assign, Change as Changed, AbortSub, Abort, Commit}
+use Rattle.txlog.specs.Log.{Entry, Transaction, IsNext, end_of}
+use Rattle.reorder.specs.Taking.{ReorderState, HasTaken, StartsBehind, Takes}
 use Rattle.publication.specs.Selection.{relation}
 use Rattle.stream.specs.declared.published.Published.{Published}
 use Rattle.stream.specs.Items.{Item, Block, spelled, named_through}
-use Rattle.sender.specs.Published.{published, published_from}
+use Rattle.sender.specs.Published.{published, published_as, published_from, has_message}
 
 -- what determines the bytes to come
 pub record SenderState : Type 0 where
@@ -42,6 +44,30 @@ blocks_behind selection clock before ts = spelled (relation selection) (named_th
 abbrev pub AddsBlocks : ℤ → SenderState → List ℕ → List Record → Type 0
 AddsBlocks clock old held rs = (before : List Record) → HasRead old before → MayFollow before rs
     → held ≡ old.held ++ blocks_behind old.selection clock (published old.selection before old.start) (published_from old.selection old.start before rs)
+
+-- the transaction that a record with these changes commits, if it starts at the start position s or later
+abbrev pub ready_at : ℕ → ℕ → ℕ → Body → List Entry → List Transaction
+ready_at s start end (Assign sub parent) entries = []
+ready_at s start end (Changed number change) entries = []
+ready_at s start end (AbortSub number) entries = []
+ready_at s start end (Abort number) entries = []
+ready_at s start end (Commit number time) entries =
+    if nat_le s start then record { start = start; end = end; time = time; number = number; changes = entries } ∷ [] else []
+
+-- what a record publishes by what it made ready
+abbrev pub released : List Table → ℕ → Record → Option (List Entry) → List Published
+released selection s r None = []
+released selection s r (Some entries) = filter has_message (map (published_as selection) (ready_at s r.start r.end r.body entries))
+
+-- one record was read
+pub record TookOne (clock : ℤ) (old new : SenderState) (r : Record) : Type 0 where
+  pub ready : Option (List Entry)
+  pub takes : Takes old.reorder new.reorder r ready
+  pub selection : new.selection ≡ old.selection
+  pub start : new.start ≡ old.start
+  pub position : new.position ≡ r.end
+  pub held : new.held ≡ old.held ++ spelled (relation old.selection) old.named (blocks clock (released old.selection old.start r ready))
+  pub named : new.named ≡ named_through old.named (released old.selection old.start r ready)
 
 -- all records were read
 pub record Fed (clock : ℤ) (old new : SenderState) (rs : List Record) : Type 0 where

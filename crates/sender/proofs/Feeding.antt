@@ -1,0 +1,133 @@
+-- Reading records one by one and in batches comes to the same: exactly the blocks that all of them publish.
+use Rattle.std.proofs.Common.{◌≡◌, ◌<◌, ℕ, ℤ, Bool, true, false, cond, leb, List, [], ◌∷◌, ◌++◌, length, map, filter, Option, Some, None, refl, sym, ap, subst, ◌∙◌, append_assoc, arith}
+use Rattle.std.proofs.lemmas.List.{append-nil}
+use Rattle.std.proofs.lemmas.List.Concat.{flat_map-cons}
+use Rattle.std.proofs.lemmas.Grind.{flat_map-append}
+use Rattle.tables.specs.declared.table.Table.{Table}
+use Rattle.txlog.specs.declared.record.Record.{Record}
+use Rattle.txlog.specs.declared.record.Body.{Body}
+use Rattle.txlog.specs.declared.record.Body.TheVariants.{Assign, Change as Changed, AbortSub, Abort, Commit}
+use Rattle.txlog.specs.Log.{Entry, Transaction, committed_at, committed_from, kept, end_of}
+use Rattle.txlog.proofs.Laws.{end_of-append, committed_from-append}
+use Rattle.reorder.specs.Taking.{promised}
+use Rattle.publication.specs.Selection.{relation}
+use Rattle.pgoutput.specs.declared.relation.Relation.{Relation}
+use Rattle.stream.specs.declared.published.Published.{Published}
+use Rattle.stream.specs.Words.{word_bytes, frames_of}
+use Rattle.stream.specs.Items.{Item, Alive, Block, words_of, item_words, spelled, named_by_all, named_after, named_through}
+use Rattle.sender.specs.Published.{published, published_as, published_from, has_message}
+use Rattle.sender.specs.Sending.{SenderState, MayFollow, HasRead, blocks, blocks_behind, ready_at, released, TookOne, Fed, AddsBlocks}
+
+-- ---- items behind items
+
+
+filter_append : {A : Type 0} (p : A → Bool) (xs ys : List A) → filter p (xs ++ ys) ≡ filter p xs ++ filter p ys
+filter_append p [] ys = refl
+filter_append p (x ∷ xs) ys = by_test (p x) (filter_append p xs ys)
+  where
+  by_test : (b : Bool) → filter p (xs ++ ys) ≡ filter p xs ++ filter p ys → cond b (x ∷ filter p (xs ++ ys)) (filter p (xs ++ ys)) ≡ cond b (x ∷ filter p xs) (filter p xs) ++ filter p ys
+  by_test true e = ap (λ l. x ∷ l) e
+  by_test false e = e
+
+map_append : {A B : Type 0} (f : A → B) (xs ys : List A) → map f (xs ++ ys) ≡ map f xs ++ map f ys
+map_append f [] ys = refl
+map_append f (x ∷ xs) ys = ap (λ l. f x ∷ l) (map_append f xs ys)
+
+pub published_from-append : (selection : List Table) (s : ℕ) (before m n : List Record) → published_from selection s before (m ++ n) ≡ published_from selection s before m ++ published_from selection s (before ++ m) n
+published_from-append selection s before m n =
+    ap (λ ts. filter has_message (map (published_as selection) ts)) (committed_from-append s before m n)
+    ∙ ap (filter has_message) (map_append (published_as selection) (committed_from s before m) (committed_from s (before ++ m) n))
+    ∙ filter_append has_message (map (published_as selection) (committed_from s before m)) (map (published_as selection) (committed_from s (before ++ m) n))
+
+pub named_through-append : (named : List ℕ) (a b : List Published) → named_through named (a ++ b) ≡ named_through (named_through named a) b
+named_through-append named [] b = refl
+named_through-append named (t ∷ a) b = named_through-append (named_by_all named t.changes) a b
+
+-- blocks behind blocks
+pub spelled-blocks : (rel : ℕ → Relation) (named : List ℕ) (clock : ℤ) (a b : List Published)
+    → spelled rel named (blocks clock (a ++ b)) ≡ spelled rel named (blocks clock a) ++ spelled rel (named_through named a) (blocks clock b)
+spelled-blocks rel named clock [] b = refl
+spelled-blocks rel named clock (t ∷ a) b =
+    let first = item_words rel named (Block clock t) in
+    let then = named_by_all named t.changes in
+    flat_map-append word_bytes first (words_of rel then (blocks clock (a ++ b)))
+    ∙ ap (λ (l : List ℕ). frames_of first ++ l) (spelled-blocks rel then clock a b)
+    ∙ sym (append_assoc (frames_of first) (spelled rel then (blocks clock a)) (spelled rel (named_through then a) (blocks clock b)))
+    ∙ ap (λ (l : List ℕ). l ++ spelled rel (named_through then a) (blocks clock b)) (sym (flat_map-append word_bytes first (words_of rel then (blocks clock a))))
+
+MayFollow-front : (before m n : List Record) → MayFollow before (m ++ n) → MayFollow before m
+MayFollow-front before [] n may = tt
+MayFollow-front before (r ∷ m) n may = (may.0, may.1, MayFollow-front (before ++ r ∷ []) m n may.2)
+
+MayFollow-back : (before m n : List Record) → MayFollow before (m ++ n) → MayFollow (before ++ m) n
+MayFollow-back before [] n may = let P : List Record → Type 0 = λ l. MayFollow l n in subst P (sym (append-nil before)) may
+MayFollow-back before (r ∷ m) n may = let P : List Record → Type 0 = λ l. MayFollow l n in subst P (append_assoc before (r ∷ []) m) (MayFollow-back (before ++ r ∷ []) m n may.2)
+
+-- ---- one record
+
+-- what is ready by the definition is what the record publishes
+released_is : (selection : List Table) (s : ℕ) (before : List Record) (r : Record) → released selection s r (promised before r.body) ≡ published_from selection s before (r ∷ [])
+released_is selection s before r = by_body r.body refl
+  where
+  Same : Body → Type 0
+  Same body = released selection s (record r { body = body }) (promised before body) ≡ filter has_message (map (published_as selection) (committed_at s before r.start r.end body ++ []))
+  by_commit : (number : ℕ) (time : ℤ) → Same (Commit number time)
+  by_commit number time = ap (λ ts. filter has_message (map (published_as selection) ts)) (sym (append-nil (committed_at s before r.start r.end (Commit number time))))
+  by_body : (body : Body) → r.body ≡ body → Same body
+  by_body (Assign sub parent) is = refl
+  by_body (Changed number change) is = refl
+  by_body (AbortSub number) is = refl
+  by_body (Abort number) is = refl
+  by_body (Commit number time) is = by_commit number time
+
+pub took-Fed : (clock : ℤ) (old new : SenderState) (r : Record) → TookOne clock old new r → Fed clock old new (r ∷ [])
+took-Fed clock old new r took = record {
+  selection = took.selection;
+  start = took.start;
+  position = took.position;
+  reads = reads;
+  adds = adds;
+} where
+  rel : List Published
+  rel = released old.selection old.start r took.ready
+  is : (before : List Record) → HasRead old before → MayFollow before (r ∷ []) → rel ≡ published_from old.selection old.start before (r ∷ [])
+  is before has may = ap (released old.selection old.start r) (took.takes.gives before has.taken may.0 may.1) ∙ released_is old.selection old.start before r
+  reads : (before : List Record) → HasRead old before → MayFollow before (r ∷ []) → HasRead new (before ++ r ∷ [])
+  reads before has may = record {
+    taken = took.takes.reads before has.taken may.0 may.1;
+    names = took.named ∙ ap (named_through old.named) (is before has may) ∙ ap (λ n. named_through n (published_from old.selection old.start before (r ∷ []))) has.names
+        ∙ sym (named_through-append [] (published old.selection before old.start) (published_from old.selection old.start before (r ∷ [])))
+        ∙ ap (named_through []) (sym (published_from-append old.selection old.start [] before (r ∷ [])))
+        ∙ ap (λ sel. named_through [] (published sel (before ++ r ∷ []) old.start)) (sym took.selection) ∙ ap (λ s. named_through [] (published new.selection (before ++ r ∷ []) s)) (sym took.start);
+  }
+  adds : AddsBlocks clock old new.held (r ∷ [])
+  adds before has may =
+      took.held ∙ ap (λ ts. old.held ++ spelled (relation old.selection) old.named (blocks clock ts)) (is before has may)
+      ∙ ap (λ n. old.held ++ spelled (relation old.selection) n (blocks clock (published_from old.selection old.start before (r ∷ [])))) has.names
+
+-- ---- batches
+
+pub Fed-append : (clock : ℤ) (a b c : SenderState) (m n : List Record) → Fed clock a b m → Fed clock b c n → Fed clock a c (m ++ n)
+Fed-append clock a b c m n first second = record {
+  selection = second.selection ∙ first.selection;
+  start = second.start ∙ first.start;
+  position = second.position ∙ ap (λ p. end_of p n) first.position ∙ sym (end_of-append a.position m n);
+  reads = λ before has may.
+      let P : List Record → Type 0 = λ l. HasRead c l in
+      subst P (append_assoc before m n) (second.reads (before ++ m) (first.reads before has (MayFollow-front before m n may)) (MayFollow-back before m n may));
+  adds = λ before has may. both before has (MayFollow-front before m n may) (MayFollow-back before m n may);
+} where
+  both : (before : List Record) → HasRead a before → MayFollow before m → MayFollow (before ++ m) n
+      → c.held ≡ a.held ++ blocks_behind a.selection clock (published a.selection before a.start) (published_from a.selection a.start before (m ++ n))
+  both before has may_m may_n =
+      let P : List Table → ℕ → Type 0 = λ sel s. c.held ≡ b.held ++ blocks_behind sel clock (published sel (before ++ m) s) (published_from sel s (before ++ m) n) in
+      let later : P a.selection a.start = rw (← first.selection, ← first.start) (second.adds (before ++ m) (first.reads before has may_m) may_n) in
+      let early = published a.selection before a.start in
+      let one = published_from a.selection a.start before m in
+      let two = published_from a.selection a.start (before ++ m) n in
+      let through : named_through [] (published a.selection (before ++ m) a.start) ≡ named_through (named_through [] early) one =
+          ap (named_through []) (published_from-append a.selection a.start [] before m) ∙ named_through-append [] early one in
+      later ∙ ap (λ (l : List ℕ). l ++ blocks_behind a.selection clock (published a.selection (before ++ m) a.start) two) (first.adds before has may_m)
+      ∙ ap (λ (named : List ℕ). (a.held ++ blocks_behind a.selection clock early one) ++ spelled (relation a.selection) named (blocks clock two)) through
+      ∙ append_assoc a.held (blocks_behind a.selection clock early one) (spelled (relation a.selection) (named_through (named_through [] early) one) (blocks clock two))
+      ∙ ap (λ (l : List ℕ). a.held ++ l) (sym (spelled-blocks (relation a.selection) (named_through [] early) clock one two) ∙ ap (λ ts. spelled (relation a.selection) (named_through [] early) (blocks clock ts)) (sym (published_from-append a.selection a.start before m n)))
