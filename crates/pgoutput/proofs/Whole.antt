@@ -1,9 +1,8 @@
 -- The laws of a whole message: what is read, what is spelled, and where each fault stands.
-use Rattle.std.proofs.Common.{◌≡◌, ◌≢◌, ℕ, zero, suc, ◌+◌, ◌≤◌, ◌<◌, List, [], ◌∷◌, ◌++◌, length, take, Result, Ok, Err, pos, refl, sym, ap, subst, ◌∙◌, arith, inl, inr}
+use Rattle.std.proofs.Common.{◌≡◌, ◌≢◌, ℕ, ◌<◌, List, [], ◌∷◌, ◌++◌, length, take, Result, Ok, Err, pos, refl, sym, ap, subst, ◌∙◌, arith, inl, inr}
 use Rattle.std.specs.Prelude.{◌⊎◌, IfOk, IfErr}
 use Rattle.std.proofs.lemmas.List.{append-nil, take_at, length-append}
-use Rattle.frames.specs.Steps.{◌>>=◌}
-use Rattle.frames.proofs.Codec.{IsBytes, bind_ok, done, ok_is}
+use Rattle.frames.proofs.Codec.{IsBytes, bind_ok, ok_is}
 use Rattle.pgoutput.specs.declared.fault.OutFault.{OutFault}
 use Rattle.pgoutput.specs.declared.fault.OutFault.TheVariants.{Short, UnknownKind, BadMark, BadText, Trailing, Memory}
 use Rattle.pgoutput.specs.declared.logical.Logical.{Logical}
