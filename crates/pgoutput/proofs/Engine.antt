@@ -1,12 +1,12 @@
 -- The engine of the laws of each message, faults and cut messages too: a reader of a field and the kind of the field.
 -- `stops`: where reading fails, the field stops there. `stands`: where it stops, reading fails. `cut`: a beginning of a
 -- spelling that isn't the whole is Short.
-use Rattle.std.proofs.Common.{◌≡◌, ◌≢◌, ℕ, zero, suc, ◌+◌, ◌-◌, ◌≤◌, ◌<◌, Bool, true, false, cond, eqb, ltb, List, [], ◌∷◌, ◌++◌, length, take, drop, Option, Some, None, Result, Ok, Err, refl, sym, ap, subst, ◌∙◌, append_assoc, arith, inl, inr}
+use Rattle.std.proofs.Common.{◌≡◌, ◌≢◌, ℕ, zero, suc, ◌+◌, ◌-◌, ◌≤◌, ◌<◌, Bool, true, false, cond, eqb, List, [], ◌∷◌, ◌++◌, length, take, Result, Ok, Err, refl, sym, ap, subst, ◌∙◌, append_assoc, arith, inl, inr}
 use Rattle.std.specs.Prelude.{◌⊎◌}
 use Rattle.std.specs.List.{flat_map, AllByRecursion}
 use Rattle.std.specs.Option.{ok_or}
 use Rattle.std.proofs.lemmas.Bool.{cases_lt, eqb-true, eqb-false, eq-eqb, ne_eqb}
-use Rattle.std.proofs.lemmas.List.{take-append-le, length-append, length-take}
+use Rattle.std.proofs.lemmas.List.{take-append-le, length-append}
 use Rattle.std.proofs.Math.Seq.{take-append-add}
 use Rattle.std.proofs.lemmas.List.Concat.{flat_map-cons}
 use Rattle.frames.specs.Fields.{byte_at}
@@ -14,7 +14,7 @@ use Rattle.frames.specs.Steps.{◌>>=◌, repeat_at}
 use Rattle.frames.proofs.Codec.{IsBytes, IsBytes-rest, bind_ok, Takes, Codec, Part, Chooses}
 use Rattle.frames.proofs.Codec as codec
 use Rattle.pgoutput.specs.declared.fault.OutFault.{OutFault}
-use Rattle.pgoutput.specs.declared.fault.OutFault.TheVariants.{Short, BadMark}
+use Rattle.pgoutput.specs.declared.fault.OutFault.TheVariants.{Short}
 use Rattle.pgoutput.specs.Stops as stops
 use Rattle.pgoutput.specs.Stops.{FieldOf, In, EndsWithin, StopsAmong, Behind, NoOther, ByFirst}
 

@@ -8,11 +8,11 @@ use Rattle.pgoutput.specs.declared.fault.OutFault.TheVariants.{Short, UnknownKin
 use Rattle.pgoutput.specs.declared.tuple.TheConstants.{NULL, UNCHANGED, TEXT}
 use Rattle.pgoutput.specs.declared.commit.TheConstants.{COMMIT_FLAGS}
 use Rattle.pgoutput.specs.declared.insert.TheConstants.{NEW}
-use Rattle.pgoutput.specs.Stops.{FieldOf, In, EndsWithin, StopsAmong, Behind, NoOther, Nothing, ByFirst, tested, count16, count32, ended_by_zero, bytes_of, utf8, name_field, text_field, list_field, letter_of, due_letter, number16, number32, number64, signed64}
+use Rattle.pgoutput.specs.Stops.{FieldOf, In, EndsWithin, Behind, NoOther, Nothing, ByFirst, tested, count16, count32, ended_by_zero, bytes_of, name_field, text_field, list_field, letter_of, due_letter, number16, number32, number64, signed64}
 use Rattle.pgoutput.specs.Begin.{begin_field}
 use Rattle.pgoutput.specs.Commit.{commit_field}
 use Rattle.pgoutput.specs.Relation.{column_field, relation_field, identity_letter, key_flag}
-use Rattle.pgoutput.specs.Tuple.{cell_field, tuple_field}
+use Rattle.pgoutput.specs.Tuple.{cell_field}
 use Rattle.pgoutput.specs.Insert.{insert_field}
 
 abbrev pub IsFieldFault : OutFault → Type 0

@@ -1,16 +1,16 @@
 -- The plain fields, read as they are spelled, with their faults: numbers, counts, bytes, names, texts and letters.
-use Rattle.std.proofs.Common.{◌≡◌, ◌≢◌, ℕ, ℤ, zero, suc, ◌+◌, ◌^◌, ◌≤◌, ◌<◌, Bool, true, false, cond, ltb, eqb, List, [], ◌∷◌, ◌++◌, length, take, drop, Option, Some, None, Result, Ok, Err, refl, sym, ap, ◌∙◌, arith, inl, inr}
+use Rattle.std.proofs.Common.{◌≡◌, ◌≢◌, ℕ, zero, suc, ◌+◌, ◌^◌, ◌≤◌, ◌<◌, Bool, true, false, cond, ltb, eqb, List, [], ◌∷◌, length, take, Option, Some, None, Result, Ok, Err, refl, sym, ap, ◌∙◌, arith, inl, inr}
 use Rattle.std.specs.Prelude.{FitsSigned, option_map, ◌||◌}
 use Rattle.std.specs.List.{AllByRecursion, flat_map, position_or_len}
 use Rattle.std.specs.Option.{ok_or}
 use Rattle.std.specs.Str.{is_utf8}
 use Rattle.std.specs.Int.{Width, w16, w32, w64, byte_len, to_be_bytes, cast_signed, cast_unsigned}
-use Rattle.std.proofs.lemmas.Bool.{ltb-true, ltb-false, lt-ltb, le-ltb, eqb-true, eqb-false, eq-eqb, ne_eqb}
+use Rattle.std.proofs.lemmas.Bool.{ltb-true, ltb-false, lt-ltb, le-ltb, eqb-false, ne_eqb}
 use Rattle.std.proofs.lemmas.List.{length-take}
 use Rattle.std.proofs.lemmas.List.Recursion.{is_position_or_len}
 use Rattle.std.proofs.Math.Facts.{Fits-of_z, Fits-lt-pow}
-use Rattle.frames.specs.Fields.{byte_at, bytes_at, number_at, string, string_at, has_zero, int16, int32, int64}
-use Rattle.frames.specs.Steps.{◌>>=◌, mark_at, letter_at, repeat_at}
+use Rattle.frames.specs.Fields.{bytes_at, number_at, string, string_at, has_zero, int16, int32, int64}
+use Rattle.frames.specs.Steps.{◌>>=◌, repeat_at}
 use Rattle.frames.proofs.Codec.{IsBytes, Codec}
 use Rattle.frames.proofs.Numbers as numbers
 use Rattle.frames.proofs.Numbers.{IsWide, wide16, wide32, wide64}

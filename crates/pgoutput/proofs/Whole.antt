@@ -1,9 +1,8 @@
 -- The laws of a whole message: what is read, what is spelled, and where each fault stands.
-use Rattle.std.proofs.Common.{◌≡◌, ◌≢◌, ℕ, zero, suc, ◌+◌, ◌≤◌, ◌<◌, List, [], ◌∷◌, ◌++◌, length, take, Result, Ok, Err, pos, refl, sym, ap, subst, ◌∙◌, arith, inl, inr}
+use Rattle.std.proofs.Common.{◌≡◌, ◌≢◌, ℕ, ◌<◌, List, [], ◌∷◌, ◌++◌, length, take, Result, Ok, Err, pos, refl, sym, ap, subst, ◌∙◌, arith, inl, inr}
 use Rattle.std.specs.Prelude.{◌⊎◌, IfOk, IfErr}
 use Rattle.std.proofs.lemmas.List.{append-nil, take_at, length-append}
-use Rattle.frames.specs.Steps.{◌>>=◌}
-use Rattle.frames.proofs.Codec.{IsBytes, bind_ok, done, ok_is}
+use Rattle.frames.proofs.Codec.{IsBytes, bind_ok, ok_is}
 use Rattle.pgoutput.specs.declared.fault.OutFault.{OutFault}
 use Rattle.pgoutput.specs.declared.fault.OutFault.TheVariants.{Short, UnknownKind, BadMark, BadText, Trailing, Memory}
 use Rattle.pgoutput.specs.declared.logical.Logical.{Logical}
@@ -154,11 +153,12 @@ whole_stands bytes UnknownKind some s = rw (logical_wire.stands bytes UnknownKin
 whole_stands bytes Trailing some s = rw (s.3, logical_wire.codec.again s.0 s.1 s.2) (left_over s.0 s.1 s.4)
 whole_stands bytes Memory some s = absurd (some refl)
 
-pub is_fault : (bytes : List ℕ) (result : Result Logical OutFault) → IsBytes bytes → Answers result (whole_of bytes) → IfErr result (λ e. Stands e bytes)
-is_fault bytes (Ok m) fits a = tt
-is_fault bytes (Err e) fits a = elim (answered (Err e) (whole_of bytes) a) [
+pub is_fault : (bytes : List ℕ) (result : Result Logical OutFault) → IsBytes bytes → Answers result (whole_of bytes) → (result ≡ Err Memory → Stands Memory bytes)
+    → IfErr result (λ e. Stands e bytes)
+is_fault bytes (Ok m) fits a want = tt
+is_fault bytes (Err e) fits a want = elim (answered (Err e) (whole_of bytes) a) [
   | inl is ↦ whole_stops bytes e fits is
-  | inr memory ↦ let same : e ≡ Memory = cc in subst (λ (d : OutFault). Stands d bytes) (sym same) tt
+  | inr memory ↦ let same : e ≡ Memory = cc in subst (λ (d : OutFault). Stands d bytes) (sym same) (want memory)
 ]
 
 refused_so : (bytes : List ℕ) (result : Result Logical OutFault) (e : OutFault) → Answers result (whole_of bytes) → whole_of bytes ≡ Err e → (result ≡ Err e) ⊎ (result ≡ Err Memory)

@@ -1,5 +1,5 @@
 -- Logical replication messages (PostgreSQL 15, 55.9), protocol version 1: a kind byte, and the fields of that kind.
-use Rattle.std.specs.Prelude.{◌≡◌, ◌≢◌, ℕ, ◌==◌, List, [], ◌∷◌, ◌++◌, Result, Ok, Err, if◌then◌else◌}
+use Rattle.std.specs.Prelude.{◌≡◌, ◌≢◌, ℕ, ◌==◌, List, [], ◌∷◌, ◌++◌, Bool, true, ◌||◌, Result, Ok, Err, if◌then◌else◌}
 use Rattle.frames.specs.Fields.{byte_at}
 use Rattle.frames.specs.Steps.{◌>>=◌}
 use Rattle.pgoutput.specs.Reading.{short}
@@ -78,11 +78,16 @@ logical_field = record {
       NoOther UnknownKind)))));
 }
 
--- Where each fault stands.
+-- the kinds of messages that hold texts and lists; reading the others takes no memory
+abbrev pub needs_memory : ℕ → Bool
+needs_memory b = b == RELATION || b == INSERT
+
+-- Where each fault stands: behind fields that are spelled right; at the first byte; behind a whole message; and want of
+-- memory where there is something to keep.
 abbrev pub Stands : OutFault → List ℕ → Type 0
 Stands Short bytes = logical_field.Stops Short bytes
 Stands BadMark bytes = logical_field.Stops BadMark bytes
 Stands BadText bytes = logical_field.Stops BadText bytes
 Stands UnknownKind bytes = (b : ℕ) × (rest : List ℕ) × (bytes ≡ b ∷ rest) × ((m : Logical) → kind_byte m ≢ b)
 Stands Trailing bytes = (m : Logical) × (rest : List ℕ) × FitsLogical m × (bytes ≡ spell_logical m ++ rest) × (rest ≢ [])
-Stands Memory bytes = Unit {0}
+Stands Memory bytes = (b : ℕ) × (rest : List ℕ) × (bytes ≡ b ∷ rest) × (needs_memory b ≡ true)

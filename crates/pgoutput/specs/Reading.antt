@@ -1,10 +1,10 @@
 -- Reading a message field by field, up to its leftmost fault: Short where a field isn't there whole, BadMark and BadText
 -- where it is there and is none of its kind.
-use Rattle.std.specs.Prelude.{◌≡◌, ℕ, ℤ, ◌^◌, List, length, Option, Result, Ok, Err, if◌then◌else◌}
+use Rattle.std.specs.Prelude.{◌≡◌, ℕ, ℤ, ◌^◌, List, Option, Result, Ok, Err, if◌then◌else◌}
 use Rattle.std.specs.Option.{ok_or}
 use Rattle.std.specs.Str.{is_utf8}
 use Rattle.std.specs.Int.{w16, w32, w64}
-use Rattle.frames.specs.Fields.{number_at, string_at, bytes_at}
+use Rattle.frames.specs.Fields.{string_at, bytes_at}
 use Rattle.frames.specs.Steps.{◌>>=◌, mark_at, letter_at, count_at, signed_at}
 use Rattle.pgoutput.specs.declared.fault.OutFault.{OutFault}
 use Rattle.pgoutput.specs.declared.fault.OutFault.TheVariants.{Short, UnknownKind, BadMark, BadText, Trailing, Memory}

@@ -1,6 +1,6 @@
 //! Begin: a transaction's messages follow.
 
-ghost use Rattle.std.specs.Prelude.{◌≡◌};
+ghost use Rattle.std.specs.Prelude.{◌≡◌, ◌≢◌, Err};
 ghost use Rattle.frames.specs.Putting.{Puts};
 ghost use Rattle.pgoutput.specs.Reading.{Gives};
 ghost use Rattle.pgoutput.specs.Begin.{begin, begin_at};
@@ -27,7 +27,8 @@ pub struct Begin {
 
 #[tactic(auto, unfolding(crate::specs::Begin::begin_at))]
 pub(crate) fn begin_of(cursor: &mut Cursor<'_>) -> Result<Begin, OutFault>
-    ensures { Gives result cursor.new (begin_at cursor.old) }
+    ensures exact { Gives result cursor.new (begin_at cursor.old) }
+    ensures steady { result ≢ Err OutFault.Memory }
 {
     let position = cursor.u64().ok_or(OutFault::Short)?;
     let time = signed64_of(cursor)?;

@@ -1,6 +1,6 @@
 //! Commit: a transaction's messages are all there.
 
-ghost use Rattle.std.specs.Prelude.{◌≡◌};
+ghost use Rattle.std.specs.Prelude.{◌≡◌, ◌≢◌, Err};
 ghost use Rattle.frames.specs.Putting.{Puts};
 ghost use Rattle.pgoutput.specs.Reading.{Gives};
 ghost use Rattle.pgoutput.specs.Commit.{commit, commit_at};
@@ -30,7 +30,8 @@ pub struct Commit {
 
 #[tactic(auto, unfolding(crate::specs::Commit::commit_at))]
 pub(crate) fn commit_of(cursor: &mut Cursor<'_>) -> Result<Commit, OutFault>
-    ensures { Gives result cursor.new (commit_at cursor.old) }
+    ensures exact { Gives result cursor.new (commit_at cursor.old) }
+    ensures steady { result ≢ Err OutFault.Memory }
 {
     due_of(cursor, COMMIT_FLAGS)?;
     let position = cursor.u64().ok_or(OutFault::Short)?;

@@ -1,6 +1,6 @@
 //! The fields of which messages are made.
 
-ghost use Rattle.std.specs.Prelude.{◌≡◌, ◌^◌, ◌<◌, length};
+ghost use Rattle.std.specs.Prelude.{◌≡◌, ◌≢◌, ◌^◌, ◌<◌, length, Err};
 ghost use Rattle.std.specs.Int.{w32, w64, cast_unsigned};
 ghost use Rattle.frames.specs.Fields.{int32, int64};
 ghost use Rattle.frames.specs.Putting.{Puts};
@@ -14,7 +14,8 @@ use std::alloc::{AllocError, Global};
 
 /// Moves past this letter; another one is O3.
 pub(crate) fn due_of(cursor: &mut Cursor<'_>, letter: u8) -> Result<(), OutFault>
-    ensures { Gives result cursor.new (due letter cursor.old) }
+    ensures exact { Gives result cursor.new (due letter cursor.old) }
+    ensures steady { result ≢ Err OutFault.Memory }
 {
     let found = cursor.u8().ok_or(OutFault::Short)?;
     if found != letter {
@@ -53,7 +54,8 @@ pub(crate) fn signed32_of(cursor: &mut Cursor<'_>) -> Result<i32, OutFault>
 }
 
 pub(crate) fn signed64_of(cursor: &mut Cursor<'_>) -> Result<i64, OutFault>
-    ensures { Gives result cursor.new (signed64_at cursor.old) }
+    ensures exact { Gives result cursor.new (signed64_at cursor.old) }
+    ensures steady { result ≢ Err OutFault.Memory }
 {
     let number = cursor.u64().ok_or(OutFault::Short)?;
     Ok(number.cast_signed())

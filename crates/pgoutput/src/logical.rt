@@ -47,7 +47,8 @@ pub fn read_logical(alloc: Global, bytes: &[u8]) -> Result<Logical, OutFault>
 }
 
 fn whole(alloc: Global, bytes: &[u8]) -> Result<Logical, OutFault>
-    ensures { Answers result (whole_of bytes.now) }
+    ensures exact { Answers result (whole_of bytes.now) }
+    ensures memory { result ≡ Err OutFault.Memory → Stands OutFault.Memory bytes.now }
 {
     let mut cursor = Cursor::new(bytes);
     let message = logical_of(alloc, &mut cursor)?;
@@ -59,7 +60,8 @@ fn whole(alloc: Global, bytes: &[u8]) -> Result<Logical, OutFault>
 
 #[tactic(auto, unfolding(crate::specs::Logical::logical_at))]
 fn logical_of(alloc: Global, cursor: &mut Cursor<'_>) -> Result<Logical, OutFault>
-    ensures { Gives result cursor.new (logical_at cursor.old) }
+    ensures exact { Gives result cursor.new (logical_at cursor.old) }
+    ensures memory { result ≡ Err OutFault.Memory → Stands OutFault.Memory cursor.old }
 {
     match cursor.u8().ok_or(OutFault::Short)? {
         BEGIN => Ok(Logical::Begin(begin_of(cursor)?)),

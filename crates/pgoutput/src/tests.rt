@@ -1,5 +1,5 @@
-ghost use Rattle.std.specs.Prelude.{◌≡◌, ◌<◌, ◌^◌, ◌×◌, length, IfOk};
-ghost use Rattle.pgoutput.specs.Logical.{IsShort};
+ghost use Rattle.std.specs.Prelude.{IfOk};
+ghost use Rattle.pgoutput.specs.Logical.{FitsLogical, IsShort};
 
 use crate::*;
 use bytes::BytesMut;
@@ -31,7 +31,8 @@ const INSERT_BYTES: [u8; 27] = [
 const UNCHANGED_BYTES: [u8; 9] = [0x49, 0, 0, 0x40, 0, 0x4e, 0, 1, 0x75];
 
 fn begin() -> Logical
-    ensures { IsShort result }
+    ensures range { FitsLogical result }
+    ensures short { IsShort result }
 {
     Logical::Begin(Begin {
         position: 0x100_0030,
