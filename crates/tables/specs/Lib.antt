@@ -1,4 +1,3 @@
-pub mod Putting
 pub mod Spelling
 pub mod Tables
 pub use Rattle.frames.specs.Fields

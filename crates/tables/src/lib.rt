@@ -23,3 +23,6 @@ pub use kind::Kind;
 pub use row::{MAX_ROW_LENGTH, Row};
 pub use table::Table;
 pub use value::Value;
+
+#[cfg(test)]
+mod tests;
