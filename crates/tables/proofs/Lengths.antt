@@ -1,5 +1,5 @@
 -- The lengths of numbers in a spelling.
-use Rattle.std.proofs.Common.{◌≡◌, ◌≤◌, ◌+◌, ℕ, List, [], ◌∷◌, ◌++◌, length, refl, arith, length-append}
+use Rattle.std.proofs.Common.{◌≡◌, ◌≤◌, ◌+◌, ℕ, List, [], ◌∷◌, length, arith, length-append}
 use Rattle.std.specs.List.{flat_map}
 use Rattle.frames.specs.Fields.{int16, int32}
 use Rattle.frames.proofs.Numbers.{length-int16, length-int32, length-int64}

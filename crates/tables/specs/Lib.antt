@@ -1,3 +1,4 @@
+pub mod Reading
 pub mod Spelling
 pub mod Tables
 pub use Rattle.frames.specs.Fields

@@ -4,6 +4,10 @@ use frames::Text;
 use std::alloc::{AllocError, Global};
 use std::test::*;
 
+// The body of the insert of (1,'ab',7) into public.item.
+const ROW: &[u8] =
+    b"\x01\x00\x00\x40\x00\x00\x03\x02\x00\x00\x00\x01\x04\x00\x00\x00\x02ab\x03\x00\x00\x00\x00\x00\x00\x00\x07";
+
 fn row(alloc: Global, id: i32, name: &str, qty: i64) -> Result<Row, AllocError> {
     Ok(Row::new(vec![in alloc;
         Value::Int4(id),
@@ -45,9 +49,15 @@ fn writes_an_insert(rt: HostRuntime) -> Result<(), Fail> {
     }
     write_body(&change, &mut out)?;
     assert_eq!(rt; body_len(&change), 28);
-    assert_eq!(rt;
-        out.as_slice(),
-        b"\x01\x00\x00\x40\x00\x00\x03\x02\x00\x00\x00\x01\x04\x00\x00\x00\x02ab\x03\x00\x00\x00\x00\x00\x00\x00\x07".as_slice()
-    );
+    assert_eq!(rt; out.as_slice(), ROW);
+    Ok(())
+}
+
+#[test]
+fn reads_an_insert(rt: HostRuntime) -> Result<(), Fail> {
+    let change = read_body(rt.alloc(), ROW)?;
+    assert_eq!(rt; change, Change::Insert(16384, row(rt.alloc(), 1, "ab", 7)?));
+    assert_eq!(rt; read_body(rt.alloc(), b"\x02"), Err(BodyFault::UnknownTag));
+    assert_eq!(rt; read_body(rt.alloc(), &ROW[..27]), Err(BodyFault::Short));
     Ok(())
 }
