@@ -1,23 +1,12 @@
 -- The lengths of numbers in a spelling.
-use Rattle.std.proofs.Common.{◌≡◌, ◌≤◌, ◌+◌, ℕ, List, [], ◌∷◌, ◌++◌, length, refl, arith, length-append}
+use Rattle.std.proofs.Common.{◌≡◌, ◌≤◌, ◌+◌, ℕ, List, [], ◌∷◌, length, arith, length-append}
 use Rattle.std.specs.List.{flat_map}
-use Rattle.frames.specs.Fields.{int16, int32, int64}
+use Rattle.frames.specs.Fields.{int16, int32}
+use Rattle.frames.proofs.Numbers.{length-int16, length-int32, length-int64}
 use Rattle.tables.specs.declared.value.Value.{Value}
 use Rattle.tables.specs.declared.value.Value.TheVariants as values
 use Rattle.tables.specs.declared.change.Change.TheVariants as changes
 use Rattle.tables.specs.Spelling.{spell_value, spell_row, row_length, body_length}
-
-pub length-int16 : (n : ℕ) → length (int16 n) ≡ 2
-unfolding int16
-length-int16 n = refl
-
-pub length-int32 : (n : ℕ) → length (int32 n) ≡ 4
-unfolding int32
-length-int32 n = refl
-
-pub length-int64 : (n : ℕ) → length (int64 n) ≡ 8
-unfolding int64
-length-int64 n = refl
 
 pub ruleset lengths = (length-int16, length-int32, length-int64)
 

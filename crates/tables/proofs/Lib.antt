@@ -1,3 +1,3 @@
+pub mod Bodies
 pub mod Lengths
 pub mod Names
-pub mod Putting

@@ -1,4 +1,4 @@
-pub mod Putting
+pub mod Reading
 pub mod Spelling
 pub mod Tables
 pub use Rattle.frames.specs.Fields

@@ -1,7 +1,7 @@
 ghost use Rattle.std.specs.Prelude.{◌≡◌, ◌++◌, ◌∷◌, [], ◌<◌, ◌≤◌, ◌^◌, OnErr, OnOk, length, if◌then◌else◌};
 ghost use Rattle.std.specs.List.{flat_map};
 ghost use Rattle.frames.specs.Fields.{int16, int32, int64};
-ghost use Rattle.tables.specs.Putting.{Puts};
+ghost use Rattle.frames.specs.Putting.{Puts};
 ghost use Rattle.tables.specs.declared.row.TheConstants.{MAX_ROW_LENGTH};
 ghost use Rattle.tables.specs.Spelling.{IsShort, body_length, row_length, spell_body, spell_row, spell_value};
 
@@ -66,7 +66,7 @@ pub fn write_body(change: &Change, out: &mut BytesMut) -> Result<(), AllocError>
     written
 }
 
-#[tactic(auto, using(crate::proofs::Putting::extends_itself, crate::proofs::Putting::extends_more, crate::proofs::Putting::extends_back))]
+#[tactic(auto, using(frames::proofs::Putting::extends_itself, frames::proofs::Putting::extends_more, frames::proofs::Putting::extends_back))]
 fn put_body(change: &Change, out: &mut BytesMut) -> Result<(), AllocError>
     requires { IsShort change.now }
     ensures { Puts result out.old.items out.new.items (spell_body change.now) }
@@ -80,7 +80,7 @@ fn put_body(change: &Change, out: &mut BytesMut) -> Result<(), AllocError>
     }
 }
 
-#[tactic(auto, using(crate::proofs::Putting::extends_itself, crate::proofs::Putting::extends_more, crate::proofs::Putting::extends_back))]
+#[tactic(auto, using(frames::proofs::Putting::extends_itself, frames::proofs::Putting::extends_more, frames::proofs::Putting::extends_back))]
 fn put_row(row: &Row, out: &mut BytesMut) -> Result<(), AllocError>
     requires { row_length row.now ≤ MAX_ROW_LENGTH }
     ensures { Puts result out.old.items out.new.items (spell_row row.now) }
@@ -93,7 +93,7 @@ fn put_row(row: &Row, out: &mut BytesMut) -> Result<(), AllocError>
     Ok(())
 }
 
-#[tactic(auto, using(crate::proofs::Putting::extends_itself, crate::proofs::Putting::extends_more, crate::proofs::Putting::extends_back))]
+#[tactic(auto, using(frames::proofs::Putting::extends_itself, frames::proofs::Putting::extends_more, frames::proofs::Putting::extends_back))]
 fn put_value(value: &Value, out: &mut BytesMut) -> Result<(), AllocError>
     requires { length (spell_value value.now) ≤ MAX_ROW_LENGTH }
     ensures { Puts result out.old.items out.new.items (spell_value value.now) }

@@ -5,8 +5,10 @@ mod body;
 mod catalog;
 mod change;
 mod column;
+mod fault;
 mod identity;
 mod kind;
+mod reading;
 mod row;
 mod table;
 mod value;
@@ -18,8 +20,13 @@ pub use body::{
 pub use catalog::Catalog;
 pub use change::Change;
 pub use column::Column;
+pub use fault::BodyFault;
 pub use identity::Identity;
 pub use kind::Kind;
+pub use reading::read_body;
 pub use row::{MAX_ROW_LENGTH, Row};
 pub use table::Table;
 pub use value::Value;
+
+#[cfg(test)]
+mod tests;

@@ -281,3 +281,9 @@ kept-live log t running =
     agree : (e : Entry) → is_kept log t e ≡ (is_live log e && (top_of log e.number == t))
     agree e = kept_test (top_of log e.number == t) (has_ended log (top_of log e.number)) (is_dropped log e.number)
         (λ same. ap (has_ended log) (eqb-true (top_of log e.number) t same) ∙ running)
+
+-- what ends next has not ended yet
+pub open-running : (log : List Record) (t : ℕ) → is_assigned log t ≡ false → IsOpen log t → has_ended log t ≡ false
+open-running log t unassigned is_open =
+    let top : top_of log t ≡ t = ap (last_of t) (chain-unassigned log t unassigned) in
+    sym (ap (has_ended log) top) ∙ is_open.running

@@ -1,7 +1,7 @@
 -- The log in words: which lists of records are one, what each transaction of it holds, and which of them committed.
 -- Each definition speaks of the whole log up to some place. Where a definition judges a record by the records before it,
 -- those are an argument, so that a longer log is judged record by record as a shorter one was.
-use Rattle.std.specs.Prelude.{◌≡◌, ℕ, ◌+◌, ◌*◌, ◌/◌, ◌^◌, ◌<◌, ◌==◌, ℤ, Bool, true, false, ◌&&◌, ◌||◌, not, List, [], ◌∷◌, ◌++◌, reverse, filter, nat_le, FitsSigned, if◌then◌else◌}
+use Rattle.std.specs.Prelude.{take, ◌≡◌, ℕ, ◌+◌, ◌*◌, ◌/◌, ◌^◌, ◌<◌, ◌==◌, ℤ, Bool, true, false, ◌&&◌, ◌||◌, not, List, [], ◌∷◌, ◌++◌, reverse, filter, nat_le, FitsSigned, if◌then◌else◌}
 use Rattle.std.specs.List.{list_any, flat_map, AllByRecursion}
 use Rattle.std.specs.Int.{w64}
 use Rattle.tables.specs.declared.table.Table.{Table}
@@ -186,6 +186,52 @@ committed_from s before (r ∷ rs) = committed_by s before r ++ committed_from s
 -- the transactions of a log that commit at the start position or later
 abbrev pub committed : List Record → ℕ → List Transaction
 committed log s = committed_from s [] log
+
+-- THE SAME BY PLACES
+
+-- Whether an AbortSub before place n names a member of the number's chain, which is that of the whole log.
+abbrev pub is_dropped_at : List Record → ℕ → ℕ → Bool
+is_dropped_at log n x = list_any (is_undone (take n log)) (chain log x)
+
+-- The changes before place n whose top in the whole log is this transaction and which are not dropped before n.
+abbrev pub kept_at : List Record → ℕ → ℕ → List Entry
+kept_at log top n = filter (λ e. (top_of log e.number == top) && not (is_dropped_at log n e.number)) (entries (take n log))
+
+abbrev pub placed_at : ℕ → List Record → ℕ → ℕ → ℕ → Body → List Transaction
+placed_at s log n start end (Assign sub parent) = []
+placed_at s log n start end (Changed number change) = []
+placed_at s log n start end (AbortSub number) = []
+placed_at s log n start end (Abort number) = []
+placed_at s log n start end (Commit number time) =
+    if nat_le s start then record { start = start; end = end; time = time; number = number; changes = kept_at log number n } ∷ [] else []
+
+-- the transactions that the records from place n on commit
+abbrev pub placed_from : ℕ → List Record → ℕ → List Record → List Transaction
+placed_from s log n [] = []
+placed_from s log n (r ∷ rs) = placed_at s log n r.start r.end r.body ++ placed_from s log (n + 1) rs
+
+-- For each Commit of the log that starts at s or later: itself, and what its transaction keeps at its place. In a
+-- well-formed log this is `committed log s`.
+abbrev pub committed_by_places : List Record → ℕ → List Transaction
+committed_by_places log s = placed_from s log 0 log
+
+-- whether a record makes this number a subtransaction of that one
+abbrev pub is_assign : ℕ → ℕ → Body → Bool
+is_assign x y (Assign sub parent) = (sub == x) && (parent == y)
+is_assign x y (Changed number change) = false
+is_assign x y (AbortSub number) = false
+is_assign x y (Abort number) = false
+is_assign x y (Commit number time) = false
+
+abbrev pub is_parent : List Record → ℕ → ℕ → Bool
+is_parent log x y = list_any (λ r. is_assign x y r.body) log
+
+-- The number alone where no record assigns it, else the number and the chain of the parent that its Assign names. In a
+-- well-formed log `chain log x` is one for each number.
+abbrev pub IsChain : List Record → ℕ → List ℕ → Type 0
+IsChain log x [] = ⊥
+IsChain log x (y ∷ []) = (y ≡ x) × (is_assigned log x ≡ false)
+IsChain log x (y ∷ z ∷ above) = (y ≡ x) × (is_parent log x z ≡ true) × IsChain log z (z ∷ above)
 
 -- WELL-FORMED LOGS
 

@@ -17,3 +17,6 @@ pub use publisher::Publisher;
 pub use receipt::Receipt;
 pub use record::{Body, FIRST_NUMBER, FIRST_POSITION, Record};
 pub use tx::Tx;
+
+#[cfg(test)]
+mod tests;

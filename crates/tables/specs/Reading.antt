@@ -1,0 +1,92 @@
+-- How a change is read from its body: one field after the other, up to the first fault.
+use Rattle.std.specs.Prelude.{◌≡◌, ℕ, ◌^◌, ◌<◌, ◌==◌, Bool, true, false, List, length, FitsSigned, Option, Some, None, Result, Ok, Err, if◌then◌else◌}
+use Rattle.std.specs.List.{AllByRecursion}
+use Rattle.std.specs.Option.{ok_or}
+use Rattle.std.specs.Int.{w16, w32, w64}
+use Rattle.std.specs.Str.{is_utf8}
+use Rattle.frames.specs.Fields.{byte_at, bytes_at, number_at}
+use Rattle.frames.specs.Steps.{◌>>=◌, letter_at, signed_at, repeat_at}
+use Rattle.tables.specs.declared.body.TheConstants.{NULL_TAG, BOOL_TAG, INT4_TAG, INT8_TAG, TEXT_TAG, INSERT_TAG}
+use Rattle.tables.specs.declared.fault.BodyFault.{BodyFault}
+use Rattle.tables.specs.declared.fault.BodyFault.TheVariants.{Short, UnknownTag, BadBool, BadText, Trailing, Memory}
+use Rattle.tables.specs.declared.value.Value.{Value}
+use Rattle.tables.specs.declared.value.Value.TheVariants as values
+use Rattle.tables.specs.declared.change.Change.{Change}
+use Rattle.tables.specs.declared.change.Change.TheVariants as changes
+use Rattle.tables.specs.Spelling.{spell_body}
+
+-- WHAT HAS A BODY
+
+abbrev pub IsCodedValue : Value → Type 0
+IsCodedValue values.Null = Unit {0}
+IsCodedValue (values.Bool b) = Unit {0}
+IsCodedValue (values.Int4 n) = FitsSigned w32 n
+IsCodedValue (values.Int8 n) = FitsSigned w64 n
+IsCodedValue (values.Text text) = (length text < 2 ^ 32) × (is_utf8 text ≡ true)
+
+abbrev pub IsCodedRow : List Value → Type 0
+IsCodedRow row = (length row < 2 ^ 16) × AllByRecursion IsCodedValue row
+
+abbrev pub IsCoded : Change → Type 0
+IsCoded (changes.Insert oid row) = (oid < 2 ^ 32) × IsCodedRow row
+
+-- the bytes are the one spelling of the change
+pub record SpellsBody (bytes : List ℕ) (change : Change) : Type 0 where
+  pub in_range : IsCoded change
+  pub text : bytes ≡ spell_body change
+
+-- READING
+
+abbrev pub short : {A : Type 0} → Option A → Result A BodyFault
+short o = ok_or o Short
+
+abbrev pub bool_of : ℕ → Option Bool
+bool_of b = if b == 0 then Some false else (if b == 1 then Some true else None)
+
+abbrev pub sized_at : List ℕ → Result (List ℕ × List ℕ) BodyFault
+sized_at bytes = short (number_at w32 bytes) >>= λ n. short (bytes_at n.0 n.1)
+
+unfoldable pub text_at : List ℕ → Result (List ℕ × List ℕ) BodyFault
+text_at bytes = sized_at bytes >>= λ text. if is_utf8 text.0 then Ok text else Err BadText
+
+abbrev pub tagged_at : ℕ → List ℕ → Result (Value × List ℕ) BodyFault
+tagged_at tag bytes =
+    if tag == NULL_TAG then Ok (values.Null, bytes)
+    else (if tag == BOOL_TAG then letter_at Short BadBool bool_of bytes >>= (λ b. Ok (values.Bool b.0, b.1))
+    else (if tag == INT4_TAG then signed_at Short w32 bytes >>= (λ n. Ok (values.Int4 n.0, n.1))
+    else (if tag == INT8_TAG then signed_at Short w64 bytes >>= (λ n. Ok (values.Int8 n.0, n.1))
+    else (if tag == TEXT_TAG then text_at bytes >>= (λ t. Ok (values.Text t.0, t.1))
+    else Err UnknownTag))))
+
+unfoldable pub value_at : List ℕ → Result (Value × List ℕ) BodyFault
+value_at bytes = short (byte_at bytes) >>= λ tag. tagged_at tag.0 tag.1
+
+unfoldable pub row_at : List ℕ → Result (List Value × List ℕ) BodyFault
+row_at bytes = short (number_at w16 bytes) >>= λ n. repeat_at value_at n.0 n.1
+
+-- the OID and the row of an insert
+unfoldable pub insert_at : List ℕ → Result ((ℕ × List Value) × List ℕ) BodyFault
+insert_at bytes = short (number_at w32 bytes) >>= λ oid. row_at oid.1 >>= λ row. Ok ((oid.0, row.0), row.1)
+
+unfoldable pub change_at : List ℕ → Result (Change × List ℕ) BodyFault
+change_at bytes = short (byte_at bytes) >>= λ tag.
+    if tag.0 == INSERT_TAG then insert_at tag.1 >>= (λ m. Ok (changes.Insert m.0.0 m.0.1, m.1)) else Err UnknownTag
+
+-- the whole body
+unfoldable pub body_at : List ℕ → Result (Change × List ℕ) BodyFault
+body_at bytes = change_at bytes >>= λ change. if length change.1 == 0 then Ok change else Err Trailing
+
+-- WHAT A READER ANSWERS
+
+abbrev pub Fails : {Y : Type 0} → BodyFault → Result Y BodyFault → Type 0
+Fails Short read = read ≡ Err Short
+Fails UnknownTag read = read ≡ Err UnknownTag
+Fails BadBool read = read ≡ Err BadBool
+Fails BadText read = read ≡ Err BadText
+Fails Trailing read = read ≡ Err Trailing
+Fails Memory read = Unit {0}
+
+-- the value and what is left behind it, or the fault; memory may be refused at any time
+abbrev pub Gives : {X : Type 0} → Result X BodyFault → List ℕ → Result (X × List ℕ) BodyFault → Type 0
+Gives (Ok x) rest read = read ≡ Ok (x, rest)
+Gives (Err fault) rest read = Fails fault read

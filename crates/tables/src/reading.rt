@@ -1,0 +1,117 @@
+ghost use Rattle.std.specs.Prelude.{◌≡◌, [], IfOk, Ok};
+ghost use Rattle.std.specs.Int.{w32, w64};
+ghost use Rattle.frames.specs.Steps.{letter_at, signed_at, repeat_at};
+ghost use Rattle.tables.specs.Reading.{Gives, SpellsBody, body_at, bool_of, change_at, row_at, text_at, value_at};
+ghost use Rattle.tables.specs.declared.fault.BodyFault.TheVariants.{Short, BadBool};
+
+use crate::body::{BOOL_TAG, INSERT_TAG, INT4_TAG, INT8_TAG, NULL_TAG, TEXT_TAG};
+use crate::change::Change;
+use crate::fault::BodyFault;
+use crate::row::Row;
+use crate::value::Value;
+use frames::{Cursor, Items, Text, utf8_of};
+use std::alloc::Global;
+
+/// The change whose body these bytes are. The leftmost fault is answered.
+pub fn read_body(alloc: Global, bytes: &[u8]) -> Result<Change, BodyFault>
+    ensures found { IfOk result (λ c. SpellsBody bytes.now c) }
+    ensures only { (c : Change) → SpellsBody bytes.now c → Gives result [] (Ok (c, [])) }
+    ensures exact { Gives result [] (body_at bytes.now) }
+{
+    whole(alloc, bytes)
+}
+
+#[tactic(auto, unfolding(crate::specs::Reading::body_at))]
+fn whole(alloc: Global, bytes: &[u8]) -> Result<Change, BodyFault>
+    ensures { Gives result [] (body_at bytes.now) }
+{
+    let mut cursor = Cursor::new(bytes);
+    let change = change_of(alloc, &mut cursor)?;
+    if cursor.rest().is_empty() {
+        Ok(change)
+    } else {
+        Err(BodyFault::Trailing)
+    }
+}
+
+#[tactic(auto, unfolding(crate::specs::Reading::change_at, crate::specs::Reading::insert_at))]
+fn change_of(alloc: Global, cursor: &mut Cursor<'_>) -> Result<Change, BodyFault>
+    ensures { Gives result cursor.new (change_at cursor.old) }
+{
+    match cursor.u8().ok_or(BodyFault::Short)? {
+        INSERT_TAG => {
+            let oid = cursor.u32().ok_or(BodyFault::Short)?;
+            let row = row_of(alloc, cursor)?;
+            Ok(Change::Insert(oid, row))
+        }
+        _ => Err(BodyFault::UnknownTag),
+    }
+}
+
+#[tactic(auto, unfolding(crate::specs::Reading::row_at))]
+fn row_of(alloc: Global, cursor: &mut Cursor<'_>) -> Result<Row, BodyFault>
+    ensures { Gives result cursor.new (row_at cursor.old) }
+{
+    let count = cursor.u16().ok_or(BodyFault::Short)?;
+    let values = values_of(alloc, cursor, count)?;
+    Ok(Row::new(values.into_vec()))
+}
+
+fn values_of(alloc: Global, cursor: &mut Cursor<'_>, count: u16) -> Result<Items<Value>, BodyFault>
+    ensures { Gives result cursor.new (repeat_at value_at count cursor.old) }
+{
+    let mut values = Vec::new(alloc);
+    for _ in 0..count {
+        let value = value_of(alloc, cursor)?;
+        values.push(value)?;
+    }
+    Ok(Items::new(values))
+}
+
+#[tactic(auto, unfolding(crate::specs::Reading::value_at))]
+fn value_of(alloc: Global, cursor: &mut Cursor<'_>) -> Result<Value, BodyFault>
+    ensures { Gives result cursor.new (value_at cursor.old) }
+{
+    match cursor.u8().ok_or(BodyFault::Short)? {
+        NULL_TAG => Ok(Value::Null),
+        BOOL_TAG => Ok(Value::Bool(bool_in(cursor)?)),
+        INT4_TAG => Ok(Value::Int4(i32_in(cursor)?)),
+        INT8_TAG => Ok(Value::Int8(i64_in(cursor)?)),
+        TEXT_TAG => Ok(Value::Text(text_of(alloc, cursor)?)),
+        _ => Err(BodyFault::UnknownTag),
+    }
+}
+
+fn bool_in(cursor: &mut Cursor<'_>) -> Result<bool, BodyFault>
+    ensures { Gives result cursor.new (letter_at Short BadBool bool_of cursor.old) }
+{
+    match cursor.u8().ok_or(BodyFault::Short)? {
+        0 => Ok(false),
+        1 => Ok(true),
+        _ => Err(BodyFault::BadBool),
+    }
+}
+
+fn i32_in(cursor: &mut Cursor<'_>) -> Result<i32, BodyFault>
+    ensures { Gives result cursor.new (signed_at Short w32 cursor.old) }
+{
+    let n = cursor.u32().ok_or(BodyFault::Short)?;
+    Ok(n.cast_signed())
+}
+
+fn i64_in(cursor: &mut Cursor<'_>) -> Result<i64, BodyFault>
+    ensures { Gives result cursor.new (signed_at Short w64 cursor.old) }
+{
+    let n = cursor.u64().ok_or(BodyFault::Short)?;
+    Ok(n.cast_signed())
+}
+
+#[tactic(auto, unfolding(crate::specs::Reading::text_at))]
+fn text_of(alloc: Global, cursor: &mut Cursor<'_>) -> Result<Text, BodyFault>
+    ensures { Gives result cursor.new (text_at cursor.old) }
+{
+    let len = cursor.u32().ok_or(BodyFault::Short)?;
+    let bytes = cursor.take(len as usize).ok_or(BodyFault::Short)?;
+    let text = utf8_of(bytes).ok_or(BodyFault::BadText)?;
+    Ok(Text::copy_of(alloc, text)?)
+}

@@ -1,0 +1,147 @@
+-- In a well-formed log, what a record keeps by the records before it is what it keeps by the whole log and its place.
+use Rattle.std.proofs.Common.{◌≡◌, ℕ, ◌+◌, ◌==◌, Bool, true, false, cond, ◌&&◌, ◌||◌, not, List, [], ◌∷◌, ◌++◌, length, refl, sym, ap, ◌∙◌, append_assoc, eq-eqb, length-append}
+use Rattle.std.specs.List.{list_any, AllByRecursion}
+use Rattle.std.specs.Prelude.{nat_le}
+use Rattle.std.proofs.lemmas.Bool.{ne_eqb}
+use Rattle.std.proofs.lemmas.List.{append-nil}
+use Rattle.std.proofs.lemmas.List.Folds.{list_any-append}
+use Rattle.std.proofs.Math.Seq.{take-append_seam}
+use Rattle.txlog.specs.declared.record.Record.{Record}
+use Rattle.txlog.specs.declared.record.Body.{Body}
+use Rattle.txlog.specs.declared.record.Body.TheVariants.{Assign, Change as Changed, AbortSub, Abort, Commit}
+use Rattle.txlog.specs.Log.{names, is_named, assigns, chain, top_of, is_undone, Entry, entry_at, entries, is_kept, kept, committed_at, committed_by, committed_from, committed, IsNext, WellFormedAfter, IsWellFormedLog, kept_at, placed_at, placed_from, committed_by_places, chain_step, is_assign, is_parent, IsChain}
+use Rattle.txlog.proofs.Lists.{or_false, filter_agrees}
+use Rattle.txlog.proofs.Laws.{is_named-one, is_assigned-one, chain-append, all_when}
+use Rattle.txlog.proofs.LiveList.{eqb_comm}
+use Rattle.txlog.proofs.Progress.{chain-quiet}
+
+-- a record assigns no number that was named before it
+next-assigns : (before : List Record) (body : Body) (x : ℕ) → is_named before x ≡ true → IsNext before body → assigns x body ≡ false
+next-assigns before (Assign sub parent) x named next = ne_eqb sub x (λ same. let both : true ≡ false = sym named ∙ ap (is_named before) (sym same) ∙ next.0 in cc)
+next-assigns before (Changed number change) x named next = refl
+next-assigns before (AbortSub number) x named next = refl
+next-assigns before (Abort number) x named next = refl
+next-assigns before (Commit number time) x named next = refl
+
+-- the chain of a number that is named stays
+pub chain-stable : (before rest : List Record) (x : ℕ) → is_named before x ≡ true → WellFormedAfter before rest → chain (before ++ rest) x ≡ chain before x
+chain-stable before [] x named h = ap (λ log. chain log x) (append-nil before)
+chain-stable before (r ∷ rest) x named h =
+    ap (λ log. chain log x) (sym (append_assoc before (r ∷ []) rest))
+    ∙ chain-stable (before ++ r ∷ []) rest x (is_named-one before r x ∙ rw named refl) h.1
+    ∙ chain-quiet before r x (next-assigns before r.body x named h.0)
+
+-- the changes are of numbers that are named
+changes-named : (log : List Record) → AllByRecursion (λ e. is_named log e.number ≡ true) (entries log)
+changes-named [] = tt
+changes-named (r ∷ log) = by_body r.start r.body (all_when _ _ (λ (e : Entry) (named : is_named log e.number ≡ true). or_right (names e.number r.body) (is_named log e.number) named) (entries log) (changes-named log))
+  where
+    or_right : (a b : Bool) → b ≡ true → (a || b) ≡ true
+    or_right true b e = refl
+    or_right false b e = e
+
+    by_body : (start : ℕ) (body : Body) → AllByRecursion (λ (e : Entry). (names e.number body || is_named log e.number) ≡ true) (entries log) →
+        AllByRecursion (λ (e : Entry). (names e.number body || is_named log e.number) ≡ true) (entry_at start body ++ entries log)
+    by_body start (Assign sub parent) all = all
+    by_body start (Changed number change) all = (rw (eq-eqb number number refl) refl, all)
+    by_body start (AbortSub number) all = all
+    by_body start (Abort number) all = all
+    by_body start (Commit number time) all = all
+
+pub kept-at : (before rest : List Record) (top : ℕ) → WellFormedAfter before rest → kept_at (before ++ rest) top (length before) ≡ kept before top
+kept-at before rest top h =
+    rw (take-append_seam before rest) (filter_agrees (λ e. (top_of (before ++ rest) e.number == top) && not (list_any (is_undone before) (chain (before ++ rest) e.number))) (is_kept before top) (entries before)
+    (all_when _ _ (λ (e : Entry) (named : is_named before e.number ≡ true). let same = chain-stable before rest e.number named h in rw same refl) (entries before) (changes-named before)))
+
+placed-same : (s : ℕ) (before rest : List Record) (start end : ℕ) (body : Body) → WellFormedAfter before rest →
+    placed_at s (before ++ rest) (length before) start end body ≡ committed_at s before start end body
+placed-same s before rest start end (Assign sub parent) h = refl
+placed-same s before rest start end (Changed number change) h = refl
+placed-same s before rest start end (AbortSub number) h = refl
+placed-same s before rest start end (Abort number) h = refl
+placed-same s before rest start end (Commit number time) h = by_changes (kept-at before rest number h)
+  where
+    by_changes : kept_at (before ++ rest) number (length before) ≡ kept before number →
+        placed_at s (before ++ rest) (length before) start end (Commit number time) ≡ committed_at s before start end (Commit number time)
+    by_changes e = ap (λ (es : List Entry). cond (nat_le s start) (record { start = start; end = end; time = time; number = number; changes = es } ∷ []) []) e
+
+placed-from : (s : ℕ) (before rest : List Record) → WellFormedAfter before rest → placed_from s (before ++ rest) (length before) rest ≡ committed_from s before rest
+placed-from s before [] h = refl
+placed-from s before (r ∷ rest) h =
+    let longer : length (before ++ r ∷ []) ≡ length before + 1 = length-append before (r ∷ []) in
+    let whole : (before ++ r ∷ []) ++ rest ≡ before ++ r ∷ rest = append_assoc before (r ∷ []) rest in
+    ap (λ txs. txs ++ placed_from s (before ++ r ∷ rest) (length before + 1) rest) (placed-same s before (r ∷ rest) r.start r.end r.body h)
+    ∙ ap (λ txs. committed_by s before r ++ txs)
+    (ap (λ log. placed_from s log (length before + 1) rest) (sym whole) ∙ ap (λ n. placed_from s ((before ++ r ∷ []) ++ rest) n rest) (sym longer) ∙ placed-from s (before ++ r ∷ []) rest h.1)
+
+pub committed-by_places : (log : List Record) (s : ℕ) → IsWellFormedLog log → committed_by_places log s ≡ committed log s
+committed-by_places log s h = placed-from s [] log h.order
+
+-- CHAINS
+
+or_left : (a b : Bool) → a ≡ true → (a || b) ≡ true
+or_left true b e = refl
+or_left false b e = cc
+
+or_right : (a b : Bool) → b ≡ true → (a || b) ≡ true
+or_right true b e = refl
+or_right false b e = e
+
+is_parent-one : (log : List Record) (r : Record) (x y : ℕ) → is_parent (log ++ r ∷ []) x y ≡ (is_parent log x y || is_assign x y r.body)
+is_parent-one log r x y = list_any-append (λ r. is_assign x y r.body) log (r ∷ []) ∙ ap (λ b. is_parent log x y || b) (or_false (is_assign x y r.body))
+
+-- a parent is named
+parent-body : (body : Body) (x y : ℕ) → is_assign x y body ≡ true → names y body ≡ true
+parent-body (Assign sub parent) x y is = by_test (sub == x) (parent == y) refl is
+  where
+    by_test : (a b : Bool) → (parent == y) ≡ b → (a && b) ≡ true → ((y == sub) || (y == parent)) ≡ true
+    by_test true true same is = or_right (y == sub) (y == parent) (eqb_comm y parent ∙ same)
+    by_test true false same is = absurd cc
+    by_test false b same is = absurd cc
+parent-body (Changed number change) x y is = absurd cc
+parent-body (AbortSub number) x y is = absurd cc
+parent-body (Abort number) x y is = absurd cc
+parent-body (Commit number time) x y is = absurd cc
+
+parent-named : (log : List Record) (x y : ℕ) → is_parent log x y ≡ true → is_named log y ≡ true
+parent-named [] x y is = absurd cc
+parent-named (r ∷ log) x y is = by_test (is_assign x y r.body) refl is (parent-named log x y)
+  where
+    by_test : (b : Bool) → is_assign x y r.body ≡ b → (b || is_parent log x y) ≡ true → (is_parent log x y ≡ true → is_named log y ≡ true) → (names y r.body || is_named log y) ≡ true
+    by_test true same is rest = or_left (names y r.body) (is_named log y) (parent-body r.body x y same)
+    by_test false same is rest = or_right (names y r.body) (is_named log y) (rest is)
+
+chain-kept : (log : List Record) (r : Record) (x : ℕ) (ys : List ℕ) → IsNext log r.body → assigns x r.body ≡ false → IsChain log x ys → IsChain (log ++ r ∷ []) x ys
+chain-kept log r x [] next other h = h
+chain-kept log r x (y ∷ []) next other h = (h.0, is_assigned-one log r x ∙ rw (h.1, other) refl)
+chain-kept log r x (y ∷ z ∷ above) next other h =
+    (h.0, is_parent-one log r x z ∙ rw h.1 refl, chain-kept log r z (z ∷ above) next (next-assigns log r.body z (parent-named log x z h.1) next) h.2)
+
+chain-under : (log : List Record) (x p : ℕ) (ys : List ℕ) → is_parent log x p ≡ true → IsChain log p ys → IsChain log x (x ∷ ys)
+chain-under log x p [] par h = absurd h
+chain-under log x p (y ∷ []) par h = (refl, rw h.0 par, (refl, rw h.0 h.1))
+chain-under log x p (y ∷ z ∷ above) par h = (refl, rw h.0 par, (refl, rw h.0 h.1, h.2))
+
+chain-one : (log : List Record) (start end : ℕ) (body : Body) → IsNext log body → ((x : ℕ) → IsChain log x (chain log x)) →
+    (x : ℕ) → IsChain (log ++ record { start = start; end = end; body = body } ∷ []) x (chain_step (chain log) body x)
+chain-one log start end (Assign sub parent) next h x = by_test (sub == x) refl
+  where
+    by_test : (b : Bool) → (sub == x) ≡ b → IsChain (log ++ record { start = start; end = end; body = Assign sub parent } ∷ []) x (cond b (x ∷ chain log parent) (chain log x))
+    by_test true same =
+        let here : is_parent (log ++ record { start = start; end = end; body = Assign sub parent } ∷ []) x parent ≡ true =
+        is_parent-one log (record { start = start; end = end; body = Assign sub parent }) x parent ∙ or_right (is_parent log x parent) ((sub == x) && (parent == parent)) (rw (same, eq-eqb parent parent refl) refl) in
+        chain-under (log ++ record { start = start; end = end; body = Assign sub parent } ∷ []) x parent (chain log parent) here
+        (chain-kept log (record { start = start; end = end; body = Assign sub parent }) parent (chain log parent) next next.1 (h parent))
+    by_test false same = chain-kept log (record { start = start; end = end; body = Assign sub parent }) x (chain log x) next same (h x)
+chain-one log start end (Changed number change) next h x = chain-kept log (record { start = start; end = end; body = Changed number change }) x (chain log x) next refl (h x)
+chain-one log start end (AbortSub number) next h x = chain-kept log (record { start = start; end = end; body = AbortSub number }) x (chain log x) next refl (h x)
+chain-one log start end (Abort number) next h x = chain-kept log (record { start = start; end = end; body = Abort number }) x (chain log x) next refl (h x)
+chain-one log start end (Commit number time) next h x = chain-kept log (record { start = start; end = end; body = Commit number time }) x (chain log x) next refl (h x)
+
+chain-all : (before rest : List Record) → WellFormedAfter before rest → ((x : ℕ) → IsChain before x (chain before x)) → (x : ℕ) → IsChain (before ++ rest) x (chain (before ++ rest) x)
+chain-all before [] h each x = rw (append-nil before) (each x)
+chain-all before (r ∷ rest) h each x =
+    rw (← append_assoc before (r ∷ []) rest) (chain-all (before ++ r ∷ []) rest h.1 (λ y. rw (chain-append before r y) (chain-one before r.start r.end r.body h.0 each y)) x)
+
+pub chain-IsChain : (log : List Record) (x : ℕ) → IsWellFormedLog log → IsChain log x (chain log x)
+chain-IsChain log x h = chain-all [] log h.order (λ y. (refl, refl)) x
