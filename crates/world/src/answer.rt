@@ -1,0 +1,20 @@
+use publication::PubFault;
+use sender::SendFault;
+use txlog::SessionFault;
+
+/// What an event that happened answered: it was done, or the part of the publisher that it asked refused it.
+#[derive(Clone, Copy, Debug, PartialEq, Eq)]
+pub enum Answer {
+    Done,
+    Session(SessionFault),
+    Slot(SlotFault),
+    Publication(PubFault),
+    Sender(SendFault),
+}
+
+/// Why a slot was refused. There are no slots yet, so none has a name.
+#[derive(Clone, Copy, Debug, PartialEq, Eq)]
+pub enum SlotFault {
+    /// L1: no slot has this name.
+    Missing,
+}

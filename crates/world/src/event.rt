@@ -1,0 +1,41 @@
+use frames::{Items, Text};
+
+/// One line of a schedule.
+#[derive(Debug, Drop, PartialEq)]
+pub enum Event {
+    /// `begin T`: a transaction begins.
+    Begin(Text),
+    /// `insert T TABLE (row)`: the table's name is schema, a dot and name.
+    Insert(Text, Text, Items<Literal>),
+    /// `savepoint T`
+    Savepoint(Text),
+    /// `rollback T N`: N is the savepoint's depth, 1 the outermost.
+    Rollback(Text, u32),
+    /// `release T N`
+    Release(Text, u32),
+    /// `commit T TIME`: in microseconds since 2000-01-01.
+    Commit(Text, i64),
+    /// `abort T`
+    Abort(Text),
+    /// `start C SLOT POSITION PUB,PUB`: a sender starts for the connection C.
+    Start(Text, Text, u64, Items<Text>),
+    /// `read C MAX CLOCK`: up to MAX records are fetched and fed.
+    Read(Text, u32, i64),
+    /// `keepalive C CLOCK`
+    Keepalive(Text, i64),
+    /// `drain C N`: up to N bytes leave the sender.
+    Drain(Text, u32),
+    /// `cut C`: the sender ends.
+    Cut(Text),
+}
+
+/// A value of a row as a script writes it. An integer takes the kind of its column.
+#[derive(Debug, Drop, PartialEq)]
+pub enum Literal {
+    Null,
+    Bool(bool),
+    Integer(i64),
+    /// An integer that no column can hold.
+    Huge,
+    Text(Text),
+}
