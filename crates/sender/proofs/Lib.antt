@@ -1,3 +1,4 @@
 pub mod Framing
 pub mod Lists
-pub mod Feeding
+pub mod Batches
+pub mod Changes

@@ -69,6 +69,13 @@ pub record TookOne (clock : ℤ) (old new : SenderState) (r : Record) : Type 0 w
   pub held : new.held ≡ old.held ++ spelled (relation old.selection) old.named (blocks clock (released old.selection old.start r ready))
   pub named : new.named ≡ named_through old.named (released old.selection old.start r ready)
 
+-- nothing that a drain or a reader of the position sees has changed
+pub record SeemsSame (old new : SenderState) : Type 0 where
+  pub selection : new.selection ≡ old.selection
+  pub start : new.start ≡ old.start
+  pub position : new.position ≡ old.position
+  pub held : new.held ≡ old.held
+
 -- all records were read
 pub record Fed (clock : ℤ) (old new : SenderState) (rs : List Record) : Type 0 where
   pub selection : new.selection ≡ old.selection

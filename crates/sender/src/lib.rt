@@ -2,7 +2,11 @@
 #![tactic(auto)]
 
 mod fault;
+mod feeding;
 mod outgoing;
+mod publishing;
+mod sender;
 mod word;
 
 pub use fault::SendFault;
+pub use sender::Sender;

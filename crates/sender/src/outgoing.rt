@@ -1,6 +1,6 @@
 //! What is on its way out: the bytes that are held, and the tables that they named.
 
-ghost use Rattle.std.specs.Prelude.{◌≡◌, ◌++◌, ◌∷◌, [], OnOk, reverse, IsSome};
+ghost use Rattle.std.specs.Prelude.{◌≡◌, ◌≤◌, ◌++◌, ◌∷◌, [], OnErr, OnOk, reverse, IsSome, min, take, drop, length};
 ghost use Rattle.std.specs.List.{AllByRecursion};
 ghost use Rattle.frames.specs.Putting.{Puts};
 ghost use Rattle.pgoutput.specs.Logical.{IsShort};
@@ -8,9 +8,9 @@ ghost use Rattle.tables.specs.Tables.{table_of};
 ghost use Rattle.publication.specs.Selection.{relation};
 ghost use Rattle.publication.specs.Projection.{MessageFits};
 ghost use Rattle.stream.specs.Words.{frames_of, word_bytes};
-ghost use Rattle.stream.specs.Items.{IsShortMessage, begin_message, commit_message, is_named, due, named_by, named_by_all, said, relation_words, change_words, changes_words, block_words};
+ghost use Rattle.stream.specs.Items.{IsShortMessage, begin_message, commit_message, is_named, due, named_by, named_by_all, said, relation_words, change_words, changes_words, block_words, alive};
 
-use crate::word::put_said;
+use crate::word::{put_keepalive, put_said};
 use bytes::BytesMut;
 use pgoutput::{Begin, Commit, Logical};
 use publication::Selection;
@@ -28,6 +28,72 @@ pub(crate) struct Outgoing {
 }
 
 impl Outgoing {
+    pub(crate) fn new(alloc: Global) -> Self
+        ensures held { result.held.items ≡ [] }
+        ensures named { result.named.items ≡ [] }
+    {
+        Outgoing {
+            held: BytesMut::new(alloc),
+            scratch: BytesMut::new(alloc),
+            named: Vec::new(alloc),
+        }
+    }
+
+    /// Adds a keepalive, or, where memory is refused, nothing.
+    pub(crate) fn keepalive(
+        &mut self,
+        position: u64,
+        clock: i64,
+        ask: bool,
+    ) -> Result<(), AllocError>
+        ensures ok { OnOk result (self.new.held.items ≡ self.old.held.items ++ word_bytes (alive position clock ask)) }
+        ensures err { OnErr result (self.new.held.items ≡ self.old.held.items) }
+        ensures named { self.new.named ≡ self.old.named }
+    {
+        let length = self.held.len();
+        let written = put_keepalive(&mut self.held, position, clock, ask);
+        if written.is_err() {
+            self.held.truncate(length);
+        }
+        written
+    }
+
+    /// Moves bytes from the front of what is held, as many as there is room for, and answers how many.
+    pub(crate) fn drain(&mut self, out: &mut [u8]) -> usize
+        ensures count { result ≡ min (length out.old) (length self.old.held.items) }
+        ensures moved { take result out.new ≡ take result self.old.held.items }
+        ensures others { drop result out.new ≡ drop result out.old }
+        ensures rest { self.new.held.items ≡ drop result self.old.held.items }
+        ensures named { self.new.named ≡ self.old.named }
+    {
+        let count = out.len().min(self.held.len());
+        copy_front(out, self.held.as_slice(), count);
+        self.held.advance(count);
+        count
+    }
+
+    /// Adds the block of a transaction, or, where memory is refused, nothing.
+    pub(crate) fn commit(
+        &mut self,
+        alloc: Global,
+        selection: &Selection,
+        clock: i64,
+        transaction: &Published,
+    ) -> Result<(), AllocError>
+        requires { AllByRecursion (λ c. MessageFits selection.now c.message) transaction.now.changes }
+        ensures ok { OnOk result (self.new.held.items ≡ self.old.held.items
+            ++ frames_of (block_words (relation selection.now) (reverse self.old.named.items) clock transaction.now)) }
+        ensures named { OnOk result (reverse self.new.named.items ≡ named_by_all (reverse self.old.named.items) transaction.now.changes) }
+        ensures err { OnErr result (self.new.held.items ≡ self.old.held.items) }
+    {
+        let length = self.held.len();
+        let written = self.block(alloc, selection, clock, transaction);
+        if written.is_err() {
+            self.held.truncate(length);
+        }
+        written
+    }
+
     /// Adds a message at a position.
     fn say(&mut self, position: u64, clock: i64, message: &Logical) -> Result<(), AllocError>
         requires counts { IsShort message.now }
@@ -106,7 +172,7 @@ impl Outgoing {
 
     /// Adds the block of a transaction.
     #[tactic(auto, using(frames::proofs::Putting::extends_itself, frames::proofs::Putting::extends_more, frames::proofs::Putting::extends_back, crate::proofs::Framing::block_is))]
-    pub(crate) fn block(
+    fn block(
         &mut self,
         alloc: Global,
         selection: &Selection,
@@ -152,4 +218,13 @@ fn is_known(named: &[u32], oid: u32) -> bool
     ensures { result ≡ is_named (reverse named.now) oid }
 {
     named.contains(&oid)
+}
+
+fn copy_front(out: &mut [u8], bytes: &[u8], count: usize)
+    requires out_room { count ≤ length out.old }
+    requires enough { count ≤ length bytes.now }
+    ensures moved { take count out.new ≡ take count bytes.now }
+    ensures others { drop count out.new ≡ drop count out.old }
+{
+    out[..count].copy_from_slice(&bytes[..count]);
 }

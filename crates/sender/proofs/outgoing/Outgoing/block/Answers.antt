@@ -24,7 +24,7 @@ returns-clause-held c =
     let told = rw (same, c.as_slice.ensures) at c.in_ok-changes.ensures.held in
     let ended = rw same at c.in_ok-say-2.ensures.held in
     block_whole (relation c.args.selection.now) (reverse c.args.self.now.named.items) c.args.clock c.args.transaction.now
-        c.args.self.now.held.items c.say.new.self.held.items c.changes.new.self.held.items c.say-2.new.self.held.items c.begin_of-begin.result c.commit_of-commit.result
-        c.begin_of-begin.ensures c.commit_of-commit.ensures begun
-        (told ∙ ap (λ named. c.say.new.self.held.items ++ frames_of (changes_words (relation c.args.selection.now) (reverse named) c.args.clock c.args.transaction.now.changes)) (ap (λ v. v.items) c.in_ok-say.ensures.named))
-        ended
+    c.args.self.now.held.items c.say.new.self.held.items c.changes.new.self.held.items c.say-2.new.self.held.items c.begin_of-begin.result c.commit_of-commit.result
+    c.begin_of-begin.ensures c.commit_of-commit.ensures begun
+    (told ∙ ap (λ named. c.say.new.self.held.items ++ frames_of (changes_words (relation c.args.selection.now) (reverse named) c.args.clock c.args.transaction.now.changes)) (ap (λ v. v.items) c.in_ok-say.ensures.named))
+    ended

@@ -1,8 +1,11 @@
 -- Reading records one by one and in batches comes to the same: exactly the blocks that all of them publish.
-use Rattle.std.proofs.Common.{◌≡◌, ◌<◌, ℕ, ℤ, Bool, true, false, cond, leb, List, [], ◌∷◌, ◌++◌, length, map, filter, Option, Some, None, refl, sym, ap, subst, ◌∙◌, append_assoc, arith}
-use Rattle.std.proofs.lemmas.List.{append-nil}
+use Rattle.std.proofs.Common.{◌≡◌, ◌<◌, ◌+◌, zero, suc, take, get_or, ℕ, ℤ, Bool, true, false, cond, leb, List, [], ◌∷◌, ◌++◌, length, map, filter, Option, Some, None, refl, sym, ap, subst, ◌∙◌, append_assoc, arith}
+use Rattle.std.proofs.lemmas.List.{append-nil, take_all}
 use Rattle.std.proofs.lemmas.List.Concat.{flat_map-cons}
 use Rattle.std.proofs.lemmas.Grind.{flat_map-append}
+use Rattle.std.specs.Global.{Global}
+use Rattle.std.specs.declared.sync.Arc.{Arc}
+use Rattle.txlog.specs.Publishing.{shared}
 use Rattle.tables.specs.declared.table.Table.{Table}
 use Rattle.txlog.specs.declared.record.Record.{Record}
 use Rattle.txlog.specs.declared.record.Body.{Body}
@@ -16,18 +19,17 @@ use Rattle.stream.specs.declared.published.Published.{Published}
 use Rattle.stream.specs.Words.{word_bytes, frames_of}
 use Rattle.stream.specs.Items.{Item, Alive, Block, words_of, item_words, spelled, named_by_all, named_after, named_through}
 use Rattle.sender.specs.Published.{published, published_as, published_from, has_message}
-use Rattle.sender.specs.Sending.{SenderState, MayFollow, HasRead, blocks, blocks_behind, ready_at, released, TookOne, Fed, AddsBlocks}
+use Rattle.sender.specs.Sending.{SenderState, MayFollow, HasRead, blocks, blocks_behind, ready_at, released, TookOne, Fed, FedSome, SeemsSame, AddsBlocks}
 
 -- ---- items behind items
-
 
 filter_append : {A : Type 0} (p : A → Bool) (xs ys : List A) → filter p (xs ++ ys) ≡ filter p xs ++ filter p ys
 filter_append p [] ys = refl
 filter_append p (x ∷ xs) ys = by_test (p x) (filter_append p xs ys)
   where
-  by_test : (b : Bool) → filter p (xs ++ ys) ≡ filter p xs ++ filter p ys → cond b (x ∷ filter p (xs ++ ys)) (filter p (xs ++ ys)) ≡ cond b (x ∷ filter p xs) (filter p xs) ++ filter p ys
-  by_test true e = ap (λ l. x ∷ l) e
-  by_test false e = e
+    by_test : (b : Bool) → filter p (xs ++ ys) ≡ filter p xs ++ filter p ys → cond b (x ∷ filter p (xs ++ ys)) (filter p (xs ++ ys)) ≡ cond b (x ∷ filter p xs) (filter p xs) ++ filter p ys
+    by_test true e = ap (λ l. x ∷ l) e
+    by_test false e = e
 
 map_append : {A B : Type 0} (f : A → B) (xs ys : List A) → map f (xs ++ ys) ≡ map f xs ++ map f ys
 map_append f [] ys = refl
@@ -69,16 +71,18 @@ MayFollow-back before (r ∷ m) n may = let P : List Record → Type 0 = λ l. M
 released_is : (selection : List Table) (s : ℕ) (before : List Record) (r : Record) → released selection s r (promised before r.body) ≡ published_from selection s before (r ∷ [])
 released_is selection s before r = by_body r.body refl
   where
-  Same : Body → Type 0
-  Same body = released selection s (record r { body = body }) (promised before body) ≡ filter has_message (map (published_as selection) (committed_at s before r.start r.end body ++ []))
-  by_commit : (number : ℕ) (time : ℤ) → Same (Commit number time)
-  by_commit number time = ap (λ ts. filter has_message (map (published_as selection) ts)) (sym (append-nil (committed_at s before r.start r.end (Commit number time))))
-  by_body : (body : Body) → r.body ≡ body → Same body
-  by_body (Assign sub parent) is = refl
-  by_body (Changed number change) is = refl
-  by_body (AbortSub number) is = refl
-  by_body (Abort number) is = refl
-  by_body (Commit number time) is = by_commit number time
+    Same : Body → Type 0
+    Same body = released selection s (record r { body = body }) (promised before body) ≡ filter has_message (map (published_as selection) (committed_at s before r.start r.end body ++ []))
+
+    by_commit : (number : ℕ) (time : ℤ) → Same (Commit number time)
+    by_commit number time = ap (λ ts. filter has_message (map (published_as selection) ts)) (sym (append-nil (committed_at s before r.start r.end (Commit number time))))
+
+    by_body : (body : Body) → r.body ≡ body → Same body
+    by_body (Assign sub parent) is = refl
+    by_body (Changed number change) is = refl
+    by_body (AbortSub number) is = refl
+    by_body (Abort number) is = refl
+    by_body (Commit number time) is = by_commit number time
 
 pub took-Fed : (clock : ℤ) (old new : SenderState) (r : Record) → TookOne clock old new r → Fed clock old new (r ∷ [])
 took-Fed clock old new r took = record {
@@ -90,8 +94,10 @@ took-Fed clock old new r took = record {
 } where
   rel : List Published
   rel = released old.selection old.start r took.ready
+
   is : (before : List Record) → HasRead old before → MayFollow before (r ∷ []) → rel ≡ published_from old.selection old.start before (r ∷ [])
   is before has may = ap (released old.selection old.start r) (took.takes.gives before has.taken may.0 may.1) ∙ released_is old.selection old.start before r
+
   reads : (before : List Record) → HasRead old before → MayFollow before (r ∷ []) → HasRead new (before ++ r ∷ [])
   reads before has may = record {
     taken = took.takes.reads before has.taken may.0 may.1;
@@ -100,6 +106,7 @@ took-Fed clock old new r took = record {
         ∙ ap (named_through []) (sym (published_from-append old.selection old.start [] before (r ∷ [])))
         ∙ ap (λ sel. named_through [] (published sel (before ++ r ∷ []) old.start)) (sym took.selection) ∙ ap (λ s. named_through [] (published new.selection (before ++ r ∷ []) s)) (sym took.start);
   }
+
   adds : AddsBlocks clock old new.held (r ∷ [])
   adds before has may =
       took.held ∙ ap (λ ts. old.held ++ spelled (relation old.selection) old.named (blocks clock ts)) (is before has may)
@@ -126,8 +133,41 @@ Fed-append clock a b c m n first second = record {
       let one = published_from a.selection a.start before m in
       let two = published_from a.selection a.start (before ++ m) n in
       let through : named_through [] (published a.selection (before ++ m) a.start) ≡ named_through (named_through [] early) one =
-          ap (named_through []) (published_from-append a.selection a.start [] before m) ∙ named_through-append [] early one in
+      ap (named_through []) (published_from-append a.selection a.start [] before m) ∙ named_through-append [] early one in
       later ∙ ap (λ (l : List ℕ). l ++ blocks_behind a.selection clock (published a.selection (before ++ m) a.start) two) (first.adds before has may_m)
       ∙ ap (λ (named : List ℕ). (a.held ++ blocks_behind a.selection clock early one) ++ spelled (relation a.selection) named (blocks clock two)) through
       ∙ append_assoc a.held (blocks_behind a.selection clock early one) (spelled (relation a.selection) (named_through (named_through [] early) one) (blocks clock two))
       ∙ ap (λ (l : List ℕ). a.held ++ l) (sym (spelled-blocks (relation a.selection) (named_through [] early) clock one two) ∙ ap (λ ts. spelled (relation a.selection) (named_through [] early) (blocks clock ts)) (sym (published_from-append a.selection a.start before m n)))
+
+-- ---- a loop over a batch
+
+pub shared_more : (records : List (Arc Record Global)) (i : ℕ) (x : Arc Record Global) → i < length records → get_or records i x ≡ x → shared (take (i + 1) records) ≡ shared (take i records) ++ (x.value ∷ [])
+shared_more [] i x lt is = absurd (omega arith)
+shared_more (y ∷ records) zero x lt is = let same : y ≡ x = is in ap (λ z. z.value ∷ []) same
+shared_more (y ∷ records) (suc i) x lt is =
+    let next : suc i + 1 ≡ suc (i + 1) = omega arith in
+    ap (λ n. shared (take n (y ∷ records))) next ∙ ap (λ l. y.value ∷ l) (shared_more records i x (omega arith) is)
+
+shared_take : (records : List (Arc Record Global)) (i : ℕ) → shared (take i records) ≡ take i (shared records)
+shared_take [] i = ap (λ (l : List (Arc Record Global)). shared l) (take_all i [] (omega arith)) ∙ sym (take_all i [] (omega arith))
+shared_take (y ∷ records) zero = refl
+shared_take (y ∷ records) (suc i) = ap (λ l. y.value ∷ l) (shared_take records i)
+
+length_shared : (records : List (Arc Record Global)) → length (shared records) ≡ length records
+length_shared [] = refl
+length_shared (y ∷ records) = ap suc (length_shared records)
+
+-- a batch that stops at a refused record
+pub fed_some : (clock : ℤ) (old mid stopped new : SenderState) (records : List (Arc Record Global)) (i : ℕ) → i < length records → Fed clock old mid (shared (take i records)) → SeemsSame mid stopped
+    → new.selection ≡ stopped.selection → new.start ≡ stopped.start → new.position ≡ stopped.position → new.held ≡ stopped.held → new.failed ≡ true → FedSome clock old new (shared records)
+fed_some clock old mid stopped new records i lt fed same selection start position held failed =
+    let front = shared_take records i in
+    record {
+      count = i;
+      fewer = omega (arith, length_shared records);
+      selection = selection ∙ same.selection ∙ fed.selection;
+      start = start ∙ same.start ∙ fed.start;
+      position = position ∙ same.position ∙ fed.position ∙ ap (end_of old.position) front;
+      adds = (let P : List Record → Type 0 = λ l. AddsBlocks clock old new.held l in subst P front (λ before has may. held ∙ same.held ∙ fed.adds before has may));
+      failed = failed;
+    }

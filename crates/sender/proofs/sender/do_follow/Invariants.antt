@@ -1,0 +1,7 @@
+use Rattle.std.proofs.Common.{◌≡◌, drop}
+use Rattle.txlog.specs.Log.{follows}
+use Rattle.txlog.specs.Publishing.{shared}
+use Rattle.sender.proofs.sender.do_follow.Given as goal
+
+abbrev pub invariant-loop-record : goal.invariant-loop-record
+invariant-loop-record l = follows l.next (shared (drop l.record-index l.records)) ≡ follows l.position (shared l.records)

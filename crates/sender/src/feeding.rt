@@ -1,0 +1,96 @@
+//! Reading records one by one.
+
+ghost use Rattle.std.specs.Prelude.{◌≡◌, ◌++◌, Some, false, Err, IfErr, OnErr, OnOk};
+ghost use Rattle.txlog.specs.Publishing.{shared};
+ghost use Rattle.publication.specs.Selection.{relation};
+ghost use Rattle.stream.specs.Items.{spelled, named_through};
+ghost use Rattle.sender.specs.Sending.{Fed, FedSome, SeemsSame, TookOne, released, blocks};
+
+use crate::fault::SendFault;
+use crate::publishing::transaction_of;
+use crate::sender::Sender;
+use reorder::{Ready, Step};
+use std::alloc::{AllocError, Global};
+use std::sync::Arc;
+use txlog::Record;
+
+impl Sender {
+    pub(crate) fn take_all(
+        &mut self,
+        alloc: Global,
+        records: &[Arc<Record>],
+        clock: i64,
+    ) -> Result<(), SendFault>
+        requires { self.old.failed ≡ false }
+        ensures ok { OnOk result (Fed clock self.old self.new (shared records.now)) }
+        ensures running { OnOk result (self.new.failed ≡ false) }
+        ensures memory { OnErr result (FedSome clock self.old self.new (shared records.now)) }
+        ensures err { IfErr result (λ e. e ≡ SendFault.Memory) }
+    {
+        for record in records {
+            match self.take(alloc, record, clock) {
+                Ok(()) => {}
+                Err(_) => {
+                    self.failed = true;
+                    return Err(SendFault::Memory);
+                }
+            }
+        }
+        Ok(())
+    }
+
+    fn take(&mut self, alloc: Global, next: &Arc<Record>, clock: i64) -> Result<(), AllocError>
+        ensures ok { OnOk result (TookOne clock self.old self.new next.now.value) }
+        ensures err { OnErr result (SeemsSame self.old self.new) }
+        ensures failed { self.new.failed ≡ self.old.failed }
+    {
+        match self.reorder.take(alloc, next) {
+            Err(_) => return Err(AllocError),
+            Ok(Step::Quiet) => {
+                self.position = next.end;
+                return Ok(());
+            }
+            Ok(Step::Ready(ready)) => {
+                let published = self.publish(alloc, next, &ready, clock);
+                self.reorder.finish(ready);
+                published?;
+                self.position = next.end;
+                return Ok(());
+            }
+        }
+    }
+
+    fn publish(
+        &mut self,
+        alloc: Global,
+        next: &Record,
+        ready: &Ready,
+        clock: i64,
+    ) -> Result<(), AllocError>
+        ensures held { OnOk result (self.new.held ≡ self.old.held ++ spelled (relation self.old.selection) self.old.named
+            (blocks clock (released self.old.selection self.old.start next.now (Some ready.now)))) }
+        ensures named { OnOk result (self.new.named ≡ named_through self.old.named
+            (released self.old.selection self.old.start next.now (Some ready.now))) }
+        ensures err { OnErr result (self.new.held ≡ self.old.held) }
+        ensures selection { self.new.selection ≡ self.old.selection }
+        ensures start { self.new.start ≡ self.old.start }
+        ensures position { self.new.position ≡ self.old.position }
+        ensures failed { self.new.failed ≡ self.old.failed }
+        ensures reorder { self.new.reorder ≡ self.old.reorder }
+    {
+        let Some(transaction) = transaction_of(
+            alloc,
+            &self.selection,
+            self.start,
+            next,
+            &self.reorder,
+            ready,
+        )?
+        else {
+            return Ok(());
+        };
+        self.outgoing
+            .commit(alloc, &self.selection, clock, &transaction)?;
+        Ok(())
+    }
+}

@@ -1,0 +1,82 @@
+//! What a commit publishes.
+
+ghost use Rattle.std.specs.Prelude.{◌≡◌, ◌+◌, ◌<◌, ◌++◌, [], IfOk, IfSome, OnOk, Some, length, option_to_list};
+ghost use Rattle.std.specs.List.{AllByRecursion};
+ghost use Rattle.publication.specs.Projection.{MessageFits, message};
+ghost use Rattle.sender.specs.Published.{published_at, published_changes};
+ghost use Rattle.sender.specs.Sending.{released};
+
+use frames::Items;
+use publication::{Projected, Selection};
+use reorder::{Ready, Reorder};
+use std::alloc::{AllocError, Global};
+use stream::{Published, PublishedChange};
+use tables::Change;
+use txlog::{Body, Record};
+
+/// The transaction that a record commits with these changes, if it starts at the start position or later and has a change
+/// with a message.
+pub(crate) fn transaction_of(
+    alloc: Global,
+    selection: &Selection,
+    start: u64,
+    next: &Record,
+    reorder: &Reorder,
+    ready: &Ready,
+) -> Result<Option<Published>, AllocError>
+    ensures value { IfOk result (λ o. option_to_list o ≡ released selection.now start next.now (Some ready.now)) }
+    ensures fits { IfOk result (λ o. IfSome o (λ t. AllByRecursion (λ c. MessageFits selection.now c.message) t.changes)) }
+{
+    let Body::Commit(number, time) = next.body else {
+        return Ok(None);
+    };
+    if next.start < start {
+        return Ok(None);
+    }
+    let changes = changes_of(alloc, selection, reorder, ready)?;
+    if changes.is_empty() {
+        return Ok(None);
+    }
+    Ok(Some(Published {
+        start: next.start,
+        end: next.end,
+        time,
+        number,
+        changes: Items::new(changes),
+    }))
+}
+
+fn changes_of(
+    alloc: Global,
+    selection: &Selection,
+    reorder: &Reorder,
+    ready: &Ready,
+) -> Result<Vec<PublishedChange>, AllocError>
+    ensures value { IfOk result (λ v. v.items ≡ published_changes selection.now ready.now) }
+    ensures fits { IfOk result (λ v. AllByRecursion (λ c. MessageFits selection.now c.message) v.items) }
+{
+    let mut changes = Vec::new(alloc);
+    for k in 0..ready.count() {
+        let (position, change) = reorder.entry(ready, k);
+        add_published(&mut changes, alloc, selection, position, change)?;
+    }
+    Ok(changes)
+}
+
+/// Adds a change at its position, if it has a message.
+fn add_published(
+    changes: &mut Vec<PublishedChange>,
+    alloc: Global,
+    selection: &Selection,
+    position: u64,
+    change: &Change,
+) -> Result<(), AllocError>
+    ensures value { OnOk result (changes.new.items ≡ changes.old.items ++ published_at position (message selection.now change.now)) }
+    ensures fits { OnOk result (AllByRecursion (λ c. MessageFits selection.now c.message) (published_at position (message selection.now change.now))) }
+{
+    match selection.project(alloc, change)? {
+        Projected::Nothing => return Ok(()),
+        Projected::Message(message) => changes.push(PublishedChange { position, message })?,
+    }
+    Ok(())
+}

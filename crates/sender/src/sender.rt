@@ -1,0 +1,153 @@
+//! A sender: records in, the bytes of a stream out.
+
+ghost use Rattle.std.specs.Prelude.{◌≡◌, ◌≢◌, ◌↔◌, ◌++◌, ◌==◌, [], ℕ, false, true, not, min, take, drop, length, Err, IfOk, IsOk, OnErr, OnOk};
+ghost use Rattle.txlog.specs.Log.{follows};
+ghost use Rattle.txlog.specs.Publishing.{shared};
+ghost use Rattle.stream.specs.Words.{word_bytes};
+ghost use Rattle.stream.specs.Items.{alive};
+ghost use Rattle.sender.specs.Sending.{HasRead, Fed, FedSome};
+
+use crate::fault::SendFault;
+use crate::outgoing::Outgoing;
+use crate::word::put_keepalive;
+use bytes::BytesMut;
+use publication::Selection;
+use reorder::Reorder;
+use std::alloc::Global;
+use std::marker::Model;
+use std::sync::Arc;
+use txlog::Record;
+
+/// Reads records of the log, and holds the bytes of the stream that they make until they are drained.
+#[derive(Debug, Drop)]
+pub struct Sender {
+    pub(crate) selection: Selection,
+    pub(crate) start: u64,
+    pub(crate) position: u64,
+    pub(crate) reorder: Reorder,
+    pub(crate) outgoing: Outgoing,
+    pub(crate) failed: bool,
+}
+
+impl Model for Sender {
+    ghost use Rattle.std.specs.Prelude.{reverse};
+    ghost use Rattle.sender.specs.Sending.{SenderState};
+
+    ghost Value = { SenderState };
+
+    ghost view = { λ s. record {
+      selection = s.selection;
+      start = s.start;
+      position = s.position;
+      failed = s.failed;
+      held = s.outgoing.held.items;
+      named = reverse s.outgoing.named.items;
+      reorder = s.reorder;
+    } };
+}
+
+impl Sender {
+    /// A sender of what the selection publishes of transactions that commit at `start` or later. `first` is the position of
+    /// the first record that it will be fed.
+    pub fn start(
+        alloc: Global,
+        selection: Selection,
+        start: u64,
+        first: u64,
+    ) -> Result<Self, SendFault>
+        ensures selection { IfOk result (λ s. s.selection ≡ selection) }
+        ensures start { IfOk result (λ s. s.start ≡ start) }
+        ensures position { IfOk result (λ s. s.position ≡ first) }
+        ensures running { IfOk result (λ s. s.failed ≡ false) }
+        ensures empty { IfOk result (λ s. s.held ≡ []) }
+        ensures unread { IfOk result (λ s. HasRead s []) }
+        ensures ok { IsOk result }
+    {
+        Ok(Sender {
+            selection,
+            start,
+            position: first,
+            reorder: Reorder::new(alloc),
+            outgoing: Outgoing::new(alloc),
+            failed: false,
+        })
+    }
+
+    /// Reads records. What they publish is held from then on, under this clock. G3, then G4 where they don't follow
+    /// `position()` or each other, then G2, after which the sender has failed.
+    pub fn feed(
+        &mut self,
+        alloc: Global,
+        records: &[Arc<Record>],
+        clock: i64,
+    ) -> Result<(), SendFault>
+        ensures ok { OnOk result (Fed clock self.old self.new (shared records.now)) }
+        ensures running { OnOk result (self.new.failed ≡ false) }
+        ensures follow { OnOk result (follows self.old.position (shared records.now) ≡ true) }
+        ensures memory { result ≡ Err SendFault.Memory → FedSome clock self.old self.new (shared records.now) }
+        ensures failed { (result ≡ Err SendFault.Failed) ↔ (self.old.failed ≡ true) }
+        ensures gap { (result ≡ Err SendFault.Gap) ↔ ((self.old.failed ≡ false) × (follows self.old.position (shared records.now) ≡ false)) }
+        ensures unchanged { self.old.failed ≡ true → self.new ≡ self.old }
+        ensures unread { result ≡ Err SendFault.Gap → self.new ≡ self.old }
+    {
+        if self.failed {
+            return Err(SendFault::Failed);
+        }
+        if !do_follow(self.position, records) {
+            return Err(SendFault::Gap);
+        }
+        self.take_all(alloc, records, clock)
+    }
+
+    /// Holds a keepalive with the sender's position behind all that is held.
+    pub fn keepalive(&mut self, clock: i64, ask: bool) -> Result<(), SendFault>
+        ensures ok { OnOk result (self.new ≡ record self.old { held = self.old.held ++ word_bytes (alive self.old.position clock ask) }) }
+        ensures err { OnErr result (self.new ≡ self.old) }
+        ensures failed { (result ≡ Err SendFault.Failed) ↔ (self.old.failed ≡ true) }
+        ensures gap { result ≢ Err SendFault.Gap }
+    {
+        if self.failed {
+            return Err(SendFault::Failed);
+        }
+        self.outgoing.keepalive(self.position, clock, ask)?;
+        Ok(())
+    }
+
+    /// Moves held bytes out, as many as there is room for, and answers how many.
+    pub fn drain(&mut self, out: &mut [u8]) -> usize
+        ensures count { result ≡ min (length out.old) (length self.old.held) }
+        ensures moved { take result out.new ≡ take result self.old.held }
+        ensures others { drop result out.new ≡ drop result out.old }
+        ensures rest { self.new ≡ record self.old { held = drop result self.old.held } }
+    {
+        self.outgoing.drain(out)
+    }
+
+    /// Whether any bytes are held.
+    pub fn held(&self) -> bool
+        ensures { result ≡ not (length self.now.held == 0) }
+    {
+        !self.outgoing.held.is_empty()
+    }
+
+    /// The end of the last record read, at first where the sender began.
+    pub fn position(&self) -> u64
+        ensures { result ≡ self.now.position }
+    {
+        self.position
+    }
+}
+
+/// Whether the records stand one behind the other from the position on.
+fn do_follow(position: u64, records: &[Arc<Record>]) -> bool
+    ensures { result ≡ follows position (shared records.now) }
+{
+    let mut next = position;
+    for record in records {
+        if record.start != next {
+            return false;
+        }
+        next = record.end;
+    }
+    true
+}
