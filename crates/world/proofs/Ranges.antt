@@ -141,7 +141,7 @@ late_at selection s at before start end (Commit number time) le = by_test (leb s
   by_test true = (le, tt)
   by_test false = tt
 
-followed : (at : ℕ) (r : Record) (rs : List Record) → follows at (r ∷ rs) ≡ true → (r.start ≡ at) × (follows r.end rs ≡ true)
+pub followed : (at : ℕ) (r : Record) (rs : List Record) → follows at (r ∷ rs) ≡ true → (r.start ≡ at) × (follows r.end rs ≡ true)
 followed at r rs e = by_test (eqb r.start at) (λ is. eqb-true r.start at is) e
   where
   by_test : (b : Bool) → (b ≡ true → r.start ≡ at) → cond b (follows r.end rs) false ≡ true → (r.start ≡ at) × (follows r.end rs ≡ true)
