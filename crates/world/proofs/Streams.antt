@@ -166,7 +166,7 @@ none_upto : (p : ℕ) (n : List Record) → follows p n ≡ true → AllByRecurs
 none_upto p [] goes sized = refl
 none_upto p (r ∷ n) goes sized =
     let next = followed p r n goes in
-    let stops : leb r.end p ≡ false = lt-leb p r.end (omega (arith, next.0, sized.0)) in
+    let stops : leb r.end p ≡ false = lt-leb r.end p (omega (arith, next.0, sized.0)) in
     rw stops refl
 
 pub upto_place : (log : List Record) (place : ℕ) → IsWellFormedLog log → upto (end_of FIRST_POSITION (take place log)) log ≡ take place log
