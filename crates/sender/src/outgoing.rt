@@ -11,7 +11,7 @@ ghost use Rattle.stream.specs.Words.{frames_of, word_bytes};
 ghost use Rattle.stream.specs.Items.{IsShortMessage, begin_message, commit_message, is_named, due, named_by, named_by_all, said, relation_words, change_words, changes_words, block_words, alive};
 
 use crate::word::{put_keepalive, put_said};
-use bytes::BytesMut;
+use bytes::{BufMut, BytesMut};
 use pgoutput::{Begin, Commit, Logical};
 use publication::Selection;
 use std::alloc::{AllocError, Global};
@@ -70,6 +70,20 @@ impl Outgoing {
         copy_front(out, self.held.as_slice(), count);
         self.held.advance(count);
         count
+    }
+
+    /// Moves up to `max` bytes to the end of `out`, or, where memory is refused, nothing.
+    pub(crate) fn drain_into(&mut self, max: usize, out: &mut BytesMut) -> Result<(), AllocError>
+        ensures moved { OnOk result (out.new.items ≡ out.old.items ++ take max self.old.held.items) }
+        ensures rest { OnOk result (self.new.held.items ≡ drop max self.old.held.items) }
+        ensures err { OnErr result ((self.new.held.items ≡ self.old.held.items) × (out.new.items ≡ out.old.items)) }
+        ensures named { self.new.named ≡ self.old.named }
+    {
+        let front = front_of(self.held.as_slice(), max);
+        let count = front.len();
+        out.put_slice(front)?;
+        self.held.advance(count);
+        Ok(())
     }
 
     /// Adds the block of a transaction, or, where memory is refused, nothing.
@@ -227,4 +241,15 @@ fn copy_front(out: &mut [u8], bytes: &[u8], count: usize)
     ensures others { drop count out.new ≡ drop count out.old }
 {
     out[..count].copy_from_slice(&bytes[..count]);
+}
+
+/// At most so many bytes of the front.
+#[tactic(auto, using(std::proofs::lemmas::List::take_all))]
+fn front_of(bytes: &[u8], max: usize) -> &[u8]
+    ensures { result.now ≡ take max bytes.now }
+{
+    match bytes.split_at_checked(max) {
+        Some((front, _)) => front,
+        None => bytes,
+    }
 }

@@ -13,7 +13,7 @@ use crate::word::put_keepalive;
 use bytes::BytesMut;
 use publication::Selection;
 use reorder::Reorder;
-use std::alloc::Global;
+use std::alloc::{AllocError, Global};
 use std::marker::Model;
 use std::sync::Arc;
 use txlog::Record;
@@ -121,6 +121,15 @@ impl Sender {
         ensures rest { self.new ≡ record self.old { held = drop result self.old.held } }
     {
         self.outgoing.drain(out)
+    }
+
+    /// Moves up to `max` held bytes to the end of `out`, or, where there is no memory for them, nothing.
+    pub fn drain_into(&mut self, max: usize, out: &mut BytesMut) -> Result<(), AllocError>
+        ensures moved { OnOk result (out.new.items ≡ out.old.items ++ take max self.old.held) }
+        ensures rest { OnOk result (self.new ≡ record self.old { held = drop max self.old.held }) }
+        ensures err { OnErr result ((self.new ≡ self.old) × (out.new.items ≡ out.old.items)) }
+    {
+        self.outgoing.drain_into(max, out)
     }
 
     /// Whether any bytes are held.

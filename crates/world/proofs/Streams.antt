@@ -28,7 +28,6 @@ use Rattle.world.proofs.Ranges.{all_of_both, all_front, all_back, published_fit,
 
 -- ---- items behind items
 
-
 sent-append : (a b : List Item) → sent (a ++ b) ≡ sent a ++ sent b
 sent-append [] b = refl
 sent-append (Alive k ∷ a) b = sent-append a b
@@ -125,7 +124,7 @@ drained produced held n = append_assoc produced (take n held) (drop n held) ∙ 
 
 -- ---- a section of a well-formed log may follow what stands before it
 
-starts_below : (at : ℕ) (before : List Record) → follows at before ≡ true → AllByRecursion IsSized before → (at ≤ end_of at before) × AllByRecursion (λ (q : Record). q.start < end_of at before) before
+pub starts_below : (at : ℕ) (before : List Record) → follows at before ≡ true → AllByRecursion IsSized before → (at ≤ end_of at before) × AllByRecursion (λ (q : Record). q.start < end_of at before) before
 starts_below at [] goes sized = (omega arith, tt)
 starts_below at (r ∷ before) goes sized =
     let next = followed at r before goes in

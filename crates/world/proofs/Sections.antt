@@ -1,0 +1,270 @@
+-- A batch that a sender was fed is the read that a line asked for, and leaves its connection served.
+use Rattle.std.proofs.Common.{◌≡◌, ◌<◌, ◌≤◌, ◌+◌, ℕ, ℤ, zero, suc, Bool, true, false, cond, leb, List, [], ◌∷◌, ◌++◌, length, take, drop, Some, refl, sym, ap, subst, ◌∙◌, append_assoc, arith}
+use Rattle.std.specs.Prelude.{FitsSigned, ◌↔◌, Result, Ok, Err}
+use Rattle.std.specs.List.{AllByRecursion}
+use Rattle.std.specs.Int.{w64}
+use Rattle.std.proofs.lemmas.Bool.{le-leb, lt-leb}
+use Rattle.std.proofs.lemmas.List.{append-nil, take-append-drop, take_at, drop_at, length-append, length-take}
+use Rattle.std.specs.declared.sync.Arc.{Arc}
+use Rattle.txlog.specs.Publishing.{shared}
+use Rattle.tables.specs.declared.table.Table.{Table}
+use Rattle.txlog.specs.declared.record.TheConstants.{FIRST_POSITION}
+use Rattle.txlog.specs.declared.record.Record.{Record}
+use Rattle.txlog.specs.Log.{IsLogInRange, FitsRecord, IsWellFormedLog, IsSized, WellFormedAfter, follows, end_of}
+use Rattle.txlog.proofs.Laws.{end_of-append, WellFormedAfter-front, WellFormedAfter-back}
+use Rattle.publication.specs.Selection.{relation, FitsTable}
+use Rattle.stream.specs.Stream.{IsStream}
+use Rattle.sender.specs.declared.fault.SendFault.{SendFault}
+use Rattle.sender.specs.declared.fault.SendFault.TheVariants as sends
+use Rattle.sender.specs.Published.{published, published_from}
+use Rattle.sender.specs.Sending.{SenderState, HasRead, MayFollow, blocks_behind, Fed, FedSome}
+use Rattle.world.specs.declared.action.Action.TheVariants as actions
+use Rattle.world.specs.State.{Link, link_with}
+use Rattle.world.specs.Law.{upto}
+use Rattle.world.specs.Actions.{unread, acted, read_on, BreaksDown, ActsOnFault, IsStreaming, IsReading, IsAlive}
+use Rattle.world.proofs.Ranges.{all_front, all_back, published_fit, published_late, followed}
+use Rattle.world.proofs.Streams.{stream_read, follows_parts, starts_below, may_follow, upto_place}
+
+-- ---- a section of a log
+
+pub record IsSection (tables : List Table) (log : List Record) (place : ℕ) (section : List Record) : Type 0 where
+  pub rest : List Record
+  pub whole : log ≡ (take place log ++ section) ++ rest
+  pub len : length (take place log) ≡ place
+  pub good : IsWellFormedLog log
+  pub in_range : IsLogInRange tables log
+
+pub section_of : (tables : List Table) (log : List Record) (place max : ℕ) → place ≤ length log → IsWellFormedLog log → IsLogInRange tables log → IsSection tables log place (take max (drop place log))
+section_of tables log place max le good in_range = record {
+  rest = drop max (drop place log);
+  whole = sym (append_assoc (take place log) (take max (drop place log)) (drop max (drop place log)) ∙ ap (λ l. take place log ++ l) (take-append-drop max (drop place log)) ∙ take-append-drop place log);
+  len = omega (arith, length-take place log);
+  good = good;
+  in_range = in_range;
+}
+
+-- fewer of the same records
+pub section_front : (tables : List Table) (log : List Record) (place count : ℕ) (section : List Record) → IsSection tables log place section → IsSection tables log place (take count section)
+section_front tables log place count section s = record {
+  rest = drop count section ++ s.rest;
+  whole = s.whole ∙ ap (λ l. (take place log ++ l) ++ s.rest) (sym (take-append-drop count section)) ∙ ap (λ l. l ++ s.rest) (sym (append_assoc (take place log) (take count section) (drop count section)))
+      ∙ append_assoc (take place log ++ take count section) (drop count section) s.rest;
+  len = s.len;
+  good = s.good;
+  in_range = s.in_range;
+}
+
+take_section : (tables : List Table) (log : List Record) (place : ℕ) (section : List Record) → IsSection tables log place section → take (place + length section) log ≡ take place log ++ section
+take_section tables log place section s =
+    ap (take (place + length section)) s.whole ∙ take_at (take place log ++ section) s.rest (place + length section) (omega (arith, length-append (take place log) section, s.len))
+
+within_section : (tables : List Table) (log : List Record) (place : ℕ) (section : List Record) → IsSection tables log place section → place + length section ≤ length log
+within_section tables log place section s = omega (arith, ap length s.whole, length-append (take place log ++ section) s.rest, length-append (take place log) section, s.len)
+
+record IsNextPart (tables : List Table) (log : List Record) (place : ℕ) (section : List Record) : Type 0 where
+  goes : follows FIRST_POSITION (take place log ++ section) ≡ true
+  sized : AllByRecursion IsSized (take place log ++ section)
+  follows_on : follows (end_of FIRST_POSITION (take place log)) section ≡ true
+  may : MayFollow (take place log) section
+  early : IsLogInRange tables (take place log)
+  late : IsLogInRange tables section
+
+next_part : (tables : List Table) (log : List Record) (place : ℕ) (section : List Record) → IsSection tables log place section → IsNextPart tables log place section
+next_part tables log place section s =
+    let pre = take place log in
+    let F : List Record → Type 0 = λ l. follows FIRST_POSITION l ≡ true in
+    let S : List Record → Type 0 = λ l. AllByRecursion IsSized l in
+    let W : List Record → Type 0 = λ l. WellFormedAfter [] l in
+    let R : List Record → Type 0 = λ l. IsLogInRange tables l in
+    let goes = (follows_parts FIRST_POSITION (pre ++ section) s.rest (subst F s.whole s.good.follows)).0 in
+    let sized = all_front IsSized (pre ++ section) s.rest (subst S s.whole s.good.sizes) in
+    let order = WellFormedAfter-back [] pre section (WellFormedAfter-front [] (pre ++ section) s.rest (subst W s.whole s.good.order)) in
+    let range = all_front (FitsRecord tables) (pre ++ section) s.rest (subst R s.whole s.in_range) in
+    record {
+      goes = goes;
+      sized = sized;
+      follows_on = (follows_parts FIRST_POSITION pre section goes).1;
+      may = may_follow FIRST_POSITION pre section goes sized order;
+      early = all_front (FitsRecord tables) pre section range;
+      late = all_back (FitsRecord tables) pre section range;
+    }
+
+none_read : (at : ℕ) (m n : List Record) → follows at m ≡ true → AllByRecursion IsSized m → (p : ℕ) → end_of at m ≤ p → unread p (m ++ n) ≡ unread p n
+none_read at [] n goes sized p le = refl
+none_read at (r ∷ m) n goes sized p le =
+    let next = followed at r m goes in
+    let rest = starts_below r.end m next.1 sized.1 in
+    let passes : leb r.end p ≡ true = le-leb _ _ (omega (arith, rest.0)) in
+    rw passes (none_read r.end m n next.1 sized.1 p le)
+
+all_unread : (p : ℕ) (n : List Record) → follows p n ≡ true → AllByRecursion IsSized n → unread p n ≡ n
+all_unread p [] goes sized = refl
+all_unread p (r ∷ n) goes sized =
+    let next = followed p r n goes in
+    let stops : leb r.end p ≡ false = lt-leb r.end p (omega (arith, next.0, sized.0)) in
+    rw stops refl
+
+pub unread_place : (log : List Record) (place : ℕ) → IsWellFormedLog log → unread (end_of FIRST_POSITION (take place log)) log ≡ drop place log
+unread_place log place good =
+    let m = take place log in
+    let n = drop place log in
+    let whole : m ++ n ≡ log = take-append-drop place log in
+    let F : List Record → Type 0 = λ l. follows FIRST_POSITION l ≡ true in
+    let S : List Record → Type 0 = λ l. AllByRecursion IsSized l in
+    let goes = subst F (sym whole) good.follows in
+    let sized = subst S (sym whole) good.sizes in
+    let parts = follows_parts FIRST_POSITION m n goes in
+    ap (unread (end_of FIRST_POSITION m)) (sym whole)
+    ∙ none_read FIRST_POSITION m n parts.0 (all_front IsSized m n sized) (end_of FIRST_POSITION m) (omega arith)
+    ∙ all_unread (end_of FIRST_POSITION m) n parts.1 (all_back IsSized m n sized)
+
+-- ---- the stream behind a read
+
+-- what a batch, or the part of it that was read, does to what is held
+grown_stream : (tables : List Table) (log : List Record) (place : ℕ) (section : List Record) (clock : ℤ) (produced : List ℕ) (s new : SenderState) → IsSection tables log place section → FitsSigned w64 clock
+    → AllByRecursion FitsTable s.selection → IsReading log place s → IsStreaming log produced s
+    → new.selection ≡ s.selection → new.start ≡ s.start → new.position ≡ end_of s.position section
+    → new.held ≡ s.held ++ blocks_behind s.selection clock (published s.selection (take place log) s.start) (published_from s.selection s.start (take place log) section)
+    → IsStreaming log produced new
+grown_stream tables log place section clock produced s new part fits table reading streaming selection start position held =
+    let pre = take place log in
+    let next = next_part tables log place section part in
+    let at : s.position ≡ end_of FIRST_POSITION pre = reading.at in
+    let goes : follows s.position section ≡ true = ap (λ (p : ℕ). follows p section) at ∙ next.follows_on in
+    let sized = all_back IsSized pre section next.sized in
+    let le = (starts_below s.position section goes sized).0 in
+    let same : take streaming.place log ≡ pre = sym (upto_place log streaming.place part.good) ∙ ap (λ (p : ℕ). upto p log) (sym streaming.at ∙ at) ∙ upto_place log place part.good in
+    let S : List Record → Type 0 = λ l. IsStream (relation s.selection) (produced ++ s.held) (published s.selection l s.start) s.position in
+    let old = subst S same streaming.stream in
+    let added : produced ++ new.held ≡ (produced ++ s.held) ++ blocks_behind s.selection clock (published s.selection pre s.start) (published_from s.selection s.start pre section) =
+    ap (λ (l : List ℕ). produced ++ l) held ∙ sym (append_assoc produced s.held (blocks_behind s.selection clock (published s.selection pre s.start) (published_from s.selection s.start pre section))) in
+    let stream = stream_read s.selection clock (produced ++ s.held) (produced ++ new.held) pre section s.start s.position (end_of s.position section) old added le
+    (published_late s.selection s.start s.position pre section goes sized) (published_fit tables s.selection s.start pre section table next.early next.late) fits in
+    let P : List Table → ℕ → ℕ → List Record → Type 0 = λ sel from end rs. IsStream (relation sel) (produced ++ new.held) (published sel rs from) end in
+    record {
+      place = place + length section;
+      within = within_section tables log place section part;
+      at = position ∙ ap (λ (p : ℕ). end_of p section) at ∙ sym (end_of-append FIRST_POSITION pre section) ∙ ap (end_of FIRST_POSITION) (sym (take_section tables log place section part));
+      stream = rw (selection, start, position, take_section tables log place section part) stream;
+    }
+
+pub fed_alive : (tables : List Table) (log : List Record) (place : ℕ) (section : List Record) (clock : ℤ) (produced : List ℕ) (s new : SenderState) → IsSection tables log place section → FitsSigned w64 clock
+    → IsAlive log place produced s → s.failed ≡ false → Fed clock s new section → IsAlive log (place + length section) produced new
+fed_alive tables log place section clock produced s new part fits alive running fed =
+    let reading = alive.running running in
+    let next = next_part tables log place section part in
+    let grown = take_section tables log place section part in
+    record {
+      tables = (let P : List Table → Type 0 = λ ts. AllByRecursion FitsTable ts in subst P (sym fed.selection) alive.tables);
+      running = λ still. record {
+        within = within_section tables log place section part;
+        reads = (let P : List Record → Type 0 = λ l. HasRead new l in subst P (sym grown) (fed.reads (take place log) reading.reads next.may));
+        at = fed.position ∙ ap (λ (p : ℕ). end_of p section) reading.at ∙ sym (end_of-append FIRST_POSITION (take place log) section) ∙ ap (end_of FIRST_POSITION) (sym grown);
+      };
+      streaming = grown_stream tables log place section clock produced s new part fits alive.tables reading alive.streaming fed.selection fed.start fed.position (fed.adds (take place log) reading.reads next.may);
+    }
+
+-- after a refusal for memory the place is of no use any more
+pub broken_alive : (tables : List Table) (log : List Record) (place any : ℕ) (section : List Record) (clock : ℤ) (produced : List ℕ) (s new : SenderState) → IsSection tables log place section → FitsSigned w64 clock
+    → IsAlive log place produced s → s.failed ≡ false → FedSome clock s new section → IsAlive log any produced new
+broken_alive tables log place any section clock produced s new part fits alive running fed =
+    let reading = alive.running running in
+    let less = section_front tables log place fed.count section part in
+    let next = next_part tables log place (take fed.count section) less in
+    record {
+      tables = (let P : List Table → Type 0 = λ ts. AllByRecursion FitsTable ts in subst P (sym fed.selection) alive.tables);
+      running = λ still. absurd (both still fed.failed);
+      streaming = grown_stream tables log place (take fed.count section) clock produced s new less fits alive.tables reading alive.streaming fed.selection fed.start fed.position (fed.adds (take place log) reading.reads next.may);
+    }
+  where
+    both : new.failed ≡ false → new.failed ≡ true → ⊥
+    both p q = let never : false ≡ true = sym p ∙ q in cc
+
+-- ---- the machine
+
+-- what was read by the machine's words
+read_is : (tables : List Table) (log : List Record) (place max : ℕ) (clock : ℤ) (name produced : List ℕ) (s new : SenderState) (section : List Record) → place ≤ length log → IsWellFormedLog log
+    → s.position ≡ end_of FIRST_POSITION (take place log)
+    → new.selection ≡ s.selection → new.start ≡ s.start → new.position ≡ end_of s.position section → new.failed ≡ s.failed
+    → new.held ≡ s.held ++ blocks_behind s.selection clock (published s.selection (take place log) s.start) (published_from s.selection s.start (take place log) section)
+    → link_with name produced (Some new) ≡ read_on log clock section (link_with name produced (Some s))
+read_is tables log place max clock name produced s new section le good at selection start position failed held =
+    let pre_is : take place log ≡ upto s.position log = sym (upto_place log place good) ∙ ap (λ (p : ℕ). upto p log) (sym at) in
+    let held_is = held ∙ ap (λ l. s.held ++ blocks_behind s.selection clock (published s.selection l s.start) (published_from s.selection s.start l section)) pre_is in
+    rw (selection, start, position, failed, held_is) refl
+
+pub fed_acts : (tables : List Table) (log : List Record) (place max : ℕ) (clock : ℤ) (name produced : List ℕ) (s new : SenderState) → IsSection tables log place (take max (drop place log))
+    → IsAlive log place produced s → s.failed ≡ false → new.failed ≡ false → Fed clock s new (take max (drop place log))
+    → link_with name produced (Some new) ≡ acted log (actions.Read max clock) (link_with name produced (Some s))
+fed_acts tables log place max clock name produced s new part alive running still fed =
+    let reading = alive.running running in
+    let section = take max (drop place log) in
+    let next = next_part tables log place section part in
+    let section_is : section ≡ take max (unread s.position log) = ap (take max) (sym (unread_place log place part.good)) ∙ ap (λ (p : ℕ). take max (unread p log)) (sym reading.at) in
+    read_is tables log place max clock name produced s new section reading.within part.good reading.at fed.selection fed.start fed.position (still ∙ sym running) (fed.adds (take place log) reading.reads next.may)
+    ∙ ap (λ l. read_on log clock l (link_with name produced (Some s))) section_is
+
+pub broken_acts : (tables : List Table) (log : List Record) (place max : ℕ) (clock : ℤ) (name produced : List ℕ) (s new : SenderState) → IsSection tables log place (take max (drop place log))
+    → IsAlive log place produced s → s.failed ≡ false → FedSome clock s new (take max (drop place log))
+    → BreaksDown log max clock (link_with name produced (Some s)) (link_with name produced (Some new))
+broken_acts tables log place max clock name produced s new part alive running fed =
+    let reading = alive.running running in
+    let section = take max (drop place log) in
+    let less = section_front tables log place fed.count section part in
+    let next = next_part tables log place (take fed.count section) less in
+    let section_is : section ≡ take max (unread s.position log) = ap (take max) (sym (unread_place log place part.good)) ∙ ap (λ (p : ℕ). take max (unread p log)) (sym reading.at) in
+    let sound : SenderState = record new { failed = s.failed } in
+    let same = read_is tables log place max clock name produced s sound (take fed.count section) reading.within part.good reading.at fed.selection fed.start fed.position refl (fed.adds (take place log) reading.reads next.may) in
+    let N : ℕ → Type 0 = λ n. fed.count < n in
+    record {
+      count = fed.count;
+      fewer = subst N (ap length section_is) fed.fewer;
+      is = rw fed.failed (ap (λ (l : Link). record l { failed = true }) (same ∙ ap (λ l. read_on log clock (take fed.count l) (link_with name produced (Some s))) section_is));
+    }
+
+-- a sender that answered anything but Failed was running
+pub was_running : (s : SenderState) (r : Result (Unit {0}) SendFault) → (r ≡ Err sends.Failed) ↔ (s.failed ≡ true) → (r ≡ Err sends.Failed → ⊥) → s.failed ≡ false
+was_running s r failed other = by_test s.failed (λ is. other (failed.1 is))
+  where
+    by_test : (b : Bool) → (b ≡ true → ⊥) → b ≡ false
+    by_test true never = absurd (never refl)
+    by_test false never = refl
+
+-- ---- a refused batch
+
+abbrev failed_with : SendFault → Result (Unit {0}) SendFault
+failed_with fault = Err fault
+
+-- what a feed says of a refusal
+pub record RefusesFeed (clock : ℤ) (s new : SenderState) (r : Result (Unit {0}) SendFault) (section : List Record) : Type 0 where
+  pub memory : r ≡ Err sends.Memory → FedSome clock s new section
+  pub failed : (r ≡ Err sends.Failed) ↔ (s.failed ≡ true)
+  pub unchanged : s.failed ≡ true → new ≡ s
+  pub unread : r ≡ Err sends.Gap → new ≡ s
+
+pub refused_acts : (tables : List Table) (log : List Record) (place max : ℕ) (clock : ℤ) (name produced : List ℕ) (s new : SenderState) (r : Result (Unit {0}) SendFault) (fault : SendFault)
+    → IsWellFormedLog log → IsLogInRange tables log → IsAlive log place produced s → r ≡ Err fault → RefusesFeed clock s new r (take max (drop place log))
+    → ActsOnFault log (actions.Read max clock) (link_with name produced (Some s)) fault (link_with name produced (Some new))
+refused_acts tables log place max clock name produced s new r sends.Memory good in_range alive is refuses =
+    let running = was_running s r refuses.failed (λ other. differ (sym is ∙ other)) in
+    broken_acts tables log place max clock name produced s new (section_of tables log place max (alive.running running).within good in_range) alive running (refuses.memory is)
+  where
+    differ : failed_with sends.Memory ≡ failed_with sends.Failed → ⊥
+    differ e = cc
+refused_acts tables log place max clock name produced s new r sends.Failed good in_range alive is refuses = ap (λ (t : SenderState). link_with name produced (Some t)) (refuses.unchanged (refuses.failed.0 is))
+refused_acts tables log place max clock name produced s new r sends.Gap good in_range alive is refuses = ap (λ (t : SenderState). link_with name produced (Some t)) (refuses.unread is)
+
+pub refused_alive : (tables : List Table) (log : List Record) (place max : ℕ) (clock : ℤ) (produced : List ℕ) (s new : SenderState) (r : Result (Unit {0}) SendFault) (fault : SendFault)
+    → IsWellFormedLog log → IsLogInRange tables log → FitsSigned w64 clock → IsAlive log place produced s → r ≡ Err fault → RefusesFeed clock s new r (take max (drop place log)) → IsAlive log place produced new
+refused_alive tables log place max clock produced s new r sends.Memory good in_range fits alive is refuses =
+    let running = was_running s r refuses.failed (λ other. differ (sym is ∙ other)) in
+    broken_alive tables log place place (take max (drop place log)) clock produced s new (section_of tables log place max (alive.running running).within good in_range) fits alive running (refuses.memory is)
+  where
+    differ : failed_with sends.Memory ≡ failed_with sends.Failed → ⊥
+    differ e = cc
+refused_alive tables log place max clock produced s new r sends.Failed good in_range fits alive is refuses = let P : SenderState → Type 0 = λ t. IsAlive log place produced t in subst P (sym (refuses.unchanged (refuses.failed.0 is))) alive
+refused_alive tables log place max clock produced s new r sends.Gap good in_range fits alive is refuses = let P : SenderState → Type 0 = λ t. IsAlive log place produced t in subst P (sym (refuses.unread is)) alive
+
+pub length_shared : {A : Type 0} (records : List (Arc Record A)) → length (shared records) ≡ length records
+length_shared [] = refl
+length_shared (y ∷ records) = ap suc (length_shared records)

@@ -1,0 +1,105 @@
+//! A connection's sender, and what it has produced since its start.
+
+ghost use Rattle.std.specs.Prelude.{◌≡◌, ◌++◌, [], Some, None, Ok, Err, IsSome, IfOk, OnErr, length, take, drop};
+ghost use Rattle.world.specs.Actions.{Acts, IsServed, linked};
+
+use crate::action::Action;
+use crate::answer::Answer;
+use crate::fault::WorldFault;
+use bytes::BytesMut;
+use frames::Text;
+use sender::{SendFault, Sender};
+use std::alloc::Global;
+use txlog::Publisher;
+
+/// A connection, from the start of its sender on.
+#[derive(Debug, Drop)]
+pub(crate) struct Connection {
+    pub(crate) name: Text,
+    /// The place in the log of the next record to read.
+    pub(crate) place: usize,
+    pub(crate) produced: BytesMut,
+    /// None once the connection was cut.
+    pub(crate) sender: Option<Sender>,
+}
+
+impl Connection {
+    fn read(
+        &mut self,
+        alloc: Global,
+        publisher: &Publisher,
+        max: u32,
+        clock: i64,
+    ) -> Result<Answer, WorldFault>
+        requires served { IsServed publisher.now.log self.old }
+        requires here { IsSome self.old.sender }
+        ensures acts { IfOk result (λ a. Acts publisher.now.log (Action.Read max clock) (linked self.old) a (linked self.new)) }
+        ensures served { IsServed publisher.now.log self.new }
+        ensures err { OnErr result (linked self.new ≡ linked self.old) }
+    {
+        let records = publisher.tail(self.place, max as usize)?;
+        let Some(sender) = &mut self.sender else {
+            unreachable!();
+        };
+        let section = records.as_slice();
+        match sender.feed(alloc, section, clock) {
+            Ok(()) => {
+                self.place += section.len();
+                return Ok(Answer::Done);
+            }
+            Err(fault) => return Ok(Answer::Sender(fault)),
+        }
+    }
+    /// Does what a line asks of the connection's sender.
+    pub(crate) fn act(
+        &mut self,
+        alloc: Global,
+        publisher: &Publisher,
+        action: Action,
+    ) -> Result<Answer, WorldFault>
+        requires served { IsServed publisher.now.log self.old }
+        requires here { IsSome self.old.sender }
+        ensures acts { IfOk result (λ a. Acts publisher.now.log action (linked self.old) a (linked self.new)) }
+        ensures served { IsServed publisher.now.log self.new }
+        ensures err { OnErr result (linked self.new ≡ linked self.old) }
+    {
+        match action {
+            Action::Read(max, clock) => return self.read(alloc, publisher, max, clock),
+            Action::Keepalive(clock) => return Ok(self.keepalive(publisher, clock)),
+            Action::Drain(max) => return self.drain(publisher, max),
+            Action::Cut => {
+                self.sender = None;
+                return Ok(Answer::Done);
+            }
+        }
+    }
+
+    fn keepalive(&mut self, publisher: &Publisher, clock: i64) -> Answer
+        requires served { IsServed publisher.now.log self.old }
+        requires here { IsSome self.old.sender }
+        ensures acts { Acts publisher.now.log (Action.Keepalive clock) (linked self.old) result (linked self.new) }
+        ensures served { IsServed publisher.now.log self.new }
+    {
+        let Some(sender) = &mut self.sender else {
+            unreachable!();
+        };
+        match sender.keepalive(clock, false) {
+            Ok(()) => return Answer::Done,
+            Err(fault) => return Answer::Sender(fault),
+        }
+    }
+
+    fn drain(&mut self, publisher: &Publisher, max: u32) -> Result<Answer, WorldFault>
+        requires served { IsServed publisher.now.log self.old }
+        requires here { IsSome self.old.sender }
+        ensures acts { IfOk result (λ a. Acts publisher.now.log (Action.Drain max) (linked self.old) a (linked self.new)) }
+        ensures served { IsServed publisher.now.log self.new }
+        ensures err { OnErr result (linked self.new ≡ linked self.old) }
+    {
+        let Some(sender) = &mut self.sender else {
+            unreachable!();
+        };
+        sender.drain_into(max as usize, &mut self.produced)?;
+        Ok(Answer::Done)
+    }
+}
