@@ -1,5 +1,5 @@
 -- A batch that a sender was fed is the read that a line asked for, and leaves its connection served.
-use Rattle.std.proofs.Common.{◌≡◌, ◌<◌, ◌≤◌, ◌+◌, ℕ, ℤ, zero, suc, Bool, true, false, cond, leb, List, [], ◌∷◌, ◌++◌, length, take, drop, Some, refl, sym, ap, subst, ◌∙◌, append_assoc, arith}
+use Rattle.std.proofs.Common.{◌≡◌, ◌<◌, ◌≤◌, ◌+◌, ◌^◌, ℕ, ℤ, zero, suc, Bool, true, false, cond, leb, List, [], ◌∷◌, ◌++◌, length, take, drop, Option, Some, None, refl, sym, ap, subst, ◌∙◌, append_assoc, arith}
 use Rattle.std.specs.Prelude.{FitsSigned, ◌↔◌, Result, Ok, Err}
 use Rattle.std.specs.List.{AllByRecursion}
 use Rattle.std.specs.Int.{w64}
@@ -13,6 +13,8 @@ use Rattle.txlog.specs.declared.record.Record.{Record}
 use Rattle.txlog.specs.Log.{IsLogInRange, FitsRecord, IsWellFormedLog, IsSized, WellFormedAfter, follows, end_of}
 use Rattle.txlog.proofs.Laws.{end_of-append, WellFormedAfter-front, WellFormedAfter-back}
 use Rattle.publication.specs.Selection.{relation, FitsTable}
+use Rattle.stream.specs.Words.{word_bytes}
+use Rattle.stream.specs.Items.{alive as alive_word}
 use Rattle.stream.specs.Stream.{IsStream}
 use Rattle.sender.specs.declared.fault.SendFault.{SendFault}
 use Rattle.sender.specs.declared.fault.SendFault.TheVariants as sends
@@ -21,9 +23,9 @@ use Rattle.sender.specs.Sending.{SenderState, HasRead, MayFollow, blocks_behind,
 use Rattle.world.specs.declared.action.Action.TheVariants as actions
 use Rattle.world.specs.State.{Link, link_with}
 use Rattle.world.specs.Law.{upto}
-use Rattle.world.specs.Actions.{unread, acted, read_on, BreaksDown, ActsOnFault, IsStreaming, IsReading, IsAlive}
+use Rattle.world.specs.Actions.{unread, acted, read_on, BreaksDown, ActsOnFault, IsStreaming, IsReading, IsAlive, IsServedBy}
 use Rattle.world.proofs.Ranges.{all_front, all_back, published_fit, published_late, followed}
-use Rattle.world.proofs.Streams.{stream_read, follows_parts, starts_below, may_follow, upto_place}
+use Rattle.world.proofs.Streams.{stream_read, stream_kept_alive, stream_moved, stream_new, follows_parts, starts_below, may_follow, upto_place}
 
 -- ---- a section of a log
 
@@ -118,6 +120,10 @@ unread_place log place good =
     ∙ none_read FIRST_POSITION m n parts.0 (all_front IsSized m n sized) (end_of FIRST_POSITION m) (omega arith)
     ∙ all_unread (end_of FIRST_POSITION m) n parts.1 (all_back IsSized m n sized)
 
+end_fits : (tables : List Table) (at : ℕ) (section : List Record) → IsLogInRange tables section → at < 2 ^ 64 → end_of at section < 2 ^ 64
+end_fits tables at [] range lt = lt
+end_fits tables at (r ∷ section) range lt = end_fits tables r.end section range.1 range.0.end
+
 -- ---- the stream behind a read
 
 -- what a batch, or the part of it that was read, does to what is held
@@ -145,6 +151,7 @@ grown_stream tables log place section clock produced s new part fits table readi
       place = place + length section;
       within = within_section tables log place section part;
       at = position ∙ ap (λ (p : ℕ). end_of p section) at ∙ sym (end_of-append FIRST_POSITION pre section) ∙ ap (end_of FIRST_POSITION) (sym (take_section tables log place section part));
+      fits = rw position (end_fits tables s.position section next.late streaming.fits);
       stream = rw (selection, start, position, take_section tables log place section part) stream;
     }
 
@@ -268,3 +275,62 @@ refused_alive tables log place max clock produced s new r sends.Gap good in_rang
 pub length_shared : {A : Type 0} (records : List (Arc Record A)) → length (shared records) ≡ length records
 length_shared [] = refl
 length_shared (y ∷ records) = ap suc (length_shared records)
+
+-- ---- the other actions
+
+pub kept_alive : (log : List Record) (place : ℕ) (clock : ℤ) (produced : List ℕ) (s : SenderState) → IsAlive log place produced s → FitsSigned w64 clock
+    → IsAlive log place produced (record s { held = s.held ++ word_bytes (alive_word s.position clock false) })
+kept_alive log place clock produced s alive fits =
+    let t = alive.streaming in
+    record {
+      tables = alive.tables;
+      running = λ still. let r = alive.running still in record { within = r.within; reads = record { taken = r.reads.taken; names = r.reads.names }; at = r.at };
+      streaming = record {
+        place = t.place; within = t.within; at = t.at; fits = t.fits;
+        stream = stream_moved (relation s.selection) ((produced ++ s.held) ++ word_bytes (alive_word s.position clock false)) (produced ++ (s.held ++ word_bytes (alive_word s.position clock false)))
+            (published s.selection (take t.place log) s.start) s.position
+            (stream_kept_alive (relation s.selection) clock false (produced ++ s.held) (published s.selection (take t.place log) s.start) s.position t.stream t.fits fits)
+            (sym (append_assoc produced s.held (word_bytes (alive_word s.position clock false))));
+      };
+    }
+
+-- ---- a longer log
+
+take_grown : (log more : List Record) (place : ℕ) → place ≤ length log → take place (log ++ more) ≡ take place log
+take_grown log more place le =
+    let parted : log ++ more ≡ take place log ++ (drop place log ++ more) = ap (λ l. l ++ more) (sym (take-append-drop place log)) ∙ append_assoc (take place log) (drop place log) more in
+    ap (take place) parted ∙ take_at (take place log) (drop place log ++ more) place (omega (arith, length-take place log))
+
+grown_alive : (log more : List Record) (place : ℕ) (produced : List ℕ) (s : SenderState) → IsAlive log place produced s → IsAlive (log ++ more) place produced s
+grown_alive log more place produced s alive =
+    let t = alive.streaming in
+    let same = take_grown log more t.place t.within in
+    let longer : length log ≤ length (log ++ more) = omega (arith, length-append log more) in
+    record {
+      tables = alive.tables;
+      running = λ still.
+          let r = alive.running still in
+          let here = take_grown log more place r.within in
+          let P : List Record → Type 0 = λ l. HasRead s l in
+          record { within = omega (arith, r.within, longer); reads = subst P (sym here) r.reads; at = r.at ∙ ap (end_of FIRST_POSITION) (sym here) };
+      streaming = record {
+        place = t.place; within = omega (arith, t.within, longer); at = t.at ∙ ap (end_of FIRST_POSITION) (sym same); fits = t.fits;
+        stream = (let P : List Record → Type 0 = λ l. IsStream (relation s.selection) (produced ++ s.held) (published s.selection l s.start) s.position in subst P (sym same) t.stream);
+      };
+    }
+
+pub grown_served : (log more : List Record) (place : ℕ) (produced : List ℕ) (o : Option SenderState) → IsServedBy log place produced o → IsServedBy (log ++ more) place produced o
+grown_served log more place produced None served = tt
+grown_served log more place produced (Some s) alive = grown_alive log more place produced s alive
+
+-- ---- a start
+
+pub started : (log : List Record) (s : SenderState) → AllByRecursion FitsTable s.selection → s.position ≡ FIRST_POSITION → s.held ≡ [] → HasRead s [] → IsAlive log 0 [] s
+started log s tables position held reads = record {
+  tables = tables;
+  running = λ still. record { within = omega arith; reads = reads; at = position };
+  streaming = record {
+    place = 0; within = omega arith; at = position; fits = rw position (omega arith);
+    stream = stream_moved (relation s.selection) [] s.held [] s.position (stream_new (relation s.selection) s.position) held;
+  };
+}

@@ -1,5 +1,5 @@
 -- What a line does to the sender of a connection, exactly.
-use Rattle.std.specs.Prelude.{◌≡◌, ◌<◌, ◌≤◌, ℕ, ℤ, true, false, List, [], ◌∷◌, ◌++◌, length, take, drop, nat_le, Option, Some, None, if◌then◌else◌}
+use Rattle.std.specs.Prelude.{◌≡◌, ◌<◌, ◌≤◌, ◌^◌, ℕ, ℤ, true, false, List, [], ◌∷◌, ◌++◌, length, take, drop, nat_le, Option, Some, None, if◌then◌else◌}
 use Rattle.std.specs.List.{AllByRecursion}
 use Rattle.txlog.specs.declared.record.TheConstants.{FIRST_POSITION}
 use Rattle.txlog.specs.declared.record.Record.{Record}
@@ -73,6 +73,7 @@ pub record IsStreaming (log : List Record) (produced : List ℕ) (s : SenderStat
   pub place : ℕ
   pub within : place ≤ length log
   pub at : s.position ≡ end_of FIRST_POSITION (take place log)
+  pub fits : s.position < 2 ^ 64
   pub stream : IsStream (relation s.selection) (produced ++ s.held) (published s.selection (take place log) s.start) s.position
 
 -- a sender that has not failed has read the log up to the place of its next record
