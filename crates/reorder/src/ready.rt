@@ -46,13 +46,10 @@ impl Kept {
         })
     }
 
-    pub(crate) fn number(&self) -> u32
-        ensures { result ≡ self.now.number }
+    pub(crate) fn position(&self) -> u64
+        ensures { result ≡ self.now.position }
     {
-        match &self.record.body {
-            Body::Change(number, _) => *number,
-            _ => unreachable!(),
-        }
+        self.record.start
     }
 
     /// The position at which the change's record starts, and the change.
