@@ -13,7 +13,7 @@ use Rattle.txlog.proofs.Lists.{or_false}
 use Rattle.txlog.proofs.LiveList.{eqb_comm}
 use Rattle.txlog.proofs.Laws.{all_when, chain-append, is_named-one, is_undone-one, has_ended-one}
 use Rattle.reorder.specs.Rising.{IsRising}
-use Rattle.reorder.specs.Strands.{StrandState, Looks, put, fresh, is_in, with_member, assigned, AreDistinct}
+use Rattle.reorder.specs.Strands.{StrandState, ByNumber, put, fresh, is_in, with_member, assigned, AreDistinct}
 use Rattle.reorder.specs.Taking.{IsStrand, IsTransaction, IsKept, changes_of}
 use Rattle.reorder.proofs.Named.{or_left, or_right, not_undone, no_changes}
 use Rattle.reorder.proofs.Opening.{put_cases, put_here, no_some}
@@ -43,13 +43,13 @@ distinct_push x (y ∷ xs) out distinct =
     (in_push y x xs ∙ rw (distinct.0, eqb_comm y x, or_left (x == y) (is_in x xs) out) refl, distinct_push x xs (or_right (x == y) (is_in x xs) out) distinct.1)
 
 -- the parent's strand, and its transaction's numbers
-abbrev pub placed : ℕ → ℕ → StrandState → List ℕ → Looks → Looks
+abbrev pub placed : ℕ → ℕ → StrandState → List ℕ → ByNumber → ByNumber
 placed sub parent p xs l = record {
   strand = put sub (Some (fresh (parent ∷ p.above))) l.strand;
   members = put (last_of parent p.above) (Some (xs ++ sub ∷ [])) l.members;
 }
 
-placed_kept : (l : Looks) (rs : List Record) (r : Record) (sub parent : ℕ) (p : StrandState) → IsKept l rs → (o : IsStrand l rs parent p) → IsSome (l.strand parent) → l.strand sub ≡ None →
+placed_kept : (l : ByNumber) (rs : List Record) (r : Record) (sub parent : ℕ) (p : StrandState) → IsKept l rs → (o : IsStrand l rs parent p) → IsSome (l.strand parent) → l.strand sub ≡ None →
     is_named rs sub ≡ false → r.body ≡ Assign sub parent → IsKept (placed sub parent p o.members l) (rs ++ r ∷ [])
 placed_kept l rs r sub parent p h o some none unheard body =
     record {
@@ -104,6 +104,7 @@ placed_kept l rs r sub parent p h o some none unheard body =
       chain = chain_sub;
       undone = sym (undone_same sub ∙ not_undone rs sub unheard);
       changes = λ live. sym (changes_same sub ∙ no_changes rs sub unheard);
+      freed = λ undone. refl;
       members = o.members ++ sub ∷ [];
       members_are = put_here (last_of parent p.above) (Some (o.members ++ sub ∷ [])) l.members;
       within = (last_in sub o.members, all_when _ _ (λ (y : ℕ) (inn : is_in y o.members ≡ true). still_in y sub o.members inn) (parent ∷ p.above) o.within);
@@ -122,6 +123,7 @@ placed_kept l rs r sub parent p h o some none unheard body =
               chain = chain_same q other ∙ w.chain;
               undone = w.undone ∙ sym (undone_same q);
               changes = λ live. w.changes live ∙ sym (changes_same q);
+              freed = w.freed;
               members = o.members ++ sub ∷ [];
               members_are = rw same refl;
               within = all_when _ _ (λ (y : ℕ) (inn : is_in y w.members ≡ true). still_in y sub o.members (subst (λ (ys : List ℕ). is_in y ys ≡ true) equal inn)) (q ∷ s.above) w.within;
@@ -131,6 +133,7 @@ placed_kept l rs r sub parent p h o some none unheard body =
               chain = chain_same q other ∙ w.chain;
               undone = w.undone ∙ sym (undone_same q);
               changes = λ live. w.changes live ∙ sym (changes_same q);
+              freed = w.freed;
               members = w.members;
               members_are = rw apart w.members_are;
               within = w.within;
@@ -149,6 +152,7 @@ placed_kept l rs r sub parent p h o some none unheard body =
 
     new_transaction : IsTransaction (placed sub parent p o.members l) (rs ++ r ∷ []) (last_of parent p.above) (o.members ++ sub ∷ [])
     new_transaction = record {
+      running = ended_same (last_of parent p.above) ∙ home.running;
       own = still_in (last_of parent p.above) sub o.members home.own;
       distinct = distinct_push sub o.members (out (is_in sub o.members) refl) home.distinct;
       strands = λ q inn. member_cases (λ y. IsSome ((placed sub parent p o.members l).strand y)) q (λ y old. stays y (home.strands y old)) (ap is_some (put_here sub (Some (fresh (parent ∷ p.above))) l.strand)) inn;
@@ -161,13 +165,14 @@ placed_kept l rs r sub parent p h o some none unheard body =
 
     old_transaction : (t : ℕ) (ys : List ℕ) → IsTransaction l rs t ys → IsTransaction (placed sub parent p o.members l) (rs ++ r ∷ []) t ys
     old_transaction t ys w = record {
+      running = ended_same t ∙ w.running;
       own = w.own;
       distinct = w.distinct;
       strands = λ q inn. stays q (w.strands q inn);
       tops = λ q inn. top_same q (not_sub q (w.strands q inn)) ∙ w.tops q inn;
     }
 
-pub assign_kept : (l : Looks) (rs : List Record) (r : Record) (sub parent : ℕ) → IsKept l rs → IsSome (l.strand parent) → l.strand sub ≡ None → is_named rs sub ≡ false →
+pub assign_kept : (l : ByNumber) (rs : List Record) (r : Record) (sub parent : ℕ) → IsKept l rs → IsSome (l.strand parent) → l.strand sub ≡ None → is_named rs sub ≡ false →
     r.body ≡ Assign sub parent → IsKept (assigned sub parent l) (rs ++ r ∷ [])
 assign_kept l rs r sub parent h some none unheard body = by_option (l.strand parent) refl some
   where
@@ -176,4 +181,4 @@ assign_kept l rs r sub parent h some none unheard body = by_option (l.strand par
     by_option (Some p) is has =
         let o : IsStrand l rs parent p = h.strands parent p is in
         let same : assigned sub parent l ≡ placed sub parent p o.members l = rw (is, o.members_are) refl in
-        subst (λ (a : Looks). IsKept a (rs ++ r ∷ [])) (sym same) (placed_kept l rs r sub parent p h o some none unheard body)
+        subst (λ (a : ByNumber). IsKept a (rs ++ r ∷ [])) (sym same) (placed_kept l rs r sub parent p h o some none unheard body)

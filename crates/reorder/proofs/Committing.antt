@@ -9,7 +9,7 @@ use Rattle.txlog.specs.Log.{Entry, IsOpen, is_named, is_assigned, is_undone, is_
 use Rattle.txlog.proofs.Lists.{filter_agrees, all_agree, filter_twice}
 use Rattle.txlog.proofs.Laws.{all_when, chain-unassigned}
 use Rattle.reorder.specs.Rising.{IsRising}
-use Rattle.reorder.specs.Strands.{StrandState, Looks, is_in, all_in, undone_in, kept_in, joined, AreDistinct}
+use Rattle.reorder.specs.Strands.{StrandState, ByNumber, is_in, all_in, undone_in, kept_in, joined, AreDistinct}
 use Rattle.reorder.specs.Taking.{IsStrand, IsTransaction, IsKept, changes_of}
 use Rattle.reorder.proofs.Named.{or_left, entries_named}
 use Rattle.reorder.proofs.Opening.{no_some}
@@ -17,12 +17,12 @@ use Rattle.reorder.proofs.Keeping.{top_of_member}
 use Rattle.reorder.proofs.Merging.{merged}
 
 -- a member's strand is what the records say
-pub record Held (l : Looks) (rs : List Record) (x : ℕ) : Type 0 where
+pub record Held (l : ByNumber) (rs : List Record) (x : ℕ) : Type 0 where
   pub strand : StrandState
   pub strand_is : l.strand x ≡ Some strand
   pub is : IsStrand l rs x strand
 
-held : (l : Looks) (rs : List Record) (x : ℕ) → IsKept l rs → IsSome (l.strand x) → Held l rs x
+held : (l : ByNumber) (rs : List Record) (x : ℕ) → IsKept l rs → IsSome (l.strand x) → Held l rs x
 held l rs x h some = by_option (l.strand x) refl some
   where
     by_option : (o : Option StrandState) → l.strand x ≡ o → IsSome o → Held l rs x
@@ -30,7 +30,7 @@ held l rs x h some = by_option (l.strand x) refl some
     by_option (Some s) at has = record { strand = s; strand_is = at; is = h.strands x s at }
 
 -- rolled back by the strands, or by the records
-same_undone : (l : Looks) (rs : List Record) (t : ℕ) (xs : List ℕ) → IsKept l rs → IsTransaction l rs t xs → (ys : List ℕ) → AllByRecursion (λ y. is_in y xs ≡ true) ys →
+same_undone : (l : ByNumber) (rs : List Record) (t : ℕ) (xs : List ℕ) → IsKept l rs → IsTransaction l rs t xs → (ys : List ℕ) → AllByRecursion (λ y. is_in y xs ≡ true) ys →
     list_any (λ y. undone_in (l.strand y)) ys ≡ list_any (is_undone rs) ys
 same_undone l rs t xs h w [] all = refl
 same_undone l rs t xs h w (y ∷ ys) all =
@@ -38,7 +38,7 @@ same_undone l rs t xs h w (y ∷ ys) all =
     let here : undone_in (l.strand y) ≡ is_undone rs y = ap undone_in m.strand_is ∙ m.is.undone in
     rw (here, same_undone l rs t xs h w ys all.1) refl
 
-same_dropped : (l : Looks) (rs : List Record) (x : ℕ) (s : StrandState) → IsKept l rs → IsStrand l rs x s →
+same_dropped : (l : ByNumber) (rs : List Record) (x : ℕ) (s : StrandState) → IsKept l rs → IsStrand l rs x s →
     (s.undone || list_any (λ y. undone_in (l.strand y)) s.above) ≡ is_dropped rs x
 same_dropped l rs x s h o =
     let w : IsTransaction l rs (last_of x s.above) o.members = h.transactions (last_of x s.above) o.members o.members_are in
@@ -51,7 +51,7 @@ none_in [] = refl
 none_in (e ∷ es) = none_in es
 
 -- of one number
-kept_number : (l : Looks) (rs : List Record) (x : ℕ) → IsKept l rs → IsSome (l.strand x) →
+kept_number : (l : ByNumber) (rs : List Record) (x : ℕ) → IsKept l rs → IsSome (l.strand x) →
     kept_in l.strand (l.strand x) ≡ filter (λ e. e.number == x) (filter (λ e. not (is_dropped rs e.number)) (entries rs))
 kept_number l rs x h some =
     ap (kept_in l.strand) m.strand_is ∙ by_test (is_dropped rs x) refl ∙ sym (filter_twice (λ e. e.number == x) (λ e. not (is_dropped rs e.number)) (entries rs))
@@ -83,7 +83,7 @@ kept_number l rs x h some =
         (m.is.changes live ∙ filter_agrees _ _ (entries rs) (all_agree _ _ (λ (e : Entry). by_number e false is (e.number == x) refl) (entries rs)))
 
 -- of all numbers of a transaction
-kept_numbers : (l : Looks) (rs : List Record) → IsKept l rs → (ys : List ℕ) → AllByRecursion (λ y. IsSome (l.strand y)) ys →
+kept_numbers : (l : ByNumber) (rs : List Record) → IsKept l rs → (ys : List ℕ) → AllByRecursion (λ y. IsSome (l.strand y)) ys →
     flat_map (λ x. kept_in l.strand (l.strand x)) ys ≡ flat_map (λ x. filter (λ e. e.number == x) (filter (λ e. not (is_dropped rs e.number)) (entries rs))) ys
 kept_numbers l rs h [] all = refl
 kept_numbers l rs h (y ∷ ys) all = rw (kept_number l rs y h all.0, kept_numbers l rs h ys all.1) refl
@@ -113,7 +113,7 @@ rising_kept p (e ∷ es) up = by_test (p e) (some_all es up.0) (rising_kept p es
     by_test false all rest = rest
 
 -- a number that is named is of a transaction in progress exactly if it is among its numbers
-member_is : (l : Looks) (rs : List Record) (t x : ℕ) → IsKept l rs → has_ended rs t ≡ false → is_named rs x ≡ true → (top_of rs x == t) ≡ is_in x (all_in (l.members t))
+member_is : (l : ByNumber) (rs : List Record) (t x : ℕ) → IsKept l rs → has_ended rs t ≡ false → is_named rs x ≡ true → (top_of rs x == t) ≡ is_in x (all_in (l.members t))
 member_is l rs t x h running named = by_tests (top_of rs x == t) (is_in x (all_in (l.members t))) refl refl
   where
     inside : top_of rs x ≡ t → is_in x (all_in (l.members t)) ≡ true
@@ -127,7 +127,7 @@ member_is l rs t x h running named = by_tests (top_of rs x == t) (is_in x (all_i
     by_tests false true other inn = sym other ∙ eq-eqb (top_of rs x) t (top_of_member l rs t x h inn)
     by_tests false false other out = refl
 
-pub kept_merged : (l : Looks) (rs : List Record) (t : ℕ) (sorted : List Entry) → IsKept l rs → has_ended rs t ≡ false →
+pub kept_merged : (l : ByNumber) (rs : List Record) (t : ℕ) (sorted : List Entry) → IsKept l rs → has_ended rs t ≡ false →
     IsNonDecreasingBy (λ (e : Entry). e.position) sorted → IsStableByKey (λ (e : Entry). e.position) nat_cmp (joined l t) sorted → sorted ≡ kept rs t
 kept_merged l rs t sorted h running up stable = by_option (l.members t) refl
   where

@@ -1,7 +1,7 @@
 -- What a record does to what is kept is what it does to the log: a change, a rollback, and the end of a transaction.
 use Rattle.std.proofs.Common.{◌≡◌, ℕ, ◌<◌, ◌==◌, Bool, true, false, cond, ◌||◌, List, [], ◌∷◌, ◌++◌, Option, Some, None, is_some, refl, sym, ap, subst, ◌∙◌, eq-eqb}
 use Rattle.std.specs.Prelude.{IsSome}
-use Rattle.std.specs.List.{filter, AllByRecursion}
+use Rattle.std.specs.List.{filter, list_any, AllByRecursion}
 use Rattle.std.specs.Option.{option_map}
 use Rattle.std.proofs.lemmas.Bool.{eqb-true, ne_eqb}
 use Rattle.std.proofs.lemmas.List.{append-nil}
@@ -15,7 +15,7 @@ use Rattle.txlog.proofs.Lists.{or_false}
 use Rattle.txlog.proofs.LiveList.{eqb_comm, all_append}
 use Rattle.txlog.proofs.Laws.{chain-append, chain-unassigned, is_named-one, is_undone-one, has_ended-one, entries-append, KeepsChains}
 use Rattle.reorder.specs.Rising.{IsRising}
-use Rattle.reorder.specs.Strands.{StrandState, Looks, put, all_in, is_in, with_change, without_changes, pushed, undone, ended}
+use Rattle.reorder.specs.Strands.{StrandState, ByNumber, put, all_in, is_in, with_change, without_changes, pushed, undone, ended}
 use Rattle.reorder.specs.Taking.{IsStrand, IsTransaction, IsKept, StartsBehind, changes_of}
 use Rattle.reorder.proofs.Named.{or_left, or_right, or_true, entries_before}
 use Rattle.reorder.proofs.Opening.{put_cases, put_here, no_some}
@@ -58,9 +58,10 @@ was_named rs r x q naming other named =
     sym (or_false (is_named rs q)) ∙ ap (λ b. is_named rs q || b) (sym (naming ∙ eqb_comm q x ∙ other)) ∙ sym (is_named-one rs r q) ∙ named
 
 -- what is kept of a transaction's numbers, where only the strands change, and none goes
-strands_changed : (l a : Looks) (rs : List Record) (r : Record) → KeepsChains r.body → ((x : ℕ) → IsSome (l.strand x) → IsSome (a.strand x)) →
+strands_changed : (l a : ByNumber) (rs : List Record) (r : Record) → KeepsChains r.body → ((y : ℕ) → ends y r.body ≡ false) → ((x : ℕ) → IsSome (l.strand x) → IsSome (a.strand x)) →
     (t : ℕ) (xs : List ℕ) → IsTransaction l rs t xs → IsTransaction a (rs ++ r ∷ []) t xs
-strands_changed l a rs r keeps stay t xs o = record {
+strands_changed l a rs r keeps ending stay t xs o = record {
+  running = has_ended-one rs r t ∙ ap (λ b. has_ended rs t || b) (ending t) ∙ or_false (has_ended rs t) ∙ o.running;
   own = o.own;
   distinct = o.distinct;
   strands = λ q inn. stay q (o.strands q inn);
@@ -69,17 +70,17 @@ strands_changed l a rs r keeps stay t xs o = record {
 
 -- A CHANGE
 
-pub push_kept : (l : Looks) (rs : List Record) (r : Record) (x : ℕ) (e : Entry) → IsKept l rs → IsSome (l.strand x) → StartsBehind rs r →
+pub push_kept : (l : ByNumber) (rs : List Record) (r : Record) (x : ℕ) (e : Entry) → IsKept l rs → IsOpen rs x → IsSome (l.strand x) → StartsBehind rs r →
     KeepsChains r.body → ((y : ℕ) → undoes y r.body ≡ false) → ((y : ℕ) → ends y r.body ≡ false) → ((y : ℕ) → names y r.body ≡ (y == x)) →
     entry_at r.start r.body ≡ e ∷ [] → e.number ≡ x → e.position ≡ r.start → IsKept (pushed x e l) (rs ++ r ∷ [])
-push_kept l rs r x e h has behind keeps undoing ending naming made number position =
+push_kept l rs r x e h alive has behind keeps undoing ending naming made number position =
     record {
       strands = λ q s. put_cases (λ o. o ≡ Some s → IsStrand (pushed x e l) (rs ++ r ∷ []) q s) x q (option_map (with_change e) (l.strand x)) l.strand
           (λ same is. let m : Mapped (with_change e) (l.strand x) s = mapped (with_change e) (l.strand x) s is in
           subst (λ (v : StrandState). IsStrand (pushed x e l) (rs ++ r ∷ []) q v) m.now_is
           (subst (λ (y : ℕ). IsStrand (pushed x e l) (rs ++ r ∷ []) y (with_change e m.was)) same (grown m.was (h.strands x m.was m.was_is))))
           (λ other is. as_it_was q s other (h.strands q s is));
-      transactions = λ t xs is. strands_changed l (pushed x e l) rs r keeps
+      transactions = λ t xs is. strands_changed l (pushed x e l) rs r keeps ending
           (λ q some. put_cases IsSome x q (option_map (with_change e) (l.strand x)) l.strand (λ same. some_of (with_change e) (l.strand x) has) (λ other. some))
           t xs (h.transactions t xs is);
       complete = λ q named running. put_cases IsSome x q (option_map (with_change e) (l.strand x)) l.strand (λ same. some_of (with_change e) (l.strand x) has)
@@ -94,10 +95,14 @@ push_kept l rs r x e h has behind keeps undoing ending naming made number positi
     undone_same : (q : ℕ) → is_undone (rs ++ r ∷ []) q ≡ is_undone rs q
     undone_same q = is_undone-one rs r q ∙ ap (λ b. is_undone rs q || b) (undoing q) ∙ or_false (is_undone rs q)
 
+    live_still : (s : StrandState) → IsStrand l rs x s → s.undone ≡ false
+    live_still s o = o.undone ∙ or_left (is_undone rs x) (list_any (is_undone rs) s.above) (ap (list_any (is_undone rs)) (sym o.chain) ∙ alive.undropped)
+
     grown : (s : StrandState) → IsStrand l rs x s → IsStrand (pushed x e l) (rs ++ r ∷ []) x (with_change e s)
     grown s o = record {
       chain = chain_same x ∙ o.chain;
       undone = o.undone ∙ sym (undone_same x);
+      freed = λ undone. let never : true ≡ false = sym undone ∙ live_still s o in cc;
       changes = λ live. ap (λ es. es ++ e ∷ []) (o.changes live) ∙ sym (changes_push rs r x ∙ ap (λ es. changes_of rs x ++ es) (ap (filter (λ f. f.number == x)) made ∙ rw (eq-eqb e.number x number) refl));
       members = o.members;
       members_are = o.members_are;
@@ -108,6 +113,7 @@ push_kept l rs r x e h has behind keeps undoing ending naming made number positi
     as_it_was q s other o = record {
       chain = chain_same q ∙ o.chain;
       undone = o.undone ∙ sym (undone_same q);
+      freed = o.freed;
       changes = λ live. o.changes live ∙ sym (changes_push rs r q ∙ ap (λ es. changes_of rs q ++ es) (ap (filter (λ f. f.number == q)) made ∙ rw (number, other) refl) ∙ append-nil (changes_of rs q));
       members = o.members;
       members_are = o.members_are;
@@ -116,7 +122,7 @@ push_kept l rs r x e h has behind keeps undoing ending naming made number positi
 
 -- A ROLLBACK
 
-pub undo_kept : (l : Looks) (rs : List Record) (r : Record) (x : ℕ) → IsKept l rs → IsSome (l.strand x) →
+pub undo_kept : (l : ByNumber) (rs : List Record) (r : Record) (x : ℕ) → IsKept l rs → IsSome (l.strand x) →
     KeepsChains r.body → ((y : ℕ) → undoes y r.body ≡ (x == y)) → ((y : ℕ) → ends y r.body ≡ false) → ((y : ℕ) → names y r.body ≡ (y == x)) →
     entry_at r.start r.body ≡ [] → IsKept (undone x l) (rs ++ r ∷ [])
 undo_kept l rs r x h has keeps undoing ending naming none =
@@ -126,7 +132,7 @@ undo_kept l rs r x h has keeps undoing ending naming none =
           subst (λ (v : StrandState). IsStrand (undone x l) (rs ++ r ∷ []) q v) m.now_is
           (subst (λ (y : ℕ). IsStrand (undone x l) (rs ++ r ∷ []) y (without_changes m.was)) same (dropped m.was (h.strands x m.was m.was_is))))
           (λ other is. as_it_was q s other (h.strands q s is));
-      transactions = λ t xs is. strands_changed l (undone x l) rs r keeps
+      transactions = λ t xs is. strands_changed l (undone x l) rs r keeps ending
           (λ q some. put_cases IsSome x q (option_map without_changes (l.strand x)) l.strand (λ same. some_of without_changes (l.strand x) has) (λ other. some))
           t xs (h.transactions t xs is);
       complete = λ q named running. put_cases IsSome x q (option_map without_changes (l.strand x)) l.strand (λ same. some_of without_changes (l.strand x) has)
@@ -142,6 +148,7 @@ undo_kept l rs r x h has keeps undoing ending naming none =
       chain = chain_same x ∙ o.chain;
       undone = sym (is_undone-one rs r x ∙ ap (λ b. is_undone rs x || b) (undoing x ∙ eq-eqb x x refl) ∙ or_true (is_undone rs x) true refl);
       changes = λ live. let never : true ≡ false = live in cc;
+      freed = λ undone. refl;
       members = o.members;
       members_are = o.members_are;
       within = o.within;
@@ -151,6 +158,7 @@ undo_kept l rs r x h has keeps undoing ending naming none =
     as_it_was q s other o = record {
       chain = chain_same q ∙ o.chain;
       undone = o.undone ∙ sym (is_undone-one rs r q ∙ ap (λ b. is_undone rs q || b) (undoing q ∙ other) ∙ or_false (is_undone rs q));
+      freed = o.freed;
       changes = λ live. o.changes live ∙ sym (changes_push rs r q ∙ ap (λ es. changes_of rs q ++ filter (λ f. f.number == q) es) none ∙ append-nil (changes_of rs q));
       members = o.members;
       members_are = o.members_are;
@@ -159,21 +167,21 @@ undo_kept l rs r x h has keeps undoing ending naming none =
 
 -- AN END
 
-pub top_of_member : (l : Looks) (rs : List Record) (t q : ℕ) → IsKept l rs → is_in q (all_in (l.members t)) ≡ true → top_of rs q ≡ t
+pub top_of_member : (l : ByNumber) (rs : List Record) (t q : ℕ) → IsKept l rs → is_in q (all_in (l.members t)) ≡ true → top_of rs q ≡ t
 top_of_member l rs t q h inn = by_option (l.members t) refl inn
   where
     by_option : (o : Option (List ℕ)) → l.members t ≡ o → is_in q (all_in o) ≡ true → top_of rs q ≡ t
     by_option None is inn' = let never : false ≡ true = inn' in cc
     by_option (Some xs) is inn' = let o : IsTransaction l rs t xs = h.transactions t xs is in o.tops q inn'
 
-not_member : (l : Looks) (rs : List Record) (t q : ℕ) → IsKept l rs → (t == top_of rs q) ≡ false → is_in q (all_in (l.members t)) ≡ false
+not_member : (l : ByNumber) (rs : List Record) (t q : ℕ) → IsKept l rs → (t == top_of rs q) ≡ false → is_in q (all_in (l.members t)) ≡ false
 not_member l rs t q h other = by_test (is_in q (all_in (l.members t))) refl
   where
     by_test : (b : Bool) → is_in q (all_in (l.members t)) ≡ b → b ≡ false
     by_test true inn = let never : true ≡ false = sym (eq-eqb t (top_of rs q) (sym (top_of_member l rs t q h inn))) ∙ other in cc
     by_test false out = refl
 
-pub end_kept : (l : Looks) (rs : List Record) (r : Record) (t : ℕ) → IsKept l rs → is_assigned rs t ≡ false →
+pub end_kept : (l : ByNumber) (rs : List Record) (r : Record) (t : ℕ) → IsKept l rs → is_assigned rs t ≡ false →
     KeepsChains r.body → ((y : ℕ) → undoes y r.body ≡ false) → ((y : ℕ) → ends y r.body ≡ (t == y)) → ((y : ℕ) → names y r.body ≡ (y == t)) →
     entry_at r.start r.body ≡ [] → IsKept (ended t l) (rs ++ r ∷ [])
 end_kept l rs r t h alone keeps undoing ending naming none =
@@ -202,6 +210,7 @@ end_kept l rs r t h alone keeps undoing ending naming none =
         record {
           chain = chain-append rs r q ∙ keeps (chain rs) q ∙ o.chain;
           undone = o.undone ∙ sym (is_undone-one rs r q ∙ ap (λ b. is_undone rs q || b) (undoing q) ∙ or_false (is_undone rs q));
+          freed = o.freed;
           changes = λ live. o.changes live ∙ sym (changes_push rs r q ∙ ap (λ es. changes_of rs q ++ filter (λ f. f.number == q) es) none ∙ append-nil (changes_of rs q));
           members = o.members;
           members_are = put_cases (λ m. m ≡ Some o.members) t (last_of q s.above) None l.members
@@ -211,6 +220,7 @@ end_kept l rs r t h alone keeps undoing ending naming none =
 
     transaction : (t' : ℕ) (xs : List ℕ) → (t == t') ≡ false → IsTransaction l rs t' xs → IsTransaction (ended t l) (rs ++ r ∷ []) t' xs
     transaction t' xs other o = record {
+      running = has_ended-one rs r t' ∙ ap (λ b. has_ended rs t' || b) (ending t' ∙ other) ∙ or_false (has_ended rs t') ∙ o.running;
       own = o.own;
       distinct = o.distinct;
       strands = λ q inn. stays q (not_member l rs t q h (ap (λ y. t == y) (o.tops q inn) ∙ other)) (o.strands q inn);

@@ -17,14 +17,14 @@ pub record StrandsState : Type 0 where
   pub members : List (ℕ × List ℕ)
 
 -- the same as functions of a number
-pub record Looks : Type 0 where
+pub record ByNumber : Type 0 where
   pub strand : ℕ → Option StrandState
   pub members : ℕ → Option (List ℕ)
 
-abbrev pub looks : StrandsState → Looks
-looks s = record { strand = λ x. lookup (λ k. x == k) s.strands; members = λ t. lookup (λ k. t == k) s.members }
+abbrev pub by_number : StrandsState → ByNumber
+by_number s = record { strand = λ x. lookup (λ k. x == k) s.strands; members = λ t. lookup (λ k. t == k) s.members }
 
-pub record Same (a b : Looks) : Type 0 where
+pub record IsSame (a b : ByNumber) : Type 0 where
   pub strand : (x : ℕ) → a.strand x ≡ b.strand x
   pub members : (t : ℕ) → a.members t ≡ b.members t
 
@@ -50,16 +50,16 @@ abbrev pub is_in : ℕ → List ℕ → Bool
 is_in x xs = list_any (λ y. x == y) xs
 
 -- a transaction of its own
-abbrev pub started : ℕ → Looks → Looks
+abbrev pub started : ℕ → ByNumber → ByNumber
 started x l = record { strand = put x (Some (fresh [])) l.strand; members = put x (Some (x ∷ [])) l.members }
 
-abbrev pub above_of : Looks → ℕ → List ℕ
+abbrev pub above_of : ByNumber → ℕ → List ℕ
 above_of l x = above_in (l.strand x)
 
 abbrev pub with_member : ℕ → List ℕ → List ℕ
 with_member sub xs = xs ++ sub ∷ []
 
-abbrev pub assigned : ℕ → ℕ → Looks → Looks
+abbrev pub assigned : ℕ → ℕ → ByNumber → ByNumber
 assigned sub parent l = record {
   strand = put sub (Some (fresh (parent ∷ above_of l parent))) l.strand;
   members = put (last_of parent (above_of l parent)) (option_map (with_member sub) (l.members (last_of parent (above_of l parent)))) l.members;
@@ -71,13 +71,13 @@ with_change e s = record s { changes = s.changes ++ e ∷ [] }
 abbrev pub without_changes : StrandState → StrandState
 without_changes s = record s { undone = true; changes = [] }
 
-abbrev pub pushed : ℕ → Entry → Looks → Looks
+abbrev pub pushed : ℕ → Entry → ByNumber → ByNumber
 pushed x e l = record l { strand = put x (option_map (with_change e) (l.strand x)) l.strand }
 
-abbrev pub undone : ℕ → Looks → Looks
+abbrev pub undone : ℕ → ByNumber → ByNumber
 undone x l = record l { strand = put x (option_map without_changes (l.strand x)) l.strand }
 
-abbrev pub ended : ℕ → Looks → Looks
+abbrev pub ended : ℕ → ByNumber → ByNumber
 ended t l = record {
   strand = λ x. if is_in x (all_in (l.members t)) then None else l.strand x;
   members = put t None l.members;
@@ -89,7 +89,7 @@ kept_in strand None = []
 kept_in strand (Some s) = if s.undone || list_any (λ y. undone_in (strand y)) s.above then [] else s.changes
 
 -- the changes that a transaction keeps, number after number
-abbrev pub joined : Looks → ℕ → List Entry
+abbrev pub joined : ByNumber → ℕ → List Entry
 joined l t = flat_map (λ x. kept_in l.strand (l.strand x)) (all_in (l.members t))
 
 -- no number stands twice

@@ -40,8 +40,8 @@ impl Reorder {
     }
 
     /// Takes the next record of a log. Refused for memory (Q2), or after that (Q3), it is failed for good.
-    pub fn take(&mut self, alloc: Global, record: &Arc<Record>) -> Result<Step, ReorderFault>
-        ensures ok { IfOk result (λ step. Takes self.old self.new record.now.value (readied step)) }
+    pub fn take(&mut self, alloc: Global, next: &Arc<Record>) -> Result<Step, ReorderFault>
+        ensures ok { IfOk result (λ step. Takes self.old self.new next.now.value (readied step)) }
         ensures running { OnOk result ((self.old.failed ≡ false) × (self.new.failed ≡ false)) }
         ensures fails { OnErr result (self.new.failed ≡ true) }
         ensures failed { result ≡ Err ReorderFault.Failed → (self.old.failed ≡ true) × (self.new ≡ self.old) }
@@ -51,16 +51,16 @@ impl Reorder {
             return Err(ReorderFault::Failed);
         }
         self.failed = true;
-        let step = self.regroup(alloc, record)?;
+        let step = self.regroup(alloc, next)?;
         self.failed = false;
         Ok(step)
     }
 
-    fn regroup(&mut self, alloc: Global, record: &Arc<Record>) -> Result<Step, AllocError>
-        ensures takes { IfOk result (λ step. Takes self.old self.new record.now.value (readied step)) }
+    fn regroup(&mut self, alloc: Global, next: &Arc<Record>) -> Result<Step, AllocError>
+        ensures takes { IfOk result (λ step. Takes self.old self.new next.now.value (readied step)) }
         ensures failed { self.new.failed ≡ self.old.failed }
     {
-        match &record.body {
+        match &next.body {
             Body::Assign(sub, parent) => {
                 self.strands.open(alloc, *parent)?;
                 self.strands.assign(alloc, *sub, *parent)?;
@@ -68,7 +68,7 @@ impl Reorder {
             }
             Body::Change(number, _) => {
                 self.strands.open(alloc, *number)?;
-                let kept = Kept::of(record)?;
+                let kept = Kept::of(next)?;
                 self.strands.push(*number, kept)?;
                 return Ok(Step::Quiet);
             }

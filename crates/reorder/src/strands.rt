@@ -7,7 +7,7 @@ ghost use Rattle.std.specs.Option.{option_map};
 ghost use Rattle.std.specs.List.Sorted.{IsNonDecreasingBy, IsStableByKey};
 ghost use Rattle.std.specs.Ordering.{nat_cmp};
 ghost use Rattle.txlog.specs.Log.{last_of};
-ghost use Rattle.reorder.specs.Strands.{Same, above_in, above_of, all_in, assigned, ended, is_in, joined, kept_in, looks, pushed, put, started, undone, undone_in, with_member, without_changes};
+ghost use Rattle.reorder.specs.Strands.{IsSame, above_in, above_of, all_in, assigned, ended, is_in, joined, kept_in, by_number, pushed, put, started, undone, undone_in, with_member, without_changes};
 
 use crate::members::Members;
 use crate::ready::Kept;
@@ -43,8 +43,8 @@ impl Strands {
 
     /// Makes the number a transaction, unless it has a strand.
     pub(crate) fn open(&mut self, alloc: Global, number: u32) -> Result<(), AllocError>
-        ensures known { OnOk result (IsSome ((looks self.old).strand number) → self.new ≡ self.old) }
-        ensures fresh { OnOk result ((looks self.old).strand number ≡ None → Same (looks self.new) (started number (looks self.old))) }
+        ensures known { OnOk result (IsSome ((by_number self.old).strand number) → self.new ≡ self.old) }
+        ensures fresh { OnOk result ((by_number self.old).strand number ≡ None → IsSame (by_number self.new) (started number (by_number self.old))) }
     {
         if self.strands.contains_key(&number) {
             return Ok(());
@@ -53,7 +53,7 @@ impl Strands {
     }
 
     fn start(&mut self, alloc: Global, number: u32) -> Result<(), AllocError>
-        ensures { OnOk result (Same (looks self.new) (started number (looks self.old))) }
+        ensures { OnOk result (IsSame (by_number self.new) (started number (by_number self.old))) }
     {
         let members = Members::of(alloc, number)?;
         self.members.insert(number, members)?;
@@ -64,7 +64,7 @@ impl Strands {
 
     /// Adds a change to the strand of a number that has one.
     pub(crate) fn push(&mut self, number: u32, kept: Kept) -> Result<(), AllocError>
-        ensures { OnOk result (Same (looks self.new) (pushed number kept (looks self.old))) }
+        ensures { OnOk result (IsSame (by_number self.new) (pushed number kept (by_number self.old))) }
     {
         if let Some(strand) = self.strands.get_mut(&number) {
             strand.push(kept)?;
@@ -74,14 +74,14 @@ impl Strands {
 
     /// Rolls back a number that has a strand.
     pub(crate) fn undo(&mut self, alloc: Global, number: u32)
-        ensures { Same (looks self.new) (undone number (looks self.old)) }
+        ensures { IsSame (by_number self.new) (undone number (by_number self.old)) }
     {
         undo_at(&mut self.strands, alloc, number);
     }
 
     /// Puts a number without a strand under another that has one.
     pub(crate) fn assign(&mut self, alloc: Global, sub: u32, parent: u32) -> Result<(), AllocError>
-        ensures { OnOk result (Same (looks self.new) (assigned sub parent (looks self.old))) }
+        ensures { OnOk result (IsSame (by_number self.new) (assigned sub parent (by_number self.old))) }
     {
         let above = self.chain(alloc, parent)?;
         let top = last_or(parent, above.as_slice());
@@ -93,7 +93,7 @@ impl Strands {
 
     /// The number, and those above it up to its transaction.
     fn chain(&self, alloc: Global, number: u32) -> Result<Vec<u32>, AllocError>
-        ensures { IfOk result (λ v. v.items ≡ number ∷ above_of (looks self.now) number) }
+        ensures { IfOk result (λ v. v.items ≡ number ∷ above_of (by_number self.now) number) }
     {
         let mut chain = Vec::new(alloc);
         chain.push(number)?;
@@ -105,7 +105,7 @@ impl Strands {
 
     /// Gives up all numbers of a transaction.
     pub(crate) fn end(&mut self, top: u32)
-        ensures { Same (looks self.new) (ended top (looks self.old)) }
+        ensures { IsSame (by_number self.new) (ended top (by_number self.old)) }
     {
         if let Some(members) = self.members.remove(&top) {
             remove_all(&mut self.strands, members.as_slice());
@@ -115,7 +115,7 @@ impl Strands {
     /// The changes that a transaction keeps, in the order of their positions.
     pub(crate) fn kept(&self, alloc: Global, top: u32) -> Result<Vec<Kept>, AllocError>
         ensures rising { IfOk result (λ v. IsNonDecreasingBy (λ e. e.position) v.items) }
-        ensures same { IfOk result (λ v. IsStableByKey (λ e. e.position) nat_cmp (joined (looks self.now) top) v.items) }
+        ensures same { IfOk result (λ v. IsStableByKey (λ e. e.position) nat_cmp (joined (by_number self.now) top) v.items) }
     {
         let mut changes = self.joined(alloc, top)?;
         changes.sort_by_key(|kept| kept.position())?;
@@ -123,7 +123,7 @@ impl Strands {
     }
 
     fn joined(&self, alloc: Global, top: u32) -> Result<Vec<Kept>, AllocError>
-        ensures { IfOk result (λ v. v.items ≡ joined (looks self.now) top) }
+        ensures { IfOk result (λ v. v.items ≡ joined (by_number self.now) top) }
     {
         match self.members.get(&top) {
             Some(members) => {

@@ -1,7 +1,7 @@
 use Rattle.std.proofs.Common.{◌≡◌, ◌∙◌, ap, sym}
 use Rattle.txlog.specs.Log.{last_of}
 use Rattle.reorder.specs.Strands.{StrandsState}
-use Rattle.reorder.proofs.Looked.{assigned_same}
+use Rattle.reorder.proofs.Lookups.{assigned_same}
 use Rattle.reorder.proofs.strands.Strands.assign.Goals as goal
 
 pub returns : goal.returns

@@ -1,5 +1,5 @@
 use Rattle.std.proofs.Common.{◌≡◌, ◌∙◌, ap, sym, rules}
-use Rattle.reorder.proofs.Looked.{joined_same}
+use Rattle.reorder.proofs.Lookups.{joined_same}
 use Rattle.reorder.proofs.strands.Strands.joined.Goals as goal
 
 pub returns-in_ok-joined-in-Some : goal.returns-in_ok-joined-in-Some

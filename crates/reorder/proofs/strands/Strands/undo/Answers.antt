@@ -1,4 +1,4 @@
-use Rattle.reorder.proofs.Looked.{undone_same}
+use Rattle.reorder.proofs.Lookups.{undone_same}
 use Rattle.reorder.proofs.strands.Strands.undo.Goals as goal
 
 pub returns : goal.returns
