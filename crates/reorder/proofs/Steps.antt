@@ -1,86 +1,146 @@
--- What a record does to what is kept is what it does to a log.
-use Rattle.std.proofs.Common.{◌≡◌, ℕ, ℤ, ◌==◌, Bool, true, false, cond, not, List, [], ◌∷◌, ◌++◌, Option, Some, None, refl, sym, ap, ◌∙◌}
-use Rattle.std.specs.List.{filter, list_any}
-use Rattle.txlog.proofs.LiveList.{eqb_comm}
+-- Each record leaves what is kept as the log with it has it, and a Commit gives what its transaction keeps.
+use Rattle.std.proofs.Common.{◌≡◌, ℕ, ℤ, ◌==◌, Bool, true, false, cond, ◌||◌, List, [], ◌∷◌, ◌++◌, Option, Some, None, is_some, refl, sym, ap, subst, ◌∙◌, nat_cmp}
+use Rattle.std.specs.Prelude.{IsSome}
+use Rattle.std.specs.Option.{option_map}
+use Rattle.std.specs.List.Sorted.{IsNonDecreasingBy, IsStableByKey}
 use Rattle.tables.specs.declared.change.Change.{Change}
 use Rattle.txlog.specs.declared.record.Record.{Record}
 use Rattle.txlog.specs.declared.record.Body.{Body}
 use Rattle.txlog.specs.declared.record.Body.TheVariants.{Assign, Change as Changed, AbortSub, Abort, Commit}
-use Rattle.txlog.specs.Log.{Entry, IsNext, IsOpen, chain, chain_step, last_of, top_of, has_ended, is_assigned, kept, live}
-use Rattle.txlog.proofs.Lists.{filter_agrees, all_agree}
-use Rattle.txlog.proofs.Laws.{chain-append, chain-unassigned, live-change, live-assign, live-undo, live-commit, live-abort, kept-live}
-use Rattle.reorder.specs.declared.parents.Parent.{Parent}
-use Rattle.reorder.specs.Taking.{ReorderState, HasTaken, Takes, StartsBehind, chain_from, promised}
-use Rattle.reorder.specs.After.{top_from, is_under, is_of, state_after, ready_after}
+use Rattle.txlog.specs.Log.{Entry, IsNext, IsOpen, names, number_in, is_named, is_assigned, has_ended, last_of, top_of, kept}
+use Rattle.txlog.proofs.LiveList.{eqb_comm}
+use Rattle.txlog.proofs.Laws.{chain-unassigned, is_named-one}
+use Rattle.reorder.specs.Kept.{kept_entry, change_in}
+use Rattle.reorder.specs.Strands.{StrandState, StrandsState, ByNumber, IsSame, by_number, put, fresh, above_of, is_in, all_in, with_change, without_changes, started, assigned, pushed, undone, ended, joined}
+use Rattle.reorder.specs.Taking.{ReorderState, IsKept, HasTaken, StartsBehind, Takes, promised}
+use Rattle.reorder.proofs.Named.{or_left, or_right, unassigned}
+use Rattle.reorder.proofs.Opening.{put_cases, Opened, opened, same_kept}
+use Rattle.reorder.proofs.Assigning.{assign_kept}
+use Rattle.reorder.proofs.Keeping.{push_kept, undo_kept, end_kept}
+use Rattle.reorder.proofs.Committing.{kept_merged}
 
-top_by_test : (b : Bool) (d x p : ℕ) (up same : List ℕ) (t u : ℕ) → t ≡ last_of x up → u ≡ last_of d same → cond b t u ≡ last_of d (cond b (x ∷ up) same)
-top_by_test true d x p up same t u e f = e
-top_by_test false d x p up same t u e f = f
+abbrev pub state : StrandsState → Bool → ReorderState
+state s failed = record { strands = s; failed = failed }
 
-top_from-is : (parents : List Parent) (d x : ℕ) → top_from parents x ≡ last_of d (chain_from parents x)
-top_from-is [] d x = refl
-top_from-is (p ∷ older) d x = top_by_test (p.sub == x) d x p.parent (chain_from older p.parent) (chain_from older x) (top_from older p.parent) (top_from older x) (top_from-is older x p.parent) (top_from-is older d x)
+next_of : (before : List Record) (r : Record) (body : Body) → r.body ≡ body → IsNext before r.body → IsNext before body
+next_of before r body is next = subst (λ (b : Body). IsNext before b) is next
 
-same_filter : (p q : Entry → Bool) (xs ys : List Entry) → ((e : Entry) → p e ≡ q e) → xs ≡ ys → filter p xs ≡ filter q ys
-same_filter p q xs ys agree same = ap (filter p) same ∙ filter_agrees p q ys (all_agree p q agree ys)
+quiet : (before : List Record) (r : Record) (body : Body) → r.body ≡ body → None ≡ promised before body → None ≡ promised before r.body
+quiet before r body is none = none ∙ ap (promised before) (sym is)
 
-same_top : (s : ReorderState) (before : List Record) → HasTaken s before → (x : ℕ) → top_from s.parents x ≡ top_of before x
-same_top s before h x = top_from-is s.parents x x ∙ ap (last_of x) (h.chains x)
+-- a number that is not named with the record is not named without it, nor by it
+before_too : (before : List Record) (r : Record) (q : ℕ) → is_named (before ++ r ∷ []) q ≡ false → is_named before q ≡ false
+before_too before r q unheard = or_left (is_named before q) (names q r.body) (sym (is_named-one before r q) ∙ unheard)
 
-step : (start end : ℕ) (body : Body) (s : ReorderState) (before : List Record) → HasTaken s before → IsNext before body →
-    HasTaken (state_after start body s) (before ++ record { start = start; end = end; body = body } ∷ [])
-step start end (Assign sub parent) s before h next =
+not_here : (before : List Record) (r : Record) (body : Body) (q : ℕ) → r.body ≡ body → is_named (before ++ r ∷ []) q ≡ false → names q body ≡ false
+not_here before r body q is unheard = ap (names q) (sym is) ∙ or_right (is_named before q) (names q r.body) (sym (is_named-one before r q) ∙ unheard)
+
+put_apart : {A : Type 0} (k q : ℕ) (w : Option A) (f : ℕ → Option A) → (q == k) ≡ false → put k w f q ≡ f q
+put_apart k q w f apart = rw (eqb_comm k q, apart) refl
+
+pub taken_assign : (s mid now : StrandsState) (b d : Bool) (r : Record) (sub parent : ℕ) → r.body ≡ Assign sub parent →
+    (IsSome ((by_number s).strand parent) → mid ≡ s) → ((by_number s).strand parent ≡ None → IsSame (by_number mid) (started parent (by_number s))) →
+    IsSame (by_number now) (assigned sub parent (by_number mid)) → Takes (state s b) (state now d) r None
+taken_assign s mid now b d r sub parent body known new same =
     record {
-      lives = h.lives ∙ sym (live-assign before start end sub parent next.0);
-      chains = λ x. assigned x ∙ sym (chain-append before (record { start = start; end = end; body = Assign sub parent }) x);
+      reads = λ before h next behind. after before h (next_of before r (Assign sub parent) body next);
+      gives = λ before h next behind. quiet before r (Assign sub parent) body refl;
     }
   where
-    by_test : (b : Bool) (x : ℕ) → cond b (x ∷ chain_from s.parents parent) (chain_from s.parents x) ≡ cond b (x ∷ chain before parent) (chain before x)
-    by_test true x = ap (λ ys. x ∷ ys) (h.chains parent)
-    by_test false x = h.chains x
+    after : (before : List Record) → HasTaken (state s b) before → IsNext before (Assign sub parent) → HasTaken (state now d) (before ++ r ∷ [])
+    after before h next =
+        let o : Opened (by_number mid) (by_number s) before parent = opened s mid before parent h.kept next.2 known new in
+        let none : (by_number mid).strand sub ≡ None = o.others sub (eqb_comm parent sub ∙ next.1) ∙ h.named sub next.0 in
+        record {
+          kept = same_kept (by_number now) (assigned sub parent (by_number mid)) (before ++ r ∷ []) same (assign_kept (by_number mid) before r sub parent o.kept o.some none next.0 body);
+          named = λ q unheard.
+              let here : ((q == sub) || (q == parent)) ≡ false = not_here before r (Assign sub parent) q body unheard in
+              same.strand q ∙ put_apart sub q (Some (fresh (parent ∷ above_of (by_number mid) parent))) (by_number mid).strand (or_left (q == sub) (q == parent) here)
+              ∙ o.others q (eqb_comm parent q ∙ or_right (q == sub) (q == parent) here) ∙ h.named q (before_too before r q unheard);
+        }
 
-    assigned : (x : ℕ) → cond (sub == x) (x ∷ chain_from s.parents parent) (chain_from s.parents x) ≡ cond (sub == x) (x ∷ chain before parent) (chain before x)
-    assigned x = by_test (sub == x) x
-step start end (Changed number change) s before h next =
+pub taken_change : (s mid now : StrandsState) (b d : Bool) (r : Record) (x : ℕ) (c : Change) → r.body ≡ Changed x c →
+    (IsSome ((by_number s).strand x) → mid ≡ s) → ((by_number s).strand x ≡ None → IsSame (by_number mid) (started x (by_number s))) →
+    IsSame (by_number now) (pushed x (kept_entry r) (by_number mid)) → Takes (state s b) (state now d) r None
+taken_change s mid now b d r x c body known new same =
     record {
-      lives = ap (λ es. es ++ record { position = start; number = number; change = change } ∷ []) h.lives ∙ sym (live-change before start end number change next);
-      chains = λ x. h.chains x ∙ sym (chain-append before (record { start = start; end = end; body = Changed number change }) x);
+      reads = λ before h next behind. after before h (next_of before r (Changed x c) body next) behind;
+      gives = λ before h next behind. quiet before r (Changed x c) body refl;
     }
-step start end (AbortSub number) s before h next =
-    record {
-      lives = same_filter _ _ s.live (live before) (λ e. ap (λ ys. not (list_any (λ y. number == y) ys)) (h.chains e.number)) h.lives ∙ sym (live-undo before start end number);
-      chains = λ x. h.chains x ∙ sym (chain-append before (record { start = start; end = end; body = AbortSub number }) x);
-    }
-step start end (Abort number) s before h next =
-    record {
-      lives = same_filter _ _ s.live (live before) (λ e. ap (λ t. not (t == number)) (same_top s before h e.number) ∙ ap not (eqb_comm (top_of before e.number) number)) h.lives ∙ sym (live-abort before start end number);
-      chains = λ x. h.chains x ∙ sym (chain-append before (record { start = start; end = end; body = Abort number }) x);
-    }
-step start end (Commit number time) s before h next =
-    record {
-      lives = same_filter _ _ s.live (live before) (λ e. ap (λ t. not (t == number)) (same_top s before h e.number) ∙ ap not (eqb_comm (top_of before e.number) number)) h.lives ∙ sym (live-commit before start end number time);
-      chains = λ x. h.chains x ∙ sym (chain-append before (record { start = start; end = end; body = Commit number time }) x);
-    }
+  where
+    after : (before : List Record) → HasTaken (state s b) before → IsNext before (Changed x c) → StartsBehind before r → HasTaken (state now d) (before ++ r ∷ [])
+    after before h next behind =
+        let o : Opened (by_number mid) (by_number s) before x = opened s mid before x h.kept next known new in
+        record {
+          kept = same_kept (by_number now) (pushed x (kept_entry r) (by_number mid)) (before ++ r ∷ []) same
+              (push_kept (by_number mid) before r x (kept_entry r) o.kept next o.some behind (rw body (λ above y. refl)) (rw body (λ y. refl)) (rw body (λ y. refl)) (rw body (λ y. refl)) (rw body refl) (rw body refl) refl);
+          named = λ q unheard.
+              let here : (q == x) ≡ false = not_here before r (Changed x c) q body unheard in
+              same.strand q ∙ put_apart x q (option_map (with_change (kept_entry r)) ((by_number mid).strand x)) (by_number mid).strand here
+              ∙ o.others q (eqb_comm x q ∙ here) ∙ h.named q (before_too before r q unheard);
+        }
 
-brings : (body : Body) (s : ReorderState) (before : List Record) → HasTaken s before → IsNext before body → ready_after body s ≡ promised before body
-brings (Assign sub parent) s before h next = refl
-brings (Changed number change) s before h next = refl
-brings (AbortSub number) s before h next = refl
-brings (Abort number) s before h next = refl
-brings (Commit number time) s before h next =
-    let top : top_of before number ≡ number = ap (last_of number) (chain-unassigned before number next.0) in
-    let running : has_ended before number ≡ false = rw top at next.1.running in
-    ap Some (same_filter _ _ s.live (live before) (λ e. ap (λ t. t == number) (same_top s before h e.number)) h.lives
-    ∙ sym (kept-live before number running))
-
-moved : (s : ReorderState) (rs : List Record) (b : Bool) → HasTaken s rs → HasTaken (record s { failed = b }) rs
-moved s rs b h = record { lives = h.lives; chains = h.chains }
-
--- while the record is taken, it counts as refused
-pub stepped : (s after new : ReorderState) (r : Record) (ready : Option (List Entry)) (b d : Bool) →
-    after ≡ state_after r.start r.body (record s { failed = b }) → new ≡ record after { failed = d } → ready ≡ ready_after r.body (record s { failed = b }) → Takes s new r ready
-stepped s after new r ready b d is ends brought =
+pub taken_rollback : (s now : StrandsState) (b d : Bool) (r : Record) (x : ℕ) → r.body ≡ AbortSub x → IsSame (by_number now) (undone x (by_number s)) → Takes (state s b) (state now d) r None
+taken_rollback s now b d r x body same =
     record {
-      reads = λ before h next behind. rw (ends, is) (moved _ _ d (step r.start r.end r.body (record s { failed = b }) before (moved s before b h) next));
-      gives = λ before h next behind. brought ∙ brings r.body (record s { failed = b }) before (moved s before b h) next;
+      reads = λ before h next behind. after before h (next_of before r (AbortSub x) body next);
+      gives = λ before h next behind. quiet before r (AbortSub x) body refl;
     }
+  where
+    has : (before : List Record) → HasTaken (state s b) before → IsNext before (AbortSub x) → (n : Bool) → is_named before x ≡ n → IsSome ((by_number s).strand x)
+    has before h next true named = h.kept.complete x named next.1.running
+    has before h next false unheard = let never : true ≡ false = sym next.0 ∙ unassigned before x unheard in cc
+
+    after : (before : List Record) → HasTaken (state s b) before → IsNext before (AbortSub x) → HasTaken (state now d) (before ++ r ∷ [])
+    after before h next =
+        record {
+          kept = same_kept (by_number now) (undone x (by_number s)) (before ++ r ∷ []) same
+              (undo_kept (by_number s) before r x h.kept (has before h next (is_named before x) refl) (rw body (λ above y. refl)) (rw body (λ y. refl)) (rw body (λ y. refl)) (rw body (λ y. refl)) (rw body refl));
+          named = λ q unheard.
+              same.strand q ∙ put_apart x q (option_map without_changes ((by_number s).strand x)) (by_number s).strand (not_here before r (AbortSub x) q body unheard) ∙ h.named q (before_too before r q unheard);
+        }
+
+-- a number that has no strand has none after an end either
+gone : (l : ByNumber) (t q : ℕ) → l.strand q ≡ None → (ended t l).strand q ≡ None
+gone l t q none = by_test (is_in q (all_in (l.members t)))
+  where
+    by_test : (b : Bool) → cond b None (l.strand q) ≡ None
+    by_test true = refl
+    by_test false = none
+
+pub taken_abort : (s now : StrandsState) (b d : Bool) (r : Record) (t : ℕ) → r.body ≡ Abort t → IsSame (by_number now) (ended t (by_number s)) → Takes (state s b) (state now d) r None
+taken_abort s now b d r t body same =
+    record {
+      reads = λ before h next behind. after before h (next_of before r (Abort t) body next);
+      gives = λ before h next behind. quiet before r (Abort t) body refl;
+    }
+  where
+    after : (before : List Record) → HasTaken (state s b) before → IsNext before (Abort t) → HasTaken (state now d) (before ++ r ∷ [])
+    after before h next =
+        record {
+          kept = same_kept (by_number now) (ended t (by_number s)) (before ++ r ∷ []) same
+              (end_kept (by_number s) before r t h.kept next.0 (rw body (λ above y. refl)) (rw body (λ y. refl)) (rw body (λ y. refl)) (rw body (λ y. refl)) (rw body refl));
+          named = λ q unheard. same.strand q ∙ gone (by_number s) t q (h.named q (before_too before r q unheard));
+        }
+
+pub taken_commit : (s now : StrandsState) (b d : Bool) (r : Record) (t : ℕ) (time : ℤ) (sorted : List Entry) → r.body ≡ Commit t time →
+    IsNonDecreasingBy (λ (e : Entry). e.position) sorted → IsStableByKey (λ (e : Entry). e.position) nat_cmp (joined (by_number s) t) sorted →
+    IsSame (by_number now) (ended t (by_number s)) → Takes (state s b) (state now d) r (Some sorted)
+taken_commit s now b d r t time sorted body up stable same =
+    record {
+      reads = λ before h next behind. after before h (next_of before r (Commit t time) body next);
+      gives = λ before h next behind. brings before h (next_of before r (Commit t time) body next) ∙ ap (promised before) (sym body);
+    }
+  where
+    after : (before : List Record) → HasTaken (state s b) before → IsNext before (Commit t time) → HasTaken (state now d) (before ++ r ∷ [])
+    after before h next =
+        record {
+          kept = same_kept (by_number now) (ended t (by_number s)) (before ++ r ∷ []) same
+              (end_kept (by_number s) before r t h.kept next.0 (rw body (λ above y. refl)) (rw body (λ y. refl)) (rw body (λ y. refl)) (rw body (λ y. refl)) (rw body refl));
+          named = λ q unheard. same.strand q ∙ gone (by_number s) t q (h.named q (before_too before r q unheard));
+        }
+
+    brings : (before : List Record) → HasTaken (state s b) before → IsNext before (Commit t time) → Some sorted ≡ Some (kept before t)
+    brings before h next =
+        let top : top_of before t ≡ t = ap (last_of t) (chain-unassigned before t next.0) in
+        ap Some (kept_merged (by_number s) before t sorted h.kept (ap (has_ended before) (sym top) ∙ next.1.running) up stable)

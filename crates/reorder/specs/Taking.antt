@@ -1,30 +1,54 @@
 -- Taking the records of a log one by one: what is ready at a Commit is what the transaction keeps by the definition on the
 -- whole log, whatever stands for it between the calls.
-use Rattle.std.specs.Prelude.{◌≡◌, ◌<◌, ◌==◌, ℕ, Bool, List, [], ◌∷◌, ◌++◌, Option, Some, None, if◌then◌else◌}
+use Rattle.std.specs.Prelude.{◌≡◌, ◌<◌, ◌==◌, ℕ, Bool, true, false, List, [], ◌∷◌, ◌++◌, filter, Option, Some, None, IsSome}
 use Rattle.std.specs.List.{AllByRecursion}
 use Rattle.txlog.specs.declared.record.Record.{Record}
 use Rattle.txlog.specs.declared.record.Body.{Body}
 use Rattle.txlog.specs.declared.record.Body.TheVariants.{Assign, Change as Changed, AbortSub, Abort, Commit}
-use Rattle.txlog.specs.Log.{Entry, IsNext, chain, kept, live}
-use Rattle.reorder.specs.declared.parents.Parent.{Parent}
+use Rattle.txlog.specs.Log.{Entry, IsNext, is_named, is_undone, has_ended, chain, last_of, top_of, entries, kept}
+use Rattle.reorder.specs.Strands.{StrandState, StrandsState, ByNumber, by_number, is_in, AreDistinct}
+use Rattle.reorder.specs.Rising.{IsRising}
 use Rattle.reorder.specs.declared.ready.Step.{Step}
 use Rattle.reorder.specs.declared.ready.Step.TheVariants as steps
 
--- what a regrouping is between two records: the changes of the transactions in progress, and the parents, newest first
+-- what a regrouping is between two records
 pub record ReorderState : Type 0 where
-  pub live : List Entry
-  pub parents : List Parent
+  pub strands : StrandsState
   pub failed : Bool
 
--- the number, its parent, and so on to one without a parent
-abbrev pub chain_from : List Parent → ℕ → List ℕ
-chain_from [] x = x ∷ []
-chain_from (p ∷ older) x = if p.sub == x then x ∷ chain_from older p.parent else chain_from older x
+-- the changes of a number, in order
+abbrev pub changes_of : List Record → ℕ → List Entry
+changes_of rs x = filter (λ e. e.number == x) (entries rs)
+
+-- A strand is what these records say of its number; the number and all above it are among those of its transaction.
+pub record IsStrand (l : ByNumber) (rs : List Record) (x : ℕ) (s : StrandState) : Type 0 where
+  pub chain : chain rs x ≡ x ∷ s.above
+  pub undone : s.undone ≡ is_undone rs x
+  pub changes : s.undone ≡ false → s.changes ≡ changes_of rs x
+  pub freed : s.undone ≡ true → s.changes ≡ []
+  pub members : List ℕ
+  pub members_are : l.members (last_of x s.above) ≡ Some members
+  pub within : AllByRecursion (λ y. is_in y members ≡ true) (x ∷ s.above)
+
+-- the numbers of a transaction in progress, each with a strand
+pub record IsTransaction (l : ByNumber) (rs : List Record) (t : ℕ) (xs : List ℕ) : Type 0 where
+  pub running : has_ended rs t ≡ false
+  pub own : is_in t xs ≡ true
+  pub distinct : AreDistinct xs
+  pub strands : (x : ℕ) → is_in x xs ≡ true → IsSome (l.strand x)
+  pub tops : (x : ℕ) → is_in x xs ≡ true → top_of rs x ≡ t
+
+-- each number of a transaction in progress has its strand
+pub record IsKept (l : ByNumber) (rs : List Record) : Type 0 where
+  pub strands : (x : ℕ) (s : StrandState) → l.strand x ≡ Some s → IsStrand l rs x s
+  pub transactions : (t : ℕ) (xs : List ℕ) → l.members t ≡ Some xs → IsTransaction l rs t xs
+  pub complete : (x : ℕ) → is_named rs x ≡ true → has_ended rs (top_of rs x) ≡ false → IsSome (l.strand x)
+  pub rising : IsRising (entries rs)
 
 -- what it is after these records
 pub record HasTaken (s : ReorderState) (rs : List Record) : Type 0 where
-  pub lives : s.live ≡ live rs
-  pub chains : (x : ℕ) → chain_from s.parents x ≡ chain rs x
+  pub kept : IsKept (by_number s.strands) rs
+  pub named : (x : ℕ) → is_named rs x ≡ false → (by_number s.strands).strand x ≡ None
 
 -- what a record makes ready, given those before it
 abbrev pub promised : List Record → Body → Option (List Entry)

@@ -2,9 +2,11 @@
 #![tactic(auto)]
 
 mod fault;
-mod parents;
+mod members;
 mod ready;
 mod reorder;
+mod strand;
+mod strands;
 
 pub use fault::ReorderFault;
 pub use ready::{Ready, Step};

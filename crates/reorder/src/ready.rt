@@ -29,12 +29,12 @@ impl Model for Kept {
 
 impl Kept {
     /// The change of a record that has one.
-    pub(crate) fn of(record: &Arc<Record>) -> Result<Kept, AllocError>
-        requires { is_changed record.now.value.body ≡ true }
-        ensures { IfOk result (λ k. k ≡ kept_entry record.now.value) }
+    pub(crate) fn of(next: &Arc<Record>) -> Result<Kept, AllocError>
+        requires { is_changed next.now.value.body ≡ true }
+        ensures { IfOk result (λ k. k ≡ kept_entry next.now.value) }
     {
         Ok(Kept {
-            record: record.clone()?,
+            record: next.clone()?,
         })
     }
 
@@ -46,13 +46,10 @@ impl Kept {
         })
     }
 
-    pub(crate) fn number(&self) -> u32
-        ensures { result ≡ self.now.number }
+    pub(crate) fn position(&self) -> u64
+        ensures { result ≡ self.now.position }
     {
-        match &self.record.body {
-            Body::Change(number, _) => *number,
-            _ => unreachable!(),
-        }
+        self.record.start
     }
 
     /// The position at which the change's record starts, and the change.

@@ -1,0 +1,228 @@
+-- What a record does to what is kept is what it does to the log: a change, a rollback, and the end of a transaction.
+use Rattle.std.proofs.Common.{◌≡◌, ℕ, ◌<◌, ◌==◌, Bool, true, false, cond, ◌||◌, List, [], ◌∷◌, ◌++◌, Option, Some, None, is_some, refl, sym, ap, subst, ◌∙◌, eq-eqb}
+use Rattle.std.specs.Prelude.{IsSome}
+use Rattle.std.specs.List.{filter, list_any, AllByRecursion}
+use Rattle.std.specs.Option.{option_map}
+use Rattle.std.proofs.lemmas.Bool.{eqb-true, ne_eqb}
+use Rattle.std.proofs.lemmas.List.{append-nil}
+use Rattle.std.proofs.lemmas.List.Elements.{filter-append}
+use Rattle.tables.specs.declared.change.Change.{Change}
+use Rattle.txlog.specs.declared.record.Record.{Record}
+use Rattle.txlog.specs.declared.record.Body.{Body}
+use Rattle.txlog.specs.declared.record.Body.TheVariants.{Assign, Change as Changed, AbortSub, Abort, Commit}
+use Rattle.txlog.specs.Log.{Entry, IsOpen, names, is_named, is_assigned, undoes, is_undone, ends, has_ended, chain, chain_step, last_of, top_of, entry_at, entries}
+use Rattle.txlog.proofs.Lists.{or_false}
+use Rattle.txlog.proofs.LiveList.{eqb_comm, all_append}
+use Rattle.txlog.proofs.Laws.{chain-append, chain-unassigned, is_named-one, is_undone-one, has_ended-one, entries-append, KeepsChains}
+use Rattle.reorder.specs.Rising.{IsRising}
+use Rattle.reorder.specs.Strands.{StrandState, ByNumber, put, all_in, is_in, with_change, without_changes, pushed, undone, ended}
+use Rattle.reorder.specs.Taking.{IsStrand, IsTransaction, IsKept, StartsBehind, changes_of}
+use Rattle.reorder.proofs.Named.{or_left, or_right, or_true, entries_before}
+use Rattle.reorder.proofs.Opening.{put_cases, put_here, no_some}
+
+pub some_of : {A B : Type 0} (f : A → B) (o : Option A) → IsSome o → IsSome (option_map f o)
+some_of f None some = some
+some_of f (Some a) some = refl
+
+-- what an entry was before it was changed
+pub record Mapped {A B : Type 0} (f : A → B) (o : Option A) (b : B) : Type 0 where
+  pub was : A
+  pub was_is : o ≡ Some was
+  pub now_is : f was ≡ b
+
+pub mapped : {A B : Type 0} (f : A → B) (o : Option A) (b : B) → option_map f o ≡ Some b → Mapped f o b
+mapped f None b is = let never : None ≡ Some b = is in cc
+mapped f (Some a) b is = let e : f a ≡ b = cc in record { was = a; was_is = refl; now_is = e }
+
+pub entries_push : (rs : List Record) (r : Record) → entries (rs ++ r ∷ []) ≡ entries rs ++ entry_at r.start r.body
+entries_push rs r = entries-append rs (r ∷ []) ∙ ap (λ es. entries rs ++ es) (append-nil (entry_at r.start r.body))
+
+pub changes_push : (rs : List Record) (r : Record) (x : ℕ) → changes_of (rs ++ r ∷ []) x ≡ changes_of rs x ++ filter (λ e. e.number == x) (entry_at r.start r.body)
+changes_push rs r x = ap (filter (λ e. e.number == x)) (entries_push rs r) ∙ filter-append (λ e. e.number == x) (entries rs) (entry_at r.start r.body)
+
+rising_push : (es : List Entry) (e : Entry) → IsRising es → AllByRecursion (λ f. f.position < e.position) es → IsRising (es ++ e ∷ [])
+rising_push [] e up all = (tt, tt)
+rising_push (f ∷ es) e up all = (all_append _ es (e ∷ []) up.0 (all.0, tt), rising_push es e up.1 all.1)
+
+top_same : (rs : List Record) (r : Record) → KeepsChains r.body → (x : ℕ) → top_of (rs ++ r ∷ []) x ≡ top_of rs x
+top_same rs r keeps x = ap (last_of x) (chain-append rs r x ∙ keeps (chain rs) x)
+
+ended_same : (rs : List Record) (r : Record) → KeepsChains r.body → ((y : ℕ) → ends y r.body ≡ false) → (x : ℕ) →
+    has_ended (rs ++ r ∷ []) (top_of (rs ++ r ∷ []) x) ≡ has_ended rs (top_of rs x)
+ended_same rs r keeps ending x =
+    ap (has_ended (rs ++ r ∷ [])) (top_same rs r keeps x) ∙ has_ended-one rs r (top_of rs x) ∙ ap (λ b. has_ended rs (top_of rs x) || b) (ending (top_of rs x)) ∙ or_false (has_ended rs (top_of rs x))
+
+-- a number that a record other than an Assign names is the record's, or was named before
+was_named : (rs : List Record) (r : Record) (x q : ℕ) → names q r.body ≡ (q == x) → (x == q) ≡ false → is_named (rs ++ r ∷ []) q ≡ true → is_named rs q ≡ true
+was_named rs r x q naming other named =
+    sym (or_false (is_named rs q)) ∙ ap (λ b. is_named rs q || b) (sym (naming ∙ eqb_comm q x ∙ other)) ∙ sym (is_named-one rs r q) ∙ named
+
+-- what is kept of a transaction's numbers, where only the strands change, and none goes
+strands_changed : (l a : ByNumber) (rs : List Record) (r : Record) → KeepsChains r.body → ((y : ℕ) → ends y r.body ≡ false) → ((x : ℕ) → IsSome (l.strand x) → IsSome (a.strand x)) →
+    (t : ℕ) (xs : List ℕ) → IsTransaction l rs t xs → IsTransaction a (rs ++ r ∷ []) t xs
+strands_changed l a rs r keeps ending stay t xs o = record {
+  running = has_ended-one rs r t ∙ ap (λ b. has_ended rs t || b) (ending t) ∙ or_false (has_ended rs t) ∙ o.running;
+  own = o.own;
+  distinct = o.distinct;
+  strands = λ q inn. stay q (o.strands q inn);
+  tops = λ q inn. top_same rs r keeps q ∙ o.tops q inn;
+}
+
+-- A CHANGE
+
+pub push_kept : (l : ByNumber) (rs : List Record) (r : Record) (x : ℕ) (e : Entry) → IsKept l rs → IsOpen rs x → IsSome (l.strand x) → StartsBehind rs r →
+    KeepsChains r.body → ((y : ℕ) → undoes y r.body ≡ false) → ((y : ℕ) → ends y r.body ≡ false) → ((y : ℕ) → names y r.body ≡ (y == x)) →
+    entry_at r.start r.body ≡ e ∷ [] → e.number ≡ x → e.position ≡ r.start → IsKept (pushed x e l) (rs ++ r ∷ [])
+push_kept l rs r x e h alive has behind keeps undoing ending naming made number position =
+    record {
+      strands = λ q s. put_cases (λ o. o ≡ Some s → IsStrand (pushed x e l) (rs ++ r ∷ []) q s) x q (option_map (with_change e) (l.strand x)) l.strand
+          (λ same is. let m : Mapped (with_change e) (l.strand x) s = mapped (with_change e) (l.strand x) s is in
+          subst (λ (v : StrandState). IsStrand (pushed x e l) (rs ++ r ∷ []) q v) m.now_is
+          (subst (λ (y : ℕ). IsStrand (pushed x e l) (rs ++ r ∷ []) y (with_change e m.was)) same (grown m.was (h.strands x m.was m.was_is))))
+          (λ other is. as_it_was q s other (h.strands q s is));
+      transactions = λ t xs is. strands_changed l (pushed x e l) rs r keeps ending
+          (λ q some. put_cases IsSome x q (option_map (with_change e) (l.strand x)) l.strand (λ same. some_of (with_change e) (l.strand x) has) (λ other. some))
+          t xs (h.transactions t xs is);
+      complete = λ q named running. put_cases IsSome x q (option_map (with_change e) (l.strand x)) l.strand (λ same. some_of (with_change e) (l.strand x) has)
+          (λ other. h.complete q (was_named rs r x q (naming q) other named) (sym (ended_same rs r keeps ending q) ∙ running));
+      rising = subst (λ (es : List Entry). IsRising es) (sym (entries_push rs r ∙ ap (λ es. entries rs ++ es) made))
+          (rising_push (entries rs) e h.rising (subst (λ (n : ℕ). AllByRecursion (λ f. f.position < n) (entries rs)) (sym position) (entries_before rs r behind)));
+    }
+  where
+    chain_same : (q : ℕ) → chain (rs ++ r ∷ []) q ≡ chain rs q
+    chain_same q = chain-append rs r q ∙ keeps (chain rs) q
+
+    undone_same : (q : ℕ) → is_undone (rs ++ r ∷ []) q ≡ is_undone rs q
+    undone_same q = is_undone-one rs r q ∙ ap (λ b. is_undone rs q || b) (undoing q) ∙ or_false (is_undone rs q)
+
+    live_still : (s : StrandState) → IsStrand l rs x s → s.undone ≡ false
+    live_still s o = o.undone ∙ or_left (is_undone rs x) (list_any (is_undone rs) s.above) (ap (list_any (is_undone rs)) (sym o.chain) ∙ alive.undropped)
+
+    grown : (s : StrandState) → IsStrand l rs x s → IsStrand (pushed x e l) (rs ++ r ∷ []) x (with_change e s)
+    grown s o = record {
+      chain = chain_same x ∙ o.chain;
+      undone = o.undone ∙ sym (undone_same x);
+      freed = λ undone. let never : true ≡ false = sym undone ∙ live_still s o in cc;
+      changes = λ live. ap (λ es. es ++ e ∷ []) (o.changes live) ∙ sym (changes_push rs r x ∙ ap (λ es. changes_of rs x ++ es) (ap (filter (λ f. f.number == x)) made ∙ rw (eq-eqb e.number x number) refl));
+      members = o.members;
+      members_are = o.members_are;
+      within = o.within;
+    }
+
+    as_it_was : (q : ℕ) (s : StrandState) → (x == q) ≡ false → IsStrand l rs q s → IsStrand (pushed x e l) (rs ++ r ∷ []) q s
+    as_it_was q s other o = record {
+      chain = chain_same q ∙ o.chain;
+      undone = o.undone ∙ sym (undone_same q);
+      freed = o.freed;
+      changes = λ live. o.changes live ∙ sym (changes_push rs r q ∙ ap (λ es. changes_of rs q ++ es) (ap (filter (λ f. f.number == q)) made ∙ rw (number, other) refl) ∙ append-nil (changes_of rs q));
+      members = o.members;
+      members_are = o.members_are;
+      within = o.within;
+    }
+
+-- A ROLLBACK
+
+pub undo_kept : (l : ByNumber) (rs : List Record) (r : Record) (x : ℕ) → IsKept l rs → IsSome (l.strand x) →
+    KeepsChains r.body → ((y : ℕ) → undoes y r.body ≡ (x == y)) → ((y : ℕ) → ends y r.body ≡ false) → ((y : ℕ) → names y r.body ≡ (y == x)) →
+    entry_at r.start r.body ≡ [] → IsKept (undone x l) (rs ++ r ∷ [])
+undo_kept l rs r x h has keeps undoing ending naming none =
+    record {
+      strands = λ q s. put_cases (λ o. o ≡ Some s → IsStrand (undone x l) (rs ++ r ∷ []) q s) x q (option_map without_changes (l.strand x)) l.strand
+          (λ same is. let m : Mapped without_changes (l.strand x) s = mapped without_changes (l.strand x) s is in
+          subst (λ (v : StrandState). IsStrand (undone x l) (rs ++ r ∷ []) q v) m.now_is
+          (subst (λ (y : ℕ). IsStrand (undone x l) (rs ++ r ∷ []) y (without_changes m.was)) same (dropped m.was (h.strands x m.was m.was_is))))
+          (λ other is. as_it_was q s other (h.strands q s is));
+      transactions = λ t xs is. strands_changed l (undone x l) rs r keeps ending
+          (λ q some. put_cases IsSome x q (option_map without_changes (l.strand x)) l.strand (λ same. some_of without_changes (l.strand x) has) (λ other. some))
+          t xs (h.transactions t xs is);
+      complete = λ q named running. put_cases IsSome x q (option_map without_changes (l.strand x)) l.strand (λ same. some_of without_changes (l.strand x) has)
+          (λ other. h.complete q (was_named rs r x q (naming q) other named) (sym (ended_same rs r keeps ending q) ∙ running));
+      rising = subst (λ (es : List Entry). IsRising es) (sym (entries_push rs r ∙ ap (λ es. entries rs ++ es) none ∙ append-nil (entries rs))) h.rising;
+    }
+  where
+    chain_same : (q : ℕ) → chain (rs ++ r ∷ []) q ≡ chain rs q
+    chain_same q = chain-append rs r q ∙ keeps (chain rs) q
+
+    dropped : (s : StrandState) → IsStrand l rs x s → IsStrand (undone x l) (rs ++ r ∷ []) x (without_changes s)
+    dropped s o = record {
+      chain = chain_same x ∙ o.chain;
+      undone = sym (is_undone-one rs r x ∙ ap (λ b. is_undone rs x || b) (undoing x ∙ eq-eqb x x refl) ∙ or_true (is_undone rs x) true refl);
+      changes = λ live. let never : true ≡ false = live in cc;
+      freed = λ undone. refl;
+      members = o.members;
+      members_are = o.members_are;
+      within = o.within;
+    }
+
+    as_it_was : (q : ℕ) (s : StrandState) → (x == q) ≡ false → IsStrand l rs q s → IsStrand (undone x l) (rs ++ r ∷ []) q s
+    as_it_was q s other o = record {
+      chain = chain_same q ∙ o.chain;
+      undone = o.undone ∙ sym (is_undone-one rs r q ∙ ap (λ b. is_undone rs q || b) (undoing q ∙ other) ∙ or_false (is_undone rs q));
+      freed = o.freed;
+      changes = λ live. o.changes live ∙ sym (changes_push rs r q ∙ ap (λ es. changes_of rs q ++ filter (λ f. f.number == q) es) none ∙ append-nil (changes_of rs q));
+      members = o.members;
+      members_are = o.members_are;
+      within = o.within;
+    }
+
+-- AN END
+
+pub top_of_member : (l : ByNumber) (rs : List Record) (t q : ℕ) → IsKept l rs → is_in q (all_in (l.members t)) ≡ true → top_of rs q ≡ t
+top_of_member l rs t q h inn = by_option (l.members t) refl inn
+  where
+    by_option : (o : Option (List ℕ)) → l.members t ≡ o → is_in q (all_in o) ≡ true → top_of rs q ≡ t
+    by_option None is inn' = let never : false ≡ true = inn' in cc
+    by_option (Some xs) is inn' = let o : IsTransaction l rs t xs = h.transactions t xs is in o.tops q inn'
+
+not_member : (l : ByNumber) (rs : List Record) (t q : ℕ) → IsKept l rs → (t == top_of rs q) ≡ false → is_in q (all_in (l.members t)) ≡ false
+not_member l rs t q h other = by_test (is_in q (all_in (l.members t))) refl
+  where
+    by_test : (b : Bool) → is_in q (all_in (l.members t)) ≡ b → b ≡ false
+    by_test true inn = let never : true ≡ false = sym (eq-eqb t (top_of rs q) (sym (top_of_member l rs t q h inn))) ∙ other in cc
+    by_test false out = refl
+
+pub end_kept : (l : ByNumber) (rs : List Record) (r : Record) (t : ℕ) → IsKept l rs → is_assigned rs t ≡ false →
+    KeepsChains r.body → ((y : ℕ) → undoes y r.body ≡ false) → ((y : ℕ) → ends y r.body ≡ (t == y)) → ((y : ℕ) → names y r.body ≡ (y == t)) →
+    entry_at r.start r.body ≡ [] → IsKept (ended t l) (rs ++ r ∷ [])
+end_kept l rs r t h alone keeps undoing ending naming none =
+    record {
+      strands = λ q s is. strand q s (is_in q (all_in (l.members t))) refl is;
+      transactions = λ t' xs. put_cases (λ o. o ≡ Some xs → IsTransaction (ended t l) (rs ++ r ∷ []) t' xs) t t' None l.members
+          (λ same is. let never : None ≡ Some xs = is in cc) (λ other is. transaction t' xs other (h.transactions t' xs is));
+      complete = λ q named running.
+          let both : (has_ended rs (top_of rs q) || (t == top_of rs q)) ≡ false = sym (ap (has_ended (rs ++ r ∷ [])) (top_same rs r keeps q) ∙ has_ended-one rs r (top_of rs q)
+          ∙ ap (λ b. has_ended rs (top_of rs q) || b) (ending (top_of rs q))) ∙ running in
+          let apart : (t == top_of rs q) ≡ false = or_right (has_ended rs (top_of rs q)) (t == top_of rs q) both in
+          stays q (not_member l rs t q h apart) (h.complete q (was_named rs r t q (naming q) (not_top q apart) named) (or_left (has_ended rs (top_of rs q)) (t == top_of rs q) both));
+      rising = subst (λ (es : List Entry). IsRising es) (sym (entries_push rs r ∙ ap (λ es. entries rs ++ es) none ∙ append-nil (entries rs))) h.rising;
+    }
+  where
+    stays : (q : ℕ) → is_in q (all_in (l.members t)) ≡ false → IsSome (l.strand q) → IsSome ((ended t l).strand q)
+    stays q out some = rw out some
+
+    not_top : (q : ℕ) → (t == top_of rs q) ≡ false → (t == q) ≡ false
+    not_top q apart = ne_eqb t q (λ is. let never : true ≡ false = sym (eq-eqb t (top_of rs t) (sym (ap (last_of t) (chain-unassigned rs t alone)))) ∙ ap (λ y. t == top_of rs y) is ∙ apart in cc)
+
+    strand : (q : ℕ) (s : StrandState) (b : Bool) → is_in q (all_in (l.members t)) ≡ b → cond b None (l.strand q) ≡ Some s → IsStrand (ended t l) (rs ++ r ∷ []) q s
+    strand q s true inn is = let never : None ≡ Some s = is in cc
+    strand q s false out is =
+        let o : IsStrand l rs q s = h.strands q s is in
+        record {
+          chain = chain-append rs r q ∙ keeps (chain rs) q ∙ o.chain;
+          undone = o.undone ∙ sym (is_undone-one rs r q ∙ ap (λ b. is_undone rs q || b) (undoing q) ∙ or_false (is_undone rs q));
+          freed = o.freed;
+          changes = λ live. o.changes live ∙ sym (changes_push rs r q ∙ ap (λ es. changes_of rs q ++ filter (λ f. f.number == q) es) none ∙ append-nil (changes_of rs q));
+          members = o.members;
+          members_are = put_cases (λ m. m ≡ Some o.members) t (last_of q s.above) None l.members
+              (λ same. let never : true ≡ false = sym (ap (λ m. is_in q (all_in m)) (ap l.members same ∙ o.members_are) ∙ o.within.0) ∙ out in cc) (λ other. o.members_are);
+          within = o.within;
+        }
+
+    transaction : (t' : ℕ) (xs : List ℕ) → (t == t') ≡ false → IsTransaction l rs t' xs → IsTransaction (ended t l) (rs ++ r ∷ []) t' xs
+    transaction t' xs other o = record {
+      running = has_ended-one rs r t' ∙ ap (λ b. has_ended rs t' || b) (ending t' ∙ other) ∙ or_false (has_ended rs t') ∙ o.running;
+      own = o.own;
+      distinct = o.distinct;
+      strands = λ q inn. stays q (not_member l rs t q h (ap (λ y. t == y) (o.tops q inn) ∙ other)) (o.strands q inn);
+      tops = λ q inn. top_same rs r keeps q ∙ o.tops q inn;
+    }

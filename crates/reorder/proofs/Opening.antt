@@ -1,0 +1,142 @@
+-- What is kept, with a number more.
+use Rattle.std.proofs.Common.{◌≡◌, ℕ, ◌==◌, Bool, true, false, cond, ◌||◌, List, [], ◌∷◌, ◌++◌, Option, Some, None, is_some, refl, sym, ap, subst, ◌∙◌, eq-eqb}
+use Rattle.std.specs.Prelude.{IsSome}
+use Rattle.std.specs.List.{AllByRecursion}
+use Rattle.std.proofs.lemmas.Bool.{eqb-true}
+use Rattle.txlog.specs.declared.record.Record.{Record}
+use Rattle.txlog.specs.Log.{Entry, IsOpen, is_named, is_undone, has_ended, chain, last_of, top_of}
+use Rattle.txlog.proofs.Laws.{chain-unassigned}
+use Rattle.reorder.specs.Strands.{StrandState, StrandsState, ByNumber, by_number, IsSame, put, fresh, is_in, started, AreDistinct}
+use Rattle.reorder.specs.Taking.{IsStrand, IsTransaction, IsKept, changes_of}
+use Rattle.reorder.proofs.Named.{unassigned, not_undone, no_changes}
+
+pub put_cases : {A : Type 0} (P : Option A → Type 0) (k x : ℕ) (w : Option A) (f : ℕ → Option A) → (k ≡ x → P w) → ((k == x) ≡ false → P (f x)) → P (put k w f x)
+put_cases P k x w f here other = by_test (k == x) refl
+  where
+    by_test : (b : Bool) → (k == x) ≡ b → P (cond b w (f x))
+    by_test true is = here (eqb-true k x is)
+    by_test false is = other is
+
+pub put_here : {A : Type 0} (k : ℕ) (w : Option A) (f : ℕ → Option A) → put k w f k ≡ w
+put_here k w f = rw (eq-eqb k k refl) refl
+
+pub no_some : {A : Type 0} (o : Option A) → o ≡ None → IsSome o → ⊥
+no_some o none some = let never : false ≡ true = sym (ap is_some none) ∙ some in cc
+
+pub in_one : (y x : ℕ) → is_in y (x ∷ []) ≡ true → x ≡ y
+in_one y x is = by_test (y == x) refl is
+  where
+    by_test : (b : Bool) → (y == x) ≡ b → (b || false) ≡ true → x ≡ y
+    by_test true same one = sym (eqb-true y x same)
+    by_test false other one = let never : false ≡ true = one in cc
+
+pub one_in : (x : ℕ) (xs : List ℕ) → is_in x (x ∷ xs) ≡ true
+one_in x xs = rw (eq-eqb x x refl) refl
+
+-- a number without a strand that is open is named nowhere
+pub strandless : (l : ByNumber) (rs : List Record) (x : ℕ) → IsKept l rs → IsOpen rs x → l.strand x ≡ None → is_named rs x ≡ false
+strandless l rs x h alive none = by_test (is_named rs x) refl
+  where
+    by_test : (b : Bool) → is_named rs x ≡ b → b ≡ false
+    by_test true named = absurd (no_some (l.strand x) none (h.complete x named alive.running))
+    by_test false named = refl
+
+no_members : (l : ByNumber) (rs : List Record) (x : ℕ) → IsKept l rs → l.strand x ≡ None → l.members x ≡ None
+no_members l rs x h none = by_option (l.members x) refl
+  where
+    by_option : (o : Option (List ℕ)) → l.members x ≡ o → o ≡ None
+    by_option None is = refl
+    by_option (Some xs) is = let t : IsTransaction l rs x xs = h.transactions x xs is in absurd (no_some (l.strand x) none (t.strands x t.own))
+
+start_kept : (l : ByNumber) (rs : List Record) (x : ℕ) → IsKept l rs → IsOpen rs x → l.strand x ≡ None → IsKept (started x l) rs
+start_kept l rs x h alive none =
+    record {
+      strands = λ q s. put_cases (λ o. o ≡ Some s → IsStrand (started x l) rs q s) x q (Some (fresh [])) l.strand
+          (λ same is. let e : fresh [] ≡ s = cc in subst (λ (v : StrandState). IsStrand (started x l) rs q v) e (subst (λ (y : ℕ). IsStrand (started x l) rs y (fresh [])) same new_strand))
+          (λ other is. old_strand q s (h.strands q s is));
+      transactions = λ t xs. put_cases (λ o. o ≡ Some xs → IsTransaction (started x l) rs t xs) x t (Some (x ∷ [])) l.members
+          (λ same is. let e : x ∷ [] ≡ xs = cc in subst (λ (v : List ℕ). IsTransaction (started x l) rs t v) e (subst (λ (y : ℕ). IsTransaction (started x l) rs y (x ∷ [])) same new_transaction))
+          (λ other is. old_transaction t xs (h.transactions t xs is));
+      complete = λ q named running. put_cases IsSome x q (Some (fresh [])) l.strand (λ same. refl) (λ other. h.complete q named running);
+      rising = h.rising;
+    }
+  where
+    unheard : is_named rs x ≡ false
+    unheard = strandless l rs x h alive none
+
+    alone : chain rs x ≡ x ∷ []
+    alone = chain-unassigned rs x (unassigned rs x unheard)
+
+    new_strand : IsStrand (started x l) rs x (fresh [])
+    new_strand = record {
+      chain = alone;
+      undone = sym (not_undone rs x unheard);
+      changes = λ live. sym (no_changes rs x unheard);
+      freed = λ undone. refl;
+      members = x ∷ [];
+      members_are = put_here x (Some (x ∷ [])) l.members;
+      within = (one_in x [], tt);
+    }
+
+    old_strand : (q : ℕ) (s : StrandState) → IsStrand l rs q s → IsStrand (started x l) rs q s
+    old_strand q s o = record {
+      chain = o.chain;
+      undone = o.undone;
+      changes = o.changes;
+      freed = o.freed;
+      members = o.members;
+      members_are = put_cases (λ m. m ≡ Some o.members) x (last_of q s.above) (Some (x ∷ [])) l.members
+          (λ same. let never : None ≡ Some o.members = sym (no_members l rs x h none) ∙ ap l.members same ∙ o.members_are in cc) (λ other. o.members_are);
+      within = o.within;
+    }
+
+    new_transaction : IsTransaction (started x l) rs x (x ∷ [])
+    new_transaction = record {
+      running = ap (has_ended rs) (sym (ap (last_of x) alone)) ∙ alive.running;
+      own = one_in x [];
+      distinct = (refl, tt);
+      strands = λ q inn. subst (λ (y : ℕ). IsSome ((started x l).strand y)) (in_one q x inn) (ap is_some (put_here x (Some (fresh [])) l.strand));
+      tops = λ q inn. subst (λ (y : ℕ). top_of rs y ≡ x) (in_one q x inn) (ap (last_of x) alone);
+    }
+
+    old_transaction : (t : ℕ) (xs : List ℕ) → IsTransaction l rs t xs → IsTransaction (started x l) rs t xs
+    old_transaction t xs o = record {
+      running = o.running;
+      own = o.own;
+      distinct = o.distinct;
+      strands = λ q inn. put_cases IsSome x q (Some (fresh [])) l.strand (λ same. refl) (λ other. o.strands q inn);
+      tops = o.tops;
+    }
+
+pub same_kept : (a b : ByNumber) (rs : List Record) → IsSame a b → IsKept b rs → IsKept a rs
+same_kept a b rs same h =
+    record {
+      strands = λ q s is. let o : IsStrand b rs q s = h.strands q s (sym (same.strand q) ∙ is) in
+          record { chain = o.chain; undone = o.undone; changes = o.changes; freed = o.freed; members = o.members; members_are = same.members (last_of q s.above) ∙ o.members_are; within = o.within };
+      transactions = λ t xs is. let o : IsTransaction b rs t xs = h.transactions t xs (sym (same.members t) ∙ is) in
+          record { running = o.running; own = o.own; distinct = o.distinct; strands = λ q inn. ap is_some (same.strand q) ∙ o.strands q inn; tops = o.tops };
+      complete = λ q named running. ap is_some (same.strand q) ∙ h.complete q named running;
+      rising = h.rising;
+    }
+
+-- after `open` the number has a strand, the rest is as it was, and what is kept is what these records say
+pub record Opened (a l : ByNumber) (rs : List Record) (x : ℕ) : Type 0 where
+  pub kept : IsKept a rs
+  pub some : IsSome (a.strand x)
+  pub others : (q : ℕ) → (x == q) ≡ false → a.strand q ≡ l.strand q
+
+pub opened : (s now : StrandsState) (rs : List Record) (x : ℕ) → IsKept (by_number s) rs → IsOpen rs x → (IsSome ((by_number s).strand x) → now ≡ s) →
+    ((by_number s).strand x ≡ None → IsSame (by_number now) (started x (by_number s))) → Opened (by_number now) (by_number s) rs x
+opened s now rs x h alive known new = by_option ((by_number s).strand x) refl
+  where
+    by_option : (o : Option StrandState) → (by_number s).strand x ≡ o → Opened (by_number now) (by_number s) rs x
+    by_option None is =
+        let same : IsSame (by_number now) (started x (by_number s)) = new is in
+        record {
+          kept = same_kept (by_number now) (started x (by_number s)) rs same (start_kept (by_number s) rs x h alive is);
+          some = ap is_some (same.strand x ∙ put_here x (Some (fresh [])) (by_number s).strand);
+          others = λ q other. same.strand q ∙ rw other refl;
+        }
+    by_option (Some v) is =
+        let some : IsSome ((by_number s).strand x) = ap is_some is in
+        subst (λ (t : StrandsState). Opened (by_number t) (by_number s) rs x) (sym (known some)) (record { kept = h; some = some; others = λ q other. refl })

@@ -1,0 +1,8 @@
+use Rattle.std.proofs.Common.{◌≡◌, ℕ, nat_eq, None, cond, take}
+use Rattle.std.specs.HashMap.{get}
+use Rattle.reorder.specs.Strands.{is_in}
+use Rattle.reorder.proofs.strands.remove_all.Given as goal
+
+-- the numbers so far are gone
+abbrev pub invariant-loop-number : goal.invariant-loop-number
+invariant-loop-number l = (x : ℕ) → get nat_eq l.strands x ≡ cond (is_in x (take l.number-index l.numbers)) None (get nat_eq l.fn.strands x)

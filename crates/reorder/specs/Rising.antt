@@ -1,0 +1,9 @@
+-- Changes in the order of their positions.
+use Rattle.std.specs.Prelude.{◌<◌, List, [], ◌∷◌}
+use Rattle.std.specs.List.{AllByRecursion}
+use Rattle.txlog.specs.Log.{Entry}
+
+-- each starts behind all before it
+abbrev pub IsRising : List Entry → Type 0
+IsRising [] = Unit {0}
+IsRising (e ∷ es) = AllByRecursion (λ f. e.position < f.position) es × IsRising es

@@ -1,0 +1,98 @@
+-- What is kept between two records, number by number, and what each record does to it.
+use Rattle.std.specs.Prelude.{◌≡◌, ℕ, ◌==◌, Bool, true, false, ◌||◌, List, [], ◌∷◌, ◌++◌, Option, Some, None, if◌then◌else◌}
+use Rattle.std.specs.List.{list_any, flat_map}
+use Rattle.std.specs.Map.{lookup}
+use Rattle.std.specs.Option.{option_map}
+use Rattle.txlog.specs.Log.{Entry, last_of}
+
+-- of a number: those above it, from its parent to its transaction, whether it is rolled back, and if not, its changes
+pub record StrandState : Type 0 where
+  pub above : List ℕ
+  pub undone : Bool
+  pub changes : List Entry
+
+-- the strands by their numbers, and the numbers of each transaction
+pub record StrandsState : Type 0 where
+  pub strands : List (ℕ × StrandState)
+  pub members : List (ℕ × List ℕ)
+
+-- the same as functions of a number
+pub record ByNumber : Type 0 where
+  pub strand : ℕ → Option StrandState
+  pub members : ℕ → Option (List ℕ)
+
+abbrev pub by_number : StrandsState → ByNumber
+by_number s = record { strand = λ x. lookup (λ k. x == k) s.strands; members = λ t. lookup (λ k. t == k) s.members }
+
+pub record IsSame (a b : ByNumber) : Type 0 where
+  pub strand : (x : ℕ) → a.strand x ≡ b.strand x
+  pub members : (t : ℕ) → a.members t ≡ b.members t
+
+abbrev pub put : {A : Type 0} → ℕ → Option A → (ℕ → Option A) → ℕ → Option A
+put k w f x = if k == x then w else f x
+
+abbrev pub fresh : List ℕ → StrandState
+fresh above = record { above = above; undone = false; changes = [] }
+
+abbrev pub above_in : Option StrandState → List ℕ
+above_in None = []
+above_in (Some s) = s.above
+
+abbrev pub undone_in : Option StrandState → Bool
+undone_in None = false
+undone_in (Some s) = s.undone
+
+abbrev pub all_in : Option (List ℕ) → List ℕ
+all_in None = []
+all_in (Some xs) = xs
+
+abbrev pub is_in : ℕ → List ℕ → Bool
+is_in x xs = list_any (λ y. x == y) xs
+
+-- a transaction of its own
+abbrev pub started : ℕ → ByNumber → ByNumber
+started x l = record { strand = put x (Some (fresh [])) l.strand; members = put x (Some (x ∷ [])) l.members }
+
+abbrev pub above_of : ByNumber → ℕ → List ℕ
+above_of l x = above_in (l.strand x)
+
+abbrev pub with_member : ℕ → List ℕ → List ℕ
+with_member sub xs = xs ++ sub ∷ []
+
+abbrev pub assigned : ℕ → ℕ → ByNumber → ByNumber
+assigned sub parent l = record {
+  strand = put sub (Some (fresh (parent ∷ above_of l parent))) l.strand;
+  members = put (last_of parent (above_of l parent)) (option_map (with_member sub) (l.members (last_of parent (above_of l parent)))) l.members;
+}
+
+abbrev pub with_change : Entry → StrandState → StrandState
+with_change e s = record s { changes = s.changes ++ e ∷ [] }
+
+abbrev pub without_changes : StrandState → StrandState
+without_changes s = record s { undone = true; changes = [] }
+
+abbrev pub pushed : ℕ → Entry → ByNumber → ByNumber
+pushed x e l = record l { strand = put x (option_map (with_change e) (l.strand x)) l.strand }
+
+abbrev pub undone : ℕ → ByNumber → ByNumber
+undone x l = record l { strand = put x (option_map without_changes (l.strand x)) l.strand }
+
+abbrev pub ended : ℕ → ByNumber → ByNumber
+ended t l = record {
+  strand = λ x. if is_in x (all_in (l.members t)) then None else l.strand x;
+  members = put t None l.members;
+}
+
+-- the changes of a number that neither itself nor one above it is rolled back
+abbrev pub kept_in : (ℕ → Option StrandState) → Option StrandState → List Entry
+kept_in strand None = []
+kept_in strand (Some s) = if s.undone || list_any (λ y. undone_in (strand y)) s.above then [] else s.changes
+
+-- the changes that a transaction keeps, number after number
+abbrev pub joined : ByNumber → ℕ → List Entry
+joined l t = flat_map (λ x. kept_in l.strand (l.strand x)) (all_in (l.members t))
+
+-- no number stands twice
+abbrev pub AreDistinct : List ℕ → Type 0
+AreDistinct [] = Unit {0}
+AreDistinct (x ∷ xs) = (is_in x xs ≡ false) × AreDistinct xs

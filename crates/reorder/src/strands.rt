@@ -1,0 +1,216 @@
+//! What is kept of each number, and which numbers each transaction has.
+
+ghost use Rattle.std.specs.Prelude.{◌≡◌, ℕ, ◌==◌, [], ◌∷◌, ◌++◌, Some, None, IsSome, IfOk, OnOk, nat_eq, if◌then◌else◌, ◌||◌};
+ghost use Rattle.std.specs.HashMap.{get};
+ghost use Rattle.std.specs.List.{flat_map, list_any};
+ghost use Rattle.std.specs.Option.{option_map};
+ghost use Rattle.std.specs.List.Sorted.{IsNonDecreasingBy, IsStableByKey};
+ghost use Rattle.std.specs.Ordering.{nat_cmp};
+ghost use Rattle.txlog.specs.Log.{last_of};
+ghost use Rattle.reorder.specs.Strands.{IsSame, above_in, above_of, all_in, assigned, ended, is_in, joined, kept_in, by_number, pushed, put, started, undone, undone_in, with_member, without_changes};
+
+use crate::members::Members;
+use crate::ready::Kept;
+use crate::strand::Strand;
+use std::alloc::{AllocError, Global};
+use std::collections::HashMap;
+use std::marker::Model;
+
+/// The strands of all numbers of the transactions in progress.
+#[derive(Debug, Drop)]
+pub(crate) struct Strands {
+    strands: HashMap<u32, Strand>,
+    members: HashMap<u32, Members>,
+}
+
+impl Model for Strands {
+    ghost use Rattle.reorder.specs.Strands.{StrandsState};
+
+    ghost Value = { StrandsState };
+
+    ghost view = { λ s. record { strands = s.strands.entries; members = s.members.entries } };
+}
+
+impl Strands {
+    pub(crate) fn new(alloc: Global) -> Self
+        ensures { result ≡ record { strands = []; members = [] } }
+    {
+        Strands {
+            strands: HashMap::new(alloc),
+            members: HashMap::new(alloc),
+        }
+    }
+
+    /// Makes the number a transaction, unless it has a strand.
+    pub(crate) fn open(&mut self, alloc: Global, number: u32) -> Result<(), AllocError>
+        ensures known { OnOk result (IsSome ((by_number self.old).strand number) → self.new ≡ self.old) }
+        ensures fresh { OnOk result ((by_number self.old).strand number ≡ None → IsSame (by_number self.new) (started number (by_number self.old))) }
+    {
+        if self.strands.contains_key(&number) {
+            return Ok(());
+        }
+        self.start(alloc, number)
+    }
+
+    fn start(&mut self, alloc: Global, number: u32) -> Result<(), AllocError>
+        ensures { OnOk result (IsSame (by_number self.new) (started number (by_number self.old))) }
+    {
+        let members = Members::of(alloc, number)?;
+        self.members.insert(number, members)?;
+        let strand = Strand::under(alloc, Vec::new(alloc));
+        self.strands.insert(number, strand)?;
+        Ok(())
+    }
+
+    /// Adds a change to the strand of a number that has one.
+    pub(crate) fn push(&mut self, number: u32, kept: Kept) -> Result<(), AllocError>
+        ensures { OnOk result (IsSame (by_number self.new) (pushed number kept (by_number self.old))) }
+    {
+        if let Some(strand) = self.strands.get_mut(&number) {
+            strand.push(kept)?;
+        }
+        Ok(())
+    }
+
+    /// Rolls back a number that has a strand.
+    pub(crate) fn undo(&mut self, alloc: Global, number: u32)
+        ensures { IsSame (by_number self.new) (undone number (by_number self.old)) }
+    {
+        undo_at(&mut self.strands, alloc, number);
+    }
+
+    /// Puts a number without a strand under another that has one.
+    pub(crate) fn assign(&mut self, alloc: Global, sub: u32, parent: u32) -> Result<(), AllocError>
+        ensures { OnOk result (IsSame (by_number self.new) (assigned sub parent (by_number self.old))) }
+    {
+        let above = self.chain(alloc, parent)?;
+        let top = last_or(parent, above.as_slice());
+        add_member(&mut self.members, top, sub)?;
+        let strand = Strand::under(alloc, above);
+        self.strands.insert(sub, strand)?;
+        Ok(())
+    }
+
+    /// The number, and those above it up to its transaction.
+    fn chain(&self, alloc: Global, number: u32) -> Result<Vec<u32>, AllocError>
+        ensures { IfOk result (λ v. v.items ≡ number ∷ above_of (by_number self.now) number) }
+    {
+        let mut chain = Vec::new(alloc);
+        chain.push(number)?;
+        if let Some(strand) = self.strands.get(&number) {
+            chain.extend_from_slice(strand.above())?;
+        }
+        Ok(chain)
+    }
+
+    /// Gives up all numbers of a transaction.
+    pub(crate) fn end(&mut self, top: u32)
+        ensures { IsSame (by_number self.new) (ended top (by_number self.old)) }
+    {
+        if let Some(members) = self.members.remove(&top) {
+            remove_all(&mut self.strands, members.as_slice());
+        }
+    }
+
+    /// The changes that a transaction keeps, in the order of their positions.
+    pub(crate) fn kept(&self, alloc: Global, top: u32) -> Result<Vec<Kept>, AllocError>
+        ensures rising { IfOk result (λ v. IsNonDecreasingBy (λ e. e.position) v.items) }
+        ensures same { IfOk result (λ v. IsStableByKey (λ e. e.position) nat_cmp (joined (by_number self.now) top) v.items) }
+    {
+        let mut changes = self.joined(alloc, top)?;
+        changes.sort_by_key(|kept| kept.position())?;
+        Ok(changes)
+    }
+
+    fn joined(&self, alloc: Global, top: u32) -> Result<Vec<Kept>, AllocError>
+        ensures { IfOk result (λ v. v.items ≡ joined (by_number self.now) top) }
+    {
+        match self.members.get(&top) {
+            Some(members) => {
+                let joined = joined_changes(alloc, &self.strands, members.as_slice())?;
+                Ok(joined)
+            }
+            None => Ok(Vec::new(alloc)),
+        }
+    }
+}
+
+/// The last of these numbers, or the number where there is none.
+fn last_or(number: u32, numbers: &[u32]) -> u32
+    ensures { result ≡ last_of number numbers.now }
+{
+    match numbers {
+        [] => number,
+        [.., last] => *last,
+    }
+}
+
+fn undo_at(strands: &mut HashMap<u32, Strand>, alloc: Global, number: u32)
+    ensures { (x : ℕ) → get nat_eq strands.new x ≡ put number (option_map without_changes (get nat_eq strands.old number)) (get nat_eq strands.old) x }
+{
+    if let Some(strand) = strands.get_mut(&number) {
+        strand.undo(alloc);
+    }
+}
+
+fn add_member(members: &mut HashMap<u32, Members>, top: u32, sub: u32) -> Result<(), AllocError>
+    ensures { OnOk result ((t : ℕ) → get nat_eq members.new t ≡ put top (option_map (with_member sub) (get nat_eq members.old top)) (get nat_eq members.old) t) }
+{
+    if let Some(numbers) = members.get_mut(&top) {
+        numbers.push(sub)?;
+    }
+    Ok(())
+}
+
+fn remove_all(strands: &mut HashMap<u32, Strand>, numbers: &[u32])
+    ensures { (x : ℕ) → get nat_eq strands.new x ≡ (if is_in x numbers.now then None else get nat_eq strands.old x) }
+{
+    for number in numbers {
+        strands.remove(number);
+    }
+}
+
+/// Whether the strand is rolled back, or one above it is.
+fn is_dropped(strands: &HashMap<u32, Strand>, strand: &Strand) -> bool
+    ensures { result ≡ (strand.now.undone || list_any (λ y. undone_in (get nat_eq strands.now y)) strand.now.above) }
+{
+    if strand.is_undone() {
+        return true;
+    }
+    for number in strand.above() {
+        if let Some(above) = strands.get(number) {
+            if above.is_undone() {
+                return true;
+            }
+        }
+    }
+    false
+}
+
+/// The changes that these numbers keep, number after number.
+fn joined_changes(
+    alloc: Global,
+    strands: &HashMap<u32, Strand>,
+    numbers: &[u32],
+) -> Result<Vec<Kept>, AllocError>
+    ensures { IfOk result (λ v. v.items ≡ flat_map (λ x. kept_in (get nat_eq strands.now) (get nat_eq strands.now x)) numbers.now) }
+{
+    let mut joined = Vec::new(alloc);
+    for number in numbers {
+        if let Some(strand) = strands.get(number) {
+            if !is_dropped(strands, strand) {
+                add_copies(&mut joined, strand.changes())?;
+            }
+        }
+    }
+    Ok(joined)
+}
+
+fn add_copies(joined: &mut Vec<Kept>, changes: &[Kept]) -> Result<(), AllocError>
+    ensures { OnOk result (joined.new.items ≡ joined.old.items ++ changes.now) }
+{
+    for kept in changes {
+        joined.push(kept.copy()?)?;
+    }
+    Ok(())
+}
