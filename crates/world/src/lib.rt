@@ -2,11 +2,22 @@
 #![tactic(auto)]
 
 mod answer;
+mod codes;
 mod config;
 mod event;
 mod fault;
+mod fields;
+mod literals;
+mod parse;
+mod report;
+mod schedule;
+mod simulation;
+mod stub_world;
 
 pub use answer::{Answer, SlotFault};
 pub use config::Config;
 pub use event::{Event, Literal};
 pub use fault::WorldFault;
+pub use schedule::{LineFault, Schedule};
+pub use simulation::{SimFault, simulate};
+pub use stub_world::{Started, World};

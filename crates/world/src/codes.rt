@@ -1,0 +1,21 @@
+//! The codes by which refusals are printed.
+
+use crate::answer::{Answer, SlotFault};
+use publication::PubFault;
+use sender::SendFault;
+
+impl Answer {
+    /// The refusal's code, or none where the event was done.
+    pub fn code(&self) -> Option<&'static str> {
+        match self {
+            Answer::Done => None,
+            Answer::Session(fault) => Some(fault.code()),
+            Answer::Slot(SlotFault::Missing) => Some("L1"),
+            Answer::Publication(PubFault::Unknown) => Some("P1"),
+            Answer::Publication(PubFault::Memory) => Some("P7"),
+            Answer::Sender(SendFault::Memory) => Some("G2"),
+            Answer::Sender(SendFault::Failed) => Some("G3"),
+            Answer::Sender(SendFault::Gap) => Some("G4"),
+        }
+    }
+}
