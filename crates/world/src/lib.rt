@@ -21,3 +21,6 @@ pub use fault::WorldFault;
 pub use schedule::{LineFault, Schedule};
 pub use simulation::{SimFault, simulate};
 pub use stub_world::{Started, World};
+
+#[cfg(test)]
+mod script_tests;

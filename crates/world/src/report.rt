@@ -20,7 +20,11 @@ pub(crate) fn write_report<W: Write>(
     output.flush()
 }
 
-fn write_refusals<W: Write>(output: &mut W, lines: &[usize], answers: &[Answer]) -> io::Result<()> {
+pub(crate) fn write_refusals<W: Write>(
+    output: &mut W,
+    lines: &[usize],
+    answers: &[Answer],
+) -> io::Result<()> {
     for (line, answer) in lines.iter().zip(answers) {
         if let Some(code) = answer.code() {
             writeln!(output, "{line} {code}")?;
@@ -29,7 +33,11 @@ fn write_refusals<W: Write>(output: &mut W, lines: &[usize], answers: &[Answer])
     Ok(())
 }
 
-fn write_stream<W: Write>(output: &mut W, name: &str, produced: &[u8]) -> io::Result<()> {
+pub(crate) fn write_stream<W: Write>(
+    output: &mut W,
+    name: &str,
+    produced: &[u8],
+) -> io::Result<()> {
     write!(output, "{name}:")?;
     for byte in produced {
         write!(output, "{byte:02x}")?;
