@@ -19,7 +19,7 @@ pub enum SimFault {
     NotUtf8,
     #[error("{0}")]
     Line(LineFault),
-    #[error("{0}")]
+    #[error("the schedule does not run: {0}")]
     World(WorldFault),
     #[error("the report cannot be written: {0}")]
     Write(io::Error),
