@@ -1,6 +1,6 @@
 //! Schedules: texts of one event a line.
 
-ghost use Rattle.std.specs.Prelude.{◌≡◌};
+ghost use Rattle.std.specs.Prelude.{◌≡◌, length, vec_len};
 
 use crate::event::Event;
 use crate::fault::WorldFault;
@@ -12,6 +12,7 @@ use thiserror::Error;
 pub struct Schedule {
     events: Vec<Event>,
     lines: Vec<usize>,
+    ghost paired: { vec_len events ≡ vec_len lines },
 }
 
 /// The line of a schedule that was not read, and why.
@@ -43,8 +44,9 @@ impl Schedule {
 
     fn add(&mut self, alloc: Global, line: usize, content: &str) -> Result<(), WorldFault> {
         let event = Event::parse(alloc, content)?;
-        self.lines.push(line)?;
+        self.lines.reserve(1)?;
         self.events.push(event)?;
+        self.lines.push(line).unwrap();
         Ok(())
     }
 
@@ -54,8 +56,10 @@ impl Schedule {
         self.events.as_slice()
     }
 
+    /// The numbers of the lines, one for each event.
     pub fn lines(&self) -> &[usize]
-        ensures { result.now ≡ self.now.lines.items }
+        ensures value { result.now ≡ self.now.lines.items }
+        ensures paired { length result.now ≡ length self.now.events.items }
     {
         self.lines.as_slice()
     }

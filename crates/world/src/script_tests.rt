@@ -200,12 +200,14 @@ fn reports_refusals_and_streams(rt: HostRuntime) -> Result<(), Fail> {
         Answer::Publication(PubFault::Unknown),
         Answer::Sender(SendFault::Memory),
         Answer::Sender(SendFault::Gap),
+        Answer::Publication(PubFault::Memory),
+        Answer::Sender(SendFault::Failed),
     ];
     let mut output = Vec::new(rt.alloc());
-    write_refusals(&mut output, &[1, 7, 8, 9, 12, 40], &answers)?;
+    write_refusals(&mut output, &[1, 7, 8, 9, 12, 40, 41, 42], &answers)?;
     write_stream(&mut output, "c", &[0, 0x6b, 0xff])?;
     write_stream(&mut output, "d", &[])?;
-    let wanted = b"7 S5\n8 L1\n9 P1\n12 G2\n40 G4\nc:006bff\nd:\n";
+    let wanted = b"7 S5\n8 L1\n9 P1\n12 G2\n40 G4\n41 P7\n42 G3\nc:006bff\nd:\n";
     assert_eq!(rt; output.as_slice(), wanted.as_slice());
     Ok(())
 }

@@ -1,5 +1,10 @@
 //! A run of a schedule from its text to its report.
 
+ghost use Rattle.std.specs.Prelude.{◌≡◌, ◌↔◌, Err, true};
+ghost use Rattle.world.specs.declared.fault.WorldFault.{WorldFault};
+ghost use Rattle.world.specs.declared.schedule.LineFault.{LineFault};
+ghost use Rattle.world.specs.declared.simulation.SimFault.{SimFault};
+
 use crate::config::Config;
 use crate::fault::WorldFault;
 use crate::report::write_report;
@@ -27,7 +32,11 @@ pub enum SimFault {
 
 impl SimFault {
     /// Whether the schedule itself is refused, and not for want of memory, a file or a place to print.
-    pub fn is_bad_schedule(&self) -> bool {
+    pub fn is_bad_schedule(&self) -> bool
+        ensures utf8 { self.now ≡ SimFault.NotUtf8 → result ≡ true }
+        ensures line { (f : LineFault) → self.now ≡ SimFault.Line f → (result ≡ true) ↔ (f.fault ≡ WorldFault.BadEvent) }
+        ensures world { (f : WorldFault) → self.now ≡ SimFault.World f → (result ≡ true) ↔ (f ≡ WorldFault.BadEvent) }
+    {
         match self {
             SimFault::NotUtf8 => true,
             SimFault::Line(line) => line.fault == WorldFault::BadEvent,
@@ -44,7 +53,11 @@ pub fn simulate<R: Read, W: Write>(
     config: Config,
     input: &mut R,
     output: &mut W,
-) -> Result<(), SimFault> {
+) -> Result<(), SimFault>
+    ensures utf8 { result ≡ Err SimFault.NotUtf8 → output.new ≡ output.old }
+    ensures line { (f : LineFault) → result ≡ Err (SimFault.Line f) → output.new ≡ output.old }
+    ensures world { (f : WorldFault) → result ≡ Err (SimFault.World f) → output.new ≡ output.old }
+{
     let text = read_schedule(alloc, input)?;
     let schedule = Schedule::parse(alloc, text.as_str()).map_err(SimFault::Line)?;
     let world = World::run(alloc, config, schedule.events()).map_err(SimFault::World)?;
