@@ -64,17 +64,13 @@ impl<'a> Fields<'a> {
         Ok(Text::copy_of(alloc, word)?)
     }
 
-    /// A number of records, bytes or savepoints, in decimal digits.
+    /// A number of records, of bytes or of a savepoint.
     pub(crate) fn count(&mut self) -> Result<u32, WorldFault> {
-        let word = self.word()?;
-        if word.starts_with('+') {
-            return Err(WorldFault::BadEvent);
-        }
-        word.parse::<u32>().map_err(|_| WorldFault::BadEvent)
+        u32::try_from(self.integer()?).map_err(|_| WorldFault::BadEvent)
     }
 
-    /// Microseconds since 2000-01-01, in decimal digits, with a minus before them for earlier times.
-    pub(crate) fn time(&mut self) -> Result<i64, WorldFault> {
+    /// A signed number in decimal digits, as of microseconds. Zeros before it are read, and a plus is not.
+    pub(crate) fn integer(&mut self) -> Result<i64, WorldFault> {
         let word = self.word()?;
         if word.starts_with('+') {
             return Err(WorldFault::BadEvent);

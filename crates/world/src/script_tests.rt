@@ -84,7 +84,7 @@ fn reads_each_sender_line(rt: HostRuntime) -> Result<(), Fail> {
         "keepalive c 09",
         Event::Keepalive(text(alloc, "c")?, 9),
     );
-    expect_event(&rt, alloc, "drain c 0", Event::Drain(text(alloc, "c")?, 0));
+    expect_event(&rt, alloc, "drain c -0", Event::Drain(text(alloc, "c")?, 0));
     expect_event(&rt, alloc, "cut c", Event::Cut(text(alloc, "c")?));
     Ok(())
 }
