@@ -1,0 +1,112 @@
+//! The fields of a script line, which single spaces separate.
+
+use crate::fault::WorldFault;
+use frames::{Items, Text};
+use std::alloc::Global;
+
+/// The longest name of a transaction or a connection, in letters and digits.
+const NAME_LIMIT: usize = 32;
+
+/// The most hexadecimal digits on a side of a position.
+const HALF_DIGITS: usize = 8;
+
+/// The fields of a line that are still to be read: none behind its last one.
+#[derive(Debug, Drop)]
+pub(crate) struct Fields<'a> {
+    rest: Option<&'a str>,
+}
+
+impl<'a> Fields<'a> {
+    pub(crate) fn new(line: &'a str) -> Self {
+        Fields { rest: Some(line) }
+    }
+
+    /// The text up to the next space. A field is never empty.
+    pub(crate) fn word(&mut self) -> Result<&'a str, WorldFault> {
+        let rest = self.remainder()?;
+        let word = match rest.split_once(' ') {
+            Some((word, behind)) => {
+                self.rest = Some(behind);
+                word
+            }
+            None => rest,
+        };
+        if word.is_empty() {
+            return Err(WorldFault::BadEvent);
+        }
+        Ok(word)
+    }
+
+    /// All that is left of the line, as its last field.
+    pub(crate) fn remainder(&mut self) -> Result<&'a str, WorldFault> {
+        self.rest.take().ok_or(WorldFault::BadEvent)
+    }
+
+    /// The line has no more fields.
+    pub(crate) fn end(&self) -> Result<(), WorldFault> {
+        match self.rest {
+            None => Ok(()),
+            Some(_) => Err(WorldFault::BadEvent),
+        }
+    }
+
+    /// Any text without a space.
+    pub(crate) fn text(&mut self, alloc: Global) -> Result<Text, WorldFault> {
+        Ok(Text::copy_of(alloc, self.word()?)?)
+    }
+
+    /// The name of a transaction or a connection.
+    pub(crate) fn name(&mut self, alloc: Global) -> Result<Text, WorldFault> {
+        let word = self.word()?;
+        if !is_name(word) {
+            return Err(WorldFault::BadEvent);
+        }
+        Ok(Text::copy_of(alloc, word)?)
+    }
+
+    /// A number of records, of bytes or of a savepoint.
+    pub(crate) fn count(&mut self) -> Result<u32, WorldFault> {
+        u32::try_from(self.integer()?).map_err(|_| WorldFault::BadEvent)
+    }
+
+    /// A signed number in decimal digits, as of microseconds. Zeros before it are read, and a plus is not.
+    pub(crate) fn integer(&mut self) -> Result<i64, WorldFault> {
+        let word = self.word()?;
+        if word.starts_with('+') {
+            return Err(WorldFault::BadEvent);
+        }
+        word.parse::<i64>().map_err(|_| WorldFault::BadEvent)
+    }
+
+    /// A position in the log, as in `16/B374D848`.
+    pub(crate) fn position(&mut self) -> Result<u64, WorldFault> {
+        let (upper, lower) = self.word()?.split_once('/').ok_or(WorldFault::BadEvent)?;
+        let upper = u64::from(half_of(upper)?);
+        let lower = u64::from(half_of(lower)?);
+        Ok(upper << 32 | lower)
+    }
+
+    /// Names of publications, which commas separate. None of them is empty.
+    pub(crate) fn publications(&mut self, alloc: Global) -> Result<Items<Text>, WorldFault> {
+        let mut names = Vec::new(alloc);
+        for name in self.word()?.split(',') {
+            if name.is_empty() {
+                return Err(WorldFault::BadEvent);
+            }
+            names.push(Text::copy_of(alloc, name)?)?;
+        }
+        Ok(Items::new(names))
+    }
+}
+
+fn is_name(word: &str) -> bool {
+    word.len() <= NAME_LIMIT && word.bytes().all(|b| b.is_ascii_alphanumeric())
+}
+
+/// The upper or lower 32 bits of a position, in hexadecimal digits of either case.
+fn half_of(digits: &str) -> Result<u32, WorldFault> {
+    if digits.len() > HALF_DIGITS || digits.starts_with('+') {
+        return Err(WorldFault::BadEvent);
+    }
+    u32::from_str_radix(digits, 16).map_err(|_| WorldFault::BadEvent)
+}

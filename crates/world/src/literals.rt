@@ -1,0 +1,90 @@
+//! The rows of a script: values in parentheses, which commas separate.
+
+use crate::event::Literal;
+use crate::fault::WorldFault;
+use frames::{Items, Text};
+use std::alloc::Global;
+
+/// The values of a row such as `(1,'ab',null)`. There are none in `()`.
+pub(crate) fn row_of(alloc: Global, text: &str) -> Result<Items<Literal>, WorldFault> {
+    let inner = text.strip_prefix('(').ok_or(WorldFault::BadEvent)?;
+    let mut values = Vec::new(alloc);
+    if inner == ")" {
+        return Ok(Items::new(values));
+    }
+    let mut rest = inner;
+    // A value and what ends it take a byte at least, so these turns read the whole row.
+    for _ in 0..inner.len() {
+        let (value, behind) = literal_of(alloc, rest)?;
+        values.push(value)?;
+        match behind {
+            Some(more) => rest = more,
+            None => return Ok(Items::new(values)),
+        }
+    }
+    Err(WorldFault::BadEvent)
+}
+
+/// The value that a text begins with, and the values behind it.
+fn literal_of(alloc: Global, text: &str) -> Result<(Literal, Option<&str>), WorldFault> {
+    if let Some(quoted) = text.strip_prefix('\'') {
+        let (content, behind) = quoted_text(alloc, quoted)?;
+        return Ok((Literal::Text(Text::new(content)), more_of(behind)?));
+    }
+    let end = text
+        .find(|c: char| c == ',' || c == ')')
+        .ok_or(WorldFault::BadEvent)?;
+    let (word, behind) = text.split_at_checked(end).ok_or(WorldFault::BadEvent)?;
+    Ok((word_of(word)?, more_of(behind)?))
+}
+
+/// What stands behind a value: more values behind a comma, or none behind the bracket that ends the row.
+fn more_of(text: &str) -> Result<Option<&str>, WorldFault> {
+    if text == ")" {
+        return Ok(None);
+    }
+    match text.strip_prefix(',') {
+        Some(more) => Ok(Some(more)),
+        None => Err(WorldFault::BadEvent),
+    }
+}
+
+/// The content of a quoted text, in which a doubled quote stands for one, and what follows the quote that closes it.
+fn quoted_text(alloc: Global, text: &str) -> Result<(String, &str), WorldFault> {
+    let mut content = String::new(alloc);
+    let mut rest = text;
+    // Each turn takes a quote at least, so these turns read the whole text.
+    for _ in 0..text.len() {
+        let (piece, behind) = rest.split_once('\'').ok_or(WorldFault::BadEvent)?;
+        content.push_str(piece)?;
+        match behind.strip_prefix('\'') {
+            None => return Ok((content, behind)),
+            Some(more) => {
+                content.push('\'')?;
+                rest = more;
+            }
+        }
+    }
+    Err(WorldFault::BadEvent)
+}
+
+fn word_of(word: &str) -> Result<Literal, WorldFault> {
+    match word {
+        "null" => Ok(Literal::Null),
+        "true" => Ok(Literal::Bool(true)),
+        "false" => Ok(Literal::Bool(false)),
+        _ => integer_of(word),
+    }
+}
+
+/// An integer of any length: decimal digits, with a minus before them or none.
+fn integer_of(word: &str) -> Result<Literal, WorldFault> {
+    let digits = word.strip_prefix('-').unwrap_or(word);
+    if digits.is_empty() || !digits.bytes().all(|b| b.is_ascii_digit()) {
+        return Err(WorldFault::BadEvent);
+    }
+    match word.parse::<i64>() {
+        Ok(integer) => Ok(Literal::Integer(integer)),
+        Err(_) => Ok(Literal::Huge),
+    }
+}

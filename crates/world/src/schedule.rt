@@ -1,0 +1,66 @@
+//! Schedules: texts of one event a line.
+
+ghost use Rattle.std.specs.Prelude.{◌≡◌, length, vec_len};
+
+use crate::event::Event;
+use crate::fault::WorldFault;
+use std::alloc::Global;
+use thiserror::Error;
+
+/// The events of a schedule and, at the same place, the number of the line on which each stands, from 1.
+#[derive(Debug, Drop)]
+pub struct Schedule {
+    events: Vec<Event>,
+    lines: Vec<usize>,
+    ghost paired: { vec_len events ≡ vec_len lines },
+}
+
+/// The line of a schedule that was not read, and why.
+#[derive(Clone, Copy, Debug, PartialEq, Eq, Error)]
+#[error("line {line}: {fault}")]
+pub struct LineFault {
+    pub line: usize,
+    pub fault: WorldFault,
+}
+
+impl Schedule {
+    /// The events of all lines. Empty lines and lines that begin with `#` are passed over, but counted. The first line
+    /// that is no event is refused, and then no event is given.
+    pub fn parse(alloc: Global, text: &str) -> Result<Schedule, LineFault> {
+        let mut schedule = Schedule {
+            events: Vec::new(alloc),
+            lines: Vec::new(alloc),
+        };
+        for (line, content) in (1..usize::MAX).zip(text.split('\n')) {
+            if content.is_empty() || content.starts_with('#') {
+                continue;
+            }
+            if let Err(fault) = schedule.add(alloc, line, content) {
+                return Err(LineFault { line, fault });
+            }
+        }
+        Ok(schedule)
+    }
+
+    fn add(&mut self, alloc: Global, line: usize, content: &str) -> Result<(), WorldFault> {
+        let event = Event::parse(alloc, content)?;
+        self.lines.reserve(1)?;
+        self.events.push(event)?;
+        self.lines.push(line).unwrap();
+        Ok(())
+    }
+
+    pub fn events(&self) -> &[Event]
+        ensures { result.now ≡ self.now.events.items }
+    {
+        self.events.as_slice()
+    }
+
+    /// The numbers of the lines, one for each event.
+    pub fn lines(&self) -> &[usize]
+        ensures value { result.now ≡ self.now.lines.items }
+        ensures paired { length result.now ≡ length self.now.events.items }
+    {
+        self.lines.as_slice()
+    }
+}
