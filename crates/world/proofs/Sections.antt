@@ -286,7 +286,10 @@ kept_alive log place clock produced s alive fits =
       tables = alive.tables;
       running = λ still. let r = alive.running still in record { within = r.within; reads = record { taken = r.reads.taken; names = r.reads.names }; at = r.at };
       streaming = record {
-        place = t.place; within = t.within; at = t.at; fits = t.fits;
+        place = t.place;
+        within = t.within;
+        at = t.at;
+        fits = t.fits;
         stream = stream_moved (relation s.selection) ((produced ++ s.held) ++ word_bytes (alive_word s.position clock false)) (produced ++ (s.held ++ word_bytes (alive_word s.position clock false)))
             (published s.selection (take t.place log) s.start) s.position
             (stream_kept_alive (relation s.selection) clock false (produced ++ s.held) (published s.selection (take t.place log) s.start) s.position t.stream t.fits fits)
@@ -314,7 +317,10 @@ grown_alive log more place produced s alive =
           let P : List Record → Type 0 = λ l. HasRead s l in
           record { within = omega (arith, r.within, longer); reads = subst P (sym here) r.reads; at = r.at ∙ ap (end_of FIRST_POSITION) (sym here) };
       streaming = record {
-        place = t.place; within = omega (arith, t.within, longer); at = t.at ∙ ap (end_of FIRST_POSITION) (sym same); fits = t.fits;
+        place = t.place;
+        within = omega (arith, t.within, longer);
+        at = t.at ∙ ap (end_of FIRST_POSITION) (sym same);
+        fits = t.fits;
         stream = (let P : List Record → Type 0 = λ l. IsStream (relation s.selection) (produced ++ s.held) (published s.selection l s.start) s.position in subst P (sym same) t.stream);
       };
     }
@@ -330,7 +336,10 @@ started log s tables position held reads = record {
   tables = tables;
   running = λ still. record { within = omega arith; reads = reads; at = position };
   streaming = record {
-    place = 0; within = omega arith; at = position; fits = rw position (omega arith);
+    place = 0;
+    within = omega arith;
+    at = position;
+    fits = rw position (omega arith);
     stream = stream_moved (relation s.selection) [] s.held [] s.position (stream_new (relation s.selection) s.position) held;
   };
 }

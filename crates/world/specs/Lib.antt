@@ -1,3 +1,6 @@
 pub mod State
 pub mod Law
 pub mod Actions
+pub mod Sessions
+pub mod Events
+pub mod Core

@@ -1,6 +1,7 @@
 //! A connection's sender, and what it has produced since its start.
 
 ghost use Rattle.std.specs.Prelude.{◌≡◌, ◌++◌, [], Some, None, Ok, Err, IsSome, IfOk, OnErr, length, take, drop};
+ghost use Rattle.world.specs.State.{is_of};
 ghost use Rattle.world.specs.Actions.{Acts, IsServed, linked};
 
 use crate::action::Action;
@@ -24,6 +25,13 @@ pub(crate) struct Connection {
 }
 
 impl Connection {
+    /// Whether this is the connection of this name, and has a sender.
+    pub(crate) fn is_of(&self, name: &Text) -> bool
+        ensures { result ≡ is_of name.now (linked self.now) }
+    {
+        self.name.as_str() == name.as_str() && self.sender.is_some()
+    }
+
     fn read(
         &mut self,
         alloc: Global,

@@ -6,13 +6,16 @@ mod answer;
 mod codes;
 mod config;
 mod connection;
+mod core;
 mod event;
 mod fault;
 mod fields;
 mod literals;
 mod parse;
 mod report;
+mod rows;
 mod schedule;
+mod session;
 mod simulation;
 mod stub_world;
 
