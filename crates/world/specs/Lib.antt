@@ -3,4 +3,3 @@ pub mod Law
 pub mod Actions
 pub mod Sessions
 pub mod Events
-pub mod Core

@@ -6,7 +6,6 @@ mod answer;
 mod codes;
 mod config;
 mod connection;
-mod core;
 mod event;
 mod fault;
 mod fields;
@@ -16,16 +15,12 @@ mod report;
 mod rows;
 mod schedule;
 mod session;
-mod simulation;
-mod stub_world;
 
 pub use answer::{Answer, SlotFault};
 pub use config::{BUILTIN_RECORDS, Config};
 pub use event::{Event, Literal};
 pub use fault::WorldFault;
 pub use schedule::{LineFault, Schedule};
-pub use simulation::{SimFault, simulate};
-pub use stub_world::{Started, World};
 
 #[cfg(test)]
 mod script_tests;
