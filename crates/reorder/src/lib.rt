@@ -2,6 +2,7 @@
 #![tactic(auto)]
 
 mod fault;
+mod parents;
 mod ready;
 mod reorder;
 

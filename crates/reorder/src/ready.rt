@@ -1,8 +1,9 @@
 //! What a commit makes ready.
 
-ghost use Rattle.std.specs.Prelude.{◌≡◌, ◌<◌, length, true};
-ghost use Rattle.reorder.specs.Kept.{IsEntryAt};
+ghost use Rattle.std.specs.Prelude.{◌≡◌, ◌<◌, length, true, IfOk};
+ghost use Rattle.reorder.specs.Kept.{IsEntryAt, is_changed, kept_entry};
 
+use std::alloc::AllocError;
 use std::marker::Model;
 use std::sync::Arc;
 use tables::Change;
@@ -27,6 +28,33 @@ impl Model for Kept {
 }
 
 impl Kept {
+    /// The change of a record that has one.
+    pub(crate) fn of(record: &Arc<Record>) -> Result<Kept, AllocError>
+        requires { is_changed record.now.value.body ≡ true }
+        ensures { IfOk result (λ k. k ≡ kept_entry record.now.value) }
+    {
+        Ok(Kept {
+            record: record.clone()?,
+        })
+    }
+
+    pub(crate) fn copy(&self) -> Result<Kept, AllocError>
+        ensures { IfOk result (λ k. k ≡ self.now) }
+    {
+        Ok(Kept {
+            record: self.record.clone()?,
+        })
+    }
+
+    pub(crate) fn number(&self) -> u32
+        ensures { result ≡ self.now.number }
+    {
+        match &self.record.body {
+            Body::Change(number, _) => *number,
+            _ => unreachable!(),
+        }
+    }
+
     /// The position at which the change's record starts, and the change.
     pub(crate) fn entry(&self) -> (u64, &Change)
         ensures position { result.0 ≡ self.now.position }
@@ -67,6 +95,12 @@ impl Ready {
         ensures { IsEntryAt self.now k result.0 result.1.now }
     {
         self.changes[k].entry()
+    }
+
+    pub(crate) fn new(changes: Vec<Kept>) -> Ready
+        ensures { result ≡ changes.items }
+    {
+        Ready { changes }
     }
 
     pub(crate) fn into_changes(self) -> Vec<Kept>

@@ -1,0 +1,184 @@
+-- What events do to a stream: a read adds blocks, a keepalive adds itself, a drain moves bytes.
+use Rattle.std.proofs.Common.{◌≡◌, ◌<◌, ◌≤◌, ◌+◌, ◌^◌, ℕ, ℤ, zero, suc, Bool, true, false, cond, leb, List, [], ◌∷◌, ◌++◌, length, map, take, drop, refl, sym, ap, subst, ◌∙◌, append_assoc, arith}
+use Rattle.std.specs.Prelude.{FitsSigned, ◌&&◌}
+use Rattle.std.specs.List.{flat_map, AllByRecursion}
+use Rattle.std.specs.Int.{w64}
+use Rattle.std.proofs.lemmas.Bool.{le-leb, lt-leb}
+use Rattle.std.proofs.lemmas.List.{append-nil, take-append-drop, length-append}
+use Rattle.std.proofs.lemmas.Grind.{flat_map-append}
+use Rattle.std.proofs.lemmas.List.Concat.{flat_map-cons}
+use Rattle.pgoutput.specs.declared.relation.Relation.{Relation}
+use Rattle.tables.specs.declared.table.Table.{Table}
+use Rattle.txlog.specs.declared.record.TheConstants.{FIRST_POSITION}
+use Rattle.txlog.specs.declared.record.Record.{Record}
+use Rattle.txlog.specs.Log.{IsLogInRange, IsWellFormedLog, IsSized, WellFormedAfter, IsNext, follows, end_of, size_of}
+use Rattle.txlog.proofs.Laws.{end_of-append, follows-append, WellFormedAfter-front, WellFormedAfter-back}
+use Rattle.reorder.specs.Taking.{StartsBehind}
+use Rattle.publication.specs.Selection.{relation, FitsTable}
+use Rattle.stream.specs.declared.word.Keepalive.{Keepalive}
+use Rattle.stream.specs.declared.published.Published.{Published}
+use Rattle.stream.specs.Words.{word_bytes, frames_of}
+use Rattle.stream.specs.Items.{Item, Alive, Block, alive, item_words, words_of, spelled, sent, named_by_all, named_after, named_through, FitsPublished, FitItems, FitsItem}
+use Rattle.stream.specs.Stream.{IsStream, AreSafeKeepalives}
+use Rattle.sender.specs.Published.{published, published_from}
+use Rattle.sender.specs.Sending.{blocks, blocks_behind, MayFollow}
+use Rattle.sender.proofs.Batches.{published_from-append}
+use Rattle.world.specs.Law.{upto}
+use Rattle.world.proofs.Ranges.{all_of_both, all_front, all_back, published_fit, blocks_fit, published_late, followed}
+
+-- ---- items behind items
+
+
+sent-append : (a b : List Item) → sent (a ++ b) ≡ sent a ++ sent b
+sent-append [] b = refl
+sent-append (Alive k ∷ a) b = sent-append a b
+sent-append (Block clock t ∷ a) b = ap (λ l. t ∷ l) (sent-append a b)
+
+sent-blocks : (clock : ℤ) (ts : List Published) → sent (blocks clock ts) ≡ ts
+sent-blocks clock [] = refl
+sent-blocks clock (t ∷ ts) = ap (λ l. t ∷ l) (sent-blocks clock ts)
+
+spelled-append : (rel : ℕ → Relation) (named : List ℕ) (a b : List Item) → spelled rel named (a ++ b) ≡ spelled rel named a ++ spelled rel (named_through named (sent a)) b
+spelled-append rel named [] b = refl
+spelled-append rel named (Alive k ∷ a) b =
+    let first = item_words rel named (Alive k) in
+    flat_map-append word_bytes first (words_of rel named (a ++ b))
+    ∙ ap (λ (l : List ℕ). frames_of first ++ l) (spelled-append rel named a b)
+    ∙ sym (append_assoc (frames_of first) (spelled rel named a) (spelled rel (named_through named (sent a)) b))
+    ∙ ap (λ (l : List ℕ). l ++ spelled rel (named_through named (sent a)) b) (sym (flat_map-append word_bytes first (words_of rel named a)))
+spelled-append rel named (Block clock t ∷ a) b =
+    let first = item_words rel named (Block clock t) in
+    let then = named_by_all named t.changes in
+    flat_map-append word_bytes first (words_of rel then (a ++ b))
+    ∙ ap (λ (l : List ℕ). frames_of first ++ l) (spelled-append rel then a b)
+    ∙ sym (append_assoc (frames_of first) (spelled rel then a) (spelled rel (named_through then (sent a)) b))
+    ∙ ap (λ (l : List ℕ). l ++ spelled rel (named_through then (sent a)) b) (sym (flat_map-append word_bytes first (words_of rel then a)))
+
+-- ---- safe keepalives
+
+safe-blocks : (limit : ℕ) (clock : ℤ) (ts : List Published) → AreSafeKeepalives limit (blocks clock ts)
+safe-blocks limit clock [] = tt
+safe-blocks limit clock (t ∷ ts) = safe-blocks limit clock ts
+
+all_later : (p limit : ℕ) (ts : List Published) → p ≤ limit → AllByRecursion (λ (t : Published). limit ≤ t.start) ts → AllByRecursion (λ (t : Published). p ≤ t.start) ts
+all_later p limit [] le all = tt
+all_later p limit (t ∷ ts) le all = (omega (arith, all.0), all_later p limit ts le all.1)
+
+safe-more : (limit wider : ℕ) (items : List Item) (clock : ℤ) (ts : List Published) → limit ≤ wider → AllByRecursion (λ (t : Published). limit ≤ t.start) ts → AreSafeKeepalives limit items
+    → AreSafeKeepalives wider (items ++ blocks clock ts)
+safe-more limit wider [] clock ts le late safe = safe-blocks wider clock ts
+safe-more limit wider (Alive k ∷ items) clock ts le late safe =
+    let behind : sent (items ++ blocks clock ts) ≡ sent items ++ ts = sent-append items (blocks clock ts) ∙ ap (λ l. sent items ++ l) (sent-blocks clock ts) in
+    let P : List Published → Type 0 = λ l. AllByRecursion (λ (t : Published). k.position ≤ t.start) l in
+    (omega (arith, safe.0), subst P (sym behind) (all_of_both (λ (t : Published). k.position ≤ t.start) (sent items) ts safe.1 (all_later k.position limit ts safe.0 late)), safe-more limit wider items clock ts le late safe.2)
+safe-more limit wider (Block c t ∷ items) clock ts le late safe = safe-more limit wider items clock ts le late safe
+
+safe-alive : (limit : ℕ) (items : List Item) (k : Keepalive) → k.position ≤ limit → AreSafeKeepalives limit items → AreSafeKeepalives limit (items ++ (Alive k ∷ []))
+safe-alive limit [] k le safe = (le, tt, tt)
+safe-alive limit (Alive j ∷ items) k le safe =
+    let behind : sent (items ++ (Alive k ∷ [])) ≡ sent items = sent-append items (Alive k ∷ []) ∙ append-nil (sent items) in
+    let P : List Published → Type 0 = λ l. AllByRecursion (λ (t : Published). j.position ≤ t.start) l in
+    (safe.0, subst P (sym behind) safe.1, safe-alive limit items k le safe.2)
+safe-alive limit (Block clock t ∷ items) k le safe = safe-alive limit items k le safe
+
+-- ---- a read, a keepalive
+
+pub stream_read : (selection : List Table) (clock : ℤ) (b more : List ℕ) (pre section : List Record) (s limit wider : ℕ) → IsStream (relation selection) b (published selection pre s) limit
+    → more ≡ b ++ blocks_behind selection clock (published selection pre s) (published_from selection s pre section) → limit ≤ wider
+    → AllByRecursion (λ (t : Published). limit ≤ t.start) (published_from selection s pre section) → AllByRecursion (FitsPublished (relation selection)) (published_from selection s pre section) → FitsSigned w64 clock
+    → IsStream (relation selection) more (published selection (pre ++ section) s) wider
+stream_read selection clock b more pre section s limit wider stream grown le late fit fits =
+    let ts = published_from selection s pre section in
+    record {
+      items = stream.items ++ blocks clock ts;
+      fits = all_of_both (FitsItem (relation selection)) stream.items (blocks clock ts) stream.fits (blocks_fit selection clock ts fits fit);
+      spells = grown ∙ ap (λ (l : List ℕ). l ++ blocks_behind selection clock (published selection pre s) ts) stream.spells
+          ∙ ap (λ (l : List Published). spelled (relation selection) [] stream.items ++ spelled (relation selection) (named_through [] l) (blocks clock ts)) (sym stream.sends)
+          ∙ sym (spelled-append (relation selection) [] stream.items (blocks clock ts));
+      sends = sent-append stream.items (blocks clock ts) ∙ ap (λ l. l ++ sent (blocks clock ts)) stream.sends ∙ ap (λ l. published selection pre s ++ l) (sent-blocks clock ts)
+          ∙ sym (published_from-append selection s [] pre section);
+      safe = safe-more limit wider stream.items clock ts le late stream.safe;
+    }
+
+pub stream_kept_alive : (rel : ℕ → Relation) (clock : ℤ) (ask : Bool) (b : List ℕ) (ts : List Published) (limit : ℕ) → IsStream rel b ts limit → limit < 2 ^ 64 → FitsSigned w64 clock
+    → IsStream rel (b ++ word_bytes (alive limit clock ask)) ts limit
+stream_kept_alive rel clock ask b ts limit stream lt fits =
+    let k : Keepalive = record { position = limit; clock = clock; ask = ask } in
+    record {
+      items = stream.items ++ (Alive k ∷ []);
+      fits = all_of_both (FitsItem rel) stream.items (Alive k ∷ []) stream.fits ((lt, fits), tt);
+      spells = ap (λ (l : List ℕ). l ++ word_bytes (alive limit clock ask)) stream.spells
+          ∙ ap (λ (l : List ℕ). spelled rel [] stream.items ++ l) (sym (flat_map-cons word_bytes (alive limit clock ask) [] ∙ append-nil (word_bytes (alive limit clock ask))))
+          ∙ sym (spelled-append rel [] stream.items (Alive k ∷ []));
+      sends = sent-append stream.items (Alive k ∷ []) ∙ append-nil (sent stream.items) ∙ stream.sends;
+      safe = safe-alive limit stream.items k (omega arith) stream.safe;
+    }
+
+pub stream_moved : (rel : ℕ → Relation) (a b : List ℕ) (ts : List Published) (limit : ℕ) → IsStream rel a ts limit → b ≡ a → IsStream rel b ts limit
+stream_moved rel a b ts limit stream e = record { items = stream.items; fits = stream.fits; spells = e ∙ stream.spells; sends = stream.sends; safe = stream.safe }
+
+pub stream_new : (rel : ℕ → Relation) (limit : ℕ) → IsStream rel [] [] limit
+stream_new rel limit = record { items = []; fits = tt; spells = refl; sends = refl; safe = tt }
+
+pub drained : (produced held : List ℕ) (n : ℕ) → (produced ++ take n held) ++ drop n held ≡ produced ++ held
+drained produced held n = append_assoc produced (take n held) (drop n held) ∙ ap (λ (l : List ℕ). produced ++ l) (take-append-drop n held)
+
+-- ---- a section of a well-formed log may follow what stands before it
+
+starts_below : (at : ℕ) (before : List Record) → follows at before ≡ true → AllByRecursion IsSized before → (at ≤ end_of at before) × AllByRecursion (λ (q : Record). q.start < end_of at before) before
+starts_below at [] goes sized = (omega arith, tt)
+starts_below at (r ∷ before) goes sized =
+    let next = followed at r before goes in
+    let inner = starts_below r.end before next.1 sized.1 in
+    (omega (arith, next.0, sized.0, inner.0), (omega (arith, next.0, sized.0, inner.0), inner.1))
+
+both_true : (a b : Bool) → (a && b) ≡ true → (a ≡ true) × (b ≡ true)
+both_true true b e = (refl, e)
+both_true false b e = absurd cc
+
+-- the parts of a log that follows
+pub follows_parts : (at : ℕ) (m n : List Record) → follows at (m ++ n) ≡ true → (follows at m ≡ true) × (follows (end_of at m) n ≡ true)
+follows_parts at m n e = both_true (follows at m) (follows (end_of at m) n) (sym (follows-append at m n) ∙ e)
+
+pub may_follow : (at : ℕ) (before rs : List Record) → follows at (before ++ rs) ≡ true → AllByRecursion IsSized (before ++ rs) → WellFormedAfter before rs → MayFollow before rs
+may_follow at before [] goes sized order = tt
+may_follow at before (r ∷ rs) goes sized order =
+    let parts = follows_parts at before (r ∷ rs) goes in
+    let here = followed (end_of at before) r rs parts.1 in
+    let below = starts_below at before parts.0 (all_front IsSized before (r ∷ rs) sized) in
+    let behind : StartsBehind before r = let P : ℕ → Type 0 = λ n. AllByRecursion (λ (q : Record). q.start < n) before in subst P (sym here.0) below.1 in
+    let regrouped : (before ++ r ∷ []) ++ rs ≡ before ++ r ∷ rs = append_assoc before (r ∷ []) rs in
+    let F : List Record → Type 0 = λ l. follows at l ≡ true in
+    let S : List Record → Type 0 = λ l. AllByRecursion IsSized l in
+    (order.0, behind, may_follow at (before ++ r ∷ []) rs (subst F (sym regrouped) goes) (subst S (sym regrouped) sized) order.1)
+
+-- ---- the log up to a position is its records up to a place
+
+all_upto : (at : ℕ) (m n : List Record) → follows at m ≡ true → AllByRecursion IsSized m → (p : ℕ) → end_of at m ≤ p → upto p (m ++ n) ≡ m ++ upto p n
+all_upto at [] n goes sized p le = refl
+all_upto at (r ∷ m) n goes sized p le =
+    let next = followed at r m goes in
+    let rest = starts_below r.end m next.1 sized.1 in
+    let passes : leb r.end p ≡ true = le-leb _ _ (omega (arith, rest.0)) in
+    rw passes (ap (λ l. r ∷ l) (all_upto r.end m n next.1 sized.1 p le))
+
+none_upto : (p : ℕ) (n : List Record) → follows p n ≡ true → AllByRecursion IsSized n → upto p n ≡ []
+none_upto p [] goes sized = refl
+none_upto p (r ∷ n) goes sized =
+    let next = followed p r n goes in
+    let stops : leb r.end p ≡ false = lt-leb r.end p (omega (arith, next.0, sized.0)) in
+    rw stops refl
+
+pub upto_place : (log : List Record) (place : ℕ) → IsWellFormedLog log → upto (end_of FIRST_POSITION (take place log)) log ≡ take place log
+upto_place log place good =
+    let m = take place log in
+    let n = drop place log in
+    let whole : m ++ n ≡ log = take-append-drop place log in
+    let F : List Record → Type 0 = λ l. follows FIRST_POSITION l ≡ true in
+    let S : List Record → Type 0 = λ l. AllByRecursion IsSized l in
+    let goes = subst F (sym whole) good.follows in
+    let sized = subst S (sym whole) good.sizes in
+    let parts = follows_parts FIRST_POSITION m n goes in
+    ap (upto (end_of FIRST_POSITION m)) (sym whole)
+    ∙ all_upto FIRST_POSITION m n parts.0 (all_front IsSized m n sized) (end_of FIRST_POSITION m) (omega arith)
+    ∙ ap (λ l. m ++ l) (none_upto (end_of FIRST_POSITION m) n parts.1 (all_back IsSized m n sized)) ∙ append-nil m
