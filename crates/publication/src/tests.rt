@@ -4,6 +4,7 @@ use crate::*;
 use frames::{Items, Text};
 use pgoutput::{Cell, Column, Identity, Insert, Logical, Relation};
 use std::alloc::{AllocError, Global};
+use std::process::Abort;
 use std::test::Fail;
 use tables::{Change, Kind, Row, Table, Value};
 
@@ -18,52 +19,64 @@ fn selection(alloc: Global) -> Result<Selection, Fail> {
     Ok(publications.select(alloc, &names)?)
 }
 
-/// An Insert into public.item with these cells.
-fn told(alloc: Global, id: Cell, name: Cell, qty: Cell) -> Result<Projected, AllocError> {
-    let new = Items::new(vec![in alloc; id, name, qty]?);
-    Ok(Projected::Message(Logical::Insert(Insert { oid: 16384, new })))
-}
-
 fn insert(alloc: Global, oid: u32, values: [Value; 3]) -> Result<Change, AllocError> {
     Ok(Change::Insert(oid, Row::new(Vec::from_array(alloc, values)?)))
 }
 
-#[test]
-fn projects_rows(rt: HostRuntime) -> Result<(), Fail> {
-    let alloc = rt.alloc();
-    let selection = selection(alloc)?;
-    let name = Value::Text(Text::copy_of(alloc, "ab")?);
-    let change = insert(alloc, 16384, [Value::Int4(1), name, Value::Int8(7)])?;
-    let want = told(
-        alloc,
-        text(alloc, "1")?,
-        text(alloc, "ab")?,
-        text(alloc, "7")?,
-    )?;
-    assert_eq!(rt; selection.project(alloc, &change)?, want);
-    let lowest = [Value::Int4(i32::MIN), Value::Null, Value::Int8(i64::MIN)];
-    let change = insert(alloc, 16384, lowest)?;
-    let want = told(
-        alloc,
-        text(alloc, "-2147483648")?,
-        Cell::Null,
-        text(alloc, "-9223372036854775808")?,
-    )?;
-    assert_eq!(rt; selection.project(alloc, &change)?, want);
-    let empty = Value::Text(Text::copy_of(alloc, "")?);
-    let change = insert(
-        alloc,
-        16384,
-        [Value::Int4(i32::MAX), empty, Value::Int8(i64::MAX)],
-    )?;
-    let want = told(
-        alloc,
-        text(alloc, "2147483647")?,
-        text(alloc, "")?,
-        text(alloc, "9223372036854775807")?,
-    )?;
-    assert_eq!(rt; selection.project(alloc, &change)?, want);
+/// The insert of these values into public.item becomes an Insert with these cells.
+fn projects(
+    rt: &impl Abort,
+    alloc: Global,
+    values: [Value; 3],
+    cells: [Cell; 3],
+) -> Result<(), Fail> {
+    let change = insert(alloc, 16384, values)?;
+    let message = Logical::Insert(Insert {
+        oid: 16384,
+        new: Items::new(Vec::from_array(alloc, cells)?),
+    });
+    let projected = selection(alloc)?.project(alloc, &change)?;
+    assert_eq!(rt; projected, Projected::Message(message));
     Ok(())
+}
+
+#[test]
+fn projects_a_row(rt: HostRuntime) -> Result<(), Fail> {
+    let alloc = rt.alloc();
+    let name = Value::Text(Text::copy_of(alloc, "ab")?);
+    projects(
+        &rt,
+        alloc,
+        [Value::Int4(1), name, Value::Int8(7)],
+        [text(alloc, "1")?, text(alloc, "ab")?, text(alloc, "7")?],
+    )
+}
+
+#[test]
+fn projects_the_least(rt: HostRuntime) -> Result<(), Fail> {
+    let alloc = rt.alloc();
+    let id = text(alloc, "-2147483648")?;
+    let qty = text(alloc, "-9223372036854775808")?;
+    projects(
+        &rt,
+        alloc,
+        [Value::Int4(i32::MIN), Value::Null, Value::Int8(i64::MIN)],
+        [id, Cell::Null, qty],
+    )
+}
+
+#[test]
+fn projects_the_greatest(rt: HostRuntime) -> Result<(), Fail> {
+    let alloc = rt.alloc();
+    let empty = Value::Text(Text::copy_of(alloc, "")?);
+    let id = text(alloc, "2147483647")?;
+    let qty = text(alloc, "9223372036854775807")?;
+    projects(
+        &rt,
+        alloc,
+        [Value::Int4(i32::MAX), empty, Value::Int8(i64::MAX)],
+        [id, text(alloc, "")?, qty],
+    )
 }
 
 /// Another table, a null in the key, a row of another kind and one of fewer values have no message.
