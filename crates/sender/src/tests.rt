@@ -1,5 +1,6 @@
 use crate::rows::{INTERLEAVED, KEEPALIVE, ONE_INSERT};
 use crate::*;
+use bytes::BytesMut;
 use frames::Text;
 use publication::Publications;
 use std::alloc::Global;
@@ -80,6 +81,20 @@ fn sends_the_row(rt: HostRuntime) -> Result<(), Fail> {
     sender.feed(alloc, &one_insert(alloc, 16384)?, 9)?;
     assert_eq!(rt; sender.position(), 0x100_0050);
     gives(&rt, &mut sender, &ONE_INSERT);
+    Ok(())
+}
+
+#[test]
+fn drained_into_a_buffer(rt: HostRuntime) -> Result<(), Fail> {
+    let alloc = rt.alloc();
+    let mut sender = sender(alloc, 0)?;
+    sender.feed(alloc, &one_insert(alloc, 16384)?, 9)?;
+    let mut out = BytesMut::new(alloc);
+    sender.drain_into(100, &mut out)?;
+    assert_eq!(rt; out.as_slice(), &ONE_INSERT[..100]);
+    sender.drain_into(usize::MAX, &mut out)?;
+    assert_eq!(rt; out.as_slice(), ONE_INSERT.as_slice());
+    gives(&rt, &mut sender, &[]);
     Ok(())
 }
 
