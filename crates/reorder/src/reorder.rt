@@ -1,6 +1,6 @@
 //! Regrouping the changes of a log by transaction.
 
-ghost use Rattle.std.specs.Prelude.{◌≡◌, ◌<◌, [], length, false, true, Err, IfOk, OnErr, OnOk, filter, not};
+ghost use Rattle.std.specs.Prelude.{◌≡◌, ◌<◌, [], length, false, true, Err, IfOk, OnErr, OnOk};
 ghost use Rattle.reorder.specs.Kept.{IsEntryAt};
 ghost use Rattle.reorder.specs.Taking.{HasTaken, Takes, readied};
 

@@ -3,14 +3,14 @@
 //! A record costs a look-up or two, whatever the length of the log. Only the end of a transaction goes over its numbers,
 //! and then nothing of them is left.
 
-ghost use Rattle.std.specs.Prelude.{◌≡◌, ℕ, ◌==◌, [], ◌∷◌, ◌++◌, Some, None, IsSome, IfOk, OnOk, nat_eq, if◌then◌else◌, ◌||◌};
+ghost use Rattle.std.specs.Prelude.{◌≡◌, ℕ, [], ◌∷◌, ◌++◌, Some, None, IsSome, IfOk, OnOk, nat_eq, if◌then◌else◌, ◌||◌};
 ghost use Rattle.std.specs.HashMap.{get};
 ghost use Rattle.std.specs.List.{flat_map, list_any};
 ghost use Rattle.std.specs.Option.{option_map};
 ghost use Rattle.std.specs.List.Sorted.{IsNonDecreasingBy, IsStableByKey};
 ghost use Rattle.std.specs.Ordering.{nat_cmp};
 ghost use Rattle.txlog.specs.Log.{last_of};
-ghost use Rattle.reorder.specs.Strands.{IsSame, above_in, above_of, all_in, assigned, ended, is_in, joined, kept_in, by_number, pushed, put, started, undone, undone_in, with_member, without_changes};
+ghost use Rattle.reorder.specs.Strands.{IsSame, above_of, assigned, ended, is_in, joined, kept_in, by_number, pushed, put, started, undone, undone_in, with_member, without_changes};
 
 use crate::members::Members;
 use crate::ready::Kept;
