@@ -1,19 +1,16 @@
 -- A subtransaction comes under its parent.
-use Rattle.std.proofs.Common.{◌≡◌, ℕ, ◌==◌, Bool, true, false, cond, ◌||◌, List, [], ◌∷◌, ◌++◌, Option, Some, None, is_some, refl, sym, ap, subst, ◌∙◌, eq-eqb}
+use Rattle.std.proofs.Common.{◌≡◌, ℕ, ◌==◌, Bool, true, false, ◌||◌, List, [], ◌∷◌, ◌++◌, Option, Some, None, is_some, refl, sym, ap, subst, ◌∙◌, eq-eqb}
 use Rattle.std.specs.Prelude.{IsSome}
-use Rattle.std.specs.List.{AllByRecursion, list_any}
-use Rattle.std.specs.Option.{option_map}
 use Rattle.std.proofs.lemmas.Bool.{eqb-true, ne_eqb}
 use Rattle.std.proofs.lemmas.List.{append-nil}
 use Rattle.txlog.specs.declared.record.Record.{Record}
-use Rattle.txlog.specs.declared.record.Body.{Body}
 use Rattle.txlog.specs.declared.record.Body.TheVariants.{Assign}
-use Rattle.txlog.specs.Log.{Entry, names, is_named, is_undone, has_ended, chain, last_of, top_of, entry_at, entries, undoes, ends}
+use Rattle.txlog.specs.Log.{Entry, is_named, is_undone, has_ended, chain, last_of, top_of, entries}
 use Rattle.txlog.proofs.Lists.{or_false}
 use Rattle.txlog.proofs.LiveList.{eqb_comm}
 use Rattle.txlog.proofs.Laws.{all_when, chain-append, is_named-one, is_undone-one, has_ended-one}
 use Rattle.reorder.specs.Rising.{IsRising}
-use Rattle.reorder.specs.Strands.{StrandState, ByNumber, put, fresh, is_in, with_member, assigned, AreDistinct}
+use Rattle.reorder.specs.Strands.{StrandState, ByNumber, put, fresh, is_in, assigned, AreDistinct}
 use Rattle.reorder.specs.Taking.{IsStrand, IsTransaction, IsKept, changes_of}
 use Rattle.reorder.proofs.Named.{or_left, or_right, not_undone, no_changes}
 use Rattle.reorder.proofs.Opening.{put_cases, put_here, no_some}

@@ -1,18 +1,17 @@
 -- What the strands of a transaction keep, joined and sorted by position, is what it keeps by the definition.
-use Rattle.std.proofs.Common.{◌≡◌, ℕ, ◌<◌, ◌==◌, Bool, true, false, cond, ◌&&◌, ◌||◌, not, List, [], ◌∷◌, ◌++◌, Option, Some, None, is_some, refl, sym, ap, subst, ◌∙◌, eq-eqb, nat_cmp}
+use Rattle.std.proofs.Common.{◌≡◌, ℕ, ◌<◌, ◌==◌, Bool, true, false, cond, ◌&&◌, ◌||◌, not, List, [], ◌∷◌, Option, Some, None, refl, sym, ap, subst, ◌∙◌, eq-eqb, nat_cmp}
 use Rattle.std.specs.Prelude.{IsSome}
 use Rattle.std.specs.List.{filter, flat_map, list_any, AllByRecursion}
 use Rattle.std.specs.List.Sorted.{IsNonDecreasingBy, IsStableByKey}
 use Rattle.std.proofs.lemmas.Bool.{eqb-true}
 use Rattle.txlog.specs.declared.record.Record.{Record}
-use Rattle.txlog.specs.Log.{Entry, IsOpen, is_named, is_assigned, is_undone, is_dropped, is_kept, has_ended, chain, last_of, top_of, entries, kept}
+use Rattle.txlog.specs.Log.{Entry, is_named, is_undone, is_dropped, is_kept, has_ended, last_of, top_of, entries, kept}
 use Rattle.txlog.proofs.Lists.{filter_agrees, all_agree, filter_twice}
-use Rattle.txlog.proofs.Laws.{all_when, chain-unassigned}
+use Rattle.txlog.proofs.Laws.{all_when}
 use Rattle.reorder.specs.Rising.{IsRising}
 use Rattle.reorder.specs.Strands.{StrandState, ByNumber, is_in, all_in, undone_in, kept_in, joined, AreDistinct}
-use Rattle.reorder.specs.Taking.{IsStrand, IsTransaction, IsKept, changes_of}
+use Rattle.reorder.specs.Taking.{IsStrand, IsTransaction, IsKept}
 use Rattle.reorder.proofs.Named.{or_left, entries_named}
-use Rattle.reorder.proofs.Opening.{no_some}
 use Rattle.reorder.proofs.Keeping.{top_of_member}
 use Rattle.reorder.proofs.Merging.{merged}
 

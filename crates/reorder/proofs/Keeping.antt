@@ -1,24 +1,21 @@
 -- What a record does to what is kept is what it does to the log: a change, a rollback, and the end of a transaction.
-use Rattle.std.proofs.Common.{◌≡◌, ℕ, ◌<◌, ◌==◌, Bool, true, false, cond, ◌||◌, List, [], ◌∷◌, ◌++◌, Option, Some, None, is_some, refl, sym, ap, subst, ◌∙◌, eq-eqb}
+use Rattle.std.proofs.Common.{◌≡◌, ℕ, ◌<◌, ◌==◌, Bool, true, false, cond, ◌||◌, List, [], ◌∷◌, ◌++◌, Option, Some, None, refl, sym, ap, subst, ◌∙◌, eq-eqb}
 use Rattle.std.specs.Prelude.{IsSome}
 use Rattle.std.specs.List.{filter, list_any, AllByRecursion}
 use Rattle.std.specs.Option.{option_map}
-use Rattle.std.proofs.lemmas.Bool.{eqb-true, ne_eqb}
+use Rattle.std.proofs.lemmas.Bool.{ne_eqb}
 use Rattle.std.proofs.lemmas.List.{append-nil}
 use Rattle.std.proofs.lemmas.List.Elements.{filter-append}
-use Rattle.tables.specs.declared.change.Change.{Change}
 use Rattle.txlog.specs.declared.record.Record.{Record}
-use Rattle.txlog.specs.declared.record.Body.{Body}
-use Rattle.txlog.specs.declared.record.Body.TheVariants.{Assign, Change as Changed, AbortSub, Abort, Commit}
-use Rattle.txlog.specs.Log.{Entry, IsOpen, names, is_named, is_assigned, undoes, is_undone, ends, has_ended, chain, chain_step, last_of, top_of, entry_at, entries}
+use Rattle.txlog.specs.Log.{Entry, IsOpen, names, is_named, is_assigned, undoes, is_undone, ends, has_ended, chain, last_of, top_of, entry_at, entries}
 use Rattle.txlog.proofs.Lists.{or_false}
 use Rattle.txlog.proofs.LiveList.{eqb_comm, all_append}
 use Rattle.txlog.proofs.Laws.{chain-append, chain-unassigned, is_named-one, is_undone-one, has_ended-one, entries-append, KeepsChains}
 use Rattle.reorder.specs.Rising.{IsRising}
-use Rattle.reorder.specs.Strands.{StrandState, ByNumber, put, all_in, is_in, with_change, without_changes, pushed, undone, ended}
+use Rattle.reorder.specs.Strands.{StrandState, ByNumber, all_in, is_in, with_change, without_changes, pushed, undone, ended}
 use Rattle.reorder.specs.Taking.{IsStrand, IsTransaction, IsKept, StartsBehind, changes_of}
 use Rattle.reorder.proofs.Named.{or_left, or_right, or_true, entries_before}
-use Rattle.reorder.proofs.Opening.{put_cases, put_here, no_some}
+use Rattle.reorder.proofs.Opening.{put_cases}
 
 pub some_of : {A B : Type 0} (f : A → B) (o : Option A) → IsSome o → IsSome (option_map f o)
 some_of f None some = some

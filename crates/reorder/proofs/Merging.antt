@@ -1,13 +1,13 @@
 -- Strands that are joined end to end and sorted by position are the changes in their order.
-use Rattle.std.proofs.Common.{◌≡◌, ℕ, zero, suc, ◌+◌, ◌<◌, ◌≤◌, ◌==◌, Bool, true, false, cond, ◌&&◌, ◌||◌, not, List, [], ◌∷◌, ◌++◌, length, refl, sym, ap, subst, ◌∙◌, arith, eq-eqb, nat_cmp, is_lt, nat_eq}
+use Rattle.std.proofs.Common.{◌≡◌, ℕ, suc, ◌<◌, ◌≤◌, ◌==◌, Bool, true, false, cond, ◌&&◌, ◌||◌, not, List, [], ◌∷◌, ◌++◌, length, refl, sym, ap, subst, ◌∙◌, arith, eq-eqb, nat_cmp, is_lt}
 use Rattle.std.specs.Prelude.{slice_index_or}
-use Rattle.std.specs.List.{filter, flat_map, list_any, AllByRecursion}
+use Rattle.std.specs.List.{filter, flat_map, AllByRecursion}
 use Rattle.std.specs.List.Sorted.{IsNonDecreasingBy, IsStableByKey, ties}
 use Rattle.std.proofs.lemmas.Bool.{eqb-true, eqb-false, ne_eqb}
 use Rattle.std.proofs.lemmas.Bool.Decides.{nat_tests}
 use Rattle.std.proofs.lemmas.List.Elements.{filter-append}
 use Rattle.txlog.specs.Log.{Entry}
-use Rattle.txlog.proofs.Lists.{filter_agrees, all_agree, filter_twice}
+use Rattle.txlog.proofs.Lists.{filter_agrees, all_agree}
 use Rattle.txlog.proofs.Laws.{all_when}
 use Rattle.reorder.specs.Rising.{IsRising}
 use Rattle.reorder.specs.Strands.{is_in, AreDistinct}

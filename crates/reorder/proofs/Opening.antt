@@ -1,13 +1,12 @@
 -- What is kept, with a number more.
-use Rattle.std.proofs.Common.{◌≡◌, ℕ, ◌==◌, Bool, true, false, cond, ◌||◌, List, [], ◌∷◌, ◌++◌, Option, Some, None, is_some, refl, sym, ap, subst, ◌∙◌, eq-eqb}
+use Rattle.std.proofs.Common.{◌≡◌, ℕ, ◌==◌, Bool, true, false, cond, ◌||◌, List, [], ◌∷◌, Option, Some, None, is_some, refl, sym, ap, subst, ◌∙◌, eq-eqb}
 use Rattle.std.specs.Prelude.{IsSome}
-use Rattle.std.specs.List.{AllByRecursion}
 use Rattle.std.proofs.lemmas.Bool.{eqb-true}
 use Rattle.txlog.specs.declared.record.Record.{Record}
-use Rattle.txlog.specs.Log.{Entry, IsOpen, is_named, is_undone, has_ended, chain, last_of, top_of}
+use Rattle.txlog.specs.Log.{IsOpen, is_named, has_ended, chain, last_of, top_of}
 use Rattle.txlog.proofs.Laws.{chain-unassigned}
-use Rattle.reorder.specs.Strands.{StrandState, StrandsState, ByNumber, by_number, IsSame, put, fresh, is_in, started, AreDistinct}
-use Rattle.reorder.specs.Taking.{IsStrand, IsTransaction, IsKept, changes_of}
+use Rattle.reorder.specs.Strands.{StrandState, StrandsState, ByNumber, by_number, IsSame, put, fresh, is_in, started}
+use Rattle.reorder.specs.Taking.{IsStrand, IsTransaction, IsKept}
 use Rattle.reorder.proofs.Named.{unassigned, not_undone, no_changes}
 
 pub put_cases : {A : Type 0} (P : Option A → Type 0) (k x : ℕ) (w : Option A) (f : ℕ → Option A) → (k ≡ x → P w) → ((k == x) ≡ false → P (f x)) → P (put k w f x)

@@ -1,5 +1,5 @@
 -- Each record leaves what is kept as the log with it has it, and a Commit gives what its transaction keeps.
-use Rattle.std.proofs.Common.{◌≡◌, ℕ, ℤ, ◌==◌, Bool, true, false, cond, ◌||◌, List, [], ◌∷◌, ◌++◌, Option, Some, None, is_some, refl, sym, ap, subst, ◌∙◌, nat_cmp}
+use Rattle.std.proofs.Common.{◌≡◌, ℕ, ℤ, ◌==◌, Bool, true, false, cond, ◌||◌, List, [], ◌∷◌, ◌++◌, Option, Some, None, refl, sym, ap, subst, ◌∙◌, nat_cmp}
 use Rattle.std.specs.Prelude.{IsSome}
 use Rattle.std.specs.Option.{option_map}
 use Rattle.std.specs.List.Sorted.{IsNonDecreasingBy, IsStableByKey}
@@ -7,14 +7,14 @@ use Rattle.tables.specs.declared.change.Change.{Change}
 use Rattle.txlog.specs.declared.record.Record.{Record}
 use Rattle.txlog.specs.declared.record.Body.{Body}
 use Rattle.txlog.specs.declared.record.Body.TheVariants.{Assign, Change as Changed, AbortSub, Abort, Commit}
-use Rattle.txlog.specs.Log.{Entry, IsNext, IsOpen, names, number_in, is_named, is_assigned, has_ended, last_of, top_of, kept}
+use Rattle.txlog.specs.Log.{Entry, IsNext, names, is_named, has_ended, last_of, top_of, kept}
 use Rattle.txlog.proofs.LiveList.{eqb_comm}
 use Rattle.txlog.proofs.Laws.{chain-unassigned, is_named-one}
-use Rattle.reorder.specs.Kept.{kept_entry, change_in}
-use Rattle.reorder.specs.Strands.{StrandState, StrandsState, ByNumber, IsSame, by_number, put, fresh, above_of, is_in, all_in, with_change, without_changes, started, assigned, pushed, undone, ended, joined}
-use Rattle.reorder.specs.Taking.{ReorderState, IsKept, HasTaken, StartsBehind, Takes, promised}
+use Rattle.reorder.specs.Kept.{kept_entry}
+use Rattle.reorder.specs.Strands.{StrandsState, ByNumber, IsSame, by_number, put, fresh, above_of, is_in, all_in, with_change, without_changes, started, assigned, pushed, undone, ended, joined}
+use Rattle.reorder.specs.Taking.{ReorderState, HasTaken, StartsBehind, Takes, promised}
 use Rattle.reorder.proofs.Named.{or_left, or_right, unassigned}
-use Rattle.reorder.proofs.Opening.{put_cases, Opened, opened, same_kept}
+use Rattle.reorder.proofs.Opening.{Opened, opened, same_kept}
 use Rattle.reorder.proofs.Assigning.{assign_kept}
 use Rattle.reorder.proofs.Keeping.{push_kept, undo_kept, end_kept}
 use Rattle.reorder.proofs.Committing.{kept_merged}

@@ -21,16 +21,20 @@ pub record ByNumber : Type 0 where
   pub strand : ℕ → Option StrandState
   pub members : ℕ → Option (List ℕ)
 
+-- the strand of a number, and the numbers of a transaction; none where nothing is kept
 abbrev pub by_number : StrandsState → ByNumber
 by_number s = record { strand = λ x. lookup (λ k. x == k) s.strands; members = λ t. lookup (λ k. t == k) s.members }
 
+-- the same at every number
 pub record IsSame (a b : ByNumber) : Type 0 where
   pub strand : (x : ℕ) → a.strand x ≡ b.strand x
   pub members : (t : ℕ) → a.members t ≡ b.members t
 
+-- f with w at k
 abbrev pub put : {A : Type 0} → ℕ → Option A → (ℕ → Option A) → ℕ → Option A
 put k w f x = if k == x then w else f x
 
+-- a strand without changes, under these numbers
 abbrev pub fresh : List ℕ → StrandState
 fresh above = record { above = above; undone = false; changes = [] }
 
@@ -46,10 +50,18 @@ abbrev pub all_in : Option (List ℕ) → List ℕ
 all_in None = []
 all_in (Some xs) = xs
 
+-- whether the number is one of these
 abbrev pub is_in : ℕ → List ℕ → Bool
 is_in x xs = list_any (λ y. x == y) xs
 
--- a transaction of its own
+-- no number stands twice
+abbrev pub AreDistinct : List ℕ → Type 0
+AreDistinct [] = Unit {0}
+AreDistinct (x ∷ xs) = (is_in x xs ≡ false) × AreDistinct xs
+
+-- WHAT HAPPENS TO THEM
+
+-- the number becomes a transaction
 abbrev pub started : ℕ → ByNumber → ByNumber
 started x l = record { strand = put x (Some (fresh [])) l.strand; members = put x (Some (x ∷ [])) l.members }
 
@@ -59,6 +71,7 @@ above_of l x = above_in (l.strand x)
 abbrev pub with_member : ℕ → List ℕ → List ℕ
 with_member sub xs = xs ++ sub ∷ []
 
+-- a subtransaction comes under its parent, and so under all that are above it, into their transaction
 abbrev pub assigned : ℕ → ℕ → ByNumber → ByNumber
 assigned sub parent l = record {
   strand = put sub (Some (fresh (parent ∷ above_of l parent))) l.strand;
@@ -68,22 +81,27 @@ assigned sub parent l = record {
 abbrev pub with_change : Entry → StrandState → StrandState
 with_change e s = record s { changes = s.changes ++ e ∷ [] }
 
+-- rolled back: its changes are given up
 abbrev pub without_changes : StrandState → StrandState
 without_changes s = record s { undone = true; changes = [] }
 
+-- a change more of the number
 abbrev pub pushed : ℕ → Entry → ByNumber → ByNumber
 pushed x e l = record l { strand = put x (option_map (with_change e) (l.strand x)) l.strand }
 
 abbrev pub undone : ℕ → ByNumber → ByNumber
 undone x l = record l { strand = put x (option_map without_changes (l.strand x)) l.strand }
 
+-- nothing is left of the transaction's numbers
 abbrev pub ended : ℕ → ByNumber → ByNumber
 ended t l = record {
   strand = λ x. if is_in x (all_in (l.members t)) then None else l.strand x;
   members = put t None l.members;
 }
 
--- the changes of a number that neither itself nor one above it is rolled back
+-- WHAT IS KEPT OF THEM
+
+-- the changes of a number, unless it or one above it is rolled back
 abbrev pub kept_in : (ℕ → Option StrandState) → Option StrandState → List Entry
 kept_in strand None = []
 kept_in strand (Some s) = if s.undone || list_any (λ y. undone_in (strand y)) s.above then [] else s.changes
@@ -91,8 +109,3 @@ kept_in strand (Some s) = if s.undone || list_any (λ y. undone_in (strand y)) s
 -- the changes that a transaction keeps, number after number
 abbrev pub joined : ByNumber → ℕ → List Entry
 joined l t = flat_map (λ x. kept_in l.strand (l.strand x)) (all_in (l.members t))
-
--- no number stands twice
-abbrev pub AreDistinct : List ℕ → Type 0
-AreDistinct [] = Unit {0}
-AreDistinct (x ∷ xs) = (is_in x xs ≡ false) × AreDistinct xs

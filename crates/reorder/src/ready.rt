@@ -38,6 +38,7 @@ impl Kept {
         })
     }
 
+    /// Another one of the same record.
     pub(crate) fn copy(&self) -> Result<Kept, AllocError>
         ensures { IfOk result (λ k. k ≡ self.now) }
     {
@@ -46,6 +47,7 @@ impl Kept {
         })
     }
 
+    /// The position at which the change's record starts.
     pub(crate) fn position(&self) -> u64
         ensures { result ≡ self.now.position }
     {

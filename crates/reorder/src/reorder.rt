@@ -1,6 +1,6 @@
 //! Regrouping the changes of a log by transaction.
 
-ghost use Rattle.std.specs.Prelude.{◌≡◌, ◌<◌, [], length, false, true, Err, IfOk, OnErr, OnOk, filter, not};
+ghost use Rattle.std.specs.Prelude.{◌≡◌, ◌<◌, [], length, false, true, Err, IfOk, OnErr, OnOk};
 ghost use Rattle.reorder.specs.Kept.{IsEntryAt};
 ghost use Rattle.reorder.specs.Taking.{HasTaken, Takes, readied};
 
@@ -13,7 +13,7 @@ use std::sync::Arc;
 use tables::Change;
 use txlog::{Body, Record};
 
-/// The changes of the transactions in progress. Contracts see them in log order.
+/// The changes of the transactions in progress, by the numbers that made them.
 #[derive(Debug, Drop)]
 pub struct Reorder {
     strands: Strands,
@@ -56,6 +56,7 @@ impl Reorder {
         Ok(step)
     }
 
+    /// What the record does to the strands, and what it makes ready of them.
     fn regroup(&mut self, alloc: Global, next: &Arc<Record>) -> Result<Step, AllocError>
         ensures takes { IfOk result (λ step. Takes self.old self.new next.now.value (readied step)) }
         ensures failed { self.new.failed ≡ self.old.failed }
@@ -64,28 +65,21 @@ impl Reorder {
             Body::Assign(sub, parent) => {
                 self.strands.open(alloc, *parent)?;
                 self.strands.assign(alloc, *sub, *parent)?;
-                return Ok(Step::Quiet);
             }
             Body::Change(number, _) => {
                 self.strands.open(alloc, *number)?;
                 let kept = Kept::of(next)?;
                 self.strands.push(*number, kept)?;
-                return Ok(Step::Quiet);
             }
-            Body::AbortSub(number) => {
-                self.strands.undo(alloc, *number);
-                return Ok(Step::Quiet);
-            }
-            Body::Abort(top) => {
-                self.strands.end(*top);
-                return Ok(Step::Quiet);
-            }
+            Body::AbortSub(number) => self.strands.undo(alloc, *number),
+            Body::Abort(top) => self.strands.end(*top),
             Body::Commit(top, _) => {
                 let changes = self.strands.kept(alloc, *top)?;
                 self.strands.end(*top);
                 return Ok(Step::Ready(Ready::new(changes)));
             }
         }
+        Ok(Step::Quiet)
     }
 
     /// The k-th change that is ready: the position at which its record starts, and the change.

@@ -1,13 +1,16 @@
 //! What is kept of each number, and which numbers each transaction has.
+//!
+//! A record costs a look-up or two, whatever the length of the log. Only the end of a transaction goes over its numbers,
+//! and then nothing of them is left.
 
-ghost use Rattle.std.specs.Prelude.{◌≡◌, ℕ, ◌==◌, [], ◌∷◌, ◌++◌, Some, None, IsSome, IfOk, OnOk, nat_eq, if◌then◌else◌, ◌||◌};
+ghost use Rattle.std.specs.Prelude.{◌≡◌, ℕ, [], ◌∷◌, ◌++◌, Some, None, IsSome, IfOk, OnOk, nat_eq, if◌then◌else◌, ◌||◌};
 ghost use Rattle.std.specs.HashMap.{get};
 ghost use Rattle.std.specs.List.{flat_map, list_any};
 ghost use Rattle.std.specs.Option.{option_map};
 ghost use Rattle.std.specs.List.Sorted.{IsNonDecreasingBy, IsStableByKey};
 ghost use Rattle.std.specs.Ordering.{nat_cmp};
 ghost use Rattle.txlog.specs.Log.{last_of};
-ghost use Rattle.reorder.specs.Strands.{IsSame, above_in, above_of, all_in, assigned, ended, is_in, joined, kept_in, by_number, pushed, put, started, undone, undone_in, with_member, without_changes};
+ghost use Rattle.reorder.specs.Strands.{IsSame, above_of, assigned, ended, is_in, joined, kept_in, by_number, pushed, put, started, undone, undone_in, with_member, without_changes};
 
 use crate::members::Members;
 use crate::ready::Kept;
@@ -52,6 +55,7 @@ impl Strands {
         self.start(alloc, number)
     }
 
+    /// Makes a number without a strand a transaction.
     fn start(&mut self, alloc: Global, number: u32) -> Result<(), AllocError>
         ensures { OnOk result (IsSame (by_number self.new) (started number (by_number self.old))) }
     {
@@ -122,6 +126,7 @@ impl Strands {
         Ok(changes)
     }
 
+    /// The changes that a transaction keeps, number after number.
     fn joined(&self, alloc: Global, top: u32) -> Result<Vec<Kept>, AllocError>
         ensures { IfOk result (λ v. v.items ≡ joined (by_number self.now) top) }
     {
@@ -145,6 +150,7 @@ fn last_or(number: u32, numbers: &[u32]) -> u32
     }
 }
 
+/// Rolls the number back, where it has a strand.
 fn undo_at(strands: &mut HashMap<u32, Strand>, alloc: Global, number: u32)
     ensures { (x : ℕ) → get nat_eq strands.new x ≡ put number (option_map without_changes (get nat_eq strands.old number)) (get nat_eq strands.old) x }
 {
@@ -153,6 +159,7 @@ fn undo_at(strands: &mut HashMap<u32, Strand>, alloc: Global, number: u32)
     }
 }
 
+/// Adds a number to those of a transaction.
 fn add_member(members: &mut HashMap<u32, Members>, top: u32, sub: u32) -> Result<(), AllocError>
     ensures { OnOk result ((t : ℕ) → get nat_eq members.new t ≡ put top (option_map (with_member sub) (get nat_eq members.old top)) (get nat_eq members.old) t) }
 {
@@ -162,6 +169,7 @@ fn add_member(members: &mut HashMap<u32, Members>, top: u32, sub: u32) -> Result
     Ok(())
 }
 
+/// Gives up the strands of these numbers.
 fn remove_all(strands: &mut HashMap<u32, Strand>, numbers: &[u32])
     ensures { (x : ℕ) → get nat_eq strands.new x ≡ (if is_in x numbers.now then None else get nat_eq strands.old x) }
 {
@@ -206,6 +214,7 @@ fn joined_changes(
     Ok(joined)
 }
 
+/// Adds these changes, each of which shares its record.
 fn add_copies(joined: &mut Vec<Kept>, changes: &[Kept]) -> Result<(), AllocError>
     ensures { OnOk result (joined.new.items ≡ joined.old.items ++ changes.now) }
 {

@@ -1,6 +1,5 @@
-use Rattle.std.proofs.Common.{◌≡◌, ◌∙◌, ap, sym}
+use Rattle.std.proofs.Common.{◌∙◌, ap}
 use Rattle.txlog.specs.Log.{last_of}
-use Rattle.reorder.specs.Strands.{StrandsState}
 use Rattle.reorder.proofs.Lookups.{assigned_same}
 use Rattle.reorder.proofs.strands.Strands.assign.Goals as goal
 

@@ -1,4 +1,4 @@
-use Rattle.std.proofs.Common.{◌≡◌, ◌∙◌, ap, sym, rules}
+use Rattle.std.proofs.Common.{sym}
 use Rattle.reorder.proofs.Lookups.{joined_same}
 use Rattle.reorder.proofs.strands.Strands.joined.Goals as goal
 
