@@ -1,3 +1,4 @@
 pub mod Ranges
 pub mod Streams
 pub mod Sections
+pub mod Machines

@@ -3,3 +3,4 @@ pub mod Law
 pub mod Actions
 pub mod Sessions
 pub mod Events
+pub mod Machine

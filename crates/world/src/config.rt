@@ -14,6 +14,7 @@ pub const BUILTIN_RECORDS: usize = 65_536;
 pub struct Config {
     pub catalog: Catalog,
     pub publications: Publications,
+    /// The records that the log has room for: at least 1 and at most `MAX_RECORDS`, and else the nearest of these.
     pub records: usize,
 }
 

@@ -1,6 +1,8 @@
 //! A connection's sender, and what it has produced since its start.
 
 ghost use Rattle.std.specs.Prelude.{◌≡◌, ◌++◌, [], Some, None, Ok, Err, IsSome, IfOk, OnErr, length, take, drop};
+ghost use Rattle.std.specs.List.{AllByRecursion};
+ghost use Rattle.publication.specs.Selection.{FitsTable};
 ghost use Rattle.world.specs.State.{is_of};
 ghost use Rattle.world.specs.Actions.{Acts, IsServed, linked};
 
@@ -9,13 +11,14 @@ use crate::answer::Answer;
 use crate::fault::WorldFault;
 use bytes::BytesMut;
 use frames::Text;
-use sender::{SendFault, Sender};
+use publication::Selection;
+use sender::Sender;
 use std::alloc::Global;
-use txlog::Publisher;
+use txlog::{FIRST_POSITION, Publisher};
 
 /// A connection, from the start of its sender on.
 #[derive(Debug, Drop)]
-pub(crate) struct Connection {
+pub struct Connection {
     pub(crate) name: Text,
     /// The place in the log of the next record to read.
     pub(crate) place: usize,
@@ -25,6 +28,38 @@ pub(crate) struct Connection {
 }
 
 impl Connection {
+    /// A sender that reads the log from its first record on.
+    pub(crate) fn start(
+        alloc: Global,
+        publisher: &Publisher,
+        name: Text,
+        selection: Selection,
+        position: u64,
+    ) -> Self
+        requires tables { AllByRecursion FitsTable selection }
+        ensures served { IsServed publisher.now.log result }
+    {
+        let Ok(sender) = Sender::start(alloc, selection, position, FIRST_POSITION) else {
+            unreachable!();
+        };
+        Connection {
+            name,
+            place: 0,
+            produced: BytesMut::new(alloc),
+            sender: Some(sender),
+        }
+    }
+
+    /// The name by which the script calls it.
+    pub fn name(&self) -> &str {
+        self.name.as_str()
+    }
+
+    /// What its sender has produced since its start.
+    pub fn produced(&self) -> &[u8] {
+        self.produced.as_slice()
+    }
+
     /// Whether this is the connection of this name, and has a sender.
     pub(crate) fn is_of(&self, name: &Text) -> bool
         ensures { result ≡ is_of name.now (linked self.now) }

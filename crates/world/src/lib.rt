@@ -3,6 +3,7 @@
 
 mod action;
 mod answer;
+mod calls;
 mod codes;
 mod config;
 mod connection;
@@ -10,17 +11,25 @@ mod event;
 mod fault;
 mod fields;
 mod literals;
+mod machine;
 mod parse;
 mod report;
 mod rows;
 mod schedule;
 mod session;
+mod simulation;
+mod world;
 
 pub use answer::{Answer, SlotFault};
 pub use config::{BUILTIN_RECORDS, Config};
+pub use connection::Connection;
 pub use event::{Event, Literal};
 pub use fault::WorldFault;
 pub use schedule::{LineFault, Schedule};
+pub use simulation::{SimFault, simulate};
+pub use world::World;
 
+#[cfg(test)]
+mod row_tests;
 #[cfg(test)]
 mod script_tests;

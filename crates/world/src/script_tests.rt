@@ -1,5 +1,5 @@
 use crate::report::{write_refusals, write_stream};
-use crate::{Answer, Config, Event, Literal, Schedule, SlotFault, WorldFault};
+use crate::{Answer, Config, Event, Literal, Schedule, SimFault, SlotFault, WorldFault, simulate};
 use frames::{Items, Text};
 use publication::PubFault;
 use sender::SendFault;
@@ -209,5 +209,39 @@ fn reports_refusals_and_streams(rt: HostRuntime) -> Result<(), Fail> {
     write_stream(&mut output, "d", &[])?;
     let wanted = b"7 S5\n8 L1\n9 P1\n12 G2\n40 G4\n41 P7\n42 G3\nc:006bff\nd:\n";
     assert_eq!(rt; output.as_slice(), wanted.as_slice());
+    Ok(())
+}
+
+/// A file that cannot be read behind its first bytes.
+#[derive(Drop)]
+struct Torn {
+    is_read: bool,
+}
+
+impl Read for Torn {
+    fn read(&mut self, buf: &mut [u8]) -> io::Result<usize> {
+        if self.is_read || buf.is_empty() {
+            return Err(io::Error::from(ErrorKind::Other));
+        }
+        self.is_read = true;
+        buf[0] = b'#';
+        Ok(1)
+    }
+}
+
+#[test]
+fn writes_nothing_for_a_schedule_that_is_not_read(rt: HostRuntime) -> Result<(), Fail> {
+    let alloc = rt.alloc();
+    let mut output = Vec::new(alloc);
+    let mut torn = Torn { is_read: false };
+    let read = simulate(alloc, Config::builtin(alloc)?, &mut torn, &mut output);
+    assert!(rt; matches!(read, Err(SimFault::Read(_))));
+    let mut bytes = b"# \xff".as_slice();
+    let decoded = simulate(alloc, Config::builtin(alloc)?, &mut bytes, &mut output);
+    assert!(rt; matches!(decoded, Err(SimFault::NotUtf8)));
+    let mut lines = b"begin A\nend A\n".as_slice();
+    let parsed = simulate(alloc, Config::builtin(alloc)?, &mut lines, &mut output);
+    assert!(rt; parsed.err().is_some_and(|fault| fault.is_bad_schedule()));
+    assert!(rt; output.is_empty());
     Ok(())
 }

@@ -1,6 +1,6 @@
 //! The sessions of a script: transactions by name.
 
-ghost use Rattle.std.specs.Prelude.{◌≡◌, ◌++◌, ◌∷◌, ◌<◌, [], map, length, None, Some, MatchOption, IfOk, OnErr, OnOk, Ok, Err, true, false};
+ghost use Rattle.std.specs.Prelude.{◌≡◌, ◌++◌, ◌∷◌, ◌<◌, [], map, length, None, Some, MatchOption, IfOk, IfSome, OnErr, OnOk, Ok, Err, true, false};
 ghost use Rattle.std.specs.Str.{bytes_eq};
 ghost use Rattle.world.specs.Sessions.{named, place_from};
 
@@ -16,7 +16,8 @@ pub(crate) struct Session {
 
 /// The place of the transaction of this name.
 pub(crate) fn place_of(sessions: &[Session], name: &Text) -> Option<usize>
-    ensures { result ≡ place_from 0 name.now (map named sessions.now) }
+    ensures place { result ≡ place_from 0 name.now (map named sessions.now) }
+    ensures within { IfSome result (λ place. place < length sessions.now) }
 {
     for (place, session) in sessions.iter().enumerate() {
         if session.name.as_str() == name.as_str() {

@@ -1,0 +1,78 @@
+//! The words of the command line.
+
+use clap::{Arg, ArgAction, Command, Error};
+use std::alloc::Global;
+
+const ABOUT: &str =
+    "Runs a schedule of sessions and replication senders over a publisher in memory, and prints what the senders produced";
+
+const CONFIG_HELP: &str =
+    "The word builtin: the table public.item and the publication p, which publishes that table";
+
+const SCHEDULE_HELP: &str = "A text file with one event a line";
+
+const AFTER_HELP: &str = "\
+The table public.item has the columns id (int4, the key), name (text) and qty (int8).
+
+A schedule has one event a line, and fields separated by single spaces. Empty lines and
+lines that begin with # are passed over. T is a transaction's name and C a connection's.
+
+  begin T                  a transaction begins
+  insert T TABLE (ROW)     it inserts a row, as in (1,'ab',7)
+  savepoint T              it sets a savepoint
+  rollback T N             it rolls back to its Nth savepoint, counted from the outermost
+  release T N              it releases its Nth savepoint and those inside it
+  commit T TIME            it commits, at TIME microseconds since 2000-01-01
+  abort T                  it aborts
+  start C - POSITION P,..  a sender of publications starts, as in start c - 0/0 p
+  read C MAX CLOCK         the sender reads up to MAX records of the log
+  keepalive C CLOCK        the sender puts a keepalive behind what it holds
+  drain C N                up to N bytes leave the sender
+  cut C                    the connection is cut, and the sender ends
+
+For example:
+
+  begin A
+  insert A public.item (1,'ab',7)
+  commit A 5
+  start c - 0/0 p
+  read c 100 9
+  drain c 100000
+
+It prints a line for each event that was refused, the number of its line and a code, as in
+7 S5; and then a line for each sender: the connection's name, a colon and the bytes that
+it produced, in hexadecimal.
+
+It ends with 0 where that is done, with 2 where the arguments or the schedule are refused,
+and with 1 where a file cannot be read, the report cannot be printed or memory runs out.";
+
+/// What the program is asked to run.
+#[derive(Clone, Copy, Debug)]
+pub struct Words<'a> {
+    pub config: &'a str,
+    pub schedule: &'a str,
+}
+
+/// Both words, or the text for a user who asks for help or gives other words.
+pub fn words_of<'a>(alloc: Global, words: &'a [String]) -> Result<Words<'a>, Error> {
+    let config = Arg::new(alloc, "CONFIG")
+        .required(true)
+        .action(ArgAction::Set)
+        .help(CONFIG_HELP);
+    let schedule = Arg::new(alloc, "SCHEDULE")
+        .required(true)
+        .action(ArgAction::Set)
+        .help(SCHEDULE_HELP);
+    let command = Command::new(alloc, "pubsim")
+        .bin_name("pubsim")?
+        .about(ABOUT)
+        .after_help(AFTER_HELP)
+        .arg(config)?
+        .arg(schedule)?;
+    let matches = command.try_get_matches_from(words)?;
+    // Both are required, so both are there.
+    Ok(Words {
+        config: matches.get_str("CONFIG").unwrap_or(""),
+        schedule: matches.get_str("SCHEDULE").unwrap_or(""),
+    })
+}

@@ -1,0 +1,60 @@
+//! Why the program did not run a schedule, and with which status it then ends.
+
+use clap::error::ErrorKind;
+use std::alloc::AllocError;
+use std::io;
+use thiserror::Error;
+use world::SimFault;
+
+#[derive(Debug, Drop, Error)]
+pub enum Fault {
+    #[error("the arguments cannot be read: {0}")]
+    Arguments(io::Error),
+    #[error("{0}")]
+    Usage(clap::Error),
+    #[error("CONFIG must be the word builtin, which is the only configuration")]
+    Config,
+    #[error("the schedule cannot be opened: {0}")]
+    Open(io::Error),
+    #[error("standard output cannot be used: {0}")]
+    Output(io::Error),
+    #[error("{0}")]
+    Run(SimFault),
+    #[error("out of memory")]
+    Memory,
+}
+
+impl Fault {
+    /// 2 where the arguments, the configuration or the schedule are refused, and 0 where help was asked for. 1 where a
+    /// file, the output or memory failed.
+    pub fn status(&self) -> u8 {
+        match self {
+            Fault::Arguments(error) => match error.kind() {
+                io::ErrorKind::OutOfMemory => 1,
+                _ => 2,
+            },
+            Fault::Usage(error) => match error.kind() {
+                ErrorKind::DisplayHelp | ErrorKind::DisplayVersion => 0,
+                ErrorKind::OutOfMemory => 1,
+                _ => 2,
+            },
+            Fault::Config => 2,
+            Fault::Run(fault) if fault.is_bad_schedule() => 2,
+            Fault::Run(_) | Fault::Open(_) | Fault::Output(_) | Fault::Memory => 1,
+        }
+    }
+
+    /// Prints the fault on the standard error, and a text that was asked for on the standard output.
+    pub fn print<R: Print + Eprint>(&self, rt: &R) -> io::Result<()> {
+        match self {
+            Fault::Usage(error) => error.print(rt),
+            fault => eprintln!(rt; "pubsim: {fault}"),
+        }
+    }
+}
+
+impl From<AllocError> for Fault {
+    fn from(_e: AllocError) -> Fault {
+        Fault::Memory
+    }
+}

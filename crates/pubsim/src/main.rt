@@ -1,0 +1,41 @@
+//! `pubsim CONFIG SCHEDULE` runs a schedule of events over a publisher in memory, and prints what was refused and what
+//! each sender produced.
+#![tactic(auto)]
+
+mod command;
+mod fault;
+
+use command::words_of;
+use fault::Fault;
+use std::alloc::Global;
+use std::io::BufWriter;
+use std::process::ExitCode;
+use std::{env, fs, io};
+use world::{Config, simulate};
+
+fn main(rt: HostRuntime) -> ExitCode {
+    match run(&rt) {
+        Ok(()) => ExitCode::SUCCESS,
+        Err(fault) => {
+            let _ = fault.print(&rt);
+            ExitCode::from(fault.status())
+        }
+    }
+}
+
+fn run(rt: &HostRuntime) -> Result<(), Fault> {
+    let alloc = rt.alloc();
+    let arguments: Vec<String> = env::args(rt).map_err(Fault::Arguments)?.collect(alloc)?;
+    let words = words_of(alloc, arguments.as_slice()).map_err(Fault::Usage)?;
+    let config = config_of(alloc, words.config)?;
+    let mut schedule = fs::open(rt, words.schedule).map_err(Fault::Open)?;
+    let mut output = BufWriter::new(alloc, io::writer(rt)).map_err(Fault::Output)?;
+    simulate(alloc, config, &mut schedule, &mut output).map_err(Fault::Run)
+}
+
+fn config_of(alloc: Global, word: &str) -> Result<Config, Fault> {
+    if word != "builtin" {
+        return Err(Fault::Config);
+    }
+    Ok(Config::builtin(alloc)?)
+}

@@ -1,0 +1,206 @@
+use crate::{Config, simulate};
+use std::alloc::{AllocError, Global};
+use std::test::Fail;
+
+/// The table public.item, as its Relation spells it.
+const RELATION: [u8; 59] = [
+    0x52, 0, 0, 0x40, 0, 0x70, 0x75, 0x62, 0x6c, 0x69, 0x63, 0, 0x69, 0x74, 0x65, 0x6d, 0, 0x64, 0,
+    3, 1, 0x69, 0x64, 0, 0, 0, 0, 0x17, 0xff, 0xff, 0xff, 0xff, 0, 0x6e, 0x61, 0x6d, 0x65, 0, 0, 0,
+    0, 0x19, 0xff, 0xff, 0xff, 0xff, 0, 0x71, 0x74, 0x79, 0, 0, 0, 0, 0x14, 0xff, 0xff, 0xff, 0xff,
+];
+
+/// The frames that a connection is to produce, at clock 9, written byte by byte.
+#[derive(Drop)]
+struct Frames {
+    bytes: Vec<u8>,
+}
+
+impl Frames {
+    fn new(alloc: Global) -> Self {
+        Frames {
+            bytes: Vec::new(alloc),
+        }
+    }
+
+    fn message(mut self, length: u32, position: u64) -> Result<Self, AllocError> {
+        self.bytes.push(b'd')?;
+        self.bytes
+            .extend_from_slice(&length.wrapping_add(29).to_be_bytes())?;
+        self.bytes.push(b'w')?;
+        self.bytes.extend_from_slice(&position.to_be_bytes())?;
+        self.bytes.extend_from_slice(&position.to_be_bytes())?;
+        self.bytes.extend_from_slice(&9i64.to_be_bytes())?;
+        Ok(self)
+    }
+
+    fn begin(self, number: u32, position: u64, time: i64) -> Result<Self, AllocError> {
+        let mut frames = self.message(21, position)?;
+        frames.bytes.push(b'B')?;
+        frames.bytes.extend_from_slice(&position.to_be_bytes())?;
+        frames.bytes.extend_from_slice(&time.to_be_bytes())?;
+        frames.bytes.extend_from_slice(&number.to_be_bytes())?;
+        Ok(frames)
+    }
+
+    fn relation(self, position: u64) -> Result<Self, AllocError> {
+        let mut frames = self.message(59, position)?;
+        frames.bytes.extend_from_slice(&RELATION)?;
+        Ok(frames)
+    }
+
+    /// The insert of a row such as (1,'a',1).
+    fn insert(self, position: u64, digit: u8, letter: u8) -> Result<Self, AllocError> {
+        let mut frames = self.message(26, position)?;
+        frames
+            .bytes
+            .extend_from_slice(b"I\x00\x00\x40\x00N\x00\x03")?;
+        for byte in [digit, letter, digit] {
+            frames.bytes.extend_from_slice(&[b't', 0, 0, 0, 1, byte])?;
+        }
+        Ok(frames)
+    }
+
+    fn commit(self, position: u64, end: u64, time: i64) -> Result<Self, AllocError> {
+        let mut frames = self.message(26, end)?;
+        frames.bytes.extend_from_slice(b"C\x00")?;
+        frames.bytes.extend_from_slice(&position.to_be_bytes())?;
+        frames.bytes.extend_from_slice(&end.to_be_bytes())?;
+        frames.bytes.extend_from_slice(&time.to_be_bytes())?;
+        Ok(frames)
+    }
+
+    fn keepalive(mut self, position: u64) -> Result<Self, AllocError> {
+        self.bytes.extend_from_slice(b"d\x00\x00\x00\x16k")?;
+        self.bytes.extend_from_slice(&position.to_be_bytes())?;
+        self.bytes.extend_from_slice(&9i64.to_be_bytes())?;
+        self.bytes.push(0)?;
+        Ok(self)
+    }
+
+    /// The line that is printed for a connection of this name.
+    fn line(self, name: &str) -> Result<String, AllocError> {
+        let mut line = String::from_str(*self.bytes.allocator(), name)?;
+        line.push(':')?;
+        for byte in &self.bytes {
+            write!(line, "{byte:02x}")?;
+        }
+        line.push('\n')?;
+        Ok(line)
+    }
+}
+
+fn printed(alloc: Global, schedule: &str) -> Result<String, Fail> {
+    let mut input = schedule.as_bytes();
+    let mut output = Vec::new(alloc);
+    simulate(alloc, Config::builtin(alloc)?, &mut input, &mut output)?;
+    Ok(String::from_utf8(output)?)
+}
+
+#[test]
+fn an_empty_log_gives_no_bytes(rt: HostRuntime) -> Result<(), Fail> {
+    let alloc = rt.alloc();
+    let text = printed(alloc, "start c - 0/0 p\nread c 100 9\ndrain c 1000")?;
+    assert!(rt; text.as_str() == "c:\n");
+    let asked = printed(
+        alloc,
+        "start c - 0/0 p\nread c 100 9\nkeepalive c 9\ndrain c 1000",
+    )?;
+    let wanted = Frames::new(alloc).keepalive(0x100_0000)?.line("c")?;
+    assert!(rt; asked.as_str() == wanted.as_str());
+    Ok(())
+}
+
+#[test]
+fn an_aborted_transaction_gives_no_bytes(rt: HostRuntime) -> Result<(), Fail> {
+    let schedule =
+        "begin A\ninsert A public.item (1,'a',1)\nabort A\nstart c - 0/0 p\nread c 100 9\ndrain c 1000";
+    let text = printed(rt.alloc(), schedule)?;
+    assert!(rt; text.as_str() == "c:\n");
+    Ok(())
+}
+
+const INTERLEAVED: &str =
+    "begin A\nbegin B\ninsert A public.item (1,'a',1)\ninsert B public.item (2,'b',2)\ninsert A public.item (3,'c',3)\ncommit B 1\ncommit A 2\n";
+
+/// What the transaction of B comes to, which commits first.
+fn first_committed(alloc: Global) -> Result<Frames, AllocError> {
+    Frames::new(alloc)
+        .begin(701, 0x100_0090, 1)?
+        .relation(0x100_0030)?
+        .insert(0x100_0030, b'2', b'b')?
+        .commit(0x100_0090, 0x100_00b0, 1)
+}
+
+#[test]
+fn transactions_are_sent_in_the_order_of_their_commits(rt: HostRuntime) -> Result<(), Fail> {
+    let alloc = rt.alloc();
+    let both = first_committed(alloc)?
+        .begin(700, 0x100_00b0, 2)?
+        .insert(0x100_0000, b'1', b'a')?
+        .insert(0x100_0060, b'3', b'c')?
+        .commit(0x100_00b0, 0x100_00d0, 2)?
+        .line("c")?;
+    let at_once = "start c - 0/0 p\nread c 100 9\ndrain c 10000";
+    let one_by_one =
+        "start c - 0/0 p\nread c 1 9\nread c 1 9\nread c 1 9\nread c 1 9\nread c 1 9\ndrain c 10000";
+    let at_the_commit = "start c - 0/1000090 p\nread c 100 9\ndrain c 10000";
+    for reads in [at_once, one_by_one, at_the_commit] {
+        let schedule = format!(in alloc; "{INTERLEAVED}{reads}")?;
+        let text = printed(alloc, schedule.as_str())?;
+        assert!(rt; text.as_str() == both.as_str(), "{reads}");
+    }
+    Ok(())
+}
+
+#[test]
+fn a_transaction_that_committed_before_the_start_is_not_sent(rt: HostRuntime) -> Result<(), Fail> {
+    let alloc = rt.alloc();
+    let later = Frames::new(alloc)
+        .begin(700, 0x100_00b0, 2)?
+        .relation(0x100_0000)?
+        .insert(0x100_0000, b'1', b'a')?
+        .insert(0x100_0060, b'3', b'c')?
+        .commit(0x100_00b0, 0x100_00d0, 2)?
+        .line("d")?;
+    let wanted = format!(in alloc; "{later}e:\n")?;
+    let reads =
+        "start d - 0/1000091 p\nread d 100 9\ndrain d 10000\nstart e - 0/2000000 p\nread e 100 9\ndrain e 10000";
+    let schedule = format!(in alloc; "{INTERLEAVED}{reads}")?;
+    let text = printed(alloc, schedule.as_str())?;
+    assert!(rt; text.as_str() == wanted.as_str());
+    Ok(())
+}
+
+#[test]
+fn what_is_rolled_back_is_not_sent(rt: HostRuntime) -> Result<(), Fail> {
+    let alloc = rt.alloc();
+    let schedule =
+        "begin A\nsavepoint A\ninsert A public.item (1,'a',1)\nsavepoint A\ninsert A public.item (2,'b',2)\nrelease A 2\nrollback A 1\ninsert A public.item (3,'c',3)\ncommit A 1\nstart c - 0/0 p\nread c 100 9\ndrain c 10000";
+    let wanted = Frames::new(alloc)
+        .begin(700, 0x100_00d8, 1)?
+        .relation(0x100_00a8)?
+        .insert(0x100_00a8, b'3', b'c')?
+        .commit(0x100_00d8, 0x100_00f8, 1)?
+        .line("c")?;
+    let text = printed(alloc, schedule)?;
+    assert!(rt; text.as_str() == wanted.as_str());
+    Ok(())
+}
+
+#[test]
+fn what_is_released_is_sent_in_the_order_of_the_log(rt: HostRuntime) -> Result<(), Fail> {
+    let alloc = rt.alloc();
+    let schedule =
+        "begin A\ninsert A public.item (1,'a',1)\nsavepoint A\ninsert A public.item (2,'b',2)\nrelease A 1\ninsert A public.item (3,'c',3)\ncommit A 1\nstart c - 0/0 p\nread c 100 9\ndrain c 10000";
+    let wanted = Frames::new(alloc)
+        .begin(700, 0x100_00a8, 1)?
+        .relation(0x100_0000)?
+        .insert(0x100_0000, b'1', b'a')?
+        .insert(0x100_0048, b'2', b'b')?
+        .insert(0x100_0078, b'3', b'c')?
+        .commit(0x100_00a8, 0x100_00c8, 1)?
+        .line("c")?;
+    let text = printed(alloc, schedule)?;
+    assert!(rt; text.as_str() == wanted.as_str());
+    Ok(())
+}
