@@ -13,7 +13,6 @@ use crate::connection::Connection;
 use crate::event::Event;
 use crate::fault::WorldFault;
 use crate::session::{Session, leave_all};
-
 use frames::Text;
 use publication::Publications;
 use std::alloc::Global;
@@ -110,12 +109,7 @@ impl Machine {
     }
 
     /// Does what a line asks of the connection's sender. V1 where it has none.
-    fn act(
-        &mut self,
-        alloc: Global,
-        name: &Text,
-        action: Action,
-    ) -> Result<Answer, WorldFault>
+    fn act(&mut self, alloc: Global, name: &Text, action: Action) -> Result<Answer, WorldFault>
         requires served { IsMachine self.old }
         ensures served { IsMachine self.new }
     {

@@ -6,9 +6,9 @@ ghost use Rattle.world.specs.Machine.{IsMachine};
 use crate::answer::Answer;
 use crate::config::Config;
 use crate::connection::Connection;
-use crate::machine::Machine;
 use crate::event::Event;
 use crate::fault::WorldFault;
+use crate::machine::Machine;
 use std::alloc::Global;
 
 /// The publisher, its sessions and connections, and what the events so far answered.
