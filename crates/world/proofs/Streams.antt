@@ -131,7 +131,7 @@ starts_below at (r ∷ before) goes sized =
     let inner = starts_below r.end before next.1 sized.1 in
     (omega (arith, next.0, sized.0, inner.0), (omega (arith, next.0, sized.0, inner.0), inner.1))
 
-both_true : (a b : Bool) → (a && b) ≡ true → (a ≡ true) × (b ≡ true)
+pub both_true : (a b : Bool) → (a && b) ≡ true → (a ≡ true) × (b ≡ true)
 both_true true b e = (refl, e)
 both_true false b e = absurd cc
 

@@ -1,5 +1,5 @@
 -- What a script's session lines do, exactly: each makes the one call that it names.
-use Rattle.std.specs.Prelude.{◌≡◌, ℕ, ℤ, pos, negsuc, ◌+◌, ◌<◌, ◌^◌, Bool, true, false, nat_lt, drop, List, [], ◌∷◌, ◌++◌, Option, Some, None, if◌then◌else◌}
+use Rattle.std.specs.Prelude.{◌≡◌, ℕ, ℤ, pos, negsuc, ◌+◌, ◌<◌, ◌^◌, Bool, true, false, nat_lt, drop, List, [], ◌∷◌, ◌++◌, Option, Some, None, map, slice_get, remove, if◌then◌else◌}
 use Rattle.std.specs.Str.{bytes_eq}
 use Rattle.tables.specs.declared.kind.Kind.{Kind}
 use Rattle.tables.specs.declared.kind.Kind.TheVariants as kinds
@@ -17,7 +17,7 @@ use Rattle.world.specs.declared.event.Literal.TheVariants as literals
 use Rattle.world.specs.declared.answer.Answer.{Answer}
 use Rattle.world.specs.declared.answer.Answer.TheVariants as answers
 use Rattle.world.specs.declared.session.Session.{Session}
-use Rattle.world.specs.State.{Named}
+use Rattle.world.specs.State.{Named, number_of, without_name}
 
 abbrev pub named : Session → Named
 named s = record { name = s.name; number = s.tx }
@@ -26,6 +26,21 @@ named s = record { name = s.name; number = s.tx }
 abbrev pub place_from : ℕ → List ℕ → List Named → Option ℕ
 place_from at name [] = None
 place_from at name (n ∷ names) = if bytes_eq n.name name then Some at else place_from (at + 1) name names
+
+-- the transaction of this name stands there, and is the first of it
+pub record IsNamedAt (name : List ℕ) (place : ℕ) (sessions : List Session) : Type 0 where
+  pub session : Session
+  pub there : slice_get sessions place ≡ Some session
+  pub number : number_of name (map named sessions) ≡ Some session.tx
+  pub without : without_name name (map named sessions) ≡ map named (remove sessions place)
+
+-- what session lines see and change
+pub record Desk : Type 0 where
+  pub publisher : PublisherState
+  pub names : List Named
+
+abbrev pub desk : PublisherState → List Session → Desk
+desk publisher sessions = record { publisher = publisher; names = map named sessions }
 
 -- ---- Rows. An integer takes the kind of its column; what doesn't fit the column becomes a value of another kind.
 

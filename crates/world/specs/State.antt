@@ -5,6 +5,7 @@ use Rattle.tables.specs.declared.table.Table.{Table}
 use Rattle.txlog.specs.Publishing.{PublisherState, at_first}
 use Rattle.publication.specs.Publications.{Publication}
 use Rattle.sender.specs.Sending.{SenderState}
+use Rattle.world.specs.declared.answer.Answer.{Answer}
 
 -- a session's transaction, by its name
 pub record Named : Type 0 where
@@ -29,8 +30,20 @@ pub record WorldState : Type 0 where
   pub names : List Named
   pub links : List Link
 
-abbrev pub at_start : Publication → List Table → ℕ → WorldState
-at_start publication tables records = record { publication = publication; publisher = at_first tables records; names = []; links = [] }
+-- what a publisher is configured with
+pub record Setting : Type 0 where
+  pub tables : List Table
+  pub publication : Publication
+  pub records : ℕ
+
+-- before the first event the log is empty, and nobody is there
+abbrev pub at_start : Setting → WorldState
+at_start setting = record { publication = setting.publication; publisher = at_first setting.tables setting.records; names = []; links = [] }
+
+-- what a world tells of itself: its state, and what each event so far answered
+pub record Course : Type 0 where
+  pub state : WorldState
+  pub answers : List Answer
 
 -- the number of the transaction of this name
 abbrev pub number_of : List ℕ → List Named → Option ℕ

@@ -1,16 +1,18 @@
 //! The session lines of a script: each makes the one call of the publisher that it names.
 
-ghost use Rattle.std.specs.Prelude.{◌≡◌, ◌<◌, length, IfOk};
+ghost use Rattle.std.specs.Prelude.{◌≡◌, ◌<◌, map, is_some, length, Err, IfOk, OnErr, IsNone};
+ghost use Rattle.world.specs.State.{number_of};
+ghost use Rattle.world.specs.Sessions.{IsNamedAt, desk, named};
+ghost use Rattle.world.specs.Events.{Calls, IsBadCall};
 ghost use Rattle.world.specs.Machine.{Grows};
 
 use crate::answer::Answer;
 use crate::event::{Event, Literal};
 use crate::fault::WorldFault;
-use crate::rows::row_of;
 use crate::session::{Session, place_of};
 use frames::Text;
 use std::alloc::Global;
-use txlog::{Publisher, SessionFault};
+use txlog::Publisher;
 
 /// Does a session's line. V1 where its name is not known, or is for a second time.
 pub(crate) fn call(
@@ -19,6 +21,9 @@ pub(crate) fn call(
     alloc: Global,
     event: &Event,
 ) -> Result<Answer, WorldFault>
+    ensures calls { IfOk result (λ a. Calls event.now (desk publisher.old sessions.old.items) a (desk publisher.new sessions.new.items)) }
+    ensures bad { result ≡ Err WorldFault.BadEvent → IsBadCall event.now (map named sessions.old.items) }
+    ensures err { OnErr result (desk publisher.new sessions.new.items ≡ desk publisher.old sessions.old.items) }
     ensures grows { Grows publisher.old.log publisher.new.log }
 {
     match event {
@@ -31,23 +36,30 @@ pub(crate) fn call(
         Event::Release(name, depth) => release(publisher, sessions, name, *depth),
         Event::Commit(name, time) => commit(publisher, sessions, name, *time),
         Event::Abort(name) => abort(publisher, sessions, name),
-        _ => Err(WorldFault::BadEvent),
-    }
-}
-
-/// What a call answered.
-fn answered(done: Result<(), SessionFault>) -> Answer {
-    match done {
-        Ok(()) => Answer::Done,
-        Err(fault) => Answer::Session(fault),
+        Event::Start(_, _, _, _) => Err(WorldFault::BadEvent),
+        Event::Read(_, _, _) => Err(WorldFault::BadEvent),
+        Event::Keepalive(_, _) => Err(WorldFault::BadEvent),
+        Event::Drain(_, _) => Err(WorldFault::BadEvent),
+        Event::Cut(_) => Err(WorldFault::BadEvent),
     }
 }
 
 /// The place of the transaction of this name. V1 where there is none.
 fn known_place(sessions: &[Session], name: &Text) -> Result<usize, WorldFault>
-    ensures { IfOk result (λ place. place < length sessions.now) }
+    ensures there { IfOk result (λ place. IsNamedAt name.now place sessions.now) }
+    ensures within { IfOk result (λ place. place < length sessions.now) }
+    ensures bad { OnErr result (IsNone (number_of name.now (map named sessions.now))) }
 {
-    place_of(sessions, name).ok_or(WorldFault::BadEvent)
+    match place_of(sessions, name) {
+        Some(place) => return Ok(place),
+        None => return Err(WorldFault::BadEvent),
+    }
+}
+
+fn is_known(sessions: &[Session], name: &Text) -> bool
+    ensures { result ≡ is_some (number_of name.now (map named sessions.now)) }
+{
+    place_of(sessions, name).is_some()
 }
 
 /// Room for the session is made before the transaction begins.
@@ -57,9 +69,12 @@ fn begin(
     alloc: Global,
     name: &Text,
 ) -> Result<Answer, WorldFault>
+    ensures calls { IfOk result (λ a. Calls (Event.Begin name.now) (desk publisher.old sessions.old.items) a (desk publisher.new sessions.new.items)) }
+    ensures bad { result ≡ Err WorldFault.BadEvent → IsBadCall (Event.Begin name.now) (map named sessions.old.items) }
+    ensures err { OnErr result (desk publisher.new sessions.new.items ≡ desk publisher.old sessions.old.items) }
     ensures grows { Grows publisher.old.log publisher.new.log }
 {
-    if place_of(sessions.as_slice(), name).is_some() {
+    if is_known(sessions.as_slice(), name) {
         return Err(WorldFault::BadEvent);
     }
     sessions.reserve(1)?;
@@ -83,16 +98,13 @@ fn insert(
     table: &Text,
     row: &[Literal],
 ) -> Result<Answer, WorldFault>
+    ensures calls { IfOk result (λ a. Calls (Event.Insert name.now table.now row.now) (desk publisher.old sessions.old.items) a (desk publisher.new sessions.new.items)) }
+    ensures bad { result ≡ Err WorldFault.BadEvent → IsBadCall (Event.Insert name.now table.now row.now) (map named sessions.old.items) }
+    ensures err { OnErr result (desk publisher.new sessions.new.items ≡ desk publisher.old sessions.old.items) }
     ensures grows { Grows publisher.old.log publisher.new.log }
 {
     let place = known_place(sessions.as_slice(), name)?;
-    let Some(table) = publisher.catalog().named(table.as_str()) else {
-        return Ok(Answer::Session(SessionFault::UnknownTable));
-    };
-    let oid = table.oid;
-    let row = row_of(alloc, table.columns.as_slice(), row)?;
-    let session = &mut sessions[place];
-    Ok(answered(publisher.insert(&mut session.tx, oid, row)))
+    Ok(sessions[place].insert(publisher, alloc, table, row)?)
 }
 
 fn savepoint(
@@ -100,14 +112,13 @@ fn savepoint(
     sessions: &mut Vec<Session>,
     name: &Text,
 ) -> Result<Answer, WorldFault>
+    ensures calls { IfOk result (λ a. Calls (Event.Savepoint name.now) (desk publisher.old sessions.old.items) a (desk publisher.new sessions.new.items)) }
+    ensures bad { result ≡ Err WorldFault.BadEvent → IsBadCall (Event.Savepoint name.now) (map named sessions.old.items) }
+    ensures err { OnErr result (desk publisher.new sessions.new.items ≡ desk publisher.old sessions.old.items) }
     ensures grows { Grows publisher.old.log publisher.new.log }
 {
     let place = known_place(sessions.as_slice(), name)?;
-    let session = &mut sessions[place];
-    match publisher.savepoint(&mut session.tx) {
-        Ok(_) => Ok(Answer::Done),
-        Err(fault) => Ok(Answer::Session(fault)),
-    }
+    Ok(sessions[place].savepoint(publisher))
 }
 
 fn rollback(
@@ -116,11 +127,13 @@ fn rollback(
     name: &Text,
     depth: u32,
 ) -> Result<Answer, WorldFault>
+    ensures calls { IfOk result (λ a. Calls (Event.Rollback name.now depth) (desk publisher.old sessions.old.items) a (desk publisher.new sessions.new.items)) }
+    ensures bad { result ≡ Err WorldFault.BadEvent → IsBadCall (Event.Rollback name.now depth) (map named sessions.old.items) }
+    ensures err { OnErr result (desk publisher.new sessions.new.items ≡ desk publisher.old sessions.old.items) }
     ensures grows { Grows publisher.old.log publisher.new.log }
 {
     let place = known_place(sessions.as_slice(), name)?;
-    let session = &mut sessions[place];
-    Ok(answered(publisher.rollback_to(&mut session.tx, depth)))
+    Ok(sessions[place].rollback_to(publisher, depth))
 }
 
 fn release(
@@ -129,11 +142,13 @@ fn release(
     name: &Text,
     depth: u32,
 ) -> Result<Answer, WorldFault>
+    ensures calls { IfOk result (λ a. Calls (Event.Release name.now depth) (desk publisher.old sessions.old.items) a (desk publisher.new sessions.new.items)) }
+    ensures bad { result ≡ Err WorldFault.BadEvent → IsBadCall (Event.Release name.now depth) (map named sessions.old.items) }
+    ensures err { OnErr result (desk publisher.new sessions.new.items ≡ desk publisher.old sessions.old.items) }
     ensures grows { Grows publisher.old.log publisher.new.log }
 {
     let place = known_place(sessions.as_slice(), name)?;
-    let session = &mut sessions[place];
-    Ok(answered(publisher.release(&mut session.tx, depth)))
+    Ok(sessions[place].release(publisher, depth))
 }
 
 /// A refused transaction goes back to its place.
@@ -143,14 +158,16 @@ fn commit(
     name: &Text,
     time: i64,
 ) -> Result<Answer, WorldFault>
+    ensures calls { IfOk result (λ a. Calls (Event.Commit name.now time) (desk publisher.old sessions.old.items) a (desk publisher.new sessions.new.items)) }
+    ensures bad { result ≡ Err WorldFault.BadEvent → IsBadCall (Event.Commit name.now time) (map named sessions.old.items) }
+    ensures err { OnErr result (desk publisher.new sessions.new.items ≡ desk publisher.old sessions.old.items) }
     ensures grows { Grows publisher.old.log publisher.new.log }
 {
     let place = known_place(sessions.as_slice(), name)?;
-    let Session { name, tx } = sessions.remove(place);
-    match publisher.commit(tx, time) {
-        Ok(_) => return Ok(Answer::Done),
-        Err((tx, fault)) => {
-            match sessions.insert(place, Session { name, tx }) {
+    match sessions.remove(place).commit(publisher, time) {
+        Ok(()) => return Ok(Answer::Done),
+        Err((session, fault)) => {
+            match sessions.insert(place, session) {
                 Ok(()) => return Ok(Answer::Session(fault)),
                 Err(_) => unreachable!(),
             }
@@ -163,14 +180,16 @@ fn abort(
     sessions: &mut Vec<Session>,
     name: &Text,
 ) -> Result<Answer, WorldFault>
+    ensures calls { IfOk result (λ a. Calls (Event.Abort name.now) (desk publisher.old sessions.old.items) a (desk publisher.new sessions.new.items)) }
+    ensures bad { result ≡ Err WorldFault.BadEvent → IsBadCall (Event.Abort name.now) (map named sessions.old.items) }
+    ensures err { OnErr result (desk publisher.new sessions.new.items ≡ desk publisher.old sessions.old.items) }
     ensures grows { Grows publisher.old.log publisher.new.log }
 {
     let place = known_place(sessions.as_slice(), name)?;
-    let Session { name, tx } = sessions.remove(place);
-    match publisher.abort(tx) {
+    match sessions.remove(place).abort(publisher) {
         Ok(()) => return Ok(Answer::Done),
-        Err((tx, fault)) => {
-            match sessions.insert(place, Session { name, tx }) {
+        Err((session, fault)) => {
+            match sessions.insert(place, session) {
                 Ok(()) => return Ok(Answer::Session(fault)),
                 Err(_) => unreachable!(),
             }

@@ -1,10 +1,11 @@
 //! A connection's sender, and what it has produced since its start.
 
-ghost use Rattle.std.specs.Prelude.{◌≡◌, ◌++◌, [], Some, None, Ok, Err, IsSome, IfOk, OnErr, length, take, drop};
+ghost use Rattle.std.specs.Prelude.{◌≡◌, ◌++◌, [], Some, None, Ok, Err, IsSome, IfErr, IfOk, OnErr, length, take, drop};
 ghost use Rattle.std.specs.List.{AllByRecursion};
 ghost use Rattle.publication.specs.Selection.{FitsTable};
 ghost use Rattle.world.specs.State.{is_of};
 ghost use Rattle.world.specs.Actions.{Acts, IsServed, linked};
+ghost use Rattle.world.specs.Events.{started_link};
 
 use crate::action::Action;
 use crate::answer::Answer;
@@ -37,6 +38,7 @@ impl Connection {
         position: u64,
     ) -> Self
         requires tables { AllByRecursion FitsTable selection }
+        ensures fresh { linked result ≡ started_link name selection position }
         ensures served { IsServed publisher.now.log result }
     {
         let Ok(sender) = Sender::start(alloc, selection, position, FIRST_POSITION) else {
@@ -51,12 +53,16 @@ impl Connection {
     }
 
     /// The name by which the script calls it.
-    pub fn name(&self) -> &str {
+    pub fn name(&self) -> &str
+        ensures { result.now ≡ (linked self.now).name }
+    {
         self.name.as_str()
     }
 
     /// What its sender has produced since its start.
-    pub fn produced(&self) -> &[u8] {
+    pub fn produced(&self) -> &[u8]
+        ensures { result.now ≡ (linked self.now).produced }
+    {
         self.produced.as_slice()
     }
 
@@ -77,8 +83,9 @@ impl Connection {
         requires served { IsServed publisher.now.log self.old }
         requires here { IsSome self.old.sender }
         ensures acts { IfOk result (λ a. Acts publisher.now.log (Action.Read max clock) (linked self.old) a (linked self.new)) }
-        ensures served { IsServed publisher.now.log self.new }
         ensures err { OnErr result (linked self.new ≡ linked self.old) }
+        ensures memory { IfErr result (λ e. e ≡ WorldFault.Memory) }
+        ensures served { IsServed publisher.now.log self.new }
     {
         let records = publisher.tail(self.place, max as usize)?;
         let Some(sender) = &mut self.sender else {
@@ -103,8 +110,9 @@ impl Connection {
         requires served { IsServed publisher.now.log self.old }
         requires here { IsSome self.old.sender }
         ensures acts { IfOk result (λ a. Acts publisher.now.log action (linked self.old) a (linked self.new)) }
-        ensures served { IsServed publisher.now.log self.new }
         ensures err { OnErr result (linked self.new ≡ linked self.old) }
+        ensures memory { IfErr result (λ e. e ≡ WorldFault.Memory) }
+        ensures served { IsServed publisher.now.log self.new }
     {
         match action {
             Action::Read(max, clock) => return self.read(alloc, publisher, max, clock),
@@ -136,8 +144,9 @@ impl Connection {
         requires served { IsServed publisher.now.log self.old }
         requires here { IsSome self.old.sender }
         ensures acts { IfOk result (λ a. Acts publisher.now.log (Action.Drain max) (linked self.old) a (linked self.new)) }
-        ensures served { IsServed publisher.now.log self.new }
         ensures err { OnErr result (linked self.new ≡ linked self.old) }
+        ensures memory { IfErr result (λ e. e ≡ WorldFault.Memory) }
+        ensures served { IsServed publisher.now.log self.new }
     {
         let Some(sender) = &mut self.sender else {
             unreachable!();

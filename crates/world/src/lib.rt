@@ -21,7 +21,7 @@ mod simulation;
 mod world;
 
 pub use answer::{Answer, SlotFault};
-pub use config::{BUILTIN_RECORDS, Config};
+pub use config::{BUILTIN_RECORDS, Config, ConfigFault};
 pub use connection::Connection;
 pub use event::{Event, Literal};
 pub use fault::WorldFault;

@@ -1,9 +1,11 @@
 //! The publisher with its sessions and its connections.
 
-ghost use Rattle.std.specs.Prelude.{◌≡◌, ◌<◌, map, length, IfSome, IfOk};
+ghost use Rattle.std.specs.Prelude.{◌≡◌, ◌<◌, map, is_some, length, Err, IfSome, IfErr, IfOk, IsSome, IsNone, OnErr};
 ghost use Rattle.std.specs.List.{AllByRecursion};
+ghost use Rattle.world.specs.State.{at_start, link_of};
 ghost use Rattle.world.specs.Actions.{IsServed, linked};
-ghost use Rattle.world.specs.Machine.{IsMachine, link_place};
+ghost use Rattle.world.specs.Events.{ActsAt, Comes, IsBad, IsStart};
+ghost use Rattle.world.specs.Machine.{ActsIn, IsMachine, IsOpenAt, link_place, shown};
 
 use crate::action::Action;
 use crate::answer::{Answer, SlotFault};
@@ -16,7 +18,7 @@ use crate::session::{Session, leave_all};
 use frames::Text;
 use publication::Publications;
 use std::alloc::Global;
-use txlog::{MAX_RECORDS, Publisher};
+use txlog::Publisher;
 
 /// What a start names instead of a slot.
 const NO_SLOT: &str = "-";
@@ -44,28 +46,35 @@ impl Drop for Machine {
 
 impl Machine {
     pub(crate) fn new(alloc: Global, config: Config) -> Result<Self, WorldFault>
-        ensures served { IfOk result IsMachine }
+        ensures start { IfOk result (λ m. shown m ≡ at_start config) }
+        ensures err { IfErr result (λ e. e ≡ WorldFault.Memory) }
+        ensures machine { IfOk result IsMachine }
     {
         let Config {
             catalog,
             publications,
             records,
         } = config;
-        let Ok(publisher) = Publisher::new(alloc, catalog, records.clamp(1, MAX_RECORDS)) else {
-            return Err(WorldFault::Memory);
-        };
-        Ok(Machine {
-            publications,
-            publisher,
-            sessions: Vec::new(alloc),
-            connections: Vec::new(alloc),
-        })
+        match Publisher::new(alloc, catalog, records) {
+            Ok(publisher) => {
+                return Ok(Machine {
+                    publications,
+                    publisher,
+                    sessions: Vec::new(alloc),
+                    connections: Vec::new(alloc),
+                });
+            }
+            Err(_) => return Err(WorldFault::Memory),
+        }
     }
 
     /// Does one line. A fault is that of a line that doesn't happen at all, and changes nothing.
     pub(crate) fn step(&mut self, alloc: Global, event: &Event) -> Result<Answer, WorldFault>
-        requires served { IsMachine self.old }
-        ensures served { IsMachine self.new }
+        requires machine { IsMachine self.old }
+        ensures comes { IfOk result (λ a. Comes (shown self.old) event.now a (shown self.new)) }
+        ensures bad { result ≡ Err WorldFault.BadEvent → IsBad event.now (shown self.old) }
+        ensures err { OnErr result (shown self.new ≡ shown self.old) }
+        ensures machine { IsMachine self.new }
     {
         match event {
             Event::Start(name, slot, position, names) => {
@@ -88,10 +97,13 @@ impl Machine {
         position: u64,
         names: &[Text],
     ) -> Result<Answer, WorldFault>
-        requires served { IsMachine self.old }
-        ensures served { IsMachine self.new }
+        requires machine { IsMachine self.old }
+        ensures start { IfOk result (λ a. IsNone (link_of name.now (shown self.old).links) × IsStart name.now slot.now position names.now (shown self.old) a (shown self.new)) }
+        ensures bad { result ≡ Err WorldFault.BadEvent → IsSome (link_of name.now (shown self.old).links) }
+        ensures err { OnErr result (shown self.new ≡ shown self.old) }
+        ensures machine { IsMachine self.new }
     {
-        if connection_at(self.connections.as_slice(), name).is_some() {
+        if is_connected(self.connections.as_slice(), name) {
             return Err(WorldFault::BadEvent);
         }
         if slot.as_str() != NO_SLOT {
@@ -104,20 +116,31 @@ impl Machine {
             Err(fault) => return Ok(Answer::Publication(fault)),
         };
         let connection = Connection::start(alloc, &self.publisher, name, selection, position);
-        self.connections.push(connection)?;
-        Ok(Answer::Done)
+        match self.connections.push(connection) {
+            Ok(()) => return Ok(Answer::Done),
+            Err(_) => unreachable!(),
+        }
     }
 
     /// Does what a line asks of the connection's sender. V1 where it has none.
     fn act(&mut self, alloc: Global, name: &Text, action: Action) -> Result<Answer, WorldFault>
-        requires served { IsMachine self.old }
-        ensures served { IsMachine self.new }
+        requires machine { IsMachine self.old }
+        ensures acts { IfOk result (λ a. ActsAt name.now action (shown self.old) a (shown self.new)) }
+        ensures bad { result ≡ Err WorldFault.BadEvent → IsNone (link_of name.now (shown self.old).links) }
+        ensures err { OnErr result (shown self.new ≡ shown self.old) }
+        ensures machine { IsMachine self.new }
     {
         let Some(place) = connection_at(self.connections.as_slice(), name) else {
             return Err(WorldFault::BadEvent);
         };
         act_at(&mut self.connections, place, alloc, &self.publisher, action)
     }
+}
+
+fn is_connected(connections: &[Connection], name: &Text) -> bool
+    ensures { result ≡ is_some (link_of name.now (map linked connections.now)) }
+{
+    connection_at(connections, name).is_some()
 }
 
 /// The place of the connection of this name that has a sender.
@@ -140,13 +163,12 @@ fn act_at(
     publisher: &Publisher,
     action: Action,
 ) -> Result<Answer, WorldFault>
-    requires within { place < length connections.old.items }
+    requires open { IsOpenAt place connections.old.items }
     requires all { AllByRecursion (IsServed publisher.now.log) connections.old.items }
+    ensures acts { IfOk result (λ a. ActsIn publisher.now.log place action connections.old.items a connections.new.items) }
+    ensures err { OnErr result (map linked connections.new.items ≡ map linked connections.old.items) }
+    ensures memory { IfErr result (λ e. e ≡ WorldFault.Memory) }
     ensures all { AllByRecursion (IsServed publisher.now.log) connections.new.items }
 {
-    let connection = &mut connections[place];
-    if connection.sender.is_none() {
-        return Err(WorldFault::BadEvent);
-    }
-    connection.act(alloc, publisher, action)
+    connections[place].act(alloc, publisher, action)
 }

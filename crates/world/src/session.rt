@@ -1,17 +1,113 @@
 //! The sessions of a script: transactions by name.
 
-ghost use Rattle.std.specs.Prelude.{◌≡◌, ◌++◌, ◌∷◌, ◌<◌, [], map, length, None, Some, MatchOption, IfOk, IfSome, OnErr, OnOk, Ok, Err, true, false};
-ghost use Rattle.std.specs.Str.{bytes_eq};
+ghost use Rattle.std.specs.Prelude.{◌≡◌, ◌<◌, map, length, None, IfErr, IfOk, IfSome, OnErr, OnOk};
+ghost use Rattle.tables.specs.Tables.{table_named};
+ghost use Rattle.txlog.specs.Publishing.{JudgedFault, saved, rolled_back, released, after_commit, after_abort, savepoint_refusal, rollback_refusal, release_refusal, end_refusal};
 ghost use Rattle.world.specs.Sessions.{named, place_from};
+ghost use Rattle.world.specs.Events.{Called, insert_refused, inserted_in};
+ghost use Rattle.world.specs.Machine.{Grows};
 
+use crate::answer::Answer;
+use crate::event::Literal;
+use crate::rows::row_of;
 use frames::Text;
-use txlog::{Publisher, Tx};
+use std::alloc::{AllocError, Global};
+use txlog::{Publisher, SessionFault, Tx};
 
 /// A transaction in progress, by the name that a script gives it.
 #[derive(Debug)]
 pub(crate) struct Session {
     pub(crate) name: Text,
     pub(crate) tx: Tx,
+}
+
+impl Session {
+    /// Inserts a row. A table that is not known has no columns to read the row by.
+    pub(crate) fn insert(
+        &mut self,
+        publisher: &mut Publisher,
+        alloc: Global,
+        table: &Text,
+        row: &[Literal],
+    ) -> Result<Answer, AllocError>
+        ensures called { IfOk result (λ a. Called (insert_refused (table_named table.now publisher.old.tables) self.old.tx row.now publisher.old) (inserted_in (table_named table.now publisher.old.tables) self.old.tx row.now publisher.old) publisher.old a publisher.new) }
+        ensures same { self.new ≡ self.old }
+        ensures err { OnErr result (publisher.new ≡ publisher.old) }
+        ensures grows { Grows publisher.old.log publisher.new.log }
+    {
+        let Some(table) = publisher.catalog().named(table.as_str()) else {
+            return Ok(Answer::Session(SessionFault::UnknownTable));
+        };
+        let oid = table.oid;
+        let row = row_of(alloc, table.columns.as_slice(), row)?;
+        match publisher.insert(&mut self.tx, oid, row) {
+            Ok(()) => return Ok(Answer::Done),
+            Err(fault) => return Ok(Answer::Session(fault)),
+        }
+    }
+
+    pub(crate) fn savepoint(&mut self, publisher: &mut Publisher) -> Answer
+        ensures called { Called (savepoint_refusal self.old.tx publisher.old) (saved self.old.tx publisher.old) publisher.old result publisher.new }
+        ensures same { self.new ≡ self.old }
+        ensures grows { Grows publisher.old.log publisher.new.log }
+    {
+        match publisher.savepoint(&mut self.tx) {
+            Ok(_) => return Answer::Done,
+            Err(fault) => return Answer::Session(fault),
+        }
+    }
+
+    pub(crate) fn rollback_to(&mut self, publisher: &mut Publisher, depth: u32) -> Answer
+        ensures called { Called (rollback_refusal self.old.tx depth publisher.old) (rolled_back self.old.tx depth publisher.old) publisher.old result publisher.new }
+        ensures same { self.new ≡ self.old }
+        ensures grows { Grows publisher.old.log publisher.new.log }
+    {
+        match publisher.rollback_to(&mut self.tx, depth) {
+            Ok(()) => return Answer::Done,
+            Err(fault) => return Answer::Session(fault),
+        }
+    }
+
+    pub(crate) fn release(&mut self, publisher: &mut Publisher, depth: u32) -> Answer
+        ensures called { Called (release_refusal self.old.tx depth publisher.old) (released self.old.tx depth publisher.old) publisher.old result publisher.new }
+        ensures same { self.new ≡ self.old }
+        ensures grows { Grows publisher.old.log publisher.new.log }
+    {
+        match publisher.release(&mut self.tx, depth) {
+            Ok(()) => return Answer::Done,
+            Err(fault) => return Answer::Session(fault),
+        }
+    }
+
+    /// A refused transaction is given back.
+    pub(crate) fn commit(
+        self,
+        publisher: &mut Publisher,
+        time: i64,
+    ) -> Result<(), (Session, SessionFault)>
+        ensures ok { OnOk result ((end_refusal self.tx publisher.old ≡ None) × (publisher.new ≡ after_commit self.tx time publisher.old)) }
+        ensures err { IfErr result (λ back. (back.0 ≡ self) × JudgedFault (end_refusal self.tx publisher.old) back.1 × (publisher.new ≡ publisher.old)) }
+        ensures grows { Grows publisher.old.log publisher.new.log }
+    {
+        let Session { name, tx } = self;
+        match publisher.commit(tx, time) {
+            Ok(_) => return Ok(()),
+            Err((tx, fault)) => return Err((Session { name, tx }, fault)),
+        }
+    }
+
+    /// A refused transaction is given back.
+    pub(crate) fn abort(self, publisher: &mut Publisher) -> Result<(), (Session, SessionFault)>
+        ensures ok { OnOk result ((end_refusal self.tx publisher.old ≡ None) × (publisher.new ≡ after_abort self.tx publisher.old)) }
+        ensures err { IfErr result (λ back. (back.0 ≡ self) × JudgedFault (end_refusal self.tx publisher.old) back.1 × (publisher.new ≡ publisher.old)) }
+        ensures grows { Grows publisher.old.log publisher.new.log }
+    {
+        let Session { name, tx } = self;
+        match publisher.abort(tx) {
+            Ok(()) => return Ok(()),
+            Err((tx, fault)) => return Err((Session { name, tx }, fault)),
+        }
+    }
 }
 
 /// The place of the transaction of this name.
