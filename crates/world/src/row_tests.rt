@@ -1,4 +1,4 @@
-use crate::{Answer, Config, Schedule, SlotFault, World, simulate};
+use crate::{Answer, Config, Event, Schedule, SlotFault, World, simulate};
 use frames::Text;
 use publication::PubFault;
 use std::alloc::{AllocError, Global};
@@ -239,26 +239,33 @@ const ANSWERS: [Answer; 10] = [
 ];
 
 #[test]
-fn events_are_answered_one_by_one(rt: HostRuntime) -> Result<(), Fail> {
+fn a_run_answers_each_event(rt: HostRuntime) -> Result<(), Fail> {
     let alloc = rt.alloc();
     let schedule = Schedule::parse(alloc, REFUSALS)?;
-    let mut world = World::new(alloc, Config::builtin(alloc)?)?;
-    for (event, answer) in schedule.events().iter().zip(ANSWERS) {
-        assert_eq!(rt; world.step(alloc, event)?, answer);
-    }
+    let world = World::run(alloc, Config::builtin(alloc)?, schedule.events())?;
     assert_eq!(rt; world.answers(), ANSWERS.as_slice());
-    assert_eq!(rt; world.starts().len(), 1);
-    let run = World::run(alloc, Config::builtin(alloc)?, schedule.events())?;
-    assert_eq!(rt; run.answers(), ANSWERS.as_slice());
     let frames = Frames::new(alloc)
         .begin(700, 0x100_0030, 5)?
         .relation(0x100_0000)?
         .insert(0x100_0000, b'1', b'a')?
         .commit(0x100_0030, 0x100_0050, 5)?;
-    for start in world.starts().iter().chain(run.starts()) {
-        assert_eq!(rt; start.name(), "c");
-        assert_eq!(rt; start.produced(), frames.bytes.as_slice());
-    }
-    assert_eq!(rt; run.starts().len(), 1);
+    let start = world.starts().first().ok_or("a start")?;
+    assert_eq!(rt; start.name(), "c");
+    assert_eq!(rt; start.produced(), frames.bytes.as_slice());
+    assert_eq!(rt; world.starts().len(), 1);
+    Ok(())
+}
+
+#[test]
+fn a_step_answers_its_event(rt: HostRuntime) -> Result<(), Fail> {
+    let alloc = rt.alloc();
+    let begin = Event::parse(alloc, "begin A")?;
+    let release = Event::parse(alloc, "release A 1")?;
+    let refused = Answer::Session(SessionFault::NoSavepoint);
+    let mut world = World::new(alloc, Config::builtin(alloc)?)?;
+    assert_eq!(rt; world.step(alloc, &begin)?, Answer::Done);
+    assert_eq!(rt; world.step(alloc, &release)?, refused);
+    assert_eq!(rt; world.answers(), [Answer::Done, refused].as_slice());
+    assert!(rt; world.starts().is_empty());
     Ok(())
 }
