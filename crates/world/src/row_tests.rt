@@ -1,4 +1,4 @@
-use crate::{Answer, Config, Event, Schedule, SlotFault, World, simulate};
+use crate::{Answer, Config, Schedule, SlotFault, World, simulate};
 use frames::Text;
 use publication::PubFault;
 use std::alloc::{AllocError, Global};
@@ -253,19 +253,5 @@ fn a_run_answers_each_event(rt: HostRuntime) -> Result<(), Fail> {
     assert_eq!(rt; start.name(), "c");
     assert_eq!(rt; start.produced(), frames.bytes.as_slice());
     assert_eq!(rt; world.starts().len(), 1);
-    Ok(())
-}
-
-#[test]
-fn a_step_answers_its_event(rt: HostRuntime) -> Result<(), Fail> {
-    let alloc = rt.alloc();
-    let begin = Event::parse(alloc, "begin A")?;
-    let release = Event::parse(alloc, "release A 1")?;
-    let refused = Answer::Session(SessionFault::NoSavepoint);
-    let mut world = World::new(alloc, Config::builtin(alloc)?)?;
-    assert_eq!(rt; world.step(alloc, &begin)?, Answer::Done);
-    assert_eq!(rt; world.step(alloc, &release)?, refused);
-    assert_eq!(rt; world.answers(), [Answer::Done, refused].as_slice());
-    assert!(rt; world.starts().is_empty());
     Ok(())
 }
