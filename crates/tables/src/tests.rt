@@ -1,6 +1,6 @@
 use super::*;
 use bytes::BytesMut;
-use frames::Text;
+use frames::{Items, Text};
 use std::alloc::{AllocError, Global};
 use std::test::*;
 
@@ -14,6 +14,47 @@ fn row(alloc: Global, id: i32, name: &str, qty: i64) -> Result<Row, AllocError> 
         Value::Text(Text::copy_of(alloc, name)?),
         Value::Int8(qty),
     ]?))
+}
+
+fn column(alloc: Global, name: &str, kind: Kind, is_key: bool) -> Result<Column, AllocError> {
+    Ok(Column {
+        name: Text::copy_of(alloc, name)?,
+        kind,
+        is_key,
+    })
+}
+
+/// The table public.item, field by field.
+fn item(alloc: Global) -> Result<Table, AllocError> {
+    let columns = vec![in alloc;
+        column(alloc, "id", Kind::Int4, true)?,
+        column(alloc, "name", Kind::Text, false)?,
+        column(alloc, "qty", Kind::Int8, false)?,
+    ]?;
+    Ok(Table {
+        oid: 16384,
+        schema: Text::copy_of(alloc, "public")?,
+        name: Text::copy_of(alloc, "item")?,
+        identity: Identity::Default,
+        columns: Items::new(columns),
+    })
+}
+
+#[test]
+fn has_the_table_item(rt: HostRuntime) -> Result<(), Fail> {
+    let catalog = Catalog::builtin(rt.alloc())?;
+    let tables = vec![in rt.alloc(); item(rt.alloc())?]?;
+    assert_eq!(rt; catalog.tables(), tables.as_slice());
+    Ok(())
+}
+
+#[test]
+fn copies(rt: HostRuntime) -> Result<(), Fail> {
+    let alloc = rt.alloc();
+    let qty = column(alloc, "qty", Kind::Int8, false)?;
+    assert_eq!(rt; qty.copy(alloc)?, column(alloc, "qty", Kind::Int8, false)?);
+    assert_eq!(rt; item(alloc)?.copy(alloc)?, item(alloc)?);
+    Ok(())
 }
 
 #[test]

@@ -1,6 +1,10 @@
-use crate::{Config, simulate};
+use crate::{Answer, Config, Schedule, SlotFault, World, simulate};
+use frames::Text;
+use publication::PubFault;
 use std::alloc::{AllocError, Global};
 use std::test::Fail;
+use tables::Catalog;
+use txlog::SessionFault;
 
 /// The table public.item, as its Relation spells it.
 const RELATION: [u8; 59] = [
@@ -202,5 +206,52 @@ fn what_is_released_is_sent_in_the_order_of_the_log(rt: HostRuntime) -> Result<(
         .line("c")?;
     let text = printed(alloc, schedule)?;
     assert!(rt; text.as_str() == wanted.as_str());
+    Ok(())
+}
+
+#[test]
+fn the_builtin_configuration(rt: HostRuntime) -> Result<(), Fail> {
+    let alloc = rt.alloc();
+    let config = Config::builtin(alloc)?;
+    assert_eq!(rt; config.records, 65_536);
+    assert_eq!(rt; config.catalog, Catalog::builtin(alloc)?);
+    let names = [Text::copy_of(alloc, "p")?];
+    let selection = config.publications.select(alloc, &names)?;
+    assert!(rt; selection.relation(alloc, 16384)?.is_some());
+    Ok(())
+}
+
+/// The events of one insert among some that are refused.
+const REFUSALS: &str =
+    "begin A\ninsert A public.tag (1)\ninsert A public.item (1,'a',1)\nrollback A 1\ncommit A 5\nstart c s 0/0 p\nstart c - 0/0 q\nstart c - 0/0 p\nread c 100 9\ndrain c 1000";
+
+const ANSWERS: [Answer; 10] = [
+    Answer::Done,
+    Answer::Session(SessionFault::UnknownTable),
+    Answer::Done,
+    Answer::Session(SessionFault::NoSavepoint),
+    Answer::Done,
+    Answer::Slot(SlotFault::Missing),
+    Answer::Publication(PubFault::Unknown),
+    Answer::Done,
+    Answer::Done,
+    Answer::Done,
+];
+
+#[test]
+fn a_run_answers_each_event(rt: HostRuntime) -> Result<(), Fail> {
+    let alloc = rt.alloc();
+    let schedule = Schedule::parse(alloc, REFUSALS)?;
+    let world = World::run(alloc, Config::builtin(alloc)?, schedule.events())?;
+    assert_eq!(rt; world.answers(), ANSWERS.as_slice());
+    let frames = Frames::new(alloc)
+        .begin(700, 0x100_0030, 5)?
+        .relation(0x100_0000)?
+        .insert(0x100_0000, b'1', b'a')?
+        .commit(0x100_0030, 0x100_0050, 5)?;
+    let start = world.starts().first().ok_or("a start")?;
+    assert_eq!(rt; start.name(), "c");
+    assert_eq!(rt; start.produced(), frames.bytes.as_slice());
+    assert_eq!(rt; world.starts().len(), 1);
     Ok(())
 }

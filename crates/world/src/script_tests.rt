@@ -180,7 +180,10 @@ fn refuses_what_is_no_line(rt: HostRuntime) {
 fn counts_every_line_of_a_schedule(rt: HostRuntime) -> Result<(), Fail> {
     let schedule = Schedule::parse(rt.alloc(), "# a\n\nbegin A\n#\nabort A")?;
     assert_eq!(rt; schedule.lines(), [3, 5].as_slice());
-    assert_eq!(rt; schedule.events().len(), 2);
+    let begin = Event::Begin(text(rt.alloc(), "A")?);
+    let abort = Event::Abort(text(rt.alloc(), "A")?);
+    let events = vec![in rt.alloc(); begin, abort]?;
+    assert_eq!(rt; schedule.events(), events.as_slice());
     let last = Schedule::parse(rt.alloc(), "begin A\nabort A\n")?;
     assert_eq!(rt; last.lines(), [1, 2].as_slice());
     let refused = Schedule::parse(rt.alloc(), "begin A\n\nabort\nend").err();
