@@ -1,13 +1,12 @@
 -- What is true of the machine between two events is the headline; and a run that goes on is a run.
 use Rattle.std.proofs.Common.{◌≡◌, ◌+◌, ◌<◌, length, ℕ, Bool, true, false, cond, List, [], ◌∷◌, ◌++◌, map, take, Option, Some, None, refl, sym, ap, subst, ◌∙◌}
-use Rattle.std.specs.Prelude.{Result, Ok, Err, IsErrAnd, IfSome, IsSome, slice_index_or, ◌&&◌}
+use Rattle.std.specs.Prelude.{Result, Ok, Err, IsErrAnd, IfSome, slice_index_or}
 use Rattle.std.proofs.lemmas.List.{take_more}
 use Rattle.std.proofs.lemmas.Option.{slice_get_read}
 use Rattle.std.specs.List.{AllByRecursion}
 use Rattle.std.specs.Str.{bytes_eq}
-use Rattle.txlog.specs.declared.record.TheConstants.{FIRST_POSITION}
 use Rattle.txlog.specs.declared.record.Record.{Record}
-use Rattle.txlog.specs.Log.{IsWellFormedLog, end_of}
+use Rattle.txlog.specs.Log.{IsWellFormedLog}
 use Rattle.publication.specs.Selection.{relation}
 use Rattle.stream.specs.Stream.{IsStream}
 use Rattle.sender.specs.Published.{published}

@@ -1,5 +1,5 @@
 -- What was asked of a session or of a connection in its place is asked of it by name.
-use Rattle.std.proofs.Common.{◌≡◌, ◌<◌, ℕ, suc, List, [], ◌∷◌, ◌++◌, map, take, drop, length, Option, Some, None, refl, sym, ap, subst, ◌∙◌, arith}
+use Rattle.std.proofs.Common.{◌≡◌, ◌<◌, ℕ, suc, List, ◌∷◌, ◌++◌, map, take, drop, length, Option, Some, None, refl, sym, ap, subst, ◌∙◌, arith}
 use Rattle.std.specs.Prelude.{Result, Ok, Err, IfOk, OnErr, slice_get, slice_set, slice_index_or, remove, insert}
 use Rattle.std.proofs.lemmas.List.{map-set, take_at, drop_at, length-take, take-append-drop}
 use Rattle.std.proofs.lemmas.Option.{slice_get_read, slice_get_within}
@@ -14,9 +14,9 @@ use Rattle.world.specs.declared.fault.WorldFault.{WorldFault}
 use Rattle.world.specs.declared.session.Session.{Session}
 use Rattle.world.specs.declared.connection.Connection.{Connection}
 use Rattle.world.specs.declared.machine.Machine.{Machine}
-use Rattle.world.specs.State.{Link, Named, WorldState, number_of, without_name}
+use Rattle.world.specs.State.{Link, Named, number_of, without_name}
 use Rattle.world.specs.Actions.{Acts, linked}
-use Rattle.world.specs.Sessions.{named, IsNamedAt, Desk, desk}
+use Rattle.world.specs.Sessions.{named, IsNamedAt, desk}
 use Rattle.world.specs.Events.{Called, Asks, OfNumber, ActsAt, when_done}
 use Rattle.world.specs.Machine.{shown, ActsIn, IsOpenAt, IsLinkAt}
 

@@ -1,11 +1,8 @@
 -- The machine between two events: a longer log leaves every connection served, and what is selected fits.
-use Rattle.std.proofs.Common.{◌≡◌, ℕ, ℤ, Bool, true, false, List, [], ◌∷◌, ◌++◌, map, refl, sym, ap, subst}
+use Rattle.std.proofs.Common.{◌≡◌, ℕ, ℤ, List, [], ◌∷◌, ◌++◌, map, refl, sym, ap, subst}
 use Rattle.std.specs.Prelude.{Result, Ok, Err, IfOk, OnErr}
 use Rattle.std.specs.List.{AllByRecursion}
-use Rattle.tables.specs.declared.table.Table.{Table}
 use Rattle.txlog.specs.declared.record.Record.{Record}
-use Rattle.publication.specs.Selection.{FitsTable}
-use Rattle.publication.specs.Publications.{Publication, selected}
 use Rattle.txlog.specs.Publishing.{PublisherState}
 use Rattle.world.specs.declared.answer.Answer.{Answer}
 use Rattle.world.specs.declared.fault.WorldFault.{WorldFault}

@@ -1,11 +1,11 @@
 -- A session, and a connection's sender, stand where they were found by name.
-use Rattle.std.proofs.Common.{◌≡◌, ◌+◌, ◌<◌, ◌≤◌, ℕ, zero, suc, Bool, true, false, cond, List, [], ◌∷◌, ◌++◌, map, take, drop, length, Option, Some, None, refl, sym, ap, subst, ◌∙◌, arith}
-use Rattle.std.specs.Prelude.{IsSome, IsNone, is_some, slice_get, slice_set, remove, insert, ◌&&◌}
+use Rattle.std.proofs.Common.{◌≡◌, ◌+◌, ◌≤◌, ℕ, zero, suc, Bool, true, false, cond, List, [], ◌∷◌, map, Option, Some, None, refl, sym, ap, ◌∙◌, arith}
+use Rattle.std.specs.Prelude.{IsSome, IsNone, is_some}
 use Rattle.std.specs.Str.{bytes_eq}
 use Rattle.sender.specs.Sending.{SenderState}
 use Rattle.world.specs.declared.session.Session.{Session}
 use Rattle.world.specs.declared.connection.Connection.{Connection}
-use Rattle.world.specs.State.{Named, Link, link_with, number_of, without_name, is_of, link_of, at_name}
+use Rattle.world.specs.State.{Named, Link, link_with, number_of, is_of, link_of}
 use Rattle.world.specs.Actions.{linked}
 use Rattle.world.specs.Sessions.{named, place_from, IsNamedAt}
 use Rattle.world.specs.Machine.{link_place, IsLinkAt}
@@ -42,6 +42,7 @@ found_named name (s ∷ ss) at (suc k) e = by_test (bytes_eq s.name name) refl e
   where
     next : at + suc k ≡ (at + 1) + k
     next = omega arith
+
     by_test : (b : Bool) → bytes_eq s.name name ≡ b → cond b (Some at) (place_from (at + 1) name (map named ss)) ≡ Some (at + suc k)
         → (place_from (at + 1) name (map named ss) ≡ Some ((at + 1) + k) → IsNamedAt name k ss) → IsNamedAt name (suc k) (s ∷ ss)
     by_test true is e later = absurd (omega (arith, told at (at + suc k) e))
@@ -88,6 +89,7 @@ found_link name (c ∷ cs) at (suc k) e = by_test (is_of name (linked c)) refl e
   where
     next : at + suc k ≡ (at + 1) + k
     next = omega arith
+
     by_test : (b : Bool) → is_of name (linked c) ≡ b → cond b (Some at) (link_place (at + 1) name (map linked cs)) ≡ Some (at + suc k)
         → (link_place (at + 1) name (map linked cs) ≡ Some ((at + 1) + k) → IsLinkAt name k cs) → IsLinkAt name (suc k) (c ∷ cs)
     by_test true is e later = absurd (omega (arith, told at (at + suc k) e))

@@ -1,9 +1,9 @@
 -- What a log in range publishes is in range for a stream.
-use Rattle.std.proofs.Common.{◌≡◌, ◌<◌, ◌≤◌, ◌+◌, ◌^◌, ℕ, ℤ, Bool, true, false, cond, leb, eqb, List, [], ◌∷◌, ◌++◌, length, map, filter, Option, Some, None, refl, sym, ap, subst, ◌∙◌, append_assoc, arith}
-use Rattle.std.specs.Prelude.{FitsSigned, not}
-use Rattle.std.specs.List.{flat_map, AllByRecursion}
+use Rattle.std.proofs.Common.{◌≡◌, ◌<◌, ◌≤◌, ◌^◌, ℕ, ℤ, Bool, true, false, cond, leb, eqb, List, [], ◌∷◌, ◌++◌, map, filter, Option, Some, None, refl, sym, subst, arith}
+use Rattle.std.specs.Prelude.{FitsSigned}
+use Rattle.std.specs.List.{AllByRecursion}
 use Rattle.std.specs.Int.{w64}
-use Rattle.std.proofs.lemmas.Bool.{leb-true, eqb-true}
+use Rattle.std.proofs.lemmas.Bool.{eqb-true}
 use Rattle.std.proofs.lemmas.List.Concat.{flat_map-cons}
 use Rattle.pgoutput.specs.declared.logical.Logical.{Logical}
 use Rattle.tables.specs.declared.table.Table.{Table}
@@ -13,13 +13,12 @@ use Rattle.tables.specs.Tables.{FitsChange as FitsTables}
 use Rattle.txlog.specs.declared.record.Record.{Record}
 use Rattle.txlog.specs.declared.record.Body.{Body}
 use Rattle.txlog.specs.declared.record.Body.TheVariants.{Assign, Change as Changed, AbortSub, Abort, Commit}
-use Rattle.txlog.specs.Log.{Entry, entry_at, entries, is_kept, kept, Transaction, committed_at, committed_by, committed_from, FitsBody, FitsRecord, IsLogInRange, IsSized, size_of, follows, end_of}
+use Rattle.txlog.specs.Log.{Entry, entry_at, entries, is_kept, kept, Transaction, committed_at, committed_by, committed_from, FitsBody, FitsRecord, IsLogInRange, IsSized, follows}
 use Rattle.publication.specs.Selection.{relation, FitsTable}
 use Rattle.publication.specs.Projection.{message, MessageFits}
 use Rattle.publication.proofs.Fitting.{IsChange, message_fits}
 use Rattle.stream.specs.declared.published.Published.{Published}
-use Rattle.stream.specs.declared.published.PublishedChange.{PublishedChange}
-use Rattle.stream.specs.Items.{Item, Block, FitsChange, FitsPublished, FitsItem, FitItems}
+use Rattle.stream.specs.Items.{FitsChange, FitsPublished, FitItems}
 use Rattle.sender.specs.Published.{published_at, published_changes, published_as, has_message, published_from}
 use Rattle.sender.specs.Sending.{blocks}
 

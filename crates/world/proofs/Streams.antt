@@ -1,30 +1,30 @@
 -- What events do to a stream: a read adds blocks, a keepalive adds itself, a drain moves bytes.
-use Rattle.std.proofs.Common.{◌≡◌, ◌<◌, ◌≤◌, ◌+◌, ◌^◌, ℕ, ℤ, zero, suc, Bool, true, false, cond, leb, List, [], ◌∷◌, ◌++◌, length, map, take, drop, refl, sym, ap, subst, ◌∙◌, append_assoc, arith}
+use Rattle.std.proofs.Common.{◌≡◌, ◌<◌, ◌≤◌, ◌^◌, ℕ, ℤ, Bool, true, false, leb, List, [], ◌∷◌, ◌++◌, take, drop, refl, sym, ap, subst, ◌∙◌, append_assoc, arith}
 use Rattle.std.specs.Prelude.{FitsSigned, ◌&&◌}
-use Rattle.std.specs.List.{flat_map, AllByRecursion}
+use Rattle.std.specs.List.{AllByRecursion}
 use Rattle.std.specs.Int.{w64}
 use Rattle.std.proofs.lemmas.Bool.{le-leb, lt-leb}
-use Rattle.std.proofs.lemmas.List.{append-nil, take-append-drop, length-append}
+use Rattle.std.proofs.lemmas.List.{append-nil, take-append-drop}
 use Rattle.std.proofs.lemmas.Grind.{flat_map-append}
 use Rattle.std.proofs.lemmas.List.Concat.{flat_map-cons}
 use Rattle.pgoutput.specs.declared.relation.Relation.{Relation}
 use Rattle.tables.specs.declared.table.Table.{Table}
 use Rattle.txlog.specs.declared.record.TheConstants.{FIRST_POSITION}
 use Rattle.txlog.specs.declared.record.Record.{Record}
-use Rattle.txlog.specs.Log.{IsLogInRange, IsWellFormedLog, IsSized, WellFormedAfter, IsNext, follows, end_of, size_of}
-use Rattle.txlog.proofs.Laws.{end_of-append, follows-append, WellFormedAfter-front, WellFormedAfter-back}
+use Rattle.txlog.specs.Log.{IsWellFormedLog, IsSized, WellFormedAfter, follows, end_of}
+use Rattle.txlog.proofs.Laws.{follows-append}
 use Rattle.reorder.specs.Taking.{StartsBehind}
-use Rattle.publication.specs.Selection.{relation, FitsTable}
+use Rattle.publication.specs.Selection.{relation}
 use Rattle.stream.specs.declared.word.Keepalive.{Keepalive}
 use Rattle.stream.specs.declared.published.Published.{Published}
 use Rattle.stream.specs.Words.{word_bytes, frames_of}
-use Rattle.stream.specs.Items.{Item, Alive, Block, alive, item_words, words_of, spelled, sent, named_by_all, named_after, named_through, FitsPublished, FitItems, FitsItem}
+use Rattle.stream.specs.Items.{Item, Alive, Block, alive, item_words, words_of, spelled, sent, named_by_all, named_through, FitsPublished, FitsItem}
 use Rattle.stream.specs.Stream.{IsStream, AreSafeKeepalives}
 use Rattle.sender.specs.Published.{published, published_from}
 use Rattle.sender.specs.Sending.{blocks, blocks_behind, MayFollow}
 use Rattle.sender.proofs.Batches.{published_from-append}
 use Rattle.world.specs.Law.{upto}
-use Rattle.world.proofs.Ranges.{all_of_both, all_front, all_back, published_fit, blocks_fit, published_late, followed}
+use Rattle.world.proofs.Ranges.{all_of_both, all_front, all_back, blocks_fit, followed}
 
 -- ---- items behind items
 

@@ -1,5 +1,5 @@
 -- What an event does to the world, exactly: the machine, one equation a line.
-use Rattle.std.specs.Prelude.{◌≡◌, ℕ, ℤ, ◌==◌, not, Bool, true, false, codes, List, [], ◌∷◌, ◌++◌, map, take, slice_get, Option, Some, None, IsSome, IsNone, if◌then◌else◌}
+use Rattle.std.specs.Prelude.{◌≡◌, ℕ, Bool, true, false, codes, List, [], ◌∷◌, ◌++◌, take, slice_get, Option, Some, None, IsSome, IsNone}
 use Rattle.std.specs.Str.{bytes_eq}
 use Rattle.tables.specs.declared.table.Table.{Table}
 use Rattle.tables.specs.declared.change.Change.TheVariants as changes
@@ -8,10 +8,8 @@ use Rattle.txlog.specs.declared.record.TheConstants.{FIRST_POSITION}
 use Rattle.txlog.specs.declared.fault.SessionFault.{SessionFault}
 use Rattle.txlog.specs.declared.fault.SessionFault.TheVariants as faults
 use Rattle.txlog.specs.Publishing.{PublisherState, JudgedFault, begun, changed, saved, rolled_back, released, after_commit, after_abort, begin_refusal, insert_refusal, savepoint_refusal, rollback_refusal, release_refusal, end_refusal}
-use Rattle.publication.specs.declared.fault.PubFault.{PubFault}
 use Rattle.publication.specs.declared.fault.PubFault.TheVariants as pubs
 use Rattle.publication.specs.Publications.{selected, is_unknown}
-use Rattle.sender.specs.declared.fault.SendFault.{SendFault}
 use Rattle.world.specs.declared.action.Action.{Action}
 use Rattle.world.specs.declared.action.Action.TheVariants as actions
 use Rattle.world.specs.declared.event.Event.{Event}

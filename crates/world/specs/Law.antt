@@ -1,9 +1,7 @@
 -- The headline. For every connection that has a sender: what it has produced since its start, with what it still holds, is a
 -- stream encoding of exactly the published transactions among the records that it has read, with safe keepalives.
-use Rattle.std.specs.Prelude.{◌≡◌, ℕ, ◌≤◌, ◌++◌, List, IfSome, length, take, nat_le, [], ◌∷◌, if◌then◌else◌}
-use Rattle.txlog.specs.declared.record.TheConstants.{FIRST_POSITION}
+use Rattle.std.specs.Prelude.{ℕ, ◌++◌, List, IfSome, nat_le, [], ◌∷◌, if◌then◌else◌}
 use Rattle.txlog.specs.declared.record.Record.{Record}
-use Rattle.txlog.specs.Log.{end_of}
 use Rattle.publication.specs.Selection.{relation}
 use Rattle.stream.specs.Stream.{IsStream}
 use Rattle.sender.specs.Published.{published}

@@ -1,21 +1,14 @@
 -- What a script's session lines do, exactly: each makes the one call that it names.
-use Rattle.std.specs.Prelude.{◌≡◌, ℕ, ℤ, pos, negsuc, ◌+◌, ◌<◌, ◌^◌, Bool, true, false, nat_lt, drop, List, [], ◌∷◌, ◌++◌, Option, Some, None, map, slice_get, remove, if◌then◌else◌}
+use Rattle.std.specs.Prelude.{◌≡◌, ℕ, ℤ, pos, negsuc, ◌+◌, ◌^◌, Bool, false, nat_lt, drop, List, [], ◌∷◌, Option, Some, None, map, slice_get, remove, if◌then◌else◌}
 use Rattle.std.specs.Str.{bytes_eq}
 use Rattle.tables.specs.declared.kind.Kind.{Kind}
 use Rattle.tables.specs.declared.kind.Kind.TheVariants as kinds
 use Rattle.tables.specs.declared.value.Value.{Value}
 use Rattle.tables.specs.declared.value.Value.TheVariants as values
 use Rattle.tables.specs.declared.column.Column.{Column}
-use Rattle.tables.specs.declared.table.Table.{Table}
-use Rattle.tables.specs.declared.change.Change.TheVariants as changes
-use Rattle.tables.specs.Tables.{table_named}
-use Rattle.txlog.specs.declared.fault.SessionFault.{SessionFault}
-use Rattle.txlog.specs.declared.fault.SessionFault.TheVariants as faults
-use Rattle.txlog.specs.Publishing.{PublisherState, begun, changed, saved, rolled_back, released, after_commit, after_abort, begin_refusal, insert_refusal, savepoint_refusal, rollback_refusal, release_refusal, end_refusal}
+use Rattle.txlog.specs.Publishing.{PublisherState}
 use Rattle.world.specs.declared.event.Literal.{Literal}
 use Rattle.world.specs.declared.event.Literal.TheVariants as literals
-use Rattle.world.specs.declared.answer.Answer.{Answer}
-use Rattle.world.specs.declared.answer.Answer.TheVariants as answers
 use Rattle.world.specs.declared.session.Session.{Session}
 use Rattle.world.specs.State.{Named, number_of, without_name}
 

@@ -1,5 +1,5 @@
 -- The world between two events: a publisher, its sessions by name, and every start of a sender with what came of it.
-use Rattle.std.specs.Prelude.{◌≡◌, ℕ, ℤ, ◌==◌, Bool, true, false, ◌&&◌, List, [], ◌∷◌, Option, Some, None, filter, not, if◌then◌else◌}
+use Rattle.std.specs.Prelude.{ℕ, Bool, true, false, ◌&&◌, List, [], ◌∷◌, Option, Some, None, if◌then◌else◌}
 use Rattle.std.specs.Str.{bytes_eq}
 use Rattle.tables.specs.declared.table.Table.{Table}
 use Rattle.txlog.specs.Publishing.{PublisherState, at_first}

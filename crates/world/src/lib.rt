@@ -30,6 +30,10 @@ pub use simulation::{SimFault, simulate};
 pub use world::World;
 
 #[cfg(test)]
+mod edge_tests;
+#[cfg(test)]
 mod row_tests;
 #[cfg(test)]
 mod script_tests;
+#[cfg(test)]
+mod wanted;

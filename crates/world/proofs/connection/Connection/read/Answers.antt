@@ -1,7 +1,6 @@
-use Rattle.std.proofs.Common.{◌≡◌, ◌+◌, ℕ, List, take, drop, length, Some, Option, ap, sym, subst, ◌∙◌, refl}
+use Rattle.std.proofs.Common.{◌≡◌, ◌+◌, ℕ, take, drop, length, Some, Option, ap, sym, subst, ◌∙◌}
 use Rattle.std.specs.Int.{w64}
 use Rattle.std.proofs.lemmas.Int.{to_z-of_z}
-use Rattle.txlog.specs.declared.record.Record.{Record}
 use Rattle.txlog.specs.Publishing.{shared}
 use Rattle.sender.specs.Sending.{SenderState}
 use Rattle.world.specs.declared.action.Action.TheVariants as actions

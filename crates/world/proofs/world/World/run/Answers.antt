@@ -1,9 +1,9 @@
-use Rattle.std.proofs.Common.{◌≡◌, ◌+◌, ◌++◌, ◌∷◌, [], List, length, take, refl, sym, ap, subst, ◌∙◌, arith}
+use Rattle.std.proofs.Common.{◌+◌, [], List, take, refl, sym, ap, subst, ◌∙◌, arith}
 use Rattle.std.proofs.lemmas.List.{take_all}
 use Rattle.std.specs.Prelude.{Err}
 use Rattle.world.specs.declared.answer.Answer.{Answer}
 use Rattle.world.specs.declared.event.Event.{Event}
-use Rattle.world.specs.State.{Course, WorldState, at_start}
+use Rattle.world.specs.State.{Course, at_start}
 use Rattle.world.specs.Law.{Headline}
 use Rattle.world.specs.Events.{Run}
 use Rattle.world.proofs.Courses.{run_on, stops, refused_by}
@@ -16,9 +16,11 @@ loop-event-init c =
 
 pub loop-event-preserved : goal.loop-event-preserved
 loop-event-preserved c =
-    let P : List Answer → Type 0 = λ l. Run (at_start c.args.config) (take (c.loop-event.event-index + 1) c.args.events.now) l c.step.new.self.state in
-    (subst P (sym c.in_ok-step.ensures.kept) (run_on (at_start c.args.config) c.loop-event.world.state c.step.new.self.state c.args.events.now c.loop-event.event-index c.loop-event.world.answers c.event-item.result c.in_ok-step.field-0
-        c.loop-event-test.true c.event-item.is c.loop-event.invariant.0 c.in_ok-step.ensures.comes), c.step.ensures.headline)
+    let P : List Answer → Type 0 = λ l. Run (at_start c.args.config) (take (c.loop-event.event-index + 1) c.args.events.now) l c.step.new.self.state in (
+      subst P (sym c.in_ok-step.ensures.kept) (run_on (at_start c.args.config) c.loop-event.world.state c.step.new.self.state c.args.events.now c.loop-event.event-index c.loop-event.world.answers c.event-item.result c.in_ok-step.field-0
+          c.loop-event-test.true c.event-item.is c.loop-event.invariant.0 c.in_ok-step.ensures.comes),
+      c.step.ensures.headline,
+    )
 
 pub returns-in_err-step-clause-bad : goal.returns-in_err-step-clause-bad
 returns-in_err-step-clause-bad c = λ is.
