@@ -248,18 +248,42 @@ pub record RefusesFeed (clock : ℤ) (s new : SenderState) (r : Result (Unit {0}
   pub failed : (r ≡ Err sends.Failed) ↔ (s.failed ≡ true)
   pub unchanged : s.failed ≡ true → new ≡ s
   pub unread : r ≡ Err sends.Gap → new ≡ s
+  pub gap : r ≡ Err sends.Gap → follows s.position section ≡ false
+
+not_both : {b : Bool} → b ≡ true → b ≡ false → ⊥
+not_both p q = let never : true ≡ false = sym p ∙ q in cc
 
 pub refused_acts : (tables : List Table) (log : List Record) (place max : ℕ) (clock : ℤ) (name produced : List ℕ) (s new : SenderState) (r : Result (Unit {0}) SendFault) (fault : SendFault)
     → IsWellFormedLog log → IsLogInRange tables log → IsAlive log place produced s → r ≡ Err fault → RefusesFeed clock s new r (take max (drop place log))
     → ActsOnFault log (actions.Read max clock) (link_with name produced (Some s)) fault (link_with name produced (Some new))
 refused_acts tables log place max clock name produced s new r sends.Memory good in_range alive is refuses =
     let running = was_running s r refuses.failed (λ other. differ (sym is ∙ other)) in
-    broken_acts tables log place max clock name produced s new (section_of tables log place max (alive.running running).within good in_range) alive running (refuses.memory is)
+    (running, broken_acts tables log place max clock name produced s new (section_of tables log place max (alive.running running).within good in_range) alive running (refuses.memory is))
   where
     differ : failed_with sends.Memory ≡ failed_with sends.Failed → ⊥
     differ e = cc
-refused_acts tables log place max clock name produced s new r sends.Failed good in_range alive is refuses = ap (λ (t : SenderState). link_with name produced (Some t)) (refuses.unchanged (refuses.failed.0 is))
-refused_acts tables log place max clock name produced s new r sends.Gap good in_range alive is refuses = ap (λ (t : SenderState). link_with name produced (Some t)) (refuses.unread is)
+refused_acts tables log place max clock name produced s new r sends.Failed good in_range alive is refuses =
+    (refl, refuses.failed.0 is, ap (λ (t : SenderState). link_with name produced (Some t)) (refuses.unchanged (refuses.failed.0 is)))
+refused_acts tables log place max clock name produced s new r sends.Gap good in_range alive is refuses =
+    let running = was_running s r refuses.failed (λ other. differ (sym is ∙ other)) in
+    let reading = alive.running running in
+    let next = next_part tables log place (take max (drop place log)) (section_of tables log place max reading.within good in_range) in
+    let P : ℕ → Type 0 = λ p. follows p (take max (drop place log)) ≡ true in
+    absurd (not_both (subst P (sym reading.at) next.follows_on) (refuses.gap is))
+  where
+    differ : failed_with sends.Gap ≡ failed_with sends.Failed → ⊥
+    differ e = cc
+
+-- a refused keepalive
+pub refused_keepalive : (log : List Record) (clock : ℤ) (name produced : List ℕ) (s new : SenderState) (r : Result (Unit {0}) SendFault) (fault : SendFault) → r ≡ Err fault → (r ≡ Err sends.Failed) ↔ (s.failed ≡ true)
+    → (r ≡ Err sends.Gap → ⊥) → new ≡ s → ActsOnFault log (actions.Keepalive clock) (link_with name produced (Some s)) fault (link_with name produced (Some new))
+refused_keepalive log clock name produced s new r sends.Memory is failed gap same =
+    (was_running s r failed (λ other. differ (sym is ∙ other)), ap (λ (t : SenderState). link_with name produced (Some t)) same)
+  where
+    differ : failed_with sends.Memory ≡ failed_with sends.Failed → ⊥
+    differ e = cc
+refused_keepalive log clock name produced s new r sends.Failed is failed gap same = (refl, failed.0 is, ap (λ (t : SenderState). link_with name produced (Some t)) same)
+refused_keepalive log clock name produced s new r sends.Gap is failed gap same = absurd (gap is)
 
 pub refused_alive : (tables : List Table) (log : List Record) (place max : ℕ) (clock : ℤ) (produced : List ℕ) (s new : SenderState) (r : Result (Unit {0}) SendFault) (fault : SendFault)
     → IsWellFormedLog log → IsLogInRange tables log → FitsSigned w64 clock → IsAlive log place produced s → r ≡ Err fault → RefusesFeed clock s new r (take max (drop place log)) → IsAlive log place produced new

@@ -1,5 +1,5 @@
 -- What a line does to the sender of a connection, exactly.
-use Rattle.std.specs.Prelude.{◌≡◌, ◌<◌, ◌≤◌, ◌^◌, ℕ, ℤ, true, false, List, [], ◌∷◌, ◌++◌, length, take, drop, nat_le, Option, Some, None, if◌then◌else◌}
+use Rattle.std.specs.Prelude.{◌≡◌, ◌<◌, ◌≤◌, ◌^◌, ℕ, ℤ, true, false, List, [], ◌∷◌, ◌++◌, length, take, drop, nat_le, Option, Some, None, if◌then◌else◌, Bool, ◌&&◌}
 use Rattle.std.specs.List.{AllByRecursion}
 use Rattle.txlog.specs.declared.record.TheConstants.{FIRST_POSITION}
 use Rattle.txlog.specs.declared.record.Record.{Record}
@@ -51,20 +51,28 @@ pub record BreaksDown (log : List Record) (max : ℕ) (clock : ℤ) (old new : L
 abbrev pub ActsOnMemory : List Record → Action → Link → Link → Type 0
 ActsOnMemory log (actions.Read max clock) old new = BreaksDown log max clock old new
 ActsOnMemory log (actions.Keepalive clock) old new = new ≡ old
-ActsOnMemory log (actions.Drain n) old new = new ≡ old
-ActsOnMemory log actions.Cut old new = new ≡ old
+ActsOnMemory log (actions.Drain n) old new = ⊥
+ActsOnMemory log actions.Cut old new = ⊥
 
+-- what a sender that has failed refuses
+abbrev pub needs_running : Action → Bool
+needs_running (actions.Read max clock) = true
+needs_running (actions.Keepalive clock) = true
+needs_running (actions.Drain n) = false
+needs_running actions.Cut = false
+
+-- G2 comes to a sender that had not failed, G3 to one that had; what a line reads always follows, so G4 doesn't come
 abbrev pub ActsOnFault : List Record → Action → Link → SendFault → Link → Type 0
-ActsOnFault log action old sends.Memory new = ActsOnMemory log action old new
-ActsOnFault log action old sends.Failed new = new ≡ old
-ActsOnFault log action old sends.Gap new = new ≡ old
+ActsOnFault log action old sends.Memory new = (old.failed ≡ false) × ActsOnMemory log action old new
+ActsOnFault log action old sends.Failed new = (needs_running action ≡ true) × (old.failed ≡ true) × (new ≡ old)
+ActsOnFault log action old sends.Gap new = ⊥
 
 abbrev pub Acts : List Record → Action → Link → Answer → Link → Type 0
-Acts log action old answers.Done new = new ≡ acted log action old
+Acts log action old answers.Done new = ((needs_running action && old.failed) ≡ false) × (new ≡ acted log action old)
 Acts log action old (answers.Sender fault) new = ActsOnFault log action old fault new
-Acts log action old (answers.Session fault) new = new ≡ old
-Acts log action old (answers.Slot fault) new = new ≡ old
-Acts log action old (answers.Publication fault) new = new ≡ old
+Acts log action old (answers.Session fault) new = ⊥
+Acts log action old (answers.Slot fault) new = ⊥
+Acts log action old (answers.Publication fault) new = ⊥
 
 -- ---- What is true of a connection between events.
 

@@ -111,7 +111,7 @@ IsStart name slot start names old answers.Done new =
     (is_slotless slot ≡ true) × (is_unknown old.publication names ≡ false) × (new ≡ record old { links = old.links ++ started_link name (selected old.publication names) start ∷ [] })
 IsStart name slot start names old (answers.Slot fault) new = (is_slotless slot ≡ false) × (new ≡ old)
 IsStart name slot start names old (answers.Publication pubs.Unknown) new = (is_slotless slot ≡ true) × (is_unknown old.publication names ≡ true) × (new ≡ old)
-IsStart name slot start names old (answers.Publication pubs.Memory) new = (is_unknown old.publication names ≡ false) × (new ≡ old)
+IsStart name slot start names old (answers.Publication pubs.Memory) new = (is_slotless slot ≡ true) × (is_unknown old.publication names ≡ false) × (new ≡ old)
 IsStart name slot start names old (answers.Session fault) new = ⊥
 IsStart name slot start names old (answers.Sender fault) new = ⊥
 

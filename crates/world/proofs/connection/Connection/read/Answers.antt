@@ -1,4 +1,4 @@
-use Rattle.std.proofs.Common.{◌≡◌, ◌+◌, ℕ, take, drop, length, Some, Option, ap, sym, subst, ◌∙◌}
+use Rattle.std.proofs.Common.{◌≡◌, ◌+◌, ℕ, take, drop, length, Some, Option, ap, sym, subst, ◌∙◌, false}
 use Rattle.std.specs.Int.{w64}
 use Rattle.std.proofs.lemmas.Int.{to_z-of_z}
 use Rattle.txlog.specs.Publishing.{shared}
@@ -22,8 +22,11 @@ returns-in-Ok-clause-acts c =
     let publisher = c.tail.ensures.publisher in
     let part = section_of c.args.publisher.now.tables log place c.args.max (alive.running running).within publisher.log.good publisher.log.in_range in
     let fed = rw (to_z-of_z w64 c.args.clock c.ranges.clock, c.as_slice-section.ensures.value, c.in_ok-records.ensures.records) at c.in-Ok.ensures.ok in
-    fed_acts c.args.publisher.now.tables log place c.args.max c.args.clock name produced s c.feed.new.self part alive running c.in-Ok.ensures.running fed
-    ∙ ap (λ (o : Option SenderState). acted log (actions.Read c.args.max c.args.clock) (link_with name produced o)) (sym c.in-Some.is)
+    let F : Option SenderState → Type 0 = λ o. (link_with name produced o).failed ≡ false in (
+      subst F (sym c.in-Some.is) running,
+      fed_acts c.args.publisher.now.tables log place c.args.max c.args.clock name produced s c.feed.new.self part alive running c.in-Ok.ensures.running fed
+          ∙ ap (λ (o : Option SenderState). acted log (actions.Read c.args.max c.args.clock) (link_with name produced o)) (sym c.in-Some.is),
+    )
 
 pub returns-in-Ok-clause-served : goal.returns-in-Ok-clause-served
 returns-in-Ok-clause-served c =
@@ -58,7 +61,7 @@ returns-in-Err-clause-acts c =
     let clocked = rw (to_z-of_z w64 c.args.clock c.ranges.clock, section_is) at c.feed.ensures.memory in
     let Q : Option SenderState → Type 0 = λ o. ActsOnFault log (actions.Read c.args.max c.args.clock) (link_with name produced o) c.in-Err.fault (link_with name produced (Some new)) in
     subst Q (sym c.in-Some.is) (refused_acts c.args.publisher.now.tables log place c.args.max c.args.clock name produced s new c.feed.result c.in-Err.fault publisher.log.good publisher.log.in_range alive c.in-Err.is
-    (record { memory = clocked; failed = c.feed.ensures.failed; unchanged = c.feed.ensures.unchanged; unread = c.feed.ensures.unread }))
+    (record { memory = clocked; failed = c.feed.ensures.failed; unchanged = c.feed.ensures.unchanged; unread = c.feed.ensures.unread; gap = λ is. (rw section_is at (c.feed.ensures.gap.0 is)).1 }))
 
 pub returns-in-Err-clause-served : goal.returns-in-Err-clause-served
 returns-in-Err-clause-served c =
@@ -73,4 +76,4 @@ returns-in-Err-clause-served c =
     let section_is = ap shared c.as_slice-section.ensures.value ∙ c.in_ok-records.ensures.records in
     let clocked = rw (to_z-of_z w64 c.args.clock c.ranges.clock, section_is) at c.feed.ensures.memory in
     refused_alive c.args.publisher.now.tables log place c.args.max c.args.clock produced s new c.feed.result c.in-Err.fault publisher.log.good publisher.log.in_range c.ranges.clock alive c.in-Err.is
-    (record { memory = clocked; failed = c.feed.ensures.failed; unchanged = c.feed.ensures.unchanged; unread = c.feed.ensures.unread })
+    (record { memory = clocked; failed = c.feed.ensures.failed; unchanged = c.feed.ensures.unchanged; unread = c.feed.ensures.unread; gap = λ is. (rw section_is at (c.feed.ensures.gap.0 is)).1 })
