@@ -4,3 +4,4 @@ pub mod Actions
 pub mod Sessions
 pub mod Events
 pub mod Machine
+pub mod Simulation

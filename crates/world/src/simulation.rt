@@ -1,9 +1,10 @@
 //! A run of a schedule from its text to its report.
 
-ghost use Rattle.std.specs.Prelude.{◌≡◌, ◌↔◌, Err, true};
+ghost use Rattle.std.specs.Prelude.{◌≡◌, Err};
 ghost use Rattle.world.specs.declared.fault.WorldFault.{WorldFault};
 ghost use Rattle.world.specs.declared.schedule.LineFault.{LineFault};
 ghost use Rattle.world.specs.declared.simulation.SimFault.{SimFault};
+ghost use Rattle.world.specs.Simulation.{is_bad_schedule};
 
 use crate::config::Config;
 use crate::fault::WorldFault;
@@ -33,9 +34,7 @@ pub enum SimFault {
 impl SimFault {
     /// Whether the schedule itself is refused, and not for want of memory, a file or a place to print.
     pub fn is_bad_schedule(&self) -> bool
-        ensures utf8 { self.now ≡ SimFault.NotUtf8 → result ≡ true }
-        ensures line { (f : LineFault) → self.now ≡ SimFault.Line f → (result ≡ true) ↔ (f.fault ≡ WorldFault.BadEvent) }
-        ensures world { (f : WorldFault) → self.now ≡ SimFault.World f → (result ≡ true) ↔ (f ≡ WorldFault.BadEvent) }
+        ensures { result ≡ is_bad_schedule self.now }
     {
         match self {
             SimFault::NotUtf8 => true,
