@@ -1,4 +1,4 @@
-//! What a line does to a connection's sender, and to a session's transaction.
+//! What the lines of connections ask.
 
 /// What a line does to a connection's sender.
 #[derive(Clone, Copy, Debug)]

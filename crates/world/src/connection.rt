@@ -100,6 +100,7 @@ impl Connection {
             Err(fault) => return Ok(Answer::Sender(fault)),
         }
     }
+
     /// Does what a line asks of the connection's sender.
     pub(crate) fn act(
         &mut self,
