@@ -21,10 +21,7 @@ use Rattle.stream.specs.declared.published.Published.{Published}
 use Rattle.stream.specs.Items.{FitsChange, FitsPublished, FitItems}
 use Rattle.sender.specs.Published.{published_at, published_changes, published_as, has_message, published_from}
 use Rattle.sender.specs.Sending.{blocks}
-
-pub all_of_both : {A : Type 0} (P : A → Type 0) (xs ys : List A) → AllByRecursion P xs → AllByRecursion P ys → AllByRecursion P (xs ++ ys)
-all_of_both P [] ys all_x all_y = all_y
-all_of_both P (x ∷ xs) ys all_x all_y = (all_x.0, all_of_both P xs ys all_x.1 all_y)
+use Rattle.sender.proofs.Changes.{all_of_both}
 
 pub all_front : {A : Type 0} (P : A → Type 0) (xs ys : List A) → AllByRecursion P (xs ++ ys) → AllByRecursion P xs
 all_front P [] ys all = tt

@@ -24,7 +24,8 @@ use Rattle.sender.specs.Published.{published, published_from}
 use Rattle.sender.specs.Sending.{blocks, blocks_behind, MayFollow}
 use Rattle.sender.proofs.Batches.{published_from-append}
 use Rattle.world.specs.Law.{upto}
-use Rattle.world.proofs.Ranges.{all_of_both, all_front, all_back, blocks_fit, followed}
+use Rattle.sender.proofs.Changes.{all_of_both}
+use Rattle.world.proofs.Ranges.{all_front, all_back, blocks_fit, followed}
 
 -- ---- items behind items
 
