@@ -19,15 +19,12 @@ use Rattle.world.specs.Actions.{Acts, linked}
 use Rattle.world.specs.Sessions.{named, IsNamedAt, desk}
 use Rattle.world.specs.Events.{Called, Asks, OfNumber, ActsAt, when_done}
 use Rattle.world.specs.Machine.{shown, ActsIn, IsOpenAt, IsLinkAt}
+use Rattle.world.proofs.Names.{same_inside}
 
 -- ---- the same element of a list
 
-abbrev or_that : {A : Type 0} → A → Option A → A
-or_that d None = d
-or_that d (Some x) = x
-
 pub one_there : {A : Type 0} (xs : List A) (k : ℕ) (x y : A) → slice_get xs k ≡ Some x → slice_get xs k ≡ Some y → x ≡ y
-one_there xs k x y e f = ap (or_that x) (sym e ∙ f)
+one_there xs k x y e f = same_inside x y (sym e ∙ f)
 
 -- ---- sessions
 

@@ -11,15 +11,15 @@ use Rattle.world.specs.Sessions.{named, place_from, IsNamedAt}
 use Rattle.world.specs.Machine.{link_place, IsLinkAt}
 use Rattle.world.proofs.Streams.{both_true}
 
-abbrev or_zero : Option ℕ → ℕ
-or_zero None = 0
-or_zero (Some n) = n
+abbrev or_that : {A : Type 0} → A → Option A → A
+or_that d None = d
+or_that d (Some x) = x
+
+pub same_inside : {A : Type 0} (x y : A) → Option.Some x ≡ Option.Some y → x ≡ y
+same_inside x y e = ap (or_that x) e
 
 abbrev place_is : ℕ → Option ℕ
 place_is n = Some n
-
-told : (m n : ℕ) → place_is m ≡ place_is n → m ≡ n
-told m n e = ap or_zero e
 
 -- ---- sessions
 
@@ -28,7 +28,7 @@ no_sooner name [] at p e = absurd cc
 no_sooner name (n ∷ names) at p e = by_test (bytes_eq n.name name) e (no_sooner name names (at + 1) p)
   where
     by_test : (b : Bool) → cond b (Some at) (place_from (at + 1) name names) ≡ Some p → (place_from (at + 1) name names ≡ Some p → at + 1 ≤ p) → at ≤ p
-    by_test true e later = omega (arith, told at p e)
+    by_test true e later = omega (arith, same_inside at p e)
     by_test false e later = omega (arith, later e)
 
 found_named : (name : List ℕ) (ss : List Session) (at k : ℕ) → place_from at name (map named ss) ≡ Some (at + k) → IsNamedAt name k ss
@@ -45,7 +45,7 @@ found_named name (s ∷ ss) at (suc k) e = by_test (bytes_eq s.name name) refl e
 
     by_test : (b : Bool) → bytes_eq s.name name ≡ b → cond b (Some at) (place_from (at + 1) name (map named ss)) ≡ Some (at + suc k)
         → (place_from (at + 1) name (map named ss) ≡ Some ((at + 1) + k) → IsNamedAt name k ss) → IsNamedAt name (suc k) (s ∷ ss)
-    by_test true is e later = absurd (omega (arith, told at (at + suc k) e))
+    by_test true is e later = absurd (omega (arith, same_inside at (at + suc k) e))
     by_test false is e later =
         let inner = later (e ∙ ap place_is next) in
         record { session = inner.session; there = inner.there; number = rw is inner.number; without = rw is (ap (λ l. named s ∷ l) inner.without) }
@@ -71,7 +71,7 @@ link_no_sooner name [] at p e = absurd cc
 link_no_sooner name (l ∷ links) at p e = by_test (is_of name l) e (link_no_sooner name links (at + 1) p)
   where
     by_test : (b : Bool) → cond b (Some at) (link_place (at + 1) name links) ≡ Some p → (link_place (at + 1) name links ≡ Some p → at + 1 ≤ p) → at ≤ p
-    by_test true e later = omega (arith, told at p e)
+    by_test true e later = omega (arith, same_inside at p e)
     by_test false e later = omega (arith, later e)
 
 open_of : (name n produced : List ℕ) (o : Option SenderState) → is_of name (link_with n produced o) ≡ true → IsSome o
@@ -92,7 +92,7 @@ found_link name (c ∷ cs) at (suc k) e = by_test (is_of name (linked c)) refl e
 
     by_test : (b : Bool) → is_of name (linked c) ≡ b → cond b (Some at) (link_place (at + 1) name (map linked cs)) ≡ Some (at + suc k)
         → (link_place (at + 1) name (map linked cs) ≡ Some ((at + 1) + k) → IsLinkAt name k cs) → IsLinkAt name (suc k) (c ∷ cs)
-    by_test true is e later = absurd (omega (arith, told at (at + suc k) e))
+    by_test true is e later = absurd (omega (arith, same_inside at (at + suc k) e))
     by_test false is e later =
         let inner = later (e ∙ ap place_is next) in
         record { connection = inner.connection; there = inner.there; has_sender = inner.has_sender; of = rw is inner.of; changed = λ after. rw is (ap (λ l. linked c ∷ l) (inner.changed after)) }

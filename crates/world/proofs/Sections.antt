@@ -4,6 +4,7 @@ use Rattle.std.specs.Prelude.{FitsSigned, ◌↔◌, Result, Err}
 use Rattle.std.specs.List.{AllByRecursion}
 use Rattle.std.specs.Int.{w64}
 use Rattle.std.proofs.lemmas.Bool.{le-leb, lt-leb}
+use Rattle.std.proofs.lemmas.Bool.{false_from_ne_true}
 use Rattle.std.proofs.lemmas.List.{take-append-drop, take_at, length-append, length-take}
 use Rattle.std.specs.declared.sync.Arc.{Arc}
 use Rattle.txlog.specs.Publishing.{shared}
@@ -231,11 +232,7 @@ broken_acts tables log place max clock name produced s new part alive running fe
 
 -- a sender that answered anything but Failed was running
 pub was_running : (s : SenderState) (r : Result (Unit {0}) SendFault) → (r ≡ Err sends.Failed) ↔ (s.failed ≡ true) → (r ≡ Err sends.Failed → ⊥) → s.failed ≡ false
-was_running s r failed other = by_test s.failed (λ is. other (failed.1 is))
-  where
-    by_test : (b : Bool) → (b ≡ true → ⊥) → b ≡ false
-    by_test true never = absurd (never refl)
-    by_test false never = refl
+was_running s r failed other = false_from_ne_true s.failed (λ is. other (failed.1 is))
 
 -- ---- a refused batch
 
