@@ -83,7 +83,7 @@ judged bytes e s = elim s [
 
 -- a message of each kind
 a_begin : Logical
-a_begin = logical.Begin (record { position = 0; time = pos 0; number = 0 })
+a_begin = logical.Begin (record { position = 0; time = pos 0; xid = 0 })
 
 a_commit : Logical
 a_commit = logical.Commit (record { position = 0; end = 0; time = pos 0 })

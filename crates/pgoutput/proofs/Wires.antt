@@ -28,7 +28,7 @@ unfolding begin_at
 begin_wire = wire_of (
     field number64 (λ m. m.position) _ _ _ _ _ (λ position.
     field signed64 (λ m. m.time) _ _ _ _ _ (λ time.
-    last_field number32 (λ m. m.number) _ (λ number. record { position = position; time = time; number = number })
+    last_field number32 (λ m. m.xid) _ (λ xid. record { position = position; time = time; xid = xid })
     (λ _. refl) (λ _ _. (refl, (refl, tt))) (λ m known. rw (← known.0, ← known.1.0) refl))))
 
 commit_wire : Wire commit_at commit_field

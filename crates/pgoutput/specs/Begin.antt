@@ -9,17 +9,17 @@ use Rattle.pgoutput.specs.Stops.{FieldOf, In, number32, number64, signed64}
 use Rattle.pgoutput.specs.declared.begin.Begin.{Begin}
 
 abbrev pub begin : Begin → List ℕ
-begin m = int64 m.position ++ (int64 (cast_unsigned w64 m.time) ++ int32 m.number)
+begin m = int64 m.position ++ (int64 (cast_unsigned w64 m.time) ++ int32 m.xid)
 
 abbrev pub FitsBegin : Begin → Type 0
-FitsBegin m = (m.position < 2 ^ 64) × (FitsSigned w64 m.time × (m.number < 2 ^ 32))
+FitsBegin m = (m.position < 2 ^ 64) × (FitsSigned w64 m.time × (m.xid < 2 ^ 32))
 
 unfoldable pub begin_at : List ℕ → Result (Begin × List ℕ) OutFault
 begin_at bytes = do
   position ← short (number_at w64 bytes)
   time ← signed64_at position.1
-  number ← short (number_at w32 time.1)
-  Ok (record { position = position.0; time = time.0; number = number.0 }, number.1)
+  xid ← short (number_at w32 time.1)
+  Ok (record { position = position.0; time = time.0; xid = xid.0 }, xid.1)
 
 abbrev pub begin_field : FieldOf Begin
 begin_field = record {

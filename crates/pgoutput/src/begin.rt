@@ -22,7 +22,7 @@ pub struct Begin {
     /// The commit time, in microseconds since 2000-01-01.
     pub time: i64,
     /// The transaction's number.
-    pub number: u32,
+    pub xid: u32,
 }
 
 #[tactic(auto, unfolding(crate::specs::Begin::begin_at))]
@@ -32,11 +32,11 @@ pub(crate) fn begin_of(cursor: &mut Cursor<'_>) -> Result<Begin, OutFault>
 {
     let position = cursor.u64().ok_or(OutFault::Short)?;
     let time = signed64_of(cursor)?;
-    let number = cursor.u32().ok_or(OutFault::Short)?;
+    let xid = cursor.u32().ok_or(OutFault::Short)?;
     Ok(Begin {
         position,
         time,
-        number,
+        xid,
     })
 }
 
@@ -46,6 +46,6 @@ pub(crate) fn put_begin(out: &mut BytesMut, message: &Begin) -> Result<(), Alloc
 {
     put_int64(out, message.position)?;
     put_signed64(out, message.time)?;
-    put_int32(out, message.number)?;
+    put_int32(out, message.xid)?;
     Ok(())
 }

@@ -10,7 +10,7 @@ use Rattle.txlog.proofs.Lists.{or_false}
 use Rattle.txlog.proofs.LiveList.{eqb_comm}
 use Rattle.txlog.proofs.Laws.{all_when, chain-append, is_named-one, is_undone-one, has_ended-one}
 use Rattle.reorder.specs.Rising.{IsRising}
-use Rattle.reorder.specs.Strands.{StrandState, ByNumber, put, fresh, is_in, assigned, AreDistinct}
+use Rattle.reorder.specs.Strands.{StrandState, ByXid, put, fresh, is_in, assigned, AreDistinct}
 use Rattle.reorder.specs.Taking.{IsStrand, IsTransaction, IsKept, changes_of}
 use Rattle.reorder.proofs.Named.{or_left, or_right, not_undone, no_changes}
 use Rattle.reorder.proofs.Opening.{put_cases, put_here, no_some}
@@ -39,14 +39,14 @@ distinct_push x [] out distinct = (refl, tt)
 distinct_push x (y ∷ xs) out distinct =
     (in_push y x xs ∙ rw (distinct.0, eqb_comm y x, or_left (x == y) (is_in x xs) out) refl, distinct_push x xs (or_right (x == y) (is_in x xs) out) distinct.1)
 
--- the parent's strand, and its transaction's numbers
-abbrev pub placed : ℕ → ℕ → StrandState → List ℕ → ByNumber → ByNumber
+-- the parent's strand, and its transaction's xids
+abbrev pub placed : ℕ → ℕ → StrandState → List ℕ → ByXid → ByXid
 placed sub parent p xs l = record {
   strand = put sub (Some (fresh (parent ∷ p.above))) l.strand;
   members = put (last_of parent p.above) (Some (xs ++ sub ∷ [])) l.members;
 }
 
-placed_kept : (l : ByNumber) (rs : List Record) (r : Record) (sub parent : ℕ) (p : StrandState) → IsKept l rs → (o : IsStrand l rs parent p) → IsSome (l.strand parent) → l.strand sub ≡ None →
+placed_kept : (l : ByXid) (rs : List Record) (r : Record) (sub parent : ℕ) (p : StrandState) → IsKept l rs → (o : IsStrand l rs parent p) → IsSome (l.strand parent) → l.strand sub ≡ None →
     is_named rs sub ≡ false → r.body ≡ Assign sub parent → IsKept (placed sub parent p o.members l) (rs ++ r ∷ [])
 placed_kept l rs r sub parent p h o some none unheard body =
     record {
@@ -139,7 +139,7 @@ placed_kept l rs r sub parent p h o some none unheard body =
     stays : (q : ℕ) → IsSome (l.strand q) → IsSome ((placed sub parent p o.members l).strand q)
     stays q has = put_cases IsSome sub q (Some (fresh (parent ∷ p.above))) l.strand (λ same. refl) (λ other. has)
 
-    -- a number of the new list is an old one, or the new one
+    -- an xid of the new list is an old one, or the new one
     member_cases : (P : ℕ → Type 0) (q : ℕ) → ((y : ℕ) → is_in y o.members ≡ true → P y) → P sub → is_in q (o.members ++ sub ∷ []) ≡ true → P q
     member_cases P q old new inn = by_test (q == sub) refl (sym (in_push q sub o.members) ∙ inn)
       where
@@ -169,7 +169,7 @@ placed_kept l rs r sub parent p h o some none unheard body =
       tops = λ q inn. top_same q (not_sub q (w.strands q inn)) ∙ w.tops q inn;
     }
 
-pub assign_kept : (l : ByNumber) (rs : List Record) (r : Record) (sub parent : ℕ) → IsKept l rs → IsSome (l.strand parent) → l.strand sub ≡ None → is_named rs sub ≡ false →
+pub assign_kept : (l : ByXid) (rs : List Record) (r : Record) (sub parent : ℕ) → IsKept l rs → IsSome (l.strand parent) → l.strand sub ≡ None → is_named rs sub ≡ false →
     r.body ≡ Assign sub parent → IsKept (assigned sub parent l) (rs ++ r ∷ [])
 assign_kept l rs r sub parent h some none unheard body = by_option (l.strand parent) refl some
   where
@@ -178,4 +178,4 @@ assign_kept l rs r sub parent h some none unheard body = by_option (l.strand par
     by_option (Some p) is has =
         let o : IsStrand l rs parent p = h.strands parent p is in
         let same : assigned sub parent l ≡ placed sub parent p o.members l = rw (is, o.members_are) refl in
-        subst (λ (a : ByNumber). IsKept a (rs ++ r ∷ [])) (sym same) (placed_kept l rs r sub parent p h o some none unheard body)
+        subst (λ (a : ByXid). IsKept a (rs ++ r ∷ [])) (sym same) (placed_kept l rs r sub parent p h o some none unheard body)

@@ -9,19 +9,19 @@ use Rattle.txlog.specs.Log.{Entry, is_named, is_undone, is_dropped, is_kept, has
 use Rattle.txlog.proofs.Lists.{filter_agrees, all_agree, filter_twice}
 use Rattle.txlog.proofs.Laws.{all_when}
 use Rattle.reorder.specs.Rising.{IsRising}
-use Rattle.reorder.specs.Strands.{StrandState, ByNumber, is_in, all_in, undone_in, kept_in, joined, AreDistinct}
+use Rattle.reorder.specs.Strands.{StrandState, ByXid, is_in, all_in, undone_in, kept_in, joined, AreDistinct}
 use Rattle.reorder.specs.Taking.{IsStrand, IsTransaction, IsKept}
 use Rattle.reorder.proofs.Named.{or_left, entries_named}
 use Rattle.reorder.proofs.Keeping.{top_of_member}
 use Rattle.reorder.proofs.Merging.{merged}
 
 -- a member's strand is what the records say
-pub record Held (l : ByNumber) (rs : List Record) (x : ℕ) : Type 0 where
+pub record Held (l : ByXid) (rs : List Record) (x : ℕ) : Type 0 where
   pub strand : StrandState
   pub strand_is : l.strand x ≡ Some strand
   pub is : IsStrand l rs x strand
 
-held : (l : ByNumber) (rs : List Record) (x : ℕ) → IsKept l rs → IsSome (l.strand x) → Held l rs x
+held : (l : ByXid) (rs : List Record) (x : ℕ) → IsKept l rs → IsSome (l.strand x) → Held l rs x
 held l rs x h some = by_option (l.strand x) refl some
   where
     by_option : (o : Option StrandState) → l.strand x ≡ o → IsSome o → Held l rs x
@@ -29,7 +29,7 @@ held l rs x h some = by_option (l.strand x) refl some
     by_option (Some s) at has = record { strand = s; strand_is = at; is = h.strands x s at }
 
 -- rolled back by the strands, or by the records
-same_undone : (l : ByNumber) (rs : List Record) (t : ℕ) (xs : List ℕ) → IsKept l rs → IsTransaction l rs t xs → (ys : List ℕ) → AllByRecursion (λ y. is_in y xs ≡ true) ys →
+same_undone : (l : ByXid) (rs : List Record) (t : ℕ) (xs : List ℕ) → IsKept l rs → IsTransaction l rs t xs → (ys : List ℕ) → AllByRecursion (λ y. is_in y xs ≡ true) ys →
     list_any (λ y. undone_in (l.strand y)) ys ≡ list_any (is_undone rs) ys
 same_undone l rs t xs h w [] all = refl
 same_undone l rs t xs h w (y ∷ ys) all =
@@ -37,7 +37,7 @@ same_undone l rs t xs h w (y ∷ ys) all =
     let here : undone_in (l.strand y) ≡ is_undone rs y = ap undone_in m.strand_is ∙ m.is.undone in
     rw (here, same_undone l rs t xs h w ys all.1) refl
 
-same_dropped : (l : ByNumber) (rs : List Record) (x : ℕ) (s : StrandState) → IsKept l rs → IsStrand l rs x s →
+same_dropped : (l : ByXid) (rs : List Record) (x : ℕ) (s : StrandState) → IsKept l rs → IsStrand l rs x s →
     (s.undone || list_any (λ y. undone_in (l.strand y)) s.above) ≡ is_dropped rs x
 same_dropped l rs x s h o =
     let w : IsTransaction l rs (last_of x s.above) o.members = h.transactions (last_of x s.above) o.members o.members_are in
@@ -49,22 +49,22 @@ none_in : (es : List Entry) → filter (λ e. false) es ≡ []
 none_in [] = refl
 none_in (e ∷ es) = none_in es
 
--- of one number
-kept_number : (l : ByNumber) (rs : List Record) (x : ℕ) → IsKept l rs → IsSome (l.strand x) →
-    kept_in l.strand (l.strand x) ≡ filter (λ e. e.number == x) (filter (λ e. not (is_dropped rs e.number)) (entries rs))
+-- of one xid
+kept_number : (l : ByXid) (rs : List Record) (x : ℕ) → IsKept l rs → IsSome (l.strand x) →
+    kept_in l.strand (l.strand x) ≡ filter (λ e. e.xid == x) (filter (λ e. not (is_dropped rs e.xid)) (entries rs))
 kept_number l rs x h some =
-    ap (kept_in l.strand) m.strand_is ∙ by_test (is_dropped rs x) refl ∙ sym (filter_twice (λ e. e.number == x) (λ e. not (is_dropped rs e.number)) (entries rs))
+    ap (kept_in l.strand) m.strand_is ∙ by_test (is_dropped rs x) refl ∙ sym (filter_twice (λ e. e.xid == x) (λ e. not (is_dropped rs e.xid)) (entries rs))
   where
     m : Held l rs x
     m = held l rs x h some
 
-    by_number : (e : Entry) (d : Bool) → is_dropped rs x ≡ d → (b : Bool) → (e.number == x) ≡ b → cond d false b ≡ (not (is_dropped rs e.number) && b)
-    by_number e d is true same = rw (ap (is_dropped rs) (eqb-true e.number x same) ∙ is) (flip d)
+    by_xid : (e : Entry) (d : Bool) → is_dropped rs x ≡ d → (b : Bool) → (e.xid == x) ≡ b → cond d false b ≡ (not (is_dropped rs e.xid) && b)
+    by_xid e d is true same = rw (ap (is_dropped rs) (eqb-true e.xid x same) ∙ is) (flip d)
       where
         flip : (c : Bool) → cond c false true ≡ (not c && true)
         flip true = refl
         flip false = refl
-    by_number e d is false same = never_both d (is_dropped rs e.number)
+    by_xid e d is false same = never_both d (is_dropped rs e.xid)
       where
         never_both : (c a : Bool) → cond c false false ≡ (not a && false)
         never_both true true = refl
@@ -72,18 +72,18 @@ kept_number l rs x h some =
         never_both false true = refl
         never_both false false = refl
 
-    by_test : (d : Bool) → is_dropped rs x ≡ d → kept_in l.strand (Some m.strand) ≡ filter (λ e. not (is_dropped rs e.number) && (e.number == x)) (entries rs)
+    by_test : (d : Bool) → is_dropped rs x ≡ d → kept_in l.strand (Some m.strand) ≡ filter (λ e. not (is_dropped rs e.xid) && (e.xid == x)) (entries rs)
     by_test true is =
         rw (same_dropped l rs x m.strand h m.is ∙ is)
-        (sym (sym (filter_agrees _ _ (entries rs) (all_agree _ _ (λ (e : Entry). by_number e true is (e.number == x) refl) (entries rs))) ∙ none_in (entries rs)))
+        (sym (sym (filter_agrees _ _ (entries rs) (all_agree _ _ (λ (e : Entry). by_xid e true is (e.xid == x) refl) (entries rs))) ∙ none_in (entries rs)))
     by_test false is =
         let live : m.strand.undone ≡ false = or_left m.strand.undone (list_any (λ y. undone_in (l.strand y)) m.strand.above) (same_dropped l rs x m.strand h m.is ∙ is) in
         rw (same_dropped l rs x m.strand h m.is ∙ is)
-        (m.is.changes live ∙ filter_agrees _ _ (entries rs) (all_agree _ _ (λ (e : Entry). by_number e false is (e.number == x) refl) (entries rs)))
+        (m.is.changes live ∙ filter_agrees _ _ (entries rs) (all_agree _ _ (λ (e : Entry). by_xid e false is (e.xid == x) refl) (entries rs)))
 
--- of all numbers of a transaction
-kept_numbers : (l : ByNumber) (rs : List Record) → IsKept l rs → (ys : List ℕ) → AllByRecursion (λ y. IsSome (l.strand y)) ys →
-    flat_map (λ x. kept_in l.strand (l.strand x)) ys ≡ flat_map (λ x. filter (λ e. e.number == x) (filter (λ e. not (is_dropped rs e.number)) (entries rs))) ys
+-- of all xids of a transaction
+kept_numbers : (l : ByXid) (rs : List Record) → IsKept l rs → (ys : List ℕ) → AllByRecursion (λ y. IsSome (l.strand y)) ys →
+    flat_map (λ x. kept_in l.strand (l.strand x)) ys ≡ flat_map (λ x. filter (λ e. e.xid == x) (filter (λ e. not (is_dropped rs e.xid)) (entries rs))) ys
 kept_numbers l rs h [] all = refl
 kept_numbers l rs h (y ∷ ys) all = rw (kept_number l rs y h all.0, kept_numbers l rs h ys all.1) refl
 
@@ -111,8 +111,8 @@ rising_kept p (e ∷ es) up = by_test (p e) (some_all es up.0) (rising_kept p es
     by_test true all rest = (all, rest)
     by_test false all rest = rest
 
--- a number that is named is of a transaction in progress exactly if it is among its numbers
-member_is : (l : ByNumber) (rs : List Record) (t x : ℕ) → IsKept l rs → has_ended rs t ≡ false → is_named rs x ≡ true → (top_of rs x == t) ≡ is_in x (all_in (l.members t))
+-- an xid that is named is of a transaction in progress exactly if it is among its xids
+member_is : (l : ByXid) (rs : List Record) (t x : ℕ) → IsKept l rs → has_ended rs t ≡ false → is_named rs x ≡ true → (top_of rs x == t) ≡ is_in x (all_in (l.members t))
 member_is l rs t x h running named = by_tests (top_of rs x == t) (is_in x (all_in (l.members t))) refl refl
   where
     inside : top_of rs x ≡ t → is_in x (all_in (l.members t)) ≡ true
@@ -126,14 +126,14 @@ member_is l rs t x h running named = by_tests (top_of rs x == t) (is_in x (all_i
     by_tests false true other inn = sym other ∙ eq-eqb (top_of rs x) t (top_of_member l rs t x h inn)
     by_tests false false other out = refl
 
-pub kept_merged : (l : ByNumber) (rs : List Record) (t : ℕ) (sorted : List Entry) → IsKept l rs → has_ended rs t ≡ false →
+pub kept_merged : (l : ByXid) (rs : List Record) (t : ℕ) (sorted : List Entry) → IsKept l rs → has_ended rs t ≡ false →
     IsNonDecreasingBy (λ (e : Entry). e.position) sorted → IsStableByKey (λ (e : Entry). e.position) nat_cmp (joined l t) sorted → sorted ≡ kept rs t
 kept_merged l rs t sorted h running up stable = by_option (l.members t) refl
   where
-    by_named : filter (λ e. is_in e.number (all_in (l.members t))) (filter (λ e. not (is_dropped rs e.number)) (entries rs)) ≡ kept rs t
+    by_named : filter (λ e. is_in e.xid (all_in (l.members t))) (filter (λ e. not (is_dropped rs e.xid)) (entries rs)) ≡ kept rs t
     by_named =
-        filter_twice (λ e. is_in e.number (all_in (l.members t))) (λ e. not (is_dropped rs e.number)) (entries rs)
-        ∙ filter_agrees _ _ (entries rs) (all_when _ _ (λ (e : Entry) (named : is_named rs e.number ≡ true). swapped e named) (entries rs) (entries_named rs))
+        filter_twice (λ e. is_in e.xid (all_in (l.members t))) (λ e. not (is_dropped rs e.xid)) (entries rs)
+        ∙ filter_agrees _ _ (entries rs) (all_when _ _ (λ (e : Entry) (named : is_named rs e.xid ≡ true). swapped e named) (entries rs) (entries_named rs))
       where
         and_comm : (a b : Bool) → (a && b) ≡ (b && a)
         and_comm true true = refl
@@ -141,15 +141,15 @@ kept_merged l rs t sorted h running up stable = by_option (l.members t) refl
         and_comm false true = refl
         and_comm false false = refl
 
-        swapped : (e : Entry) → is_named rs e.number ≡ true → (not (is_dropped rs e.number) && is_in e.number (all_in (l.members t))) ≡ is_kept rs t e
-        swapped e named = ap (λ b. not (is_dropped rs e.number) && b) (sym (member_is l rs t e.number h running named)) ∙ and_comm (not (is_dropped rs e.number)) (top_of rs e.number == t)
+        swapped : (e : Entry) → is_named rs e.xid ≡ true → (not (is_dropped rs e.xid) && is_in e.xid (all_in (l.members t))) ≡ is_kept rs t e
+        swapped e named = ap (λ b. not (is_dropped rs e.xid) && b) (sym (member_is l rs t e.xid h running named)) ∙ and_comm (not (is_dropped rs e.xid)) (top_of rs e.xid == t)
 
     of_members : (xs : List ℕ) → AreDistinct xs → AllByRecursion (λ x. IsSome (l.strand x)) xs → all_in (l.members t) ≡ xs → sorted ≡ kept rs t
     of_members xs distinct some is =
-        let stable' : IsStableByKey (λ (e : Entry). e.position) nat_cmp (flat_map (λ x. filter (λ e. e.number == x) (filter (λ e. not (is_dropped rs e.number)) (entries rs))) xs) sorted =
+        let stable' : IsStableByKey (λ (e : Entry). e.position) nat_cmp (flat_map (λ x. filter (λ e. e.xid == x) (filter (λ e. not (is_dropped rs e.xid)) (entries rs))) xs) sorted =
         subst (λ (es : List Entry). IsStableByKey (λ (e : Entry). e.position) nat_cmp es sorted) (ap (flat_map (λ x. kept_in l.strand (l.strand x))) is ∙ kept_numbers l rs h xs some) stable in
-        merged (filter (λ e. not (is_dropped rs e.number)) (entries rs)) (rising_kept _ (entries rs) h.rising) xs distinct sorted up stable'
-        ∙ ap (λ ys. filter (λ e. is_in e.number ys) (filter (λ e. not (is_dropped rs e.number)) (entries rs))) (sym is) ∙ by_named
+        merged (filter (λ e. not (is_dropped rs e.xid)) (entries rs)) (rising_kept _ (entries rs) h.rising) xs distinct sorted up stable'
+        ∙ ap (λ ys. filter (λ e. is_in e.xid ys) (filter (λ e. not (is_dropped rs e.xid)) (entries rs))) (sym is) ∙ by_named
 
     by_option : (o : Option (List ℕ)) → l.members t ≡ o → sorted ≡ kept rs t
     by_option None is = of_members [] tt tt (ap all_in is)

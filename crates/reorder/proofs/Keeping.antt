@@ -12,7 +12,7 @@ use Rattle.txlog.proofs.Lists.{or_false}
 use Rattle.txlog.proofs.LiveList.{eqb_comm, all_append}
 use Rattle.txlog.proofs.Laws.{chain-append, chain-unassigned, is_named-one, is_undone-one, has_ended-one, entries-append, KeepsChains}
 use Rattle.reorder.specs.Rising.{IsRising}
-use Rattle.reorder.specs.Strands.{StrandState, ByNumber, all_in, is_in, with_change, without_changes, pushed, undone, ended}
+use Rattle.reorder.specs.Strands.{StrandState, ByXid, all_in, is_in, with_change, without_changes, pushed, undone, ended}
 use Rattle.reorder.specs.Taking.{IsStrand, IsTransaction, IsKept, StartsBehind, changes_of}
 use Rattle.reorder.proofs.Named.{or_left, or_right, or_true, entries_before}
 use Rattle.reorder.proofs.Opening.{put_cases}
@@ -34,8 +34,8 @@ mapped f (Some a) b is = let e : f a ≡ b = cc in record { was = a; was_is = re
 pub entries_push : (rs : List Record) (r : Record) → entries (rs ++ r ∷ []) ≡ entries rs ++ entry_at r.start r.body
 entries_push rs r = entries-append rs (r ∷ []) ∙ ap (λ es. entries rs ++ es) (append-nil (entry_at r.start r.body))
 
-pub changes_push : (rs : List Record) (r : Record) (x : ℕ) → changes_of (rs ++ r ∷ []) x ≡ changes_of rs x ++ filter (λ e. e.number == x) (entry_at r.start r.body)
-changes_push rs r x = ap (filter (λ e. e.number == x)) (entries_push rs r) ∙ filter-append (λ e. e.number == x) (entries rs) (entry_at r.start r.body)
+pub changes_push : (rs : List Record) (r : Record) (x : ℕ) → changes_of (rs ++ r ∷ []) x ≡ changes_of rs x ++ filter (λ e. e.xid == x) (entry_at r.start r.body)
+changes_push rs r x = ap (filter (λ e. e.xid == x)) (entries_push rs r) ∙ filter-append (λ e. e.xid == x) (entries rs) (entry_at r.start r.body)
 
 rising_push : (es : List Entry) (e : Entry) → IsRising es → AllByRecursion (λ f. f.position < e.position) es → IsRising (es ++ e ∷ [])
 rising_push [] e up all = (tt, tt)
@@ -49,13 +49,13 @@ ended_same : (rs : List Record) (r : Record) → KeepsChains r.body → ((y : �
 ended_same rs r keeps ending x =
     ap (has_ended (rs ++ r ∷ [])) (top_same rs r keeps x) ∙ has_ended-one rs r (top_of rs x) ∙ ap (λ b. has_ended rs (top_of rs x) || b) (ending (top_of rs x)) ∙ or_false (has_ended rs (top_of rs x))
 
--- a number that a record other than an Assign names is the record's, or was named before
+-- an xid that a record other than an Assign names is the record's, or was named before
 was_named : (rs : List Record) (r : Record) (x q : ℕ) → names q r.body ≡ (q == x) → (x == q) ≡ false → is_named (rs ++ r ∷ []) q ≡ true → is_named rs q ≡ true
 was_named rs r x q naming other named =
     sym (or_false (is_named rs q)) ∙ ap (λ b. is_named rs q || b) (sym (naming ∙ eqb_comm q x ∙ other)) ∙ sym (is_named-one rs r q) ∙ named
 
--- what is kept of a transaction's numbers, where only the strands change, and none goes
-strands_changed : (l a : ByNumber) (rs : List Record) (r : Record) → KeepsChains r.body → ((y : ℕ) → ends y r.body ≡ false) → ((x : ℕ) → IsSome (l.strand x) → IsSome (a.strand x)) →
+-- what is kept of a transaction's xids, where only the strands change, and none goes
+strands_changed : (l a : ByXid) (rs : List Record) (r : Record) → KeepsChains r.body → ((y : ℕ) → ends y r.body ≡ false) → ((x : ℕ) → IsSome (l.strand x) → IsSome (a.strand x)) →
     (t : ℕ) (xs : List ℕ) → IsTransaction l rs t xs → IsTransaction a (rs ++ r ∷ []) t xs
 strands_changed l a rs r keeps ending stay t xs o = record {
   running = has_ended-one rs r t ∙ ap (λ b. has_ended rs t || b) (ending t) ∙ or_false (has_ended rs t) ∙ o.running;
@@ -67,10 +67,10 @@ strands_changed l a rs r keeps ending stay t xs o = record {
 
 -- A CHANGE
 
-pub push_kept : (l : ByNumber) (rs : List Record) (r : Record) (x : ℕ) (e : Entry) → IsKept l rs → IsOpen rs x → IsSome (l.strand x) → StartsBehind rs r →
+pub push_kept : (l : ByXid) (rs : List Record) (r : Record) (x : ℕ) (e : Entry) → IsKept l rs → IsOpen rs x → IsSome (l.strand x) → StartsBehind rs r →
     KeepsChains r.body → ((y : ℕ) → undoes y r.body ≡ false) → ((y : ℕ) → ends y r.body ≡ false) → ((y : ℕ) → names y r.body ≡ (y == x)) →
-    entry_at r.start r.body ≡ e ∷ [] → e.number ≡ x → e.position ≡ r.start → IsKept (pushed x e l) (rs ++ r ∷ [])
-push_kept l rs r x e h alive has behind keeps undoing ending naming made number position =
+    entry_at r.start r.body ≡ e ∷ [] → e.xid ≡ x → e.position ≡ r.start → IsKept (pushed x e l) (rs ++ r ∷ [])
+push_kept l rs r x e h alive has behind keeps undoing ending naming made xid position =
     record {
       strands = λ q s. put_cases (λ o. o ≡ Some s → IsStrand (pushed x e l) (rs ++ r ∷ []) q s) x q (option_map (with_change e) (l.strand x)) l.strand
           (λ same is. let m : Mapped (with_change e) (l.strand x) s = mapped (with_change e) (l.strand x) s is in
@@ -100,7 +100,7 @@ push_kept l rs r x e h alive has behind keeps undoing ending naming made number 
       chain = chain_same x ∙ o.chain;
       undone = o.undone ∙ sym (undone_same x);
       freed = λ undone. let never : true ≡ false = sym undone ∙ live_still s o in cc;
-      changes = λ live. ap (λ es. es ++ e ∷ []) (o.changes live) ∙ sym (changes_push rs r x ∙ ap (λ es. changes_of rs x ++ es) (ap (filter (λ f. f.number == x)) made ∙ rw (eq-eqb e.number x number) refl));
+      changes = λ live. ap (λ es. es ++ e ∷ []) (o.changes live) ∙ sym (changes_push rs r x ∙ ap (λ es. changes_of rs x ++ es) (ap (filter (λ f. f.xid == x)) made ∙ rw (eq-eqb e.xid x xid) refl));
       members = o.members;
       members_are = o.members_are;
       within = o.within;
@@ -111,7 +111,7 @@ push_kept l rs r x e h alive has behind keeps undoing ending naming made number 
       chain = chain_same q ∙ o.chain;
       undone = o.undone ∙ sym (undone_same q);
       freed = o.freed;
-      changes = λ live. o.changes live ∙ sym (changes_push rs r q ∙ ap (λ es. changes_of rs q ++ es) (ap (filter (λ f. f.number == q)) made ∙ rw (number, other) refl) ∙ append-nil (changes_of rs q));
+      changes = λ live. o.changes live ∙ sym (changes_push rs r q ∙ ap (λ es. changes_of rs q ++ es) (ap (filter (λ f. f.xid == q)) made ∙ rw (xid, other) refl) ∙ append-nil (changes_of rs q));
       members = o.members;
       members_are = o.members_are;
       within = o.within;
@@ -119,7 +119,7 @@ push_kept l rs r x e h alive has behind keeps undoing ending naming made number 
 
 -- A ROLLBACK
 
-pub undo_kept : (l : ByNumber) (rs : List Record) (r : Record) (x : ℕ) → IsKept l rs → IsSome (l.strand x) →
+pub undo_kept : (l : ByXid) (rs : List Record) (r : Record) (x : ℕ) → IsKept l rs → IsSome (l.strand x) →
     KeepsChains r.body → ((y : ℕ) → undoes y r.body ≡ (x == y)) → ((y : ℕ) → ends y r.body ≡ false) → ((y : ℕ) → names y r.body ≡ (y == x)) →
     entry_at r.start r.body ≡ [] → IsKept (undone x l) (rs ++ r ∷ [])
 undo_kept l rs r x h has keeps undoing ending naming none =
@@ -156,7 +156,7 @@ undo_kept l rs r x h has keeps undoing ending naming none =
       chain = chain_same q ∙ o.chain;
       undone = o.undone ∙ sym (is_undone-one rs r q ∙ ap (λ b. is_undone rs q || b) (undoing q ∙ other) ∙ or_false (is_undone rs q));
       freed = o.freed;
-      changes = λ live. o.changes live ∙ sym (changes_push rs r q ∙ ap (λ es. changes_of rs q ++ filter (λ f. f.number == q) es) none ∙ append-nil (changes_of rs q));
+      changes = λ live. o.changes live ∙ sym (changes_push rs r q ∙ ap (λ es. changes_of rs q ++ filter (λ f. f.xid == q) es) none ∙ append-nil (changes_of rs q));
       members = o.members;
       members_are = o.members_are;
       within = o.within;
@@ -164,21 +164,21 @@ undo_kept l rs r x h has keeps undoing ending naming none =
 
 -- AN END
 
-pub top_of_member : (l : ByNumber) (rs : List Record) (t q : ℕ) → IsKept l rs → is_in q (all_in (l.members t)) ≡ true → top_of rs q ≡ t
+pub top_of_member : (l : ByXid) (rs : List Record) (t q : ℕ) → IsKept l rs → is_in q (all_in (l.members t)) ≡ true → top_of rs q ≡ t
 top_of_member l rs t q h inn = by_option (l.members t) refl inn
   where
     by_option : (o : Option (List ℕ)) → l.members t ≡ o → is_in q (all_in o) ≡ true → top_of rs q ≡ t
     by_option None is inn' = let never : false ≡ true = inn' in cc
     by_option (Some xs) is inn' = let o : IsTransaction l rs t xs = h.transactions t xs is in o.tops q inn'
 
-not_member : (l : ByNumber) (rs : List Record) (t q : ℕ) → IsKept l rs → (t == top_of rs q) ≡ false → is_in q (all_in (l.members t)) ≡ false
+not_member : (l : ByXid) (rs : List Record) (t q : ℕ) → IsKept l rs → (t == top_of rs q) ≡ false → is_in q (all_in (l.members t)) ≡ false
 not_member l rs t q h other = by_test (is_in q (all_in (l.members t))) refl
   where
     by_test : (b : Bool) → is_in q (all_in (l.members t)) ≡ b → b ≡ false
     by_test true inn = let never : true ≡ false = sym (eq-eqb t (top_of rs q) (sym (top_of_member l rs t q h inn))) ∙ other in cc
     by_test false out = refl
 
-pub end_kept : (l : ByNumber) (rs : List Record) (r : Record) (t : ℕ) → IsKept l rs → is_assigned rs t ≡ false →
+pub end_kept : (l : ByXid) (rs : List Record) (r : Record) (t : ℕ) → IsKept l rs → is_assigned rs t ≡ false →
     KeepsChains r.body → ((y : ℕ) → undoes y r.body ≡ false) → ((y : ℕ) → ends y r.body ≡ (t == y)) → ((y : ℕ) → names y r.body ≡ (y == t)) →
     entry_at r.start r.body ≡ [] → IsKept (ended t l) (rs ++ r ∷ [])
 end_kept l rs r t h alone keeps undoing ending naming none =
@@ -208,7 +208,7 @@ end_kept l rs r t h alone keeps undoing ending naming none =
           chain = chain-append rs r q ∙ keeps (chain rs) q ∙ o.chain;
           undone = o.undone ∙ sym (is_undone-one rs r q ∙ ap (λ b. is_undone rs q || b) (undoing q) ∙ or_false (is_undone rs q));
           freed = o.freed;
-          changes = λ live. o.changes live ∙ sym (changes_push rs r q ∙ ap (λ es. changes_of rs q ++ filter (λ f. f.number == q) es) none ∙ append-nil (changes_of rs q));
+          changes = λ live. o.changes live ∙ sym (changes_push rs r q ∙ ap (λ es. changes_of rs q ++ filter (λ f. f.xid == q) es) none ∙ append-nil (changes_of rs q));
           members = o.members;
           members_are = put_cases (λ m. m ≡ Some o.members) t (last_of q s.above) None l.members
               (λ same. let never : true ≡ false = sym (ap (λ m. is_in q (all_in m)) (ap l.members same ∙ o.members_are) ∙ o.within.0) ∙ out in cc) (λ other. o.members_are);

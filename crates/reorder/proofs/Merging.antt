@@ -51,18 +51,18 @@ either_at p q r apart (e ∷ es) rising = by_tests (p == e.position) (q e) (r e)
     by_tests false false true h is other again = rw h again
     by_tests here false false h is other again = again
 
--- strands of different numbers, joined, have at each position what stands there
+-- strands of different xids, joined, have at each position what stands there
 joined_at : (p : ℕ) (es : List Entry) → IsRising es → (xs : List ℕ) → AreDistinct xs →
-    filter (at_position p) (flat_map (λ x. filter (λ e. e.number == x) es) xs) ≡ filter (at_position p) (filter (λ e. is_in e.number xs) es)
+    filter (at_position p) (flat_map (λ x. filter (λ e. e.xid == x) es) xs) ≡ filter (at_position p) (filter (λ e. is_in e.xid xs) es)
 joined_at p es rising [] distinct = rw (none_in es) refl
   where
     none_in : (fs : List Entry) → filter (λ e. false) fs ≡ []
     none_in [] = refl
     none_in (f ∷ fs) = none_in fs
 joined_at p es rising (x ∷ xs) distinct =
-    filter-append (at_position p) (filter (λ e. e.number == x) es) (flat_map (λ y. filter (λ e. e.number == y) es) xs)
-    ∙ ap (λ rest. filter (at_position p) (filter (λ e. e.number == x) es) ++ rest) (joined_at p es rising xs distinct.1)
-    ∙ either_at p (λ e. e.number == x) (λ e. is_in e.number xs) (λ e is. rw (eqb-true e.number x is) distinct.0) es rising
+    filter-append (at_position p) (filter (λ e. e.xid == x) es) (flat_map (λ y. filter (λ e. e.xid == y) es) xs)
+    ∙ ap (λ rest. filter (at_position p) (filter (λ e. e.xid == x) es) ++ rest) (joined_at p es rising xs distinct.1)
+    ∙ either_at p (λ e. e.xid == x) (λ e. is_in e.xid xs) (λ e is. rw (eqb-true e.xid x is) distinct.0) es rising
 
 -- IN ORDER
 
@@ -138,12 +138,12 @@ rising_filter p (e ∷ es) up =
     by_test true all rest = (all, rest)
     by_test false all rest = rest
 
--- the strands of some numbers, joined and then sorted by position, are the changes of these numbers in their order
+-- the strands of some xids, joined and then sorted by position, are the changes of these xids in their order
 pub merged : (es : List Entry) → IsRising es → (xs : List ℕ) → AreDistinct xs → (sorted : List Entry) → IsNonDecreasingBy (λ (e : Entry). e.position) sorted →
-    IsStableByKey (λ (e : Entry). e.position) nat_cmp (flat_map (λ x. filter (λ e. e.number == x) es) xs) sorted → sorted ≡ filter (λ e. is_in e.number xs) es
+    IsStableByKey (λ (e : Entry). e.position) nat_cmp (flat_map (λ x. filter (λ e. e.xid == x) es) xs) sorted → sorted ≡ filter (λ e. is_in e.xid xs) es
 merged es rising xs distinct sorted up stable =
-    same_in_order sorted (filter (λ e. is_in e.number xs) es) (not_falling sorted up) (rising_filter (λ e. is_in e.number xs) es rising)
-    (λ d. sym (by_ties d sorted) ∙ stable d ∙ by_ties d (flat_map (λ x. filter (λ e. e.number == x) es) xs) ∙ joined_at d.position es rising xs distinct)
+    same_in_order sorted (filter (λ e. is_in e.xid xs) es) (not_falling sorted up) (rising_filter (λ e. is_in e.xid xs) es rising)
+    (λ d. sym (by_ties d sorted) ∙ stable d ∙ by_ties d (flat_map (λ x. filter (λ e. e.xid == x) es) xs) ∙ joined_at d.position es rising xs distinct)
   where
     by_ties : (d : Entry) (fs : List Entry) → filter (ties (λ (x y : Entry). is_lt (nat_cmp x.position y.position)) d) fs ≡ filter (at_position d.position) fs
     by_ties d fs = filter_agrees _ _ fs (all_agree _ _ (λ (e : Entry). tied d.position e.position) fs)

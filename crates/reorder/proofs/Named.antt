@@ -22,24 +22,24 @@ pub or_true : (a b : Bool) → b ≡ true → (a || b) ≡ true
 or_true true b is = refl
 or_true false b is = is
 
--- a test of one body that holds only where the number is named
+-- a test of one body that holds only where the xid is named
 unnamed : (test : ℕ → Body → Bool) (x : ℕ) → ((body : Body) → names x body ≡ false → test x body ≡ false) → (log : List Record) → is_named log x ≡ false → list_any (λ r. test x r.body) log ≡ false
 unnamed test x each [] none = refl
 unnamed test x each (r ∷ log) none = rw (each r.body (or_left (names x r.body) (is_named log x) none), unnamed test x each log (or_right (names x r.body) (is_named log x) none)) refl
 
 assigns_named : (x : ℕ) (body : Body) → names x body ≡ false → assigns x body ≡ false
 assigns_named x (Assign sub parent) none = eqb_comm sub x ∙ or_left (x == sub) (x == parent) none
-assigns_named x (Changed number change) none = refl
-assigns_named x (AbortSub number) none = refl
-assigns_named x (Abort number) none = refl
-assigns_named x (Commit number time) none = refl
+assigns_named x (Changed xid change) none = refl
+assigns_named x (AbortSub xid) none = refl
+assigns_named x (Abort xid) none = refl
+assigns_named x (Commit xid time) none = refl
 
 undoes_named : (x : ℕ) (body : Body) → names x body ≡ false → undoes x body ≡ false
 undoes_named x (Assign sub parent) none = refl
-undoes_named x (Changed number change) none = refl
-undoes_named x (AbortSub number) none = eqb_comm number x ∙ none
-undoes_named x (Abort number) none = refl
-undoes_named x (Commit number time) none = refl
+undoes_named x (Changed xid change) none = refl
+undoes_named x (AbortSub xid) none = eqb_comm xid x ∙ none
+undoes_named x (Abort xid) none = refl
+undoes_named x (Commit xid time) none = refl
 
 pub unassigned : (log : List Record) (x : ℕ) → is_named log x ≡ false → is_assigned log x ≡ false
 unassigned log x none = unnamed assigns x (assigns_named x) log none
@@ -47,19 +47,19 @@ unassigned log x none = unnamed assigns x (assigns_named x) log none
 pub not_undone : (log : List Record) (x : ℕ) → is_named log x ≡ false → is_undone log x ≡ false
 not_undone log x none = unnamed undoes x (undoes_named x) log none
 
--- the changes of a log are of numbers that are named
-pub entries_named : (log : List Record) → AllByRecursion (λ e. is_named log e.number ≡ true) (entries log)
+-- the changes of a log are of xids that are named
+pub entries_named : (log : List Record) → AllByRecursion (λ e. is_named log e.xid ≡ true) (entries log)
 entries_named [] = tt
 entries_named (r ∷ log) =
     all_append _ (entry_at r.start r.body) (entries log) (here r.start r.body)
-    (all_when _ _ (λ (e : Entry) (named : is_named log e.number ≡ true). or_true (names e.number r.body) (is_named log e.number) named) (entries log) (entries_named log))
+    (all_when _ _ (λ (e : Entry) (named : is_named log e.xid ≡ true). or_true (names e.xid r.body) (is_named log e.xid) named) (entries log) (entries_named log))
   where
-    here : (start : ℕ) (body : Body) → AllByRecursion (λ (e : Entry). (names e.number body || is_named log e.number) ≡ true) (entry_at start body)
+    here : (start : ℕ) (body : Body) → AllByRecursion (λ (e : Entry). (names e.xid body || is_named log e.xid) ≡ true) (entry_at start body)
     here start (Assign sub parent) = tt
-    here start (Changed number change) = (rw (eq-eqb number number refl) refl, tt)
-    here start (AbortSub number) = tt
-    here start (Abort number) = tt
-    here start (Commit number time) = tt
+    here start (Changed xid change) = (rw (eq-eqb xid xid refl) refl, tt)
+    here start (AbortSub xid) = tt
+    here start (Abort xid) = tt
+    here start (Commit xid time) = tt
 
 -- their positions are those of records
 pub entries_before : (log : List Record) (r : Record) → StartsBehind log r → AllByRecursion (λ e. e.position < r.start) (entries log)
@@ -68,18 +68,18 @@ entries_before (q ∷ log) r behind = all_append _ (entry_at q.start q.body) (en
   where
     here : (start : ℕ) (body : Body) → start < r.start → AllByRecursion (λ (e : Entry). e.position < r.start) (entry_at start body)
     here start (Assign sub parent) lt = tt
-    here start (Changed number change) lt = (lt, tt)
-    here start (AbortSub number) lt = tt
-    here start (Abort number) lt = tt
-    here start (Commit number time) lt = tt
+    here start (Changed xid change) lt = (lt, tt)
+    here start (AbortSub xid) lt = tt
+    here start (Abort xid) lt = tt
+    here start (Commit xid time) lt = tt
 
 none_pass : (p : Entry → Bool) (es : List Entry) → AllByRecursion (λ e. p e ≡ false) es → filter p es ≡ []
 none_pass p [] all = refl
 none_pass p (e ∷ es) all = rw (all.0, none_pass p es all.1) refl
 
 pub no_changes : (log : List Record) (x : ℕ) → is_named log x ≡ false → changes_of log x ≡ []
-no_changes log x none = none_pass _ (entries log) (all_when _ _ (λ (e : Entry) (named : is_named log e.number ≡ true). apart e named (e.number == x) refl) (entries log) (entries_named log))
+no_changes log x none = none_pass _ (entries log) (all_when _ _ (λ (e : Entry) (named : is_named log e.xid ≡ true). apart e named (e.xid == x) refl) (entries log) (entries_named log))
   where
-    apart : (e : Entry) → is_named log e.number ≡ true → (b : Bool) → (e.number == x) ≡ b → b ≡ false
-    apart e named true is = let never : true ≡ false = sym named ∙ ap (is_named log) (eqb-true e.number x is) ∙ none in cc
+    apart : (e : Entry) → is_named log e.xid ≡ true → (b : Bool) → (e.xid == x) ≡ b → b ≡ false
+    apart e named true is = let never : true ≡ false = sym named ∙ ap (is_named log) (eqb-true e.xid x is) ∙ none in cc
     apart e named false is = refl

@@ -1,11 +1,11 @@
--- What is kept, with a number more.
+-- What is kept, with an xid more.
 use Rattle.std.proofs.Common.{◌≡◌, ℕ, ◌==◌, Bool, true, false, cond, ◌||◌, List, [], ◌∷◌, Option, Some, None, is_some, refl, sym, ap, subst, ◌∙◌, eq-eqb}
 use Rattle.std.specs.Prelude.{IsSome}
 use Rattle.std.proofs.lemmas.Bool.{eqb-true}
 use Rattle.txlog.specs.declared.record.Record.{Record}
 use Rattle.txlog.specs.Log.{IsOpen, is_named, has_ended, chain, last_of, top_of}
 use Rattle.txlog.proofs.Laws.{chain-unassigned}
-use Rattle.reorder.specs.Strands.{StrandState, StrandsState, ByNumber, by_number, IsSame, put, fresh, is_in, started}
+use Rattle.reorder.specs.Strands.{StrandState, StrandsState, ByXid, by_xid, IsSame, put, fresh, is_in, started}
 use Rattle.reorder.specs.Taking.{IsStrand, IsTransaction, IsKept}
 use Rattle.reorder.proofs.Named.{unassigned, not_undone, no_changes}
 
@@ -32,22 +32,22 @@ in_one y x is = by_test (y == x) refl is
 pub one_in : (x : ℕ) (xs : List ℕ) → is_in x (x ∷ xs) ≡ true
 one_in x xs = rw (eq-eqb x x refl) refl
 
--- a number without a strand that is open is named nowhere
-pub strandless : (l : ByNumber) (rs : List Record) (x : ℕ) → IsKept l rs → IsOpen rs x → l.strand x ≡ None → is_named rs x ≡ false
+-- an xid without a strand that is open is named nowhere
+pub strandless : (l : ByXid) (rs : List Record) (x : ℕ) → IsKept l rs → IsOpen rs x → l.strand x ≡ None → is_named rs x ≡ false
 strandless l rs x h alive none = by_test (is_named rs x) refl
   where
     by_test : (b : Bool) → is_named rs x ≡ b → b ≡ false
     by_test true named = absurd (no_some (l.strand x) none (h.complete x named alive.running))
     by_test false named = refl
 
-no_members : (l : ByNumber) (rs : List Record) (x : ℕ) → IsKept l rs → l.strand x ≡ None → l.members x ≡ None
+no_members : (l : ByXid) (rs : List Record) (x : ℕ) → IsKept l rs → l.strand x ≡ None → l.members x ≡ None
 no_members l rs x h none = by_option (l.members x) refl
   where
     by_option : (o : Option (List ℕ)) → l.members x ≡ o → o ≡ None
     by_option None is = refl
     by_option (Some xs) is = let t : IsTransaction l rs x xs = h.transactions x xs is in absurd (no_some (l.strand x) none (t.strands x t.own))
 
-start_kept : (l : ByNumber) (rs : List Record) (x : ℕ) → IsKept l rs → IsOpen rs x → l.strand x ≡ None → IsKept (started x l) rs
+start_kept : (l : ByXid) (rs : List Record) (x : ℕ) → IsKept l rs → IsOpen rs x → l.strand x ≡ None → IsKept (started x l) rs
 start_kept l rs x h alive none =
     record {
       strands = λ q s. put_cases (λ o. o ≡ Some s → IsStrand (started x l) rs q s) x q (Some (fresh [])) l.strand
@@ -107,7 +107,7 @@ start_kept l rs x h alive none =
       tops = o.tops;
     }
 
-pub same_kept : (a b : ByNumber) (rs : List Record) → IsSame a b → IsKept b rs → IsKept a rs
+pub same_kept : (a b : ByXid) (rs : List Record) → IsSame a b → IsKept b rs → IsKept a rs
 same_kept a b rs same h =
     record {
       strands = λ q s is. let o : IsStrand b rs q s = h.strands q s (sym (same.strand q) ∙ is) in
@@ -118,24 +118,24 @@ same_kept a b rs same h =
       rising = h.rising;
     }
 
--- after `open` the number has a strand, the rest is as it was, and what is kept is what these records say
-pub record Opened (a l : ByNumber) (rs : List Record) (x : ℕ) : Type 0 where
+-- after `open` the xid has a strand, the rest is as it was, and what is kept is what these records say
+pub record Opened (a l : ByXid) (rs : List Record) (x : ℕ) : Type 0 where
   pub kept : IsKept a rs
   pub some : IsSome (a.strand x)
   pub others : (q : ℕ) → (x == q) ≡ false → a.strand q ≡ l.strand q
 
-pub opened : (s now : StrandsState) (rs : List Record) (x : ℕ) → IsKept (by_number s) rs → IsOpen rs x → (IsSome ((by_number s).strand x) → now ≡ s) →
-    ((by_number s).strand x ≡ None → IsSame (by_number now) (started x (by_number s))) → Opened (by_number now) (by_number s) rs x
-opened s now rs x h alive known new = by_option ((by_number s).strand x) refl
+pub opened : (s now : StrandsState) (rs : List Record) (x : ℕ) → IsKept (by_xid s) rs → IsOpen rs x → (IsSome ((by_xid s).strand x) → now ≡ s) →
+    ((by_xid s).strand x ≡ None → IsSame (by_xid now) (started x (by_xid s))) → Opened (by_xid now) (by_xid s) rs x
+opened s now rs x h alive known new = by_option ((by_xid s).strand x) refl
   where
-    by_option : (o : Option StrandState) → (by_number s).strand x ≡ o → Opened (by_number now) (by_number s) rs x
+    by_option : (o : Option StrandState) → (by_xid s).strand x ≡ o → Opened (by_xid now) (by_xid s) rs x
     by_option None is =
-        let same : IsSame (by_number now) (started x (by_number s)) = new is in
+        let same : IsSame (by_xid now) (started x (by_xid s)) = new is in
         record {
-          kept = same_kept (by_number now) (started x (by_number s)) rs same (start_kept (by_number s) rs x h alive is);
-          some = ap is_some (same.strand x ∙ put_here x (Some (fresh [])) (by_number s).strand);
+          kept = same_kept (by_xid now) (started x (by_xid s)) rs same (start_kept (by_xid s) rs x h alive is);
+          some = ap is_some (same.strand x ∙ put_here x (Some (fresh [])) (by_xid s).strand);
           others = λ q other. same.strand q ∙ rw other refl;
         }
     by_option (Some v) is =
-        let some : IsSome ((by_number s).strand x) = ap is_some is in
-        subst (λ (t : StrandsState). Opened (by_number t) (by_number s) rs x) (sym (known some)) (record { kept = h; some = some; others = λ q other. refl })
+        let some : IsSome ((by_xid s).strand x) = ap is_some is in
+        subst (λ (t : StrandsState). Opened (by_xid t) (by_xid s) rs x) (sym (known some)) (record { kept = h; some = some; others = λ q other. refl })

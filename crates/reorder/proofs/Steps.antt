@@ -11,7 +11,7 @@ use Rattle.txlog.specs.Log.{Entry, IsNext, names, is_named, has_ended, last_of, 
 use Rattle.txlog.proofs.LiveList.{eqb_comm}
 use Rattle.txlog.proofs.Laws.{chain-unassigned, is_named-one}
 use Rattle.reorder.specs.Kept.{kept_entry}
-use Rattle.reorder.specs.Strands.{StrandsState, ByNumber, IsSame, by_number, put, fresh, above_of, is_in, all_in, with_change, without_changes, started, assigned, pushed, undone, ended, joined}
+use Rattle.reorder.specs.Strands.{StrandsState, ByXid, IsSame, by_xid, put, fresh, above_of, is_in, all_in, with_change, without_changes, started, assigned, pushed, undone, ended, joined}
 use Rattle.reorder.specs.Taking.{ReorderState, HasTaken, StartsBehind, Takes, promised}
 use Rattle.reorder.proofs.Named.{or_left, or_right, unassigned}
 use Rattle.reorder.proofs.Opening.{Opened, opened, same_kept}
@@ -28,7 +28,7 @@ next_of before r body is next = subst (λ (b : Body). IsNext before b) is next
 quiet : (before : List Record) (r : Record) (body : Body) → r.body ≡ body → None ≡ promised before body → None ≡ promised before r.body
 quiet before r body is none = none ∙ ap (promised before) (sym is)
 
--- a number that is not named with the record is not named without it, nor by it
+-- an xid that is not named with the record is not named without it, nor by it
 before_too : (before : List Record) (r : Record) (q : ℕ) → is_named (before ++ r ∷ []) q ≡ false → is_named before q ≡ false
 before_too before r q unheard = or_left (is_named before q) (names q r.body) (sym (is_named-one before r q) ∙ unheard)
 
@@ -39,8 +39,8 @@ put_apart : {A : Type 0} (k q : ℕ) (w : Option A) (f : ℕ → Option A) → (
 put_apart k q w f apart = rw (eqb_comm k q, apart) refl
 
 pub taken_assign : (s mid now : StrandsState) (b d : Bool) (r : Record) (sub parent : ℕ) → r.body ≡ Assign sub parent →
-    (IsSome ((by_number s).strand parent) → mid ≡ s) → ((by_number s).strand parent ≡ None → IsSame (by_number mid) (started parent (by_number s))) →
-    IsSame (by_number now) (assigned sub parent (by_number mid)) → Takes (state s b) (state now d) r None
+    (IsSome ((by_xid s).strand parent) → mid ≡ s) → ((by_xid s).strand parent ≡ None → IsSame (by_xid mid) (started parent (by_xid s))) →
+    IsSame (by_xid now) (assigned sub parent (by_xid mid)) → Takes (state s b) (state now d) r None
 taken_assign s mid now b d r sub parent body known new same =
     record {
       reads = λ before h next behind. after before h (next_of before r (Assign sub parent) body next);
@@ -49,19 +49,19 @@ taken_assign s mid now b d r sub parent body known new same =
   where
     after : (before : List Record) → HasTaken (state s b) before → IsNext before (Assign sub parent) → HasTaken (state now d) (before ++ r ∷ [])
     after before h next =
-        let o : Opened (by_number mid) (by_number s) before parent = opened s mid before parent h.kept next.2 known new in
-        let none : (by_number mid).strand sub ≡ None = o.others sub (eqb_comm parent sub ∙ next.1) ∙ h.named sub next.0 in
+        let o : Opened (by_xid mid) (by_xid s) before parent = opened s mid before parent h.kept next.2 known new in
+        let none : (by_xid mid).strand sub ≡ None = o.others sub (eqb_comm parent sub ∙ next.1) ∙ h.named sub next.0 in
         record {
-          kept = same_kept (by_number now) (assigned sub parent (by_number mid)) (before ++ r ∷ []) same (assign_kept (by_number mid) before r sub parent o.kept o.some none next.0 body);
+          kept = same_kept (by_xid now) (assigned sub parent (by_xid mid)) (before ++ r ∷ []) same (assign_kept (by_xid mid) before r sub parent o.kept o.some none next.0 body);
           named = λ q unheard.
               let here : ((q == sub) || (q == parent)) ≡ false = not_here before r (Assign sub parent) q body unheard in
-              same.strand q ∙ put_apart sub q (Some (fresh (parent ∷ above_of (by_number mid) parent))) (by_number mid).strand (or_left (q == sub) (q == parent) here)
+              same.strand q ∙ put_apart sub q (Some (fresh (parent ∷ above_of (by_xid mid) parent))) (by_xid mid).strand (or_left (q == sub) (q == parent) here)
               ∙ o.others q (eqb_comm parent q ∙ or_right (q == sub) (q == parent) here) ∙ h.named q (before_too before r q unheard);
         }
 
 pub taken_change : (s mid now : StrandsState) (b d : Bool) (r : Record) (x : ℕ) (c : Change) → r.body ≡ Changed x c →
-    (IsSome ((by_number s).strand x) → mid ≡ s) → ((by_number s).strand x ≡ None → IsSame (by_number mid) (started x (by_number s))) →
-    IsSame (by_number now) (pushed x (kept_entry r) (by_number mid)) → Takes (state s b) (state now d) r None
+    (IsSome ((by_xid s).strand x) → mid ≡ s) → ((by_xid s).strand x ≡ None → IsSame (by_xid mid) (started x (by_xid s))) →
+    IsSame (by_xid now) (pushed x (kept_entry r) (by_xid mid)) → Takes (state s b) (state now d) r None
 taken_change s mid now b d r x c body known new same =
     record {
       reads = λ before h next behind. after before h (next_of before r (Changed x c) body next) behind;
@@ -70,45 +70,45 @@ taken_change s mid now b d r x c body known new same =
   where
     after : (before : List Record) → HasTaken (state s b) before → IsNext before (Changed x c) → StartsBehind before r → HasTaken (state now d) (before ++ r ∷ [])
     after before h next behind =
-        let o : Opened (by_number mid) (by_number s) before x = opened s mid before x h.kept next known new in
+        let o : Opened (by_xid mid) (by_xid s) before x = opened s mid before x h.kept next known new in
         record {
-          kept = same_kept (by_number now) (pushed x (kept_entry r) (by_number mid)) (before ++ r ∷ []) same
-              (push_kept (by_number mid) before r x (kept_entry r) o.kept next o.some behind (rw body (λ above y. refl)) (rw body (λ y. refl)) (rw body (λ y. refl)) (rw body (λ y. refl)) (rw body refl) (rw body refl) refl);
+          kept = same_kept (by_xid now) (pushed x (kept_entry r) (by_xid mid)) (before ++ r ∷ []) same
+              (push_kept (by_xid mid) before r x (kept_entry r) o.kept next o.some behind (rw body (λ above y. refl)) (rw body (λ y. refl)) (rw body (λ y. refl)) (rw body (λ y. refl)) (rw body refl) (rw body refl) refl);
           named = λ q unheard.
               let here : (q == x) ≡ false = not_here before r (Changed x c) q body unheard in
-              same.strand q ∙ put_apart x q (option_map (with_change (kept_entry r)) ((by_number mid).strand x)) (by_number mid).strand here
+              same.strand q ∙ put_apart x q (option_map (with_change (kept_entry r)) ((by_xid mid).strand x)) (by_xid mid).strand here
               ∙ o.others q (eqb_comm x q ∙ here) ∙ h.named q (before_too before r q unheard);
         }
 
-pub taken_rollback : (s now : StrandsState) (b d : Bool) (r : Record) (x : ℕ) → r.body ≡ AbortSub x → IsSame (by_number now) (undone x (by_number s)) → Takes (state s b) (state now d) r None
+pub taken_rollback : (s now : StrandsState) (b d : Bool) (r : Record) (x : ℕ) → r.body ≡ AbortSub x → IsSame (by_xid now) (undone x (by_xid s)) → Takes (state s b) (state now d) r None
 taken_rollback s now b d r x body same =
     record {
       reads = λ before h next behind. after before h (next_of before r (AbortSub x) body next);
       gives = λ before h next behind. quiet before r (AbortSub x) body refl;
     }
   where
-    has : (before : List Record) → HasTaken (state s b) before → IsNext before (AbortSub x) → (n : Bool) → is_named before x ≡ n → IsSome ((by_number s).strand x)
+    has : (before : List Record) → HasTaken (state s b) before → IsNext before (AbortSub x) → (n : Bool) → is_named before x ≡ n → IsSome ((by_xid s).strand x)
     has before h next true named = h.kept.complete x named next.1.running
     has before h next false unheard = let never : true ≡ false = sym next.0 ∙ unassigned before x unheard in cc
 
     after : (before : List Record) → HasTaken (state s b) before → IsNext before (AbortSub x) → HasTaken (state now d) (before ++ r ∷ [])
     after before h next =
         record {
-          kept = same_kept (by_number now) (undone x (by_number s)) (before ++ r ∷ []) same
-              (undo_kept (by_number s) before r x h.kept (has before h next (is_named before x) refl) (rw body (λ above y. refl)) (rw body (λ y. refl)) (rw body (λ y. refl)) (rw body (λ y. refl)) (rw body refl));
+          kept = same_kept (by_xid now) (undone x (by_xid s)) (before ++ r ∷ []) same
+              (undo_kept (by_xid s) before r x h.kept (has before h next (is_named before x) refl) (rw body (λ above y. refl)) (rw body (λ y. refl)) (rw body (λ y. refl)) (rw body (λ y. refl)) (rw body refl));
           named = λ q unheard.
-              same.strand q ∙ put_apart x q (option_map without_changes ((by_number s).strand x)) (by_number s).strand (not_here before r (AbortSub x) q body unheard) ∙ h.named q (before_too before r q unheard);
+              same.strand q ∙ put_apart x q (option_map without_changes ((by_xid s).strand x)) (by_xid s).strand (not_here before r (AbortSub x) q body unheard) ∙ h.named q (before_too before r q unheard);
         }
 
--- a number that has no strand has none after an end either
-gone : (l : ByNumber) (t q : ℕ) → l.strand q ≡ None → (ended t l).strand q ≡ None
+-- an xid that has no strand has none after an end either
+gone : (l : ByXid) (t q : ℕ) → l.strand q ≡ None → (ended t l).strand q ≡ None
 gone l t q none = by_test (is_in q (all_in (l.members t)))
   where
     by_test : (b : Bool) → cond b None (l.strand q) ≡ None
     by_test true = refl
     by_test false = none
 
-pub taken_abort : (s now : StrandsState) (b d : Bool) (r : Record) (t : ℕ) → r.body ≡ Abort t → IsSame (by_number now) (ended t (by_number s)) → Takes (state s b) (state now d) r None
+pub taken_abort : (s now : StrandsState) (b d : Bool) (r : Record) (t : ℕ) → r.body ≡ Abort t → IsSame (by_xid now) (ended t (by_xid s)) → Takes (state s b) (state now d) r None
 taken_abort s now b d r t body same =
     record {
       reads = λ before h next behind. after before h (next_of before r (Abort t) body next);
@@ -118,14 +118,14 @@ taken_abort s now b d r t body same =
     after : (before : List Record) → HasTaken (state s b) before → IsNext before (Abort t) → HasTaken (state now d) (before ++ r ∷ [])
     after before h next =
         record {
-          kept = same_kept (by_number now) (ended t (by_number s)) (before ++ r ∷ []) same
-              (end_kept (by_number s) before r t h.kept next.0 (rw body (λ above y. refl)) (rw body (λ y. refl)) (rw body (λ y. refl)) (rw body (λ y. refl)) (rw body refl));
-          named = λ q unheard. same.strand q ∙ gone (by_number s) t q (h.named q (before_too before r q unheard));
+          kept = same_kept (by_xid now) (ended t (by_xid s)) (before ++ r ∷ []) same
+              (end_kept (by_xid s) before r t h.kept next.0 (rw body (λ above y. refl)) (rw body (λ y. refl)) (rw body (λ y. refl)) (rw body (λ y. refl)) (rw body refl));
+          named = λ q unheard. same.strand q ∙ gone (by_xid s) t q (h.named q (before_too before r q unheard));
         }
 
 pub taken_commit : (s now : StrandsState) (b d : Bool) (r : Record) (t : ℕ) (time : ℤ) (sorted : List Entry) → r.body ≡ Commit t time →
-    IsNonDecreasingBy (λ (e : Entry). e.position) sorted → IsStableByKey (λ (e : Entry). e.position) nat_cmp (joined (by_number s) t) sorted →
-    IsSame (by_number now) (ended t (by_number s)) → Takes (state s b) (state now d) r (Some sorted)
+    IsNonDecreasingBy (λ (e : Entry). e.position) sorted → IsStableByKey (λ (e : Entry). e.position) nat_cmp (joined (by_xid s) t) sorted →
+    IsSame (by_xid now) (ended t (by_xid s)) → Takes (state s b) (state now d) r (Some sorted)
 taken_commit s now b d r t time sorted body up stable same =
     record {
       reads = λ before h next behind. after before h (next_of before r (Commit t time) body next);
@@ -135,12 +135,12 @@ taken_commit s now b d r t time sorted body up stable same =
     after : (before : List Record) → HasTaken (state s b) before → IsNext before (Commit t time) → HasTaken (state now d) (before ++ r ∷ [])
     after before h next =
         record {
-          kept = same_kept (by_number now) (ended t (by_number s)) (before ++ r ∷ []) same
-              (end_kept (by_number s) before r t h.kept next.0 (rw body (λ above y. refl)) (rw body (λ y. refl)) (rw body (λ y. refl)) (rw body (λ y. refl)) (rw body refl));
-          named = λ q unheard. same.strand q ∙ gone (by_number s) t q (h.named q (before_too before r q unheard));
+          kept = same_kept (by_xid now) (ended t (by_xid s)) (before ++ r ∷ []) same
+              (end_kept (by_xid s) before r t h.kept next.0 (rw body (λ above y. refl)) (rw body (λ y. refl)) (rw body (λ y. refl)) (rw body (λ y. refl)) (rw body refl));
+          named = λ q unheard. same.strand q ∙ gone (by_xid s) t q (h.named q (before_too before r q unheard));
         }
 
     brings : (before : List Record) → HasTaken (state s b) before → IsNext before (Commit t time) → Some sorted ≡ Some (kept before t)
     brings before h next =
         let top : top_of before t ≡ t = ap (last_of t) (chain-unassigned before t next.0) in
-        ap Some (kept_merged (by_number s) before t sorted h.kept (ap (has_ended before) (sym top) ∙ next.1.running) up stable)
+        ap Some (kept_merged (by_xid s) before t sorted h.kept (ap (has_ended before) (sym top) ∙ next.1.running) up stable)

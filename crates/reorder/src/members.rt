@@ -1,14 +1,14 @@
-//! The numbers of one transaction.
+//! The xids of one transaction.
 
 ghost use Rattle.std.specs.Prelude.{◌≡◌, ◌++◌, ◌∷◌, [], IfOk, OnOk};
 
 use std::alloc::{AllocError, Global};
 use std::marker::Model;
 
-/// A transaction's own number, and those of its subtransactions in the order in which they came.
+/// A transaction's own xid, and those of its subtransactions in the order in which they came.
 #[derive(Debug, Drop)]
 pub(crate) struct Members {
-    numbers: Vec<u32>,
+    xids: Vec<u32>,
 }
 
 impl Model for Members {
@@ -16,28 +16,28 @@ impl Model for Members {
 
     ghost Value = { List ℕ };
 
-    ghost view = { λ m. m.numbers.items };
+    ghost view = { λ m. m.xids.items };
 }
 
 impl Members {
-    pub(crate) fn of(alloc: Global, number: u32) -> Result<Members, AllocError>
-        ensures { IfOk result (λ m. m ≡ number ∷ []) }
+    pub(crate) fn of(alloc: Global, xid: u32) -> Result<Members, AllocError>
+        ensures { IfOk result (λ m. m ≡ xid ∷ []) }
     {
-        let mut numbers = Vec::new(alloc);
-        numbers.push(number)?;
-        Ok(Members { numbers })
+        let mut xids = Vec::new(alloc);
+        xids.push(xid)?;
+        Ok(Members { xids })
     }
 
     pub(crate) fn as_slice(&self) -> &[u32]
         ensures { result.now ≡ self.now }
     {
-        self.numbers.as_slice()
+        self.xids.as_slice()
     }
 
-    pub(crate) fn push(&mut self, number: u32) -> Result<(), AllocError>
-        ensures { OnOk result (self.new ≡ self.old ++ number ∷ []) }
+    pub(crate) fn push(&mut self, xid: u32) -> Result<(), AllocError>
+        ensures { OnOk result (self.new ≡ self.old ++ xid ∷ []) }
     {
-        self.numbers.push(number)?;
+        self.xids.push(xid)?;
         Ok(())
     }
 }

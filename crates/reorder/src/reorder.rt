@@ -13,7 +13,7 @@ use std::sync::Arc;
 use tables::Change;
 use txlog::{Body, Record};
 
-/// The changes of the transactions in progress, by the numbers that made them.
+/// The changes of the transactions in progress, by the xids that made them.
 #[derive(Debug, Drop)]
 pub struct Reorder {
     strands: Strands,
@@ -66,12 +66,12 @@ impl Reorder {
                 self.strands.open(alloc, *parent)?;
                 self.strands.assign(alloc, *sub, *parent)?;
             }
-            Body::Change(number, _) => {
-                self.strands.open(alloc, *number)?;
+            Body::Change(xid, _) => {
+                self.strands.open(alloc, *xid)?;
                 let kept = Kept::of(next)?;
-                self.strands.push(*number, kept)?;
+                self.strands.push(*xid, kept)?;
             }
-            Body::AbortSub(number) => self.strands.undo(alloc, *number),
+            Body::AbortSub(xid) => self.strands.undo(alloc, *xid),
             Body::Abort(top) => self.strands.end(*top),
             Body::Commit(top, _) => {
                 let changes = self.strands.kept(alloc, *top)?;

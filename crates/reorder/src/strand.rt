@@ -1,4 +1,4 @@
-//! What is kept of one number.
+//! What is kept of one xid.
 
 ghost use Rattle.std.specs.Prelude.{◌≡◌, ◌++◌, ◌∷◌, [], true, false, OnOk};
 ghost use Rattle.reorder.specs.Strands.{fresh};
@@ -7,7 +7,7 @@ use crate::ready::Kept;
 use std::alloc::{AllocError, Global};
 use std::marker::Model;
 
-/// The changes of a transaction's or subtransaction's own number, unless it is rolled back.
+/// The changes of a transaction's or subtransaction's own xid, unless it is rolled back.
 #[derive(Debug, Drop)]
 pub(crate) struct Strand {
     above: Vec<u32>,
@@ -24,7 +24,7 @@ impl Model for Strand {
 }
 
 impl Strand {
-    /// A strand without changes, under these numbers, from its parent to its transaction.
+    /// A strand without changes, under these xids, from its parent to its transaction.
     pub(crate) fn under(alloc: Global, above: Vec<u32>) -> Self
         ensures { result ≡ fresh above.items }
     {
@@ -60,7 +60,7 @@ impl Strand {
         Ok(())
     }
 
-    /// Rolls the number back: its changes are given up at once.
+    /// Rolls the xid back: its changes are given up at once.
     pub(crate) fn undo(&mut self, alloc: Global)
         ensures { self.new ≡ record self.old { undone = true; changes = [] } }
     {

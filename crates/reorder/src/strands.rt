@@ -1,6 +1,6 @@
-//! What is kept of each number, and which numbers each transaction has.
+//! What is kept of each xid, and which xids each transaction has.
 //!
-//! A record costs a look-up or two, whatever the length of the log. Only the end of a transaction goes over its numbers,
+//! A record costs a look-up or two, whatever the length of the log. Only the end of a transaction goes over its xids,
 //! and then nothing of them is left.
 
 ghost use Rattle.std.specs.Prelude.{◌≡◌, ℕ, [], ◌∷◌, ◌++◌, Some, None, IsSome, IfOk, OnOk, nat_eq, if◌then◌else◌, ◌||◌};
@@ -10,7 +10,7 @@ ghost use Rattle.std.specs.Option.{option_map};
 ghost use Rattle.std.specs.List.Sorted.{IsNonDecreasingBy, IsStableByKey};
 ghost use Rattle.std.specs.Ordering.{nat_cmp};
 ghost use Rattle.txlog.specs.Log.{last_of};
-ghost use Rattle.reorder.specs.Strands.{IsSame, above_of, assigned, ended, is_in, joined, kept_in, by_number, pushed, put, started, undone, undone_in, with_member, without_changes};
+ghost use Rattle.reorder.specs.Strands.{IsSame, above_of, assigned, ended, is_in, joined, kept_in, by_xid, pushed, put, started, undone, undone_in, with_member, without_changes};
 
 use crate::members::Members;
 use crate::ready::Kept;
@@ -19,7 +19,7 @@ use std::alloc::{AllocError, Global};
 use std::collections::HashMap;
 use std::marker::Model;
 
-/// The strands of all numbers of the transactions in progress.
+/// The strands of all xids of the transactions in progress.
 #[derive(Debug, Drop)]
 pub(crate) struct Strands {
     strands: HashMap<u32, Strand>,
@@ -44,48 +44,48 @@ impl Strands {
         }
     }
 
-    /// Makes the number a transaction, unless it has a strand.
-    pub(crate) fn open(&mut self, alloc: Global, number: u32) -> Result<(), AllocError>
-        ensures known { OnOk result (IsSome ((by_number self.old).strand number) → self.new ≡ self.old) }
-        ensures fresh { OnOk result ((by_number self.old).strand number ≡ None → IsSame (by_number self.new) (started number (by_number self.old))) }
+    /// Makes the xid a transaction, unless it has a strand.
+    pub(crate) fn open(&mut self, alloc: Global, xid: u32) -> Result<(), AllocError>
+        ensures known { OnOk result (IsSome ((by_xid self.old).strand xid) → self.new ≡ self.old) }
+        ensures fresh { OnOk result ((by_xid self.old).strand xid ≡ None → IsSame (by_xid self.new) (started xid (by_xid self.old))) }
     {
-        if self.strands.contains_key(&number) {
+        if self.strands.contains_key(&xid) {
             return Ok(());
         }
-        self.start(alloc, number)
+        self.start(alloc, xid)
     }
 
-    /// Makes a number without a strand a transaction.
-    fn start(&mut self, alloc: Global, number: u32) -> Result<(), AllocError>
-        ensures { OnOk result (IsSame (by_number self.new) (started number (by_number self.old))) }
+    /// Makes an xid without a strand a transaction.
+    fn start(&mut self, alloc: Global, xid: u32) -> Result<(), AllocError>
+        ensures { OnOk result (IsSame (by_xid self.new) (started xid (by_xid self.old))) }
     {
-        let members = Members::of(alloc, number)?;
-        self.members.insert(number, members)?;
+        let members = Members::of(alloc, xid)?;
+        self.members.insert(xid, members)?;
         let strand = Strand::under(alloc, Vec::new(alloc));
-        self.strands.insert(number, strand)?;
+        self.strands.insert(xid, strand)?;
         Ok(())
     }
 
-    /// Adds a change to the strand of a number that has one.
-    pub(crate) fn push(&mut self, number: u32, kept: Kept) -> Result<(), AllocError>
-        ensures { OnOk result (IsSame (by_number self.new) (pushed number kept (by_number self.old))) }
+    /// Adds a change to the strand of an xid that has one.
+    pub(crate) fn push(&mut self, xid: u32, kept: Kept) -> Result<(), AllocError>
+        ensures { OnOk result (IsSame (by_xid self.new) (pushed xid kept (by_xid self.old))) }
     {
-        if let Some(strand) = self.strands.get_mut(&number) {
+        if let Some(strand) = self.strands.get_mut(&xid) {
             strand.push(kept)?;
         }
         Ok(())
     }
 
-    /// Rolls back a number that has a strand.
-    pub(crate) fn undo(&mut self, alloc: Global, number: u32)
-        ensures { IsSame (by_number self.new) (undone number (by_number self.old)) }
+    /// Rolls back an xid that has a strand.
+    pub(crate) fn undo(&mut self, alloc: Global, xid: u32)
+        ensures { IsSame (by_xid self.new) (undone xid (by_xid self.old)) }
     {
-        undo_at(&mut self.strands, alloc, number);
+        undo_at(&mut self.strands, alloc, xid);
     }
 
-    /// Puts a number without a strand under another that has one.
+    /// Puts an xid without a strand under another that has one.
     pub(crate) fn assign(&mut self, alloc: Global, sub: u32, parent: u32) -> Result<(), AllocError>
-        ensures { OnOk result (IsSame (by_number self.new) (assigned sub parent (by_number self.old))) }
+        ensures { OnOk result (IsSame (by_xid self.new) (assigned sub parent (by_xid self.old))) }
     {
         let above = self.chain(alloc, parent)?;
         let top = last_or(parent, above.as_slice());
@@ -95,21 +95,21 @@ impl Strands {
         Ok(())
     }
 
-    /// The number, and those above it up to its transaction.
-    fn chain(&self, alloc: Global, number: u32) -> Result<Vec<u32>, AllocError>
-        ensures { IfOk result (λ v. v.items ≡ number ∷ above_of (by_number self.now) number) }
+    /// The xid, and those above it up to its transaction.
+    fn chain(&self, alloc: Global, xid: u32) -> Result<Vec<u32>, AllocError>
+        ensures { IfOk result (λ v. v.items ≡ xid ∷ above_of (by_xid self.now) xid) }
     {
         let mut chain = Vec::new(alloc);
-        chain.push(number)?;
-        if let Some(strand) = self.strands.get(&number) {
+        chain.push(xid)?;
+        if let Some(strand) = self.strands.get(&xid) {
             chain.extend_from_slice(strand.above())?;
         }
         Ok(chain)
     }
 
-    /// Gives up all numbers of a transaction.
+    /// Gives up all xids of a transaction.
     pub(crate) fn end(&mut self, top: u32)
-        ensures { IsSame (by_number self.new) (ended top (by_number self.old)) }
+        ensures { IsSame (by_xid self.new) (ended top (by_xid self.old)) }
     {
         if let Some(members) = self.members.remove(&top) {
             remove_all(&mut self.strands, members.as_slice());
@@ -119,16 +119,16 @@ impl Strands {
     /// The changes that a transaction keeps, in the order of their positions.
     pub(crate) fn kept(&self, alloc: Global, top: u32) -> Result<Vec<Kept>, AllocError>
         ensures rising { IfOk result (λ v. IsNonDecreasingBy (λ e. e.position) v.items) }
-        ensures same { IfOk result (λ v. IsStableByKey (λ e. e.position) nat_cmp (joined (by_number self.now) top) v.items) }
+        ensures same { IfOk result (λ v. IsStableByKey (λ e. e.position) nat_cmp (joined (by_xid self.now) top) v.items) }
     {
         let mut changes = self.joined(alloc, top)?;
         changes.sort_by_key(|kept| kept.position())?;
         Ok(changes)
     }
 
-    /// The changes that a transaction keeps, number after number.
+    /// The changes that a transaction keeps, xid after xid.
     fn joined(&self, alloc: Global, top: u32) -> Result<Vec<Kept>, AllocError>
-        ensures { IfOk result (λ v. v.items ≡ joined (by_number self.now) top) }
+        ensures { IfOk result (λ v. v.items ≡ joined (by_xid self.now) top) }
     {
         match self.members.get(&top) {
             Some(members) => {
@@ -140,41 +140,41 @@ impl Strands {
     }
 }
 
-/// The last of these numbers, or the number where there is none.
-fn last_or(number: u32, numbers: &[u32]) -> u32
-    ensures { result ≡ last_of number numbers.now }
+/// The last of these xids, or the xid where there is none.
+fn last_or(xid: u32, xids: &[u32]) -> u32
+    ensures { result ≡ last_of xid xids.now }
 {
-    match numbers {
-        [] => number,
+    match xids {
+        [] => xid,
         [.., last] => *last,
     }
 }
 
-/// Rolls the number back, where it has a strand.
-fn undo_at(strands: &mut HashMap<u32, Strand>, alloc: Global, number: u32)
-    ensures { (x : ℕ) → get nat_eq strands.new x ≡ put number (option_map without_changes (get nat_eq strands.old number)) (get nat_eq strands.old) x }
+/// Rolls the xid back, where it has a strand.
+fn undo_at(strands: &mut HashMap<u32, Strand>, alloc: Global, xid: u32)
+    ensures { (x : ℕ) → get nat_eq strands.new x ≡ put xid (option_map without_changes (get nat_eq strands.old xid)) (get nat_eq strands.old) x }
 {
-    if let Some(strand) = strands.get_mut(&number) {
+    if let Some(strand) = strands.get_mut(&xid) {
         strand.undo(alloc);
     }
 }
 
-/// Adds a number to those of a transaction.
+/// Adds an xid to those of a transaction.
 fn add_member(members: &mut HashMap<u32, Members>, top: u32, sub: u32) -> Result<(), AllocError>
     ensures { OnOk result ((t : ℕ) → get nat_eq members.new t ≡ put top (option_map (with_member sub) (get nat_eq members.old top)) (get nat_eq members.old) t) }
 {
-    if let Some(numbers) = members.get_mut(&top) {
-        numbers.push(sub)?;
+    if let Some(xids) = members.get_mut(&top) {
+        xids.push(sub)?;
     }
     Ok(())
 }
 
-/// Gives up the strands of these numbers.
-fn remove_all(strands: &mut HashMap<u32, Strand>, numbers: &[u32])
-    ensures { (x : ℕ) → get nat_eq strands.new x ≡ (if is_in x numbers.now then None else get nat_eq strands.old x) }
+/// Gives up the strands of these xids.
+fn remove_all(strands: &mut HashMap<u32, Strand>, xids: &[u32])
+    ensures { (x : ℕ) → get nat_eq strands.new x ≡ (if is_in x xids.now then None else get nat_eq strands.old x) }
 {
-    for number in numbers {
-        strands.remove(number);
+    for xid in xids {
+        strands.remove(xid);
     }
 }
 
@@ -185,8 +185,8 @@ fn is_dropped(strands: &HashMap<u32, Strand>, strand: &Strand) -> bool
     if strand.is_undone() {
         return true;
     }
-    for number in strand.above() {
-        if let Some(above) = strands.get(number) {
+    for xid in strand.above() {
+        if let Some(above) = strands.get(xid) {
             if above.is_undone() {
                 return true;
             }
@@ -195,17 +195,17 @@ fn is_dropped(strands: &HashMap<u32, Strand>, strand: &Strand) -> bool
     false
 }
 
-/// The changes that these numbers keep, number after number.
+/// The changes that these xids keep, xid after xid.
 fn joined_changes(
     alloc: Global,
     strands: &HashMap<u32, Strand>,
-    numbers: &[u32],
+    xids: &[u32],
 ) -> Result<Vec<Kept>, AllocError>
-    ensures { IfOk result (λ v. v.items ≡ flat_map (λ x. kept_in (get nat_eq strands.now) (get nat_eq strands.now x)) numbers.now) }
+    ensures { IfOk result (λ v. v.items ≡ flat_map (λ x. kept_in (get nat_eq strands.now) (get nat_eq strands.now x)) xids.now) }
 {
     let mut joined = Vec::new(alloc);
-    for number in numbers {
-        if let Some(strand) = strands.get(number) {
+    for xid in xids {
+        if let Some(strand) = strands.get(xid) {
             if !is_dropped(strands, strand) {
                 add_copies(&mut joined, strand.changes())?;
             }

@@ -5,10 +5,10 @@ use std::test::Fail;
 use tables::{Change, Row, Value};
 use txlog::{Body, Record};
 
-/// An insert by this number.
-fn insert(alloc: Global, number: u32, id: i32) -> Result<Body, Fail> {
+/// An insert by this xid.
+fn insert(alloc: Global, xid: u32, id: i32) -> Result<Body, Fail> {
     let row = Row::new(vec![in alloc; Value::Int4(id)]?);
-    Ok(Body::Change(number, Change::Insert(16384, row)))
+    Ok(Body::Change(xid, Change::Insert(16384, row)))
 }
 
 /// The id of an inserted row.

@@ -17,7 +17,7 @@ use Rattle.publication.specs.Selection.{relation}
 use Rattle.pgoutput.specs.declared.relation.Relation.{Relation}
 use Rattle.stream.specs.declared.published.Published.{Published}
 use Rattle.stream.specs.Words.{word_bytes, frames_of}
-use Rattle.stream.specs.Items.{Item, Alive, Block, words_of, item_words, spelled, named_by_all, named_after, named_through}
+use Rattle.stream.specs.Items.{Item, Alive, Block, words_of, item_words, spelled, relations_sent_by_all, relations_sent_after, relations_sent_through}
 use Rattle.sender.specs.Published.{published, published_as, published_from, has_message}
 use Rattle.sender.specs.Sending.{SenderState, MayFollow, HasRead, blocks, blocks_behind, ready_at, released, TookOne, Fed, FedSome, SeemsSame, AddsBlocks}
 
@@ -41,21 +41,21 @@ published_from-append selection s before m n =
     ∙ ap (filter has_message) (map_append (published_as selection) (committed_from s before m) (committed_from s (before ++ m) n))
     ∙ filter_append has_message (map (published_as selection) (committed_from s before m)) (map (published_as selection) (committed_from s (before ++ m) n))
 
-pub named_through-append : (named : List ℕ) (a b : List Published) → named_through named (a ++ b) ≡ named_through (named_through named a) b
-named_through-append named [] b = refl
-named_through-append named (t ∷ a) b = named_through-append (named_by_all named t.changes) a b
+pub relations_sent_through-append : (relations_sent : List ℕ) (a b : List Published) → relations_sent_through relations_sent (a ++ b) ≡ relations_sent_through (relations_sent_through relations_sent a) b
+relations_sent_through-append relations_sent [] b = refl
+relations_sent_through-append relations_sent (t ∷ a) b = relations_sent_through-append (relations_sent_by_all relations_sent t.changes) a b
 
 -- blocks behind blocks
-pub spelled-blocks : (rel : ℕ → Relation) (named : List ℕ) (clock : ℤ) (a b : List Published)
-    → spelled rel named (blocks clock (a ++ b)) ≡ spelled rel named (blocks clock a) ++ spelled rel (named_through named a) (blocks clock b)
-spelled-blocks rel named clock [] b = refl
-spelled-blocks rel named clock (t ∷ a) b =
-    let first = item_words rel named (Block clock t) in
-    let then = named_by_all named t.changes in
+pub spelled-blocks : (rel : ℕ → Relation) (relations_sent : List ℕ) (clock : ℤ) (a b : List Published)
+    → spelled rel relations_sent (blocks clock (a ++ b)) ≡ spelled rel relations_sent (blocks clock a) ++ spelled rel (relations_sent_through relations_sent a) (blocks clock b)
+spelled-blocks rel relations_sent clock [] b = refl
+spelled-blocks rel relations_sent clock (t ∷ a) b =
+    let first = item_words rel relations_sent (Block clock t) in
+    let then = relations_sent_by_all relations_sent t.changes in
     flat_map-append word_bytes first (words_of rel then (blocks clock (a ++ b)))
     ∙ ap (λ (l : List ℕ). frames_of first ++ l) (spelled-blocks rel then clock a b)
-    ∙ sym (append_assoc (frames_of first) (spelled rel then (blocks clock a)) (spelled rel (named_through then a) (blocks clock b)))
-    ∙ ap (λ (l : List ℕ). l ++ spelled rel (named_through then a) (blocks clock b)) (sym (flat_map-append word_bytes first (words_of rel then (blocks clock a))))
+    ∙ sym (append_assoc (frames_of first) (spelled rel then (blocks clock a)) (spelled rel (relations_sent_through then a) (blocks clock b)))
+    ∙ ap (λ (l : List ℕ). l ++ spelled rel (relations_sent_through then a) (blocks clock b)) (sym (flat_map-append word_bytes first (words_of rel then (blocks clock a))))
 
 MayFollow-front : (before m n : List Record) → MayFollow before (m ++ n) → MayFollow before m
 MayFollow-front before [] n may = tt
@@ -74,15 +74,15 @@ released_is selection s before r = by_body r.body refl
     Same : Body → Type 0
     Same body = released selection s (record r { body = body }) (promised before body) ≡ filter has_message (map (published_as selection) (committed_at s before r.start r.end body ++ []))
 
-    by_commit : (number : ℕ) (time : ℤ) → Same (Commit number time)
-    by_commit number time = ap (λ ts. filter has_message (map (published_as selection) ts)) (sym (append-nil (committed_at s before r.start r.end (Commit number time))))
+    by_commit : (xid : ℕ) (time : ℤ) → Same (Commit xid time)
+    by_commit xid time = ap (λ ts. filter has_message (map (published_as selection) ts)) (sym (append-nil (committed_at s before r.start r.end (Commit xid time))))
 
     by_body : (body : Body) → r.body ≡ body → Same body
     by_body (Assign sub parent) is = refl
-    by_body (Changed number change) is = refl
-    by_body (AbortSub number) is = refl
-    by_body (Abort number) is = refl
-    by_body (Commit number time) is = by_commit number time
+    by_body (Changed xid change) is = refl
+    by_body (AbortSub xid) is = refl
+    by_body (Abort xid) is = refl
+    by_body (Commit xid time) is = by_commit xid time
 
 pub took-Fed : (clock : ℤ) (old new : SenderState) (r : Record) → TookOne clock old new r → Fed clock old new (r ∷ [])
 took-Fed clock old new r took = record {
@@ -101,15 +101,15 @@ took-Fed clock old new r took = record {
   reads : (before : List Record) → HasRead old before → MayFollow before (r ∷ []) → HasRead new (before ++ r ∷ [])
   reads before has may = record {
     taken = took.takes.reads before has.taken may.0 may.1;
-    names = took.named ∙ ap (named_through old.named) (is before has may) ∙ ap (λ n. named_through n (published_from old.selection old.start before (r ∷ []))) has.names
-        ∙ sym (named_through-append [] (published old.selection before old.start) (published_from old.selection old.start before (r ∷ [])))
-        ∙ ap (named_through []) (sym (published_from-append old.selection old.start [] before (r ∷ [])))
-        ∙ ap (λ sel. named_through [] (published sel (before ++ r ∷ []) old.start)) (sym took.selection) ∙ ap (λ s. named_through [] (published new.selection (before ++ r ∷ []) s)) (sym took.start);
+    names = took.relations_sent ∙ ap (relations_sent_through old.relations_sent) (is before has may) ∙ ap (λ n. relations_sent_through n (published_from old.selection old.start before (r ∷ []))) has.names
+        ∙ sym (relations_sent_through-append [] (published old.selection before old.start) (published_from old.selection old.start before (r ∷ [])))
+        ∙ ap (relations_sent_through []) (sym (published_from-append old.selection old.start [] before (r ∷ [])))
+        ∙ ap (λ sel. relations_sent_through [] (published sel (before ++ r ∷ []) old.start)) (sym took.selection) ∙ ap (λ s. relations_sent_through [] (published new.selection (before ++ r ∷ []) s)) (sym took.start);
   }
 
   adds : AddsBlocks clock old new.held (r ∷ [])
   adds before has may =
-      took.held ∙ ap (λ ts. old.held ++ spelled (relation old.selection) old.named (blocks clock ts)) (is before has may)
+      took.held ∙ ap (λ ts. old.held ++ spelled (relation old.selection) old.relations_sent (blocks clock ts)) (is before has may)
       ∙ ap (λ n. old.held ++ spelled (relation old.selection) n (blocks clock (published_from old.selection old.start before (r ∷ [])))) has.names
 
 -- ---- batches
@@ -132,12 +132,12 @@ Fed-append clock a b c m n first second = record {
       let early = published a.selection before a.start in
       let one = published_from a.selection a.start before m in
       let two = published_from a.selection a.start (before ++ m) n in
-      let through : named_through [] (published a.selection (before ++ m) a.start) ≡ named_through (named_through [] early) one =
-      ap (named_through []) (published_from-append a.selection a.start [] before m) ∙ named_through-append [] early one in
+      let through : relations_sent_through [] (published a.selection (before ++ m) a.start) ≡ relations_sent_through (relations_sent_through [] early) one =
+      ap (relations_sent_through []) (published_from-append a.selection a.start [] before m) ∙ relations_sent_through-append [] early one in
       later ∙ ap (λ (l : List ℕ). l ++ blocks_behind a.selection clock (published a.selection (before ++ m) a.start) two) (first.adds before has may_m)
-      ∙ ap (λ (named : List ℕ). (a.held ++ blocks_behind a.selection clock early one) ++ spelled (relation a.selection) named (blocks clock two)) through
-      ∙ append_assoc a.held (blocks_behind a.selection clock early one) (spelled (relation a.selection) (named_through (named_through [] early) one) (blocks clock two))
-      ∙ ap (λ (l : List ℕ). a.held ++ l) (sym (spelled-blocks (relation a.selection) (named_through [] early) clock one two) ∙ ap (λ ts. spelled (relation a.selection) (named_through [] early) (blocks clock ts)) (sym (published_from-append a.selection a.start before m n)))
+      ∙ ap (λ (relations_sent : List ℕ). (a.held ++ blocks_behind a.selection clock early one) ++ spelled (relation a.selection) relations_sent (blocks clock two)) through
+      ∙ append_assoc a.held (blocks_behind a.selection clock early one) (spelled (relation a.selection) (relations_sent_through (relations_sent_through [] early) one) (blocks clock two))
+      ∙ ap (λ (l : List ℕ). a.held ++ l) (sym (spelled-blocks (relation a.selection) (relations_sent_through [] early) clock one two) ∙ ap (λ ts. spelled (relation a.selection) (relations_sent_through [] early) (blocks clock ts)) (sym (published_from-append a.selection a.start before m n)))
 
 -- ---- a loop over a batch
 

@@ -18,7 +18,7 @@ use Rattle.pgoutput.specs.declared.relation.Relation.{Relation}
 use Rattle.stream.specs.declared.word.Word.{Word}
 use Rattle.stream.specs.declared.published.Published.{Published}
 use Rattle.stream.specs.Words.{word_bytes, frames_of}
-use Rattle.stream.specs.Items.{said, alive, begin_message, commit_message, changes_words, block_words, IsShortMessage}
+use Rattle.stream.specs.Items.{xlogdata_word, keepalive_word, begin_message, commit_message, changes_words, block_words, IsShortMessage}
 
 length-xlogdata : (start end : ℕ) (clock : ℤ) (payload : List ℕ) → length (xlogdata start end clock payload) ≡ 25 + length payload
 length-xlogdata start end clock payload =
@@ -42,13 +42,13 @@ behind_head old headed whole body n len head tail =
     tail ∙ ap (λ (l : List ℕ). l ++ body) head ∙ append_assoc old (COPY_DATA ∷ int32 (4 + n)) body ∙ ap (λ (k : ℕ). old ++ (COPY_DATA ∷ (int32 (4 + k) ++ body))) len
 
 pub said_whole : (old headed whole scratch : List ℕ) (position : ℕ) (clock : ℤ) (m : Logical) → scratch ≡ spell_logical m → headed ≡ old ++ (COPY_DATA ∷ int32 (4 + (25 + length scratch)))
-    → whole ≡ headed ++ xlogdata position position clock scratch → whole ≡ old ++ word_bytes (said position clock m)
+    → whole ≡ headed ++ xlogdata position position clock scratch → whole ≡ old ++ word_bytes (xlogdata_word position clock m)
 said_whole old headed whole scratch position clock m spelled head tail =
     let body : xlogdata position position clock scratch ≡ xlogdata position position clock (spell_logical m) = ap (xlogdata position position clock) spelled in
     behind_head old headed whole (xlogdata position position clock (spell_logical m)) (25 + length scratch)
     (sym (length-xlogdata position position clock scratch) ∙ ap length body) head (tail ∙ ap (λ (l : List ℕ). headed ++ l) body)
 
-pub alive_whole : (old headed whole : List ℕ) (position : ℕ) (clock : ℤ) (ask : Bool) → headed ≡ old ++ (COPY_DATA ∷ int32 (4 + 18)) → whole ≡ headed ++ keepalive position clock ask → whole ≡ old ++ word_bytes (alive position clock ask)
+pub alive_whole : (old headed whole : List ℕ) (position : ℕ) (clock : ℤ) (ask : Bool) → headed ≡ old ++ (COPY_DATA ∷ int32 (4 + 18)) → whole ≡ headed ++ keepalive position clock ask → whole ≡ old ++ word_bytes (keepalive_word position clock ask)
 alive_whole old headed whole position clock ask head tail = behind_head old headed whole (keepalive position clock ask) 18 (sym (length-keepalive position clock ask)) head tail
 
 -- ---- blocks
@@ -59,29 +59,29 @@ frames_append ws vs = flat_map-append word_bytes ws vs
 frames_one : (w : Word) → frames_of (w ∷ []) ≡ word_bytes w
 frames_one w = flat_map-cons word_bytes w [] ∙ append-nil (word_bytes w)
 
-pub block_is : (relation : ℕ → Relation) (named : List ℕ) (clock : ℤ) (t : Published) → frames_of (block_words relation named clock t)
-    ≡ (word_bytes (said t.start clock (begin_message t)) ++ frames_of (changes_words relation named clock t.changes)) ++ word_bytes (said t.end clock (commit_message t))
-block_is relation named clock t =
-    let begun = said t.start clock (begin_message t) in
-    let ended = said t.end clock (commit_message t) in
-    let changes = changes_words relation named clock t.changes in
+pub block_is : (relation : ℕ → Relation) (relations_sent : List ℕ) (clock : ℤ) (t : Published) → frames_of (block_words relation relations_sent clock t)
+    ≡ (word_bytes (xlogdata_word t.start clock (begin_message t)) ++ frames_of (changes_words relation relations_sent clock t.changes)) ++ word_bytes (xlogdata_word t.end clock (commit_message t))
+block_is relation relations_sent clock t =
+    let begun = xlogdata_word t.start clock (begin_message t) in
+    let ended = xlogdata_word t.end clock (commit_message t) in
+    let changes = changes_words relation relations_sent clock t.changes in
     flat_map-cons word_bytes begun (changes ++ (ended ∷ [])) ∙ ap (λ (l : List ℕ). word_bytes begun ++ l) (frames_append changes (ended ∷ []) ∙ ap (λ (l : List ℕ). frames_of changes ++ l) (frames_one ended))
     ∙ sym (append_assoc (word_bytes begun) (frames_of changes) (word_bytes ended))
 
 pub begin_short : (m : Begin) → IsShortMessage (logical.Begin m)
-begin_short m = omega (arith, length-int64 m.position, length-int64 (cast_unsigned w64 m.time), length-int32 m.number, length-append (int64 m.position) (int64 (cast_unsigned w64 m.time) ++ int32 m.number), length-append (int64 (cast_unsigned w64 m.time)) (int32 m.number))
+begin_short m = omega (arith, length-int64 m.position, length-int64 (cast_unsigned w64 m.time), length-int32 m.xid, length-append (int64 m.position) (int64 (cast_unsigned w64 m.time) ++ int32 m.xid), length-append (int64 (cast_unsigned w64 m.time)) (int32 m.xid))
 
 pub commit_short : (m : Commit) → IsShortMessage (logical.Commit m)
 commit_short m = omega (arith, length-int64 m.position, length-int64 m.end, length-int64 (cast_unsigned w64 m.time), length-append (int64 m.position) (int64 m.end ++ int64 (cast_unsigned w64 m.time)), length-append (int64 m.end) (int64 (cast_unsigned w64 m.time)))
 
-pub block_whole : (relation : ℕ → Relation) (named : List ℕ) (clock : ℤ) (t : Published) (old begun changed ended : List ℕ) (m n : Logical) → m ≡ begin_message t → n ≡ commit_message t
-    → begun ≡ old ++ word_bytes (said t.start clock m) → changed ≡ begun ++ frames_of (changes_words relation named clock t.changes) → ended ≡ changed ++ word_bytes (said t.end clock n)
-    → ended ≡ old ++ frames_of (block_words relation named clock t)
-block_whole relation named clock t old begun changed ended m n is_m is_n e f g =
-    let first = word_bytes (said t.start clock (begin_message t)) in
-    let middle = frames_of (changes_words relation named clock t.changes) in
-    let last = word_bytes (said t.end clock (commit_message t)) in
-    let one : begun ≡ old ++ first = e ∙ ap (λ (k : Logical). old ++ word_bytes (said t.start clock k)) is_m in
+pub block_whole : (relation : ℕ → Relation) (relations_sent : List ℕ) (clock : ℤ) (t : Published) (old begun changed ended : List ℕ) (m n : Logical) → m ≡ begin_message t → n ≡ commit_message t
+    → begun ≡ old ++ word_bytes (xlogdata_word t.start clock m) → changed ≡ begun ++ frames_of (changes_words relation relations_sent clock t.changes) → ended ≡ changed ++ word_bytes (xlogdata_word t.end clock n)
+    → ended ≡ old ++ frames_of (block_words relation relations_sent clock t)
+block_whole relation relations_sent clock t old begun changed ended m n is_m is_n e f g =
+    let first = word_bytes (xlogdata_word t.start clock (begin_message t)) in
+    let middle = frames_of (changes_words relation relations_sent clock t.changes) in
+    let last = word_bytes (xlogdata_word t.end clock (commit_message t)) in
+    let one : begun ≡ old ++ first = e ∙ ap (λ (k : Logical). old ++ word_bytes (xlogdata_word t.start clock k)) is_m in
     let two : changed ≡ old ++ (first ++ middle) = f ∙ ap (λ (l : List ℕ). l ++ middle) one ∙ append_assoc old first middle in
-    let three : ended ≡ old ++ ((first ++ middle) ++ last) = g ∙ ap (λ (k : Logical). changed ++ word_bytes (said t.end clock k)) is_n ∙ ap (λ (l : List ℕ). l ++ last) two ∙ append_assoc old (first ++ middle) last in
-    three ∙ ap (λ (l : List ℕ). old ++ l) (sym (block_is relation named clock t))
+    let three : ended ≡ old ++ ((first ++ middle) ++ last) = g ∙ ap (λ (k : Logical). changed ++ word_bytes (xlogdata_word t.end clock k)) is_n ∙ ap (λ (l : List ℕ). l ++ last) two ∙ append_assoc old (first ++ middle) last in
+    three ∙ ap (λ (l : List ℕ). old ++ l) (sym (block_is relation relations_sent clock t))

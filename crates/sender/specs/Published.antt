@@ -19,7 +19,7 @@ published_changes selection [] = []
 published_changes selection (e ∷ es) = published_at e.position (message selection e.change) ++ published_changes selection es
 
 abbrev pub published_as : List Table → Transaction → Published
-published_as selection t = record { start = t.start; end = t.end; time = t.time; number = t.number; changes = published_changes selection t.changes }
+published_as selection t = record { start = t.start; end = t.end; time = t.time; xid = t.xid; changes = published_changes selection t.changes }
 
 abbrev pub has_message : Published → Bool
 has_message t = not (length t.changes == 0)

@@ -9,7 +9,7 @@ use Rattle.txlog.specs.Log.{Entry, Transaction, IsNext, end_of}
 use Rattle.reorder.specs.Taking.{ReorderState, HasTaken, StartsBehind, Takes}
 use Rattle.publication.specs.Selection.{relation}
 use Rattle.stream.specs.declared.published.Published.{Published}
-use Rattle.stream.specs.Items.{Item, Block, spelled, named_through}
+use Rattle.stream.specs.Items.{Item, Block, spelled, relations_sent_through}
 use Rattle.sender.specs.Published.{published, published_as, published_from, has_message}
 
 -- what determines the bytes to come
@@ -19,7 +19,7 @@ pub record SenderState : Type 0 where
   pub position : ℕ
   pub failed : Bool
   pub held : List ℕ
-  pub named : List ℕ
+  pub relations_sent : List ℕ
   pub reorder : ReorderState
 
 -- The records may follow those before them in a well-formed log.
@@ -30,7 +30,7 @@ MayFollow before (r ∷ rs) = IsNext before r.body × StartsBehind before r × M
 -- The sender is as these records, and no others, leave one.
 pub record HasRead (s : SenderState) (rs : List Record) : Type 0 where
   pub taken : HasTaken s.reorder rs
-  pub names : s.named ≡ named_through [] (published s.selection rs s.start)
+  pub names : s.relations_sent ≡ relations_sent_through [] (published s.selection rs s.start)
 
 -- blocks of these transactions, all under one clock
 abbrev pub blocks : ℤ → List Published → List Item
@@ -38,7 +38,7 @@ blocks clock ts = map (Block clock) ts
 
 -- what the blocks spell behind those of the transactions before them
 abbrev pub blocks_behind : List Table → ℤ → List Published → List Published → List ℕ
-blocks_behind selection clock before ts = spelled (relation selection) (named_through [] before) (blocks clock ts)
+blocks_behind selection clock before ts = spelled (relation selection) (relations_sent_through [] before) (blocks clock ts)
 
 -- What was held has grown by exactly the blocks of the transactions that these records publish.
 abbrev pub AddsBlocks : ℤ → SenderState → List ℕ → List Record → Type 0
@@ -48,11 +48,11 @@ AddsBlocks clock old held rs = (before : List Record) → HasRead old before →
 -- the transaction that a record with these changes commits, if it starts at the start position s or later
 abbrev pub ready_at : ℕ → ℕ → ℕ → Body → List Entry → List Transaction
 ready_at s start end (Assign sub parent) entries = []
-ready_at s start end (Changed number change) entries = []
-ready_at s start end (AbortSub number) entries = []
-ready_at s start end (Abort number) entries = []
-ready_at s start end (Commit number time) entries =
-    if nat_le s start then record { start = start; end = end; time = time; number = number; changes = entries } ∷ [] else []
+ready_at s start end (Changed xid change) entries = []
+ready_at s start end (AbortSub xid) entries = []
+ready_at s start end (Abort xid) entries = []
+ready_at s start end (Commit xid time) entries =
+    if nat_le s start then record { start = start; end = end; time = time; xid = xid; changes = entries } ∷ [] else []
 
 -- what a record publishes by what it made ready
 abbrev pub released : List Table → ℕ → Record → Option (List Entry) → List Published
@@ -66,8 +66,8 @@ pub record TookOne (clock : ℤ) (old new : SenderState) (r : Record) : Type 0 w
   pub selection : new.selection ≡ old.selection
   pub start : new.start ≡ old.start
   pub position : new.position ≡ r.end
-  pub held : new.held ≡ old.held ++ spelled (relation old.selection) old.named (blocks clock (released old.selection old.start r ready))
-  pub named : new.named ≡ named_through old.named (released old.selection old.start r ready)
+  pub held : new.held ≡ old.held ++ spelled (relation old.selection) old.relations_sent (blocks clock (released old.selection old.start r ready))
+  pub relations_sent : new.relations_sent ≡ relations_sent_through old.relations_sent (released old.selection old.start r ready)
 
 -- nothing that a drain or a reader of the position sees has changed
 pub record SeemsSame (old new : SenderState) : Type 0 where

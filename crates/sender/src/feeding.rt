@@ -3,7 +3,7 @@
 ghost use Rattle.std.specs.Prelude.{◌≡◌, ◌++◌, Some, false, Err, IfErr, OnErr, OnOk};
 ghost use Rattle.txlog.specs.Publishing.{shared};
 ghost use Rattle.publication.specs.Selection.{relation};
-ghost use Rattle.stream.specs.Items.{spelled, named_through};
+ghost use Rattle.stream.specs.Items.{spelled, relations_sent_through};
 ghost use Rattle.sender.specs.Sending.{Fed, FedSome, SeemsSame, TookOne, released, blocks};
 
 use crate::fault::SendFault;
@@ -67,9 +67,9 @@ impl Sender {
         ready: &Ready,
         clock: i64,
     ) -> Result<(), AllocError>
-        ensures held { OnOk result (self.new.held ≡ self.old.held ++ spelled (relation self.old.selection) self.old.named
+        ensures held { OnOk result (self.new.held ≡ self.old.held ++ spelled (relation self.old.selection) self.old.relations_sent
             (blocks clock (released self.old.selection self.old.start next.now (Some ready.now)))) }
-        ensures named { OnOk result (self.new.named ≡ named_through self.old.named
+        ensures relations_sent { OnOk result (self.new.relations_sent ≡ relations_sent_through self.old.relations_sent
             (released self.old.selection self.old.start next.now (Some ready.now))) }
         ensures err { OnErr result (self.new.held ≡ self.old.held) }
         ensures selection { self.new.selection ≡ self.old.selection }

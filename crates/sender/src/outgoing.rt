@@ -8,7 +8,7 @@ ghost use Rattle.tables.specs.Tables.{table_of};
 ghost use Rattle.publication.specs.Selection.{relation};
 ghost use Rattle.publication.specs.Projection.{MessageFits};
 ghost use Rattle.stream.specs.Words.{frames_of, word_bytes};
-ghost use Rattle.stream.specs.Items.{IsShortMessage, begin_message, commit_message, is_named, due, named_by, named_by_all, said, relation_words, change_words, changes_words, block_words, alive};
+ghost use Rattle.stream.specs.Items.{IsShortMessage, begin_message, commit_message, is_relation_sent, due, relations_sent_by, relations_sent_by_all, xlogdata_word, relation_words, change_words, changes_words, block_words, keepalive_word};
 
 use crate::word::{put_keepalive, put_said};
 use bytes::{BufMut, BytesMut};
@@ -24,18 +24,18 @@ pub(crate) struct Outgoing {
     /// One message, before its frame is made.
     pub(crate) scratch: BytesMut,
     /// The tables that were named so far, the oldest first.
-    pub(crate) named: Vec<u32>,
+    pub(crate) relations_sent: Vec<u32>,
 }
 
 impl Outgoing {
     pub(crate) fn new(alloc: Global) -> Self
         ensures held { result.held.items ≡ [] }
-        ensures named { result.named.items ≡ [] }
+        ensures relations_sent { result.relations_sent.items ≡ [] }
     {
         Outgoing {
             held: BytesMut::new(alloc),
             scratch: BytesMut::new(alloc),
-            named: Vec::new(alloc),
+            relations_sent: Vec::new(alloc),
         }
     }
 
@@ -46,9 +46,9 @@ impl Outgoing {
         clock: i64,
         ask: bool,
     ) -> Result<(), AllocError>
-        ensures ok { OnOk result (self.new.held.items ≡ self.old.held.items ++ word_bytes (alive position clock ask)) }
+        ensures ok { OnOk result (self.new.held.items ≡ self.old.held.items ++ word_bytes (keepalive_word position clock ask)) }
         ensures err { OnErr result (self.new.held.items ≡ self.old.held.items) }
-        ensures named { self.new.named ≡ self.old.named }
+        ensures relations_sent { self.new.relations_sent ≡ self.old.relations_sent }
     {
         let length = self.held.len();
         let written = put_keepalive(&mut self.held, position, clock, ask);
@@ -64,7 +64,7 @@ impl Outgoing {
         ensures moved { take result out.new ≡ take result self.old.held.items }
         ensures others { drop result out.new ≡ drop result out.old }
         ensures rest { self.new.held.items ≡ drop result self.old.held.items }
-        ensures named { self.new.named ≡ self.old.named }
+        ensures relations_sent { self.new.relations_sent ≡ self.old.relations_sent }
     {
         let count = out.len().min(self.held.len());
         copy_front(out, self.held.as_slice(), count);
@@ -77,7 +77,7 @@ impl Outgoing {
         ensures moved { OnOk result (out.new.items ≡ out.old.items ++ take max self.old.held.items) }
         ensures rest { OnOk result (self.new.held.items ≡ drop max self.old.held.items) }
         ensures err { OnErr result ((self.new.held.items ≡ self.old.held.items) × (out.new.items ≡ out.old.items)) }
-        ensures named { self.new.named ≡ self.old.named }
+        ensures relations_sent { self.new.relations_sent ≡ self.old.relations_sent }
     {
         let front = front_of(self.held.as_slice(), max);
         let count = front.len();
@@ -96,8 +96,8 @@ impl Outgoing {
     ) -> Result<(), AllocError>
         requires { AllByRecursion (λ c. MessageFits selection.now c.message) transaction.now.changes }
         ensures ok { OnOk result (self.new.held.items ≡ self.old.held.items
-            ++ frames_of (block_words (relation selection.now) (reverse self.old.named.items) clock transaction.now)) }
-        ensures named { OnOk result (reverse self.new.named.items ≡ named_by_all (reverse self.old.named.items) transaction.now.changes) }
+            ++ frames_of (block_words (relation selection.now) (reverse self.old.relations_sent.items) clock transaction.now)) }
+        ensures relations_sent { OnOk result (reverse self.new.relations_sent.items ≡ relations_sent_by_all (reverse self.old.relations_sent.items) transaction.now.changes) }
         ensures err { OnErr result (self.new.held.items ≡ self.old.held.items) }
     {
         let length = self.held.len();
@@ -112,8 +112,8 @@ impl Outgoing {
     fn say(&mut self, position: u64, clock: i64, message: &Logical) -> Result<(), AllocError>
         requires counts { IsShort message.now }
         requires fits { IsShortMessage message.now }
-        ensures held { Puts result self.old.held.items self.new.held.items (word_bytes (said position clock message.now)) }
-        ensures named { self.new.named ≡ self.old.named }
+        ensures held { Puts result self.old.held.items self.new.held.items (word_bytes (xlogdata_word position clock message.now)) }
+        ensures relations_sent { self.new.relations_sent ≡ self.old.relations_sent }
     {
         put_said(&mut self.held, &mut self.scratch, position, clock, message)
     }
@@ -130,18 +130,18 @@ impl Outgoing {
     ) -> Result<(), AllocError>
         requires { IsSome (table_of oid selection.now) }
         ensures held { Puts result self.old.held.items self.new.held.items
-            (frames_of (relation_words (relation selection.now) position clock (due (reverse self.old.named.items) (oid ∷ [])))) }
-        ensures named { OnOk result (reverse self.new.named.items
-            ≡ reverse (due (reverse self.old.named.items) (oid ∷ [])) ++ reverse self.old.named.items) }
+            (frames_of (relation_words (relation selection.now) position clock (due (reverse self.old.relations_sent.items) (oid ∷ [])))) }
+        ensures relations_sent { OnOk result (reverse self.new.relations_sent.items
+            ≡ reverse (due (reverse self.old.relations_sent.items) (oid ∷ [])) ++ reverse self.old.relations_sent.items) }
     {
-        if is_known(self.named.as_slice(), oid) {
+        if is_known(self.relations_sent.as_slice(), oid) {
             return Ok(());
         }
         let Some(message) = selection.relation(alloc, oid)? else {
             unreachable!();
         };
         self.say(position, clock, &message)?;
-        self.named.push(oid)?;
+        self.relations_sent.push(oid)?;
         Ok(())
     }
 
@@ -155,8 +155,8 @@ impl Outgoing {
     ) -> Result<(), AllocError>
         requires { MessageFits selection.now change.now.message }
         ensures held { Puts result self.old.held.items self.new.held.items
-            (frames_of (change_words (relation selection.now) (reverse self.old.named.items) clock change.now)) }
-        ensures named { OnOk result (reverse self.new.named.items ≡ named_by (reverse self.old.named.items) change.now) }
+            (frames_of (change_words (relation selection.now) (reverse self.old.relations_sent.items) clock change.now)) }
+        ensures relations_sent { OnOk result (reverse self.new.relations_sent.items ≡ relations_sent_by (reverse self.old.relations_sent.items) change.now) }
     {
         if let Logical::Insert(insert) = &change.message {
             self.introduce(alloc, selection, change.position, clock, insert.oid)?;
@@ -175,8 +175,8 @@ impl Outgoing {
     ) -> Result<(), AllocError>
         requires { AllByRecursion (λ c. MessageFits selection.now c.message) changes.now }
         ensures held { Puts result self.old.held.items self.new.held.items
-            (frames_of (changes_words (relation selection.now) (reverse self.old.named.items) clock changes.now)) }
-        ensures named { OnOk result (reverse self.new.named.items ≡ named_by_all (reverse self.old.named.items) changes.now) }
+            (frames_of (changes_words (relation selection.now) (reverse self.old.relations_sent.items) clock changes.now)) }
+        ensures relations_sent { OnOk result (reverse self.new.relations_sent.items ≡ relations_sent_by_all (reverse self.old.relations_sent.items) changes.now) }
     {
         for change in changes {
             self.change(alloc, selection, clock, change)?;
@@ -195,8 +195,8 @@ impl Outgoing {
     ) -> Result<(), AllocError>
         requires { AllByRecursion (λ c. MessageFits selection.now c.message) transaction.now.changes }
         ensures held { Puts result self.old.held.items self.new.held.items
-            (frames_of (block_words (relation selection.now) (reverse self.old.named.items) clock transaction.now)) }
-        ensures named { OnOk result (reverse self.new.named.items ≡ named_by_all (reverse self.old.named.items) transaction.now.changes) }
+            (frames_of (block_words (relation selection.now) (reverse self.old.relations_sent.items) clock transaction.now)) }
+        ensures relations_sent { OnOk result (reverse self.new.relations_sent.items ≡ relations_sent_by_all (reverse self.old.relations_sent.items) transaction.now.changes) }
     {
         let begin = begin_of(transaction);
         self.say(transaction.start, clock, &begin)?;
@@ -213,7 +213,7 @@ fn begin_of(transaction: &Published) -> Logical
     Logical::Begin(Begin {
         position: transaction.start,
         time: transaction.time,
-        number: transaction.number,
+        xid: transaction.xid,
     })
 }
 
@@ -228,10 +228,10 @@ fn commit_of(transaction: &Published) -> Logical
 }
 
 #[tactic(auto, using(crate::proofs::Lists::any_reverse))]
-fn is_known(named: &[u32], oid: u32) -> bool
-    ensures { result ≡ is_named (reverse named.now) oid }
+fn is_known(relations_sent: &[u32], oid: u32) -> bool
+    ensures { result ≡ is_relation_sent (reverse relations_sent.now) oid }
 {
-    named.contains(&oid)
+    relations_sent.contains(&oid)
 }
 
 fn copy_front(out: &mut [u8], bytes: &[u8], count: usize)

@@ -27,7 +27,7 @@ pub(crate) fn transaction_of(
     ensures value { IfOk result (λ o. option_to_list o ≡ released selection.now start next.now (Some ready.now)) }
     ensures fits { IfOk result (λ o. IfSome o (λ t. AllByRecursion (λ c. MessageFits selection.now c.message) t.changes)) }
 {
-    let Body::Commit(number, time) = next.body else {
+    let Body::Commit(xid, time) = next.body else {
         return Ok(None);
     };
     if next.start < start {
@@ -41,7 +41,7 @@ pub(crate) fn transaction_of(
         start: next.start,
         end: next.end,
         time,
-        number,
+        xid,
         changes: Items::new(changes),
     }))
 }

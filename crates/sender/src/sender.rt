@@ -4,7 +4,7 @@ ghost use Rattle.std.specs.Prelude.{◌≡◌, ◌≢◌, ◌↔◌, ◌++◌, �
 ghost use Rattle.txlog.specs.Log.{follows};
 ghost use Rattle.txlog.specs.Publishing.{shared};
 ghost use Rattle.stream.specs.Words.{word_bytes};
-ghost use Rattle.stream.specs.Items.{alive};
+ghost use Rattle.stream.specs.Items.{keepalive_word};
 ghost use Rattle.sender.specs.Sending.{HasRead, Fed, FedSome};
 
 use crate::fault::SendFault;
@@ -41,7 +41,7 @@ impl Model for Sender {
       position = s.position;
       failed = s.failed;
       held = s.outgoing.held.items;
-      named = reverse s.outgoing.named.items;
+      relations_sent = reverse s.outgoing.relations_sent.items;
       reorder = s.reorder;
     } };
 }
@@ -101,7 +101,7 @@ impl Sender {
 
     /// Holds a keepalive with the sender's position behind all that is held.
     pub fn keepalive(&mut self, clock: i64, ask: bool) -> Result<(), SendFault>
-        ensures ok { OnOk result (self.new ≡ record self.old { held = self.old.held ++ word_bytes (alive self.old.position clock ask) }) }
+        ensures ok { OnOk result (self.new ≡ record self.old { held = self.old.held ++ word_bytes (keepalive_word self.old.position clock ask) }) }
         ensures err { OnErr result (self.new ≡ self.old) }
         ensures failed { (result ≡ Err SendFault.Failed) ↔ (self.old.failed ≡ true) }
         ensures gap { result ≢ Err SendFault.Gap }

@@ -20,7 +20,7 @@ fn record(alloc: Global, start: u64, end: u64, body: Body) -> Result<Arc<Record>
 }
 
 fn insert(
-    number: u32,
+    xid: u32,
     oid: u32,
     alloc: Global,
     id: i32,
@@ -29,7 +29,7 @@ fn insert(
 ) -> Result<Body, Fail> {
     let name = Value::Text(Text::copy_of(alloc, name)?);
     let row = Row::new(vec![in alloc; Value::Int4(id), name, Value::Int8(qty)]?);
-    Ok(Body::Change(number, Change::Insert(oid, row)))
+    Ok(Body::Change(xid, Change::Insert(oid, row)))
 }
 
 /// The log of one transaction with one insert.

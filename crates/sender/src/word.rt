@@ -6,7 +6,7 @@ ghost use Rattle.frames.specs.Putting.{Puts};
 ghost use Rattle.frames.specs.declared.frame.TheConstants.{FRAME_LIMIT};
 ghost use Rattle.pgoutput.specs.Logical.{IsShort, spell_logical};
 ghost use Rattle.stream.specs.Words.{word_bytes};
-ghost use Rattle.stream.specs.Items.{said, alive, IsShortMessage};
+ghost use Rattle.stream.specs.Items.{xlogdata_word, keepalive_word, IsShortMessage};
 
 use bytes::BytesMut;
 use copyboth::{write_keepalive, write_xlogdata};
@@ -32,7 +32,7 @@ pub(crate) fn put_said(
 ) -> Result<(), AllocError>
     requires counts { IsShort message.now }
     requires fits { IsShortMessage message.now }
-    ensures { Puts result out.old.items out.new.items (word_bytes (said position clock message.now)) }
+    ensures { Puts result out.old.items out.new.items (word_bytes (xlogdata_word position clock message.now)) }
 {
     scratch.clear();
     write_logical(message, scratch)?;
@@ -49,7 +49,7 @@ pub(crate) fn put_keepalive(
     clock: i64,
     ask: bool,
 ) -> Result<(), AllocError>
-    ensures { Puts result out.old.items out.new.items (word_bytes (alive position clock ask)) }
+    ensures { Puts result out.old.items out.new.items (word_bytes (keepalive_word position clock ask)) }
 {
     put_head(out, KEEPALIVE_SIZE)?;
     write_keepalive(position, clock, ask, out)?;

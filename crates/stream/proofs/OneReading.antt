@@ -32,7 +32,7 @@ use Rattle.stream.specs.declared.word.Sent.{Sent}
 use Rattle.stream.specs.declared.published.Published.{Published}
 use Rattle.stream.specs.declared.published.PublishedChange.{PublishedChange}
 use Rattle.stream.specs.Words.{word_body, word_bytes, frames_of, FitsWord}
-use Rattle.stream.specs.Items.{Item, Alive, Block, said, tables_of, is_named, due, named_by, relation_words, change_words, changes_words, item_words, named_after, words_of, spelled, IsShortMessage, FitsRelationOf, IsOfChange, FitsChange, FitsPublished, FitsItem, FitItems}
+use Rattle.stream.specs.Items.{Item, Alive, Block, xlogdata_word, tables_of, is_relation_sent, due, relations_sent_by, relation_words, change_words, changes_words, item_words, relations_sent_after, words_of, spelled, IsShortMessage, FitsRelationOf, IsOfChange, FitsChange, FitsPublished, FitsItem, FitItems}
 
 -- ---- frames to words
 
@@ -154,18 +154,18 @@ are_relations relation position clock [] = tt
 are_relations relation position clock (oid ∷ oids) = (refl, are_relations relation position clock oids)
 
 -- a change's words in front of others
-regrouped : (relation : ℕ → Relation) (named : List ℕ) (clock : ℤ) (c : PublishedChange) (cs : List PublishedChange) (x : List Word)
-    → changes_words relation named clock (c ∷ cs) ++ x
-    ≡ relation_words relation c.position clock (due named (tables_of c.message)) ++ (said c.position clock c.message ∷ (changes_words relation (named_by named c) clock cs ++ x))
-regrouped relation named clock c cs x =
-    let front = relation_words relation c.position clock (due named (tables_of c.message)) in
-    append_assoc (front ++ (said c.position clock c.message ∷ [])) (changes_words relation (named_by named c) clock cs) x
-    ∙ append_assoc front (said c.position clock c.message ∷ []) (changes_words relation (named_by named c) clock cs ++ x)
+regrouped : (relation : ℕ → Relation) (relations_sent : List ℕ) (clock : ℤ) (c : PublishedChange) (cs : List PublishedChange) (x : List Word)
+    → changes_words relation relations_sent clock (c ∷ cs) ++ x
+    ≡ relation_words relation c.position clock (due relations_sent (tables_of c.message)) ++ (xlogdata_word c.position clock c.message ∷ (changes_words relation (relations_sent_by relations_sent c) clock cs ++ x))
+regrouped relation relations_sent clock c cs x =
+    let front = relation_words relation c.position clock (due relations_sent (tables_of c.message)) in
+    append_assoc (front ++ (xlogdata_word c.position clock c.message ∷ [])) (changes_words relation (relations_sent_by relations_sent c) clock cs) x
+    ∙ append_assoc front (xlogdata_word c.position clock c.message ∷ []) (changes_words relation (relations_sent_by relations_sent c) clock cs ++ x)
 
 abbrev change_of : ℕ → Logical → PublishedChange
 change_of position message = record { position = position; message = message }
 
-same_said : (p q : ℕ) (c d : ℤ) (m n : Logical) → said p c m ≡ said q d n → (p ≡ q) × (c ≡ d) × (m ≡ n)
+same_said : (p q : ℕ) (c d : ℤ) (m n : Logical) → xlogdata_word p c m ≡ xlogdata_word q d n → (p ≡ q) × (c ≡ d) × (m ≡ n)
 same_said p q c d m n e = (ap position_in e, ap (clock_in c) e, ap (message_in m) e)
   where
     position_in : Word → ℕ
@@ -180,62 +180,62 @@ same_said p q c d m n e = (ap position_in e, ap (clock_in c) e, ap (message_in m
     message_in z (words.Keepalive k) = z
     message_in z (words.Sent s) = s.message
 
-same_changes : (relation : ℕ → Relation) (named : List ℕ) (clock : ℤ) (cs ds : List PublishedChange) (w v : Word) (x y : List Word)
+same_changes : (relation : ℕ → Relation) (relations_sent : List ℕ) (clock : ℤ) (cs ds : List PublishedChange) (w v : Word) (x y : List Word)
     → AllByRecursion (FitsChange relation) cs → AllByRecursion (FitsChange relation) ds → kind_of w ≡ 2 → kind_of v ≡ 2
-    → changes_words relation named clock cs ++ (w ∷ x) ≡ changes_words relation named clock ds ++ (v ∷ y) → (cs ≡ ds) × (w ≡ v) × (x ≡ y)
-same_changes relation named clock [] [] w v x y fits_c fits_d is_w is_v e = (refl, cc, cc)
-same_changes relation named clock [] (d ∷ ds) w v x y fits_c fits_d is_w is_v e =
+    → changes_words relation relations_sent clock cs ++ (w ∷ x) ≡ changes_words relation relations_sent clock ds ++ (v ∷ y) → (cs ≡ ds) × (w ≡ v) × (x ≡ y)
+same_changes relation relations_sent clock [] [] w v x y fits_c fits_d is_w is_v e = (refl, cc, cc)
+same_changes relation relations_sent clock [] (d ∷ ds) w v x y fits_c fits_d is_w is_v e =
     let kinds = change_kind relation d.message fits_d.0.of_change in
-    let met = past_relations [] (relation_words relation d.position clock (due named (tables_of d.message))) w (said d.position clock d.message) x (changes_words relation (named_by named d) clock ds ++ (v ∷ y))
-    tt (are_relations relation d.position clock (due named (tables_of d.message))) (λ is. omega (arith, is, is_w)) kinds.1 (e ∙ regrouped relation named clock d ds (v ∷ y)) in
+    let met = past_relations [] (relation_words relation d.position clock (due relations_sent (tables_of d.message))) w (xlogdata_word d.position clock d.message) x (changes_words relation (relations_sent_by relations_sent d) clock ds ++ (v ∷ y))
+    tt (are_relations relation d.position clock (due relations_sent (tables_of d.message))) (λ is. omega (arith, is, is_w)) kinds.1 (e ∙ regrouped relation relations_sent clock d ds (v ∷ y)) in
     absurd (kinds.0 (sym (ap kind_of met.0) ∙ is_w))
-same_changes relation named clock (c ∷ cs) [] w v x y fits_c fits_d is_w is_v e =
+same_changes relation relations_sent clock (c ∷ cs) [] w v x y fits_c fits_d is_w is_v e =
     let kinds = change_kind relation c.message fits_c.0.of_change in
-    let met = past_relations (relation_words relation c.position clock (due named (tables_of c.message))) [] (said c.position clock c.message) v (changes_words relation (named_by named c) clock cs ++ (w ∷ x)) y
-    (are_relations relation c.position clock (due named (tables_of c.message))) tt kinds.1 (λ is. omega (arith, is, is_v)) (sym (regrouped relation named clock c cs (w ∷ x)) ∙ e) in
+    let met = past_relations (relation_words relation c.position clock (due relations_sent (tables_of c.message))) [] (xlogdata_word c.position clock c.message) v (changes_words relation (relations_sent_by relations_sent c) clock cs ++ (w ∷ x)) y
+    (are_relations relation c.position clock (due relations_sent (tables_of c.message))) tt kinds.1 (λ is. omega (arith, is, is_v)) (sym (regrouped relation relations_sent clock c cs (w ∷ x)) ∙ e) in
     absurd (kinds.0 (ap kind_of met.0 ∙ is_v))
-same_changes relation named clock (c ∷ cs) (d ∷ ds) w v x y fits_c fits_d is_w is_v e =
+same_changes relation relations_sent clock (c ∷ cs) (d ∷ ds) w v x y fits_c fits_d is_w is_v e =
     let kinds_c = change_kind relation c.message fits_c.0.of_change in
     let kinds_d = change_kind relation d.message fits_d.0.of_change in
-    let met = past_relations (relation_words relation c.position clock (due named (tables_of c.message))) (relation_words relation d.position clock (due named (tables_of d.message)))
-    (said c.position clock c.message) (said d.position clock d.message) (changes_words relation (named_by named c) clock cs ++ (w ∷ x)) (changes_words relation (named_by named d) clock ds ++ (v ∷ y))
-    (are_relations relation c.position clock (due named (tables_of c.message))) (are_relations relation d.position clock (due named (tables_of d.message))) kinds_c.1 kinds_d.1
-    (sym (regrouped relation named clock c cs (w ∷ x)) ∙ e ∙ regrouped relation named clock d ds (v ∷ y)) in
+    let met = past_relations (relation_words relation c.position clock (due relations_sent (tables_of c.message))) (relation_words relation d.position clock (due relations_sent (tables_of d.message)))
+    (xlogdata_word c.position clock c.message) (xlogdata_word d.position clock d.message) (changes_words relation (relations_sent_by relations_sent c) clock cs ++ (w ∷ x)) (changes_words relation (relations_sent_by relations_sent d) clock ds ++ (v ∷ y))
+    (are_relations relation c.position clock (due relations_sent (tables_of c.message))) (are_relations relation d.position clock (due relations_sent (tables_of d.message))) kinds_c.1 kinds_d.1
+    (sym (regrouped relation relations_sent clock c cs (w ∷ x)) ∙ e ∙ regrouped relation relations_sent clock d ds (v ∷ y)) in
     let parts = same_said c.position d.position clock clock c.message d.message met.0 in
     let change : c ≡ d = ap (λ (p : ℕ). change_of p c.message) parts.0 ∙ ap (change_of d.position) parts.2 in
-    let aligned : changes_words relation (named_by named d) clock cs ++ (w ∷ x) ≡ changes_words relation (named_by named d) clock ds ++ (v ∷ y) = ap (λ (a : PublishedChange). changes_words relation (named_by named a) clock cs ++ (w ∷ x)) (sym change) ∙ met.1 in
-    let inner = same_changes relation (named_by named d) clock cs ds w v x y fits_c.1 fits_d.1 is_w is_v aligned in
+    let aligned : changes_words relation (relations_sent_by relations_sent d) clock cs ++ (w ∷ x) ≡ changes_words relation (relations_sent_by relations_sent d) clock ds ++ (v ∷ y) = ap (λ (a : PublishedChange). changes_words relation (relations_sent_by relations_sent a) clock cs ++ (w ∷ x)) (sym change) ∙ met.1 in
+    let inner = same_changes relation (relations_sent_by relations_sent d) clock cs ds w v x y fits_c.1 fits_d.1 is_w is_v aligned in
     (ap (λ (a : PublishedChange). a ∷ cs) change ∙ ap (λ (l : List PublishedChange). d ∷ l) inner.0, inner.1, inner.2)
 
 abbrev published_of : ℕ → ℕ → ℤ → ℕ → List PublishedChange → Published
-published_of start end time number changes = record { start = start; end = end; time = time; number = number; changes = changes }
+published_of start end time xid changes = record { start = start; end = end; time = time; xid = xid; changes = changes }
 
-same_item : (relation : ℕ → Relation) (named : List ℕ) (i j : Item) (x y : List Word) → FitsItem relation i → FitsItem relation j
-    → item_words relation named i ++ x ≡ item_words relation named j ++ y → (i ≡ j) × (x ≡ y)
-same_item relation named (Alive k) (Alive l) x y fits_i fits_j e =
+same_item : (relation : ℕ → Relation) (relations_sent : List ℕ) (i j : Item) (x y : List Word) → FitsItem relation i → FitsItem relation j
+    → item_words relation relations_sent i ++ x ≡ item_words relation relations_sent j ++ y → (i ≡ j) × (x ≡ y)
+same_item relation relations_sent (Alive k) (Alive l) x y fits_i fits_j e =
     let heads : words.Keepalive k ≡ words.Keepalive l = cc in
     let same : k ≡ l = cc in
     (ap Alive same, cc)
-same_item relation named (Alive k) (Block clock t) x y fits_i fits_j e = absurd cc
-same_item relation named (Block clock t) (Alive k) x y fits_i fits_j e = absurd cc
-same_item relation named (Block clock t) (Block other u) x y fits_i fits_j e =
-    let begun : Logical = logical.Begin (record { position = t.start; time = t.time; number = t.number }) in
-    let begun_too : Logical = logical.Begin (record { position = u.start; time = u.time; number = u.number }) in
-    let ended : Word = said t.end clock (logical.Commit (record { position = t.start; end = t.end; time = t.time })) in
-    let ended_too : Word = said u.end other (logical.Commit (record { position = u.start; end = u.end; time = u.time })) in
-    let first : said t.start clock begun ≡ said u.start other begun_too = cc in
+same_item relation relations_sent (Alive k) (Block clock t) x y fits_i fits_j e = absurd cc
+same_item relation relations_sent (Block clock t) (Alive k) x y fits_i fits_j e = absurd cc
+same_item relation relations_sent (Block clock t) (Block other u) x y fits_i fits_j e =
+    let begun : Logical = logical.Begin (record { position = t.start; time = t.time; xid = t.xid }) in
+    let begun_too : Logical = logical.Begin (record { position = u.start; time = u.time; xid = u.xid }) in
+    let ended : Word = xlogdata_word t.end clock (logical.Commit (record { position = t.start; end = t.end; time = t.time })) in
+    let ended_too : Word = xlogdata_word u.end other (logical.Commit (record { position = u.start; end = u.end; time = u.time })) in
+    let first : xlogdata_word t.start clock begun ≡ xlogdata_word u.start other begun_too = cc in
     let front = same_said t.start u.start clock other begun begun_too first in
-    let tails : (changes_words relation named clock t.changes ++ (ended ∷ [])) ++ x ≡ (changes_words relation named other u.changes ++ (ended_too ∷ [])) ++ y = cc in
+    let tails : (changes_words relation relations_sent clock t.changes ++ (ended ∷ [])) ++ x ≡ (changes_words relation relations_sent other u.changes ++ (ended_too ∷ [])) ++ y = cc in
     let clocks : clock ≡ other = front.1 in
-    let aligned : changes_words relation named other t.changes ++ (ended ∷ x) ≡ changes_words relation named other u.changes ++ (ended_too ∷ y) =
-    ap (λ (z : ℤ). changes_words relation named z t.changes ++ (ended ∷ x)) (sym clocks)
-    ∙ sym (append_assoc (changes_words relation named clock t.changes) (ended ∷ []) x) ∙ tails ∙ append_assoc (changes_words relation named other u.changes) (ended_too ∷ []) y in
-    let inner = same_changes relation named other t.changes u.changes ended ended_too x y fits_i.1.changes fits_j.1.changes refl refl aligned in
+    let aligned : changes_words relation relations_sent other t.changes ++ (ended ∷ x) ≡ changes_words relation relations_sent other u.changes ++ (ended_too ∷ y) =
+    ap (λ (z : ℤ). changes_words relation relations_sent z t.changes ++ (ended ∷ x)) (sym clocks)
+    ∙ sym (append_assoc (changes_words relation relations_sent clock t.changes) (ended ∷ []) x) ∙ tails ∙ append_assoc (changes_words relation relations_sent other u.changes) (ended_too ∷ []) y in
+    let inner = same_changes relation relations_sent other t.changes u.changes ended ended_too x y fits_i.1.changes fits_j.1.changes refl refl aligned in
     let last = same_said t.end u.end clock other (logical.Commit (record { position = t.start; end = t.end; time = t.time })) (logical.Commit (record { position = u.start; end = u.end; time = u.time })) inner.1 in
     let times : t.time ≡ u.time = ap (time_in t.time) front.2 in
-    let numbers : t.number ≡ u.number = ap (number_in t.number) front.2 in
-    let whole : t ≡ u = ap (λ (n : ℕ). published_of n t.end t.time t.number t.changes) front.0 ∙ ap (λ (n : ℕ). published_of u.start n t.time t.number t.changes) last.0
-    ∙ ap (λ (z : ℤ). published_of u.start u.end z t.number t.changes) times ∙ ap (λ (n : ℕ). published_of u.start u.end u.time n t.changes) numbers ∙ ap (published_of u.start u.end u.time u.number) inner.0 in
+    let numbers : t.xid ≡ u.xid = ap (xid_in t.xid) front.2 in
+    let whole : t ≡ u = ap (λ (n : ℕ). published_of n t.end t.time t.xid t.changes) front.0 ∙ ap (λ (n : ℕ). published_of u.start n t.time t.xid t.changes) last.0
+    ∙ ap (λ (z : ℤ). published_of u.start u.end z t.xid t.changes) times ∙ ap (λ (n : ℕ). published_of u.start u.end u.time n t.changes) numbers ∙ ap (published_of u.start u.end u.time u.xid) inner.0 in
     (ap (λ (z : ℤ). Block z t) clocks ∙ ap (Block other) whole, inner.2)
   where
     time_in : ℤ → Logical → ℤ
@@ -244,23 +244,23 @@ same_item relation named (Block clock t) (Block other u) x y fits_i fits_j e =
     time_in z (logical.Relation m) = z
     time_in z (logical.Insert m) = z
 
-    number_in : ℕ → Logical → ℕ
-    number_in z (logical.Begin m) = m.number
-    number_in z (logical.Commit m) = z
-    number_in z (logical.Relation m) = z
-    number_in z (logical.Insert m) = z
+    xid_in : ℕ → Logical → ℕ
+    xid_in z (logical.Begin m) = m.xid
+    xid_in z (logical.Commit m) = z
+    xid_in z (logical.Relation m) = z
+    xid_in z (logical.Insert m) = z
 
 -- items whose words begin the words of others are a beginning of those
-pub begun_words : (relation : ℕ → Relation) (named : List ℕ) (a b : List Item) (x : List Word) → FitItems relation a → FitItems relation b
-    → words_of relation named a ++ x ≡ words_of relation named b → (more : List Item) × (b ≡ a ++ more)
-begun_words relation named [] b x fits_a fits_b e = (b, refl)
-begun_words relation named (Alive k ∷ a) [] x fits_a fits_b e = absurd cc
-begun_words relation named (Block clock t ∷ a) [] x fits_a fits_b e = absurd cc
-begun_words relation named (i ∷ a) (j ∷ b) x fits_a fits_b e =
-    let parted : item_words relation named i ++ (words_of relation (named_after named i) a ++ x) ≡ item_words relation named j ++ words_of relation (named_after named j) b = sym (append_assoc (item_words relation named i) (words_of relation (named_after named i) a) x) ∙ e in
-    let same = same_item relation named i j (words_of relation (named_after named i) a ++ x) (words_of relation (named_after named j) b) fits_a.0 fits_b.0 parted in
-    let aligned : words_of relation (named_after named j) a ++ x ≡ words_of relation (named_after named j) b = ap (λ (k : Item). words_of relation (named_after named k) a ++ x) (sym same.0) ∙ same.1 in
-    let inner = begun_words relation (named_after named j) a b x fits_a.1 fits_b.1 aligned in
+pub begun_words : (relation : ℕ → Relation) (relations_sent : List ℕ) (a b : List Item) (x : List Word) → FitItems relation a → FitItems relation b
+    → words_of relation relations_sent a ++ x ≡ words_of relation relations_sent b → (more : List Item) × (b ≡ a ++ more)
+begun_words relation relations_sent [] b x fits_a fits_b e = (b, refl)
+begun_words relation relations_sent (Alive k ∷ a) [] x fits_a fits_b e = absurd cc
+begun_words relation relations_sent (Block clock t ∷ a) [] x fits_a fits_b e = absurd cc
+begun_words relation relations_sent (i ∷ a) (j ∷ b) x fits_a fits_b e =
+    let parted : item_words relation relations_sent i ++ (words_of relation (relations_sent_after relations_sent i) a ++ x) ≡ item_words relation relations_sent j ++ words_of relation (relations_sent_after relations_sent j) b = sym (append_assoc (item_words relation relations_sent i) (words_of relation (relations_sent_after relations_sent i) a) x) ∙ e in
+    let same = same_item relation relations_sent i j (words_of relation (relations_sent_after relations_sent i) a ++ x) (words_of relation (relations_sent_after relations_sent j) b) fits_a.0 fits_b.0 parted in
+    let aligned : words_of relation (relations_sent_after relations_sent j) a ++ x ≡ words_of relation (relations_sent_after relations_sent j) b = ap (λ (k : Item). words_of relation (relations_sent_after relations_sent k) a ++ x) (sym same.0) ∙ same.1 in
+    let inner = begun_words relation (relations_sent_after relations_sent j) a b x fits_a.1 fits_b.1 aligned in
     (inner.0, ap (λ (l : List Item). j ∷ l) inner.1 ∙ ap (λ (k : Item). k ∷ (a ++ inner.0)) (sym same.0))
 
 -- ---- items in range have words in range
@@ -269,15 +269,15 @@ all_of_both : {A : Type 0} (P : A → Type 0) (xs ys : List A) → AllByRecursio
 all_of_both P [] ys all_x all_y = all_y
 all_of_both P (x ∷ xs) ys all_x all_y = (all_x.0, all_of_both P xs ys all_x.1 all_y)
 
-all_due : (P : ℕ → Type 0) (named oids : List ℕ) → AllByRecursion P oids → AllByRecursion P (due named oids)
-all_due P named [] all = tt
-all_due P named (oid ∷ oids) all = by_test (is_named named oid) (all_due P named oids all.1) (all_due P (oid ∷ named) oids all.1)
+all_due : (P : ℕ → Type 0) (relations_sent oids : List ℕ) → AllByRecursion P oids → AllByRecursion P (due relations_sent oids)
+all_due P relations_sent [] all = tt
+all_due P relations_sent (oid ∷ oids) all = by_test (is_relation_sent relations_sent oid) (all_due P relations_sent oids all.1) (all_due P (oid ∷ relations_sent) oids all.1)
   where
-    by_test : (b : Bool) → AllByRecursion P (due named oids) → AllByRecursion P (due (oid ∷ named) oids) → AllByRecursion P (cond b (due named oids) (oid ∷ due (oid ∷ named) oids))
+    by_test : (b : Bool) → AllByRecursion P (due relations_sent oids) → AllByRecursion P (due (oid ∷ relations_sent) oids) → AllByRecursion P (cond b (due relations_sent oids) (oid ∷ due (oid ∷ relations_sent) oids))
     by_test true old new = old
     by_test false old new = (all.0, new)
 
-said_fits : (position : ℕ) (clock : ℤ) (m : Logical) → position < 2 ^ 64 → FitsSigned w64 clock → FitsLogical m → IsShortMessage m → FitsWord (said position clock m)
+said_fits : (position : ℕ) (clock : ℤ) (m : Logical) → position < 2 ^ 64 → FitsSigned w64 clock → FitsLogical m → IsShortMessage m → FitsWord (xlogdata_word position clock m)
 said_fits position clock m lt fits in_range short = record {
   fields = (lt, lt, fits, in_range);
   short = omega (
@@ -309,34 +309,34 @@ relations_fit relation position clock [] lt fits all = tt
 relations_fit relation position clock (oid ∷ oids) lt fits all =
     (said_fits position clock (logical.Relation (relation oid)) lt fits all.0.fits all.0.short, relations_fit relation position clock oids lt fits all.1)
 
-changes_fit : (relation : ℕ → Relation) (named : List ℕ) (clock : ℤ) (cs : List PublishedChange) → FitsSigned w64 clock → AllByRecursion (FitsChange relation) cs
-    → AllByRecursion FitsWord (changes_words relation named clock cs)
-changes_fit relation named clock [] fits all = tt
-changes_fit relation named clock (c ∷ cs) fits all =
-    all_of_both FitsWord (change_words relation named clock c) (changes_words relation (named_by named c) clock cs)
-    (all_of_both FitsWord (relation_words relation c.position clock (due named (tables_of c.message))) (said c.position clock c.message ∷ [])
-    (relations_fit relation c.position clock (due named (tables_of c.message)) all.0.position fits (all_due (FitsRelationOf relation) named (tables_of c.message) all.0.relations))
+changes_fit : (relation : ℕ → Relation) (relations_sent : List ℕ) (clock : ℤ) (cs : List PublishedChange) → FitsSigned w64 clock → AllByRecursion (FitsChange relation) cs
+    → AllByRecursion FitsWord (changes_words relation relations_sent clock cs)
+changes_fit relation relations_sent clock [] fits all = tt
+changes_fit relation relations_sent clock (c ∷ cs) fits all =
+    all_of_both FitsWord (change_words relation relations_sent clock c) (changes_words relation (relations_sent_by relations_sent c) clock cs)
+    (all_of_both FitsWord (relation_words relation c.position clock (due relations_sent (tables_of c.message))) (xlogdata_word c.position clock c.message ∷ [])
+    (relations_fit relation c.position clock (due relations_sent (tables_of c.message)) all.0.position fits (all_due (FitsRelationOf relation) relations_sent (tables_of c.message) all.0.relations))
     (said_fits c.position clock c.message all.0.position fits all.0.fits all.0.short, tt))
-    (changes_fit relation (named_by named c) clock cs fits all.1)
+    (changes_fit relation (relations_sent_by relations_sent c) clock cs fits all.1)
 
-item_fits : (relation : ℕ → Relation) (named : List ℕ) (i : Item) → FitsItem relation i → AllByRecursion FitsWord (item_words relation named i)
-item_fits relation named (Alive k) fits = (alive_fits k fits, tt)
-item_fits relation named (Block clock t) fits =
-    let begun : FitsWord (said t.start clock (logical.Begin (record { position = t.start; time = t.time; number = t.number }))) =
-    said_fits t.start clock (logical.Begin (record { position = t.start; time = t.time; number = t.number })) fits.1.start fits.0 (fits.1.start, (fits.1.time, fits.1.number))
-    (omega (arith, length-int64 t.start, length-int64 (cast_unsigned w64 t.time), length-int32 t.number, length-append (int64 t.start) (int64 (cast_unsigned w64 t.time) ++ int32 t.number), length-append (int64 (cast_unsigned w64 t.time)) (int32 t.number))) in
-    let ended : FitsWord (said t.end clock (logical.Commit (record { position = t.start; end = t.end; time = t.time }))) =
+item_fits : (relation : ℕ → Relation) (relations_sent : List ℕ) (i : Item) → FitsItem relation i → AllByRecursion FitsWord (item_words relation relations_sent i)
+item_fits relation relations_sent (Alive k) fits = (alive_fits k fits, tt)
+item_fits relation relations_sent (Block clock t) fits =
+    let begun : FitsWord (xlogdata_word t.start clock (logical.Begin (record { position = t.start; time = t.time; xid = t.xid }))) =
+    said_fits t.start clock (logical.Begin (record { position = t.start; time = t.time; xid = t.xid })) fits.1.start fits.0 (fits.1.start, (fits.1.time, fits.1.xid))
+    (omega (arith, length-int64 t.start, length-int64 (cast_unsigned w64 t.time), length-int32 t.xid, length-append (int64 t.start) (int64 (cast_unsigned w64 t.time) ++ int32 t.xid), length-append (int64 (cast_unsigned w64 t.time)) (int32 t.xid))) in
+    let ended : FitsWord (xlogdata_word t.end clock (logical.Commit (record { position = t.start; end = t.end; time = t.time }))) =
     said_fits t.end clock (logical.Commit (record { position = t.start; end = t.end; time = t.time })) fits.1.end fits.0 (fits.1.start, (fits.1.end, fits.1.time))
     (omega (arith, length-int64 t.start, length-int64 t.end, length-int64 (cast_unsigned w64 t.time), length-append (int64 t.start) (int64 t.end ++ int64 (cast_unsigned w64 t.time)), length-append (int64 t.end) (int64 (cast_unsigned w64 t.time)))) in (
       begun,
-      all_of_both FitsWord (changes_words relation named clock t.changes) (said t.end clock (logical.Commit (record { position = t.start; end = t.end; time = t.time })) ∷ [])
-          (changes_fit relation named clock t.changes fits.0 fits.1.changes) (ended, tt),
+      all_of_both FitsWord (changes_words relation relations_sent clock t.changes) (xlogdata_word t.end clock (logical.Commit (record { position = t.start; end = t.end; time = t.time })) ∷ [])
+          (changes_fit relation relations_sent clock t.changes fits.0 fits.1.changes) (ended, tt),
     )
 
-pub words_fit : (relation : ℕ → Relation) (named : List ℕ) (items : List Item) → FitItems relation items → AllByRecursion FitsWord (words_of relation named items)
-words_fit relation named [] fits = tt
-words_fit relation named (i ∷ items) fits =
-    all_of_both FitsWord (item_words relation named i) (words_of relation (named_after named i) items) (item_fits relation named i fits.0) (words_fit relation (named_after named i) items fits.1)
+pub words_fit : (relation : ℕ → Relation) (relations_sent : List ℕ) (items : List Item) → FitItems relation items → AllByRecursion FitsWord (words_of relation relations_sent items)
+words_fit relation relations_sent [] fits = tt
+words_fit relation relations_sent (i ∷ items) fits =
+    all_of_both FitsWord (item_words relation relations_sent i) (words_of relation (relations_sent_after relations_sent i) items) (item_fits relation relations_sent i fits.0) (words_fit relation (relations_sent_after relations_sent i) items fits.1)
 
 -- ---- a stream has one reading, and so has each beginning of one
 

@@ -10,7 +10,7 @@ use Rattle.stream.specs.declared.word.Word.{Word}
 use Rattle.stream.specs.declared.word.Word.TheVariants as words
 use Rattle.stream.specs.declared.published.Published.{Published}
 use Rattle.stream.specs.Words.{word_bytes}
-use Rattle.stream.specs.Items.{Item, Alive, Block, said, words_of, spelled}
+use Rattle.stream.specs.Items.{Item, Alive, Block, xlogdata_word, words_of, spelled}
 
 -- public.item: id int4, the key; name text; qty int8
 abbrev item : Relation
@@ -33,7 +33,7 @@ transaction = record {
   start = 0x1000030;
   end = 0x1000050;
   time = pos 5;
-  number = 700;
+  xid = 700;
   changes = record { position = 0x1000000; message = insert } ∷ [];
 }
 
@@ -50,10 +50,10 @@ abbrev commit_frame : List ℕ
 commit_frame = 0x64 ∷ 0x00 ∷ 0x00 ∷ 0x00 ∷ 0x37 ∷ 0x77 ∷ 0x00 ∷ 0x00 ∷ 0x00 ∷ 0x00 ∷ 0x01 ∷ 0x00 ∷ 0x00 ∷ 0x50 ∷ 0x00 ∷ 0x00 ∷ 0x00 ∷ 0x00 ∷ 0x01 ∷ 0x00 ∷ 0x00 ∷ 0x50 ∷ 0x00 ∷ 0x00 ∷ 0x00 ∷ 0x00 ∷ 0x00 ∷ 0x00 ∷ 0x00 ∷ 0x09 ∷ 0x43 ∷ 0x00 ∷ 0x00 ∷ 0x00 ∷ 0x00 ∷ 0x00 ∷ 0x01 ∷ 0x00 ∷ 0x00 ∷ 0x30 ∷ 0x00 ∷ 0x00 ∷ 0x00 ∷ 0x00 ∷ 0x01 ∷ 0x00 ∷ 0x00 ∷ 0x50 ∷ 0x00 ∷ 0x00 ∷ 0x00 ∷ 0x00 ∷ 0x00 ∷ 0x00 ∷ 0x00 ∷ 0x05 ∷ []
 
 the_words : words_of (λ _. item) [] (Block (pos 9) transaction ∷ [])
-    ≡ said 0x1000030 (pos 9) (logical.Begin (record { position = 0x1000030; time = pos 5; number = 700 }))
-    ∷ said 0x1000000 (pos 9) (logical.Relation item)
-    ∷ said 0x1000000 (pos 9) insert
-    ∷ said 0x1000050 (pos 9) (logical.Commit (record { position = 0x1000030; end = 0x1000050; time = pos 5 })) ∷ []
+    ≡ xlogdata_word 0x1000030 (pos 9) (logical.Begin (record { position = 0x1000030; time = pos 5; xid = 700 }))
+    ∷ xlogdata_word 0x1000000 (pos 9) (logical.Relation item)
+    ∷ xlogdata_word 0x1000000 (pos 9) insert
+    ∷ xlogdata_word 0x1000050 (pos 9) (logical.Commit (record { position = 0x1000030; end = 0x1000050; time = pos 5 })) ∷ []
 the_words = refl
 
 the_bytes : spelled (λ _. item) [] (Block (pos 9) transaction ∷ []) ≡ begin_frame ++ (relation_frame ++ (insert_frame ++ commit_frame))

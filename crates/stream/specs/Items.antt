@@ -25,11 +25,11 @@ pub data Item : Type 0 where
 -- ---- Words.
 
 -- one message at a position: the second number of its XLogData repeats the first
-abbrev pub said : ℕ → ℤ → Logical → Word
-said position clock message = words.Sent (record { start = position; end = position; clock = clock; message = message })
+abbrev pub xlogdata_word : ℕ → ℤ → Logical → Word
+xlogdata_word position clock message = words.Sent (record { start = position; end = position; clock = clock; message = message })
 
-abbrev pub alive : ℕ → ℤ → Bool → Word
-alive position clock ask = words.Keepalive (record { position = position; clock = clock; ask = ask })
+abbrev pub keepalive_word : ℕ → ℤ → Bool → Word
+keepalive_word position clock ask = words.Keepalive (record { position = position; clock = clock; ask = ask })
 
 -- the tables that a message names, in the order in which it names them
 abbrev pub tables_of : Logical → List ℕ
@@ -38,69 +38,69 @@ tables_of (logical.Begin m) = []
 tables_of (logical.Commit m) = []
 tables_of (logical.Relation m) = []
 
-abbrev pub is_named : List ℕ → ℕ → Bool
-is_named named oid = list_any (λ n. n == oid) named
+abbrev pub is_relation_sent : List ℕ → ℕ → Bool
+is_relation_sent relations_sent oid = list_any (λ n. n == oid) relations_sent
 
 -- those of the tables that weren't named before, each once
 abbrev pub due : List ℕ → List ℕ → List ℕ
-due named [] = []
-due named (oid ∷ oids) = if is_named named oid then due named oids else oid ∷ due (oid ∷ named) oids
+due relations_sent [] = []
+due relations_sent (oid ∷ oids) = if is_relation_sent relations_sent oid then due relations_sent oids else oid ∷ due (oid ∷ relations_sent) oids
 
 -- the tables named so far, the newest first, once the change is said too
-abbrev pub named_by : List ℕ → PublishedChange → List ℕ
-named_by named c = reverse (due named (tables_of c.message)) ++ named
+abbrev pub relations_sent_by : List ℕ → PublishedChange → List ℕ
+relations_sent_by relations_sent c = reverse (due relations_sent (tables_of c.message)) ++ relations_sent
 
-abbrev pub named_by_all : List ℕ → List PublishedChange → List ℕ
-named_by_all named [] = named
-named_by_all named (c ∷ cs) = named_by_all (named_by named c) cs
+abbrev pub relations_sent_by_all : List ℕ → List PublishedChange → List ℕ
+relations_sent_by_all relations_sent [] = relations_sent
+relations_sent_by_all relations_sent (c ∷ cs) = relations_sent_by_all (relations_sent_by relations_sent c) cs
 
 -- the Relations of these tables, at a position
 abbrev pub relation_words : (ℕ → Relation) → ℕ → ℤ → List ℕ → List Word
-relation_words relation position clock oids = map (λ oid. said position clock (logical.Relation (relation oid))) oids
+relation_words relation position clock oids = map (λ oid. xlogdata_word position clock (logical.Relation (relation oid))) oids
 
 -- a change: the Relations that are due, and its message, all at its position
 abbrev pub change_words : (ℕ → Relation) → List ℕ → ℤ → PublishedChange → List Word
-change_words relation named clock c =
-    relation_words relation c.position clock (due named (tables_of c.message)) ++ (said c.position clock c.message ∷ [])
+change_words relation relations_sent clock c =
+    relation_words relation c.position clock (due relations_sent (tables_of c.message)) ++ (xlogdata_word c.position clock c.message ∷ [])
 
 abbrev pub changes_words : (ℕ → Relation) → List ℕ → ℤ → List PublishedChange → List Word
-changes_words relation named clock [] = []
-changes_words relation named clock (c ∷ cs) = change_words relation named clock c ++ changes_words relation (named_by named c) clock cs
+changes_words relation relations_sent clock [] = []
+changes_words relation relations_sent clock (c ∷ cs) = change_words relation relations_sent clock c ++ changes_words relation (relations_sent_by relations_sent c) clock cs
 
 abbrev pub begin_message : Published → Logical
-begin_message t = logical.Begin (record { position = t.start; time = t.time; number = t.number })
+begin_message t = logical.Begin (record { position = t.start; time = t.time; xid = t.xid })
 
 abbrev pub commit_message : Published → Logical
 commit_message t = logical.Commit (record { position = t.start; end = t.end; time = t.time })
 
 -- a block: Begin at the start of the commit record, the changes in order, Commit at its end
 abbrev pub block_words : (ℕ → Relation) → List ℕ → ℤ → Published → List Word
-block_words relation named clock t =
-    said t.start clock (begin_message t)
-    ∷ (changes_words relation named clock t.changes
-    ++ (said t.end clock (commit_message t) ∷ []))
+block_words relation relations_sent clock t =
+    xlogdata_word t.start clock (begin_message t)
+    ∷ (changes_words relation relations_sent clock t.changes
+    ++ (xlogdata_word t.end clock (commit_message t) ∷ []))
 
 abbrev pub item_words : (ℕ → Relation) → List ℕ → Item → List Word
-item_words relation named (Alive k) = words.Keepalive k ∷ []
-item_words relation named (Block clock t) = block_words relation named clock t
+item_words relation relations_sent (Alive k) = words.Keepalive k ∷ []
+item_words relation relations_sent (Block clock t) = block_words relation relations_sent clock t
 
-abbrev pub named_after : List ℕ → Item → List ℕ
-named_after named (Alive k) = named
-named_after named (Block clock t) = named_by_all named t.changes
+abbrev pub relations_sent_after : List ℕ → Item → List ℕ
+relations_sent_after relations_sent (Alive k) = relations_sent
+relations_sent_after relations_sent (Block clock t) = relations_sent_by_all relations_sent t.changes
 
 -- the words of the items, where these tables were named before them
 abbrev pub words_of : (ℕ → Relation) → List ℕ → List Item → List Word
-words_of relation named [] = []
-words_of relation named (item ∷ items) = item_words relation named item ++ words_of relation (named_after named item) items
+words_of relation relations_sent [] = []
+words_of relation relations_sent (item ∷ items) = item_words relation relations_sent item ++ words_of relation (relations_sent_after relations_sent item) items
 
 -- what the items spell
 abbrev pub spelled : (ℕ → Relation) → List ℕ → List Item → List ℕ
-spelled relation named items = frames_of (words_of relation named items)
+spelled relation relations_sent items = frames_of (words_of relation relations_sent items)
 
 -- the tables named so far, once these transactions are said too
-abbrev pub named_through : List ℕ → List Published → List ℕ
-named_through named [] = named
-named_through named (t ∷ ts) = named_through (named_by_all named t.changes) ts
+abbrev pub relations_sent_through : List ℕ → List Published → List ℕ
+relations_sent_through relations_sent [] = relations_sent
+relations_sent_through relations_sent (t ∷ ts) = relations_sent_through (relations_sent_by_all relations_sent t.changes) ts
 
 -- the transactions that the items send
 abbrev pub sent : List Item → List Published
@@ -138,7 +138,7 @@ pub record FitsPublished (relation : ℕ → Relation) (t : Published) : Type 0 
   pub start : t.start < 2 ^ 64
   pub end : t.end < 2 ^ 64
   pub time : FitsSigned w64 t.time
-  pub number : t.number < 2 ^ 32
+  pub xid : t.xid < 2 ^ 32
   pub changes : AllByRecursion (FitsChange relation) t.changes
 
 abbrev pub FitsItem : (ℕ → Relation) → Item → Type 0

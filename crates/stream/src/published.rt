@@ -12,7 +12,7 @@ pub struct Published {
     pub end: u64,
     /// The commit time, in microseconds since 2000-01-01.
     pub time: i64,
-    pub number: u32,
+    pub xid: u32,
     pub changes: Items<PublishedChange>,
 }
 

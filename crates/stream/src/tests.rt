@@ -38,7 +38,7 @@ fn begin() -> Logical {
     Logical::Begin(Begin {
         position: 0x100_0030,
         time: 5,
-        number: 700,
+        xid: 700,
     })
 }
 

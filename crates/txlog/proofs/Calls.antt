@@ -33,62 +33,62 @@ pub insert_fits : (s now : PublisherState) (x oid : ℕ) (row : List Value) → 
     end_of FIRST_POSITION s.log + size_of (Changed x (changes.Insert oid row)) < 2 ^ 64
 insert_fits s now x oid row same h fits = record_fits s (size_of (Changed x (changes.Insert oid row))) h (insert_small x oid row fits.short)
 
-pub inserted : (s now : PublisherState) (number x oid : ℕ) (row : List Value) (log : List Record) → s ≡ now → IsPublisher s →
-    is_live number now.live ≡ true → 0 < room now → FitsChange now.tables (changes.Insert oid row) → x ≡ innermost number s.live →
+pub inserted : (s now : PublisherState) (xid x oid : ℕ) (row : List Value) (log : List Record) → s ≡ now → IsPublisher s →
+    is_live xid now.live ≡ true → 0 < room now → FitsChange now.tables (changes.Insert oid row) → x ≡ innermost xid s.live →
     log ≡ s.log ++ record_after s.log (Changed x (changes.Insert oid row)) ∷ [] → IsPublisher (record s { log = log })
-inserted s now number x oid row log same h is free fits inner grown =
-    rw (grown, inner) (changed-IsPublisher s number (changes.Insert oid row) h (ap (λ (n : PublisherState). is_live number n.live) same ∙ is)
+inserted s now xid x oid row log same h is free fits inner grown =
+    rw (grown, inner) (changed-IsPublisher s xid (changes.Insert oid row) h (ap (λ (n : PublisherState). is_live xid n.live) same ∙ is)
     (omega (arith, free, ap room same)) (subst (λ (n : PublisherState). FitsChange n.tables (changes.Insert oid row)) (sym same) fits)
-    (insert_small (innermost number s.live) oid row fits.short))
+    (insert_small (innermost xid s.live) oid row fits.short))
 
-pub committed_is : (s now : PublisherState) (tx number place start end : ℕ) (time kept : ℤ) (log : List Record) (live : List Open) → s ≡ now →
-    number ≡ tx → kept ≡ time → place ≡ length s.log → start ≡ log_end s → log ≡ s.log ++ record_after s.log (Commit number kept) ∷ [] →
-    end ≡ end_of FIRST_POSITION log → live ≡ without number s.live →
-    (record { place = place; start = start; end = end; top = number } ≡ receipt_of tx time now) × (record s { log = log; live = live } ≡ after_commit tx time now)
-committed_is s now tx number place start end time kept log live same n t p b grown e fewer =
-    let ends : end ≡ log_end s + size_of (Commit number kept) = e ∙ ap (end_of FIRST_POSITION) grown ∙ end_of_push FIRST_POSITION s.log (record_after s.log (Commit number kept)) in
-    let told : record { place = place; start = start; end = end; top = number } ≡ receipt_of number kept s = rw (p, b, ends) refl in
-    let moved : record s { log = log; live = live } ≡ after_commit number kept s = rw (grown, fewer) refl in
-    (told ∙ ap (receipt_of number kept) same ∙ ap (λ (x : ℕ). receipt_of x kept now) n, moved ∙ ap (after_commit number kept) same ∙ rw (n, t) refl)
+pub committed_is : (s now : PublisherState) (tx xid place start end : ℕ) (time kept : ℤ) (log : List Record) (live : List Open) → s ≡ now →
+    xid ≡ tx → kept ≡ time → place ≡ length s.log → start ≡ log_end s → log ≡ s.log ++ record_after s.log (Commit xid kept) ∷ [] →
+    end ≡ end_of FIRST_POSITION log → live ≡ without xid s.live →
+    (record { place = place; start = start; end = end; xid = xid } ≡ receipt_of tx time now) × (record s { log = log; live = live } ≡ after_commit tx time now)
+committed_is s now tx xid place start end time kept log live same n t p b grown e fewer =
+    let ends : end ≡ log_end s + size_of (Commit xid kept) = e ∙ ap (end_of FIRST_POSITION) grown ∙ end_of_push FIRST_POSITION s.log (record_after s.log (Commit xid kept)) in
+    let told : record { place = place; start = start; end = end; xid = xid } ≡ receipt_of xid kept s = rw (p, b, ends) refl in
+    let moved : record s { log = log; live = live } ≡ after_commit xid kept s = rw (grown, fewer) refl in
+    (told ∙ ap (receipt_of xid kept) same ∙ ap (λ (x : ℕ). receipt_of x kept now) n, moved ∙ ap (after_commit xid kept) same ∙ rw (n, t) refl)
 
-pub committed_kept : (s : PublisherState) (number : ℕ) (time kept : ℤ) (log : List Record) (live : List Open) → IsPublisher s →
-    true ≡ is_live number s.live → FitsSigned w64 time → kept ≡ time → log ≡ s.log ++ record_after s.log (Commit number kept) ∷ [] → live ≡ without number s.live →
+pub committed_kept : (s : PublisherState) (xid : ℕ) (time kept : ℤ) (log : List Record) (live : List Open) → IsPublisher s →
+    true ≡ is_live xid s.live → FitsSigned w64 time → kept ≡ time → log ≡ s.log ++ record_after s.log (Commit xid kept) ∷ [] → live ≡ without xid s.live →
     IsPublisher (record s { log = log; live = live })
-committed_kept s number time kept log live h is fits t grown fewer = rw (grown, fewer) (after_commit-IsPublisher s number kept h (sym is) (rw t fits))
+committed_kept s xid time kept log live h is fits t grown fewer = rw (grown, fewer) (after_commit-IsPublisher s xid kept h (sym is) (rw t fits))
 
-pub aborted_kept : (s : PublisherState) (number : ℕ) (log : List Record) (live : List Open) → IsPublisher s →
-    true ≡ is_live number s.live → log ≡ s.log ++ record_after s.log (Abort number) ∷ [] → live ≡ without number s.live →
+pub aborted_kept : (s : PublisherState) (xid : ℕ) (log : List Record) (live : List Open) → IsPublisher s →
+    true ≡ is_live xid s.live → log ≡ s.log ++ record_after s.log (Abort xid) ∷ [] → live ≡ without xid s.live →
     IsPublisher (record s { log = log; live = live })
-aborted_kept s number log live h is grown fewer = rw (grown, fewer) (after_abort-IsPublisher s number h (sym is))
+aborted_kept s xid log live h is grown fewer = rw (grown, fewer) (after_abort-IsPublisher s xid h (sym is))
 
-pub saved_kept : (s now : PublisherState) (number parent depth : ℕ) (log : List Record) (live : List Open) → s ≡ now → IsPublisher s →
-    is_live number now.live ≡ true → 0 < room now → depth ≡ length (savepoints_of number now.live) → depth < MAX_DEPTH → parent ≡ innermost number s.live →
-    live ≡ with_savepoints number (savepoints_of number s.live ++ s.next ∷ []) s.live → log ≡ s.log ++ record_after s.log (Assign s.next parent) ∷ [] →
+pub saved_kept : (s now : PublisherState) (xid parent depth : ℕ) (log : List Record) (live : List Open) → s ≡ now → IsPublisher s →
+    is_live xid now.live ≡ true → 0 < room now → depth ≡ length (savepoints_of xid now.live) → depth < MAX_DEPTH → parent ≡ innermost xid s.live →
+    live ≡ with_savepoints xid (savepoints_of xid s.live ++ s.next ∷ []) s.live → log ≡ s.log ++ record_after s.log (Assign s.next parent) ∷ [] →
     IsPublisher (record s { log = log; live = live; next = s.next + 1 })
-saved_kept s now number parent depth log live same h is free at shallow inner more grown =
-    let here : length (savepoints_of number s.live) ≡ length (savepoints_of number now.live) = ap (λ (n : PublisherState). length (savepoints_of number n.live)) same in
-    rw (grown, inner, more) (saved-IsPublisher s number h (ap (λ (n : PublisherState). is_live number n.live) same ∙ is)
+saved_kept s now xid parent depth log live same h is free at shallow inner more grown =
+    let here : length (savepoints_of xid s.live) ≡ length (savepoints_of xid now.live) = ap (λ (n : PublisherState). length (savepoints_of xid n.live)) same in
+    rw (grown, inner, more) (saved-IsPublisher s xid h (ap (λ (n : PublisherState). is_live xid n.live) same ∙ is)
     (omega (arith, at, shallow, here)) (omega (arith, free, ap room same)))
 
-pub rolled_back_kept : (s now : PublisherState) (number depth savepoint : ℕ) (log : List Record) (live : List Open) → s ≡ now → IsPublisher s →
-    is_live number now.live ≡ true → 0 < room now → 0 < depth → depth ≤ length (savepoints_of number now.live) → savepoint ≡ slice_index (savepoints_of number now.live) (depth - 1) →
-    log ≡ s.log ++ record_after s.log (AbortSub savepoint) ∷ [] → live ≡ with_savepoints number (take (depth - 1) (savepoints_of number s.live)) s.live →
+pub rolled_back_kept : (s now : PublisherState) (xid depth savepoint : ℕ) (log : List Record) (live : List Open) → s ≡ now → IsPublisher s →
+    is_live xid now.live ≡ true → 0 < room now → 0 < depth → depth ≤ length (savepoints_of xid now.live) → savepoint ≡ slice_index (savepoints_of xid now.live) (depth - 1) →
+    log ≡ s.log ++ record_after s.log (AbortSub savepoint) ∷ [] → live ≡ with_savepoints xid (take (depth - 1) (savepoints_of xid s.live)) s.live →
     IsPublisher (record s { log = log; live = live })
-rolled_back_kept s now number depth savepoint log live same h is free some within at grown less =
-    let here : savepoints_of number now.live ≡ savepoints_of number s.live = ap (λ (n : PublisherState). savepoints_of number n.live) (sym same) in
-    let value : savepoint ≡ slice_index (savepoints_of number s.live) (depth - 1) = at ∙ ap (λ xs. slice_index xs (depth - 1)) here in
-    rw (grown, value, less) (rolled_back-IsPublisher s number depth h (ap (λ (n : PublisherState). is_live number n.live) same ∙ is)
+rolled_back_kept s now xid depth savepoint log live same h is free some within at grown less =
+    let here : savepoints_of xid now.live ≡ savepoints_of xid s.live = ap (λ (n : PublisherState). savepoints_of xid n.live) (sym same) in
+    let value : savepoint ≡ slice_index (savepoints_of xid s.live) (depth - 1) = at ∙ ap (λ xs. slice_index xs (depth - 1)) here in
+    rw (grown, value, less) (rolled_back-IsPublisher s xid depth h (ap (λ (n : PublisherState). is_live xid n.live) same ∙ is)
     some (omega (arith, within, ap length here)) (omega (arith, free, ap room same)))
 
-pub released_kept : (s : PublisherState) (number depth : ℕ) (live : List Open) → IsPublisher s → true ≡ is_live number s.live →
-    live ≡ with_savepoints number (take (depth - 1) (savepoints_of number s.live)) s.live → IsPublisher (record s { live = live })
-released_kept s number depth live h is less = rw less (released-IsPublisher s number depth h (sym is))
+pub released_kept : (s : PublisherState) (xid depth : ℕ) (live : List Open) → IsPublisher s → true ≡ is_live xid s.live →
+    live ≡ with_savepoints xid (take (depth - 1) (savepoints_of xid s.live)) s.live → IsPublisher (record s { live = live })
+released_kept s xid depth live h is less = rw less (released-IsPublisher s xid depth h (sym is))
 
 -- without memory for the record, the savepoint is taken off again
-pub unsaved : (s now : PublisherState) (number depth : ℕ) (log : List Record) (more less : List Open) → s ≡ now → is_live number now.live ≡ true →
-    depth ≡ length (savepoints_of number now.live) → more ≡ with_savepoints number (savepoints_of number s.live ++ s.next ∷ []) s.live →
-    log ≡ s.log → less ≡ with_savepoints number (take depth (savepoints_of number more)) more → record s { log = log; live = less } ≡ s
-unsaved s now number depth log more less same is at pushed unwritten cut =
-    let back : less ≡ s.live = restored number s.next depth s.live more less (ap (λ (n : PublisherState). is_live number n.live) same ∙ is)
-    (at ∙ ap (λ (n : PublisherState). length (savepoints_of number n.live)) (sym same)) pushed cut in
+pub unsaved : (s now : PublisherState) (xid depth : ℕ) (log : List Record) (more less : List Open) → s ≡ now → is_live xid now.live ≡ true →
+    depth ≡ length (savepoints_of xid now.live) → more ≡ with_savepoints xid (savepoints_of xid s.live ++ s.next ∷ []) s.live →
+    log ≡ s.log → less ≡ with_savepoints xid (take depth (savepoints_of xid more)) more → record s { log = log; live = less } ≡ s
+unsaved s now xid depth log more less same is at pushed unwritten cut =
+    let back : less ≡ s.live = restored xid s.next depth s.live more less (ap (λ (n : PublisherState). is_live xid n.live) same ∙ is)
+    (at ∙ ap (λ (n : PublisherState). length (savepoints_of xid n.live)) (sym same)) pushed cut in
     rw (unwritten, back) refl

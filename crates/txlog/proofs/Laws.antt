@@ -90,16 +90,16 @@ step_none false rest up same x none k = k none
 
 body_none : (body : Body) (above : ℕ → List ℕ) (rest : Bool) (x : ℕ) → (rest ≡ false → above x ≡ x ∷ []) → (assigns x body || rest) ≡ false → chain_step above body x ≡ x ∷ []
 body_none (Assign sub parent) above rest x k none = step_none (sub == x) rest (x ∷ above parent) (above x) x none k
-body_none (Changed number change) above rest x k none = k none
-body_none (AbortSub number) above rest x k none = k none
-body_none (Abort number) above rest x k none = k none
-body_none (Commit number time) above rest x k none = k none
+body_none (Changed xid change) above rest x k none = k none
+body_none (AbortSub xid) above rest x k none = k none
+body_none (Abort xid) above rest x k none = k none
+body_none (Commit xid time) above rest x k none = k none
 
 chain_back-unassigned : (older : List Record) (x : ℕ) → is_assigned older x ≡ false → chain_back older x ≡ x ∷ []
 chain_back-unassigned [] x none = refl
 chain_back-unassigned (r ∷ older) x none = body_none r.body (chain_back older) (is_assigned older x) x (chain_back-unassigned older x) none
 
--- a number without an Assign is a top of its own
+-- an xid without an Assign is a top of its own
 pub chain-unassigned : (log : List Record) (x : ℕ) → is_assigned log x ≡ false → chain log x ≡ x ∷ []
 chain-unassigned log x none =
     chain_back-unassigned (reverse log) x (sym (list_any-IsPermutation (λ r. assigns x r.body) log (reverse log) (IsPermutation-reverse log)) ∙ none)
@@ -149,27 +149,27 @@ and_true false = refl
 
 -- A transaction that ends takes its changes with it.
 live-end : (log : List Record) (r : Record) (t : ℕ) → KeepsChains r.body → ((x : ℕ) → ends x r.body ≡ (t == x)) → ((x : ℕ) → undoes x r.body ≡ false) → entry_at r.start r.body ≡ [] →
-    live (log ++ r ∷ []) ≡ filter (λ e. not (t == top_of log e.number)) (live log)
+    live (log ++ r ∷ []) ≡ filter (λ e. not (t == top_of log e.xid)) (live log)
 live-end log r t keeps ending undoing empty =
-    live-more log r (λ e. not (t == top_of log e.number)) (all_agree _ _ agree (entries log))
-    ∙ ap (λ es. filter (λ e. not (t == top_of log e.number)) (live log) ++ filter (is_live (log ++ r ∷ [])) es) empty
+    live-more log r (λ e. not (t == top_of log e.xid)) (all_agree _ _ agree (entries log))
+    ∙ ap (λ es. filter (λ e. not (t == top_of log e.xid)) (live log) ++ filter (is_live (log ++ r ∷ [])) es) empty
     ∙ append-nil _
   where
-    ended : (e : Entry) → has_ended (log ++ r ∷ []) (top_of (log ++ r ∷ []) e.number) ≡ (has_ended log (top_of log e.number) || (t == top_of log e.number))
-    ended e = ap (has_ended (log ++ r ∷ [])) (top-kept log r keeps e.number) ∙ has_ended-one log r (top_of log e.number) ∙ ap (λ b. has_ended log (top_of log e.number) || b) (ending (top_of log e.number))
+    ended : (e : Entry) → has_ended (log ++ r ∷ []) (top_of (log ++ r ∷ []) e.xid) ≡ (has_ended log (top_of log e.xid) || (t == top_of log e.xid))
+    ended e = ap (has_ended (log ++ r ∷ [])) (top-kept log r keeps e.xid) ∙ has_ended-one log r (top_of log e.xid) ∙ ap (λ b. has_ended log (top_of log e.xid) || b) (ending (top_of log e.xid))
 
-    dropped : (e : Entry) → is_dropped (log ++ r ∷ []) e.number ≡ is_dropped log e.number
-    dropped e = dropped-kept log r keeps e.number ∙ ap (λ b. is_dropped log e.number || b) (list_any_agrees _ (λ y. false) undoing (chain log e.number) ∙ none_of (chain log e.number)) ∙ or_false (is_dropped log e.number)
+    dropped : (e : Entry) → is_dropped (log ++ r ∷ []) e.xid ≡ is_dropped log e.xid
+    dropped e = dropped-kept log r keeps e.xid ∙ ap (λ b. is_dropped log e.xid || b) (list_any_agrees _ (λ y. false) undoing (chain log e.xid) ∙ none_of (chain log e.xid)) ∙ or_false (is_dropped log e.xid)
 
-    agree : (e : Entry) → is_live (log ++ r ∷ []) e ≡ (is_live log e && not (t == top_of log e.number))
-    agree e = rw (ended e, dropped e) (not_ended (has_ended log (top_of log e.number)) (t == top_of log e.number) (is_dropped log e.number))
+    agree : (e : Entry) → is_live (log ++ r ∷ []) e ≡ (is_live log e && not (t == top_of log e.xid))
+    agree e = rw (ended e, dropped e) (not_ended (has_ended log (top_of log e.xid)) (t == top_of log e.xid) (is_dropped log e.xid))
 
 pub live-commit : (log : List Record) (start end t : ℕ) (time : ℤ) →
-    live (log ++ record { start = start; end = end; body = Commit t time } ∷ []) ≡ filter (λ e. not (t == top_of log e.number)) (live log)
+    live (log ++ record { start = start; end = end; body = Commit t time } ∷ []) ≡ filter (λ e. not (t == top_of log e.xid)) (live log)
 live-commit log start end t time = live-end log (record { start = start; end = end; body = Commit t time }) t (λ above x. refl) (λ x. refl) (λ x. refl) refl
 
 pub live-abort : (log : List Record) (start end t : ℕ) →
-    live (log ++ record { start = start; end = end; body = Abort t } ∷ []) ≡ filter (λ e. not (t == top_of log e.number)) (live log)
+    live (log ++ record { start = start; end = end; body = Abort t } ∷ []) ≡ filter (λ e. not (t == top_of log e.xid)) (live log)
 live-abort log start end t = live-end log (record { start = start; end = end; body = Abort t }) t (λ above x. refl) (λ x. refl) (λ x. refl) refl
 
 top_ended : (log : List Record) (r : Record) → KeepsChains r.body → ((x : ℕ) → ends x r.body ≡ false) → (x : ℕ) →
@@ -184,36 +184,36 @@ none_dropped log r keeps undoing x =
     ∙ ap (λ b. is_dropped log x || b) (list_any_agrees _ (λ y. false) undoing (chain log x) ∙ none_of (chain log x))
     ∙ or_false (is_dropped log x)
 
--- An AbortSub takes the changes of all whose chain has its number.
+-- An AbortSub takes the changes of all whose chain has its xid.
 pub live-undo : (log : List Record) (start end s : ℕ) →
-    live (log ++ record { start = start; end = end; body = AbortSub s } ∷ []) ≡ filter (λ e. not (list_any (λ y. s == y) (chain log e.number))) (live log)
+    live (log ++ record { start = start; end = end; body = AbortSub s } ∷ []) ≡ filter (λ e. not (list_any (λ y. s == y) (chain log e.xid))) (live log)
 live-undo log start end s = undone (record { start = start; end = end; body = AbortSub s }) (λ above x. refl) (λ x. refl) (λ x. refl) refl
   where
     undone : (r : Record) → KeepsChains r.body → ((x : ℕ) → ends x r.body ≡ false) → ((x : ℕ) → undoes x r.body ≡ (s == x)) → entry_at r.start r.body ≡ [] →
-        live (log ++ r ∷ []) ≡ filter (λ e. not (list_any (λ y. s == y) (chain log e.number))) (live log)
+        live (log ++ r ∷ []) ≡ filter (λ e. not (list_any (λ y. s == y) (chain log e.xid))) (live log)
     undone r keeps ending undoing empty =
-        let dropped : (e : Entry) → is_dropped (log ++ r ∷ []) e.number ≡ (is_dropped log e.number || list_any (λ y. s == y) (chain log e.number)) =
-        λ e. dropped-kept log r keeps e.number ∙ ap (λ b. is_dropped log e.number || b) (list_any_agrees _ (λ y. s == y) undoing (chain log e.number)) in
-        let agree : (e : Entry) → is_live (log ++ r ∷ []) e ≡ (is_live log e && not (list_any (λ y. s == y) (chain log e.number))) =
-        λ e. rw (top_ended log r keeps ending e.number, dropped e) (not_dropped (has_ended log (top_of log e.number)) (is_dropped log e.number) (list_any (λ y. s == y) (chain log e.number))) in
-        live-more log r (λ e. not (list_any (λ y. s == y) (chain log e.number))) (all_agree _ _ agree (entries log))
-        ∙ ap (λ es. filter (λ e. not (list_any (λ y. s == y) (chain log e.number))) (live log) ++ filter (is_live (log ++ r ∷ [])) es) empty
+        let dropped : (e : Entry) → is_dropped (log ++ r ∷ []) e.xid ≡ (is_dropped log e.xid || list_any (λ y. s == y) (chain log e.xid)) =
+        λ e. dropped-kept log r keeps e.xid ∙ ap (λ b. is_dropped log e.xid || b) (list_any_agrees _ (λ y. s == y) undoing (chain log e.xid)) in
+        let agree : (e : Entry) → is_live (log ++ r ∷ []) e ≡ (is_live log e && not (list_any (λ y. s == y) (chain log e.xid))) =
+        λ e. rw (top_ended log r keeps ending e.xid, dropped e) (not_dropped (has_ended log (top_of log e.xid)) (is_dropped log e.xid) (list_any (λ y. s == y) (chain log e.xid))) in
+        live-more log r (λ e. not (list_any (λ y. s == y) (chain log e.xid))) (all_agree _ _ agree (entries log))
+        ∙ ap (λ es. filter (λ e. not (list_any (λ y. s == y) (chain log e.xid))) (live log) ++ filter (is_live (log ++ r ∷ [])) es) empty
         ∙ append-nil _
 
 filter_all : {A : Type 0} (xs : List A) → filter (λ x. true) xs ≡ xs
 filter_all [] = refl
 filter_all (x ∷ xs) = ap (λ ys. x ∷ ys) (filter_all xs)
 
--- A change of an open number is live.
+-- A change of an open xid is live.
 pub live-change : (log : List Record) (start end x : ℕ) (c : Change) → IsOpen log x →
-    live (log ++ record { start = start; end = end; body = Changed x c } ∷ []) ≡ live log ++ record { position = start; number = x; change = c } ∷ []
-live-change log start end x c is_open = changed (record { start = start; end = end; body = Changed x c }) (record { position = start; number = x; change = c }) (λ above y. refl) (λ y. refl) (λ y. refl) refl refl
+    live (log ++ record { start = start; end = end; body = Changed x c } ∷ []) ≡ live log ++ record { position = start; xid = x; change = c } ∷ []
+live-change log start end x c is_open = changed (record { start = start; end = end; body = Changed x c }) (record { position = start; xid = x; change = c }) (λ above y. refl) (λ y. refl) (λ y. refl) refl refl
   where
-    changed : (r : Record) (made : Entry) → KeepsChains r.body → ((y : ℕ) → ends y r.body ≡ false) → ((y : ℕ) → undoes y r.body ≡ false) → entry_at r.start r.body ≡ made ∷ [] → made.number ≡ x →
+    changed : (r : Record) (made : Entry) → KeepsChains r.body → ((y : ℕ) → ends y r.body ≡ false) → ((y : ℕ) → undoes y r.body ≡ false) → entry_at r.start r.body ≡ made ∷ [] → made.xid ≡ x →
         live (log ++ r ∷ []) ≡ live log ++ made ∷ []
     changed r made keeps ending undoing one is =
         let same : (e : Entry) → is_live (log ++ r ∷ []) e ≡ is_live log e =
-        λ e. rw (top_ended log r keeps ending e.number, none_dropped log r keeps undoing e.number) refl in
+        λ e. rw (top_ended log r keeps ending e.xid, none_dropped log r keeps undoing e.xid) refl in
         let lives : is_live (log ++ r ∷ []) made ≡ true = same made ∙ rw (is, is_open.running, is_open.undropped) refl in
         live-more log r (λ e. true) (all_agree _ _ (λ e. same e ∙ and_true (is_live log e)) (entries log))
         ∙ rw (filter_all (live log), one, lives) refl
@@ -222,8 +222,8 @@ pub all_when : {A : Type 0} (P Q : A → Type 0) → ((x : A) → P x → Q x) �
 all_when P Q f [] all = tt
 all_when P Q f (x ∷ xs) all = (f x all.0, all_when P Q f xs all.1)
 
--- the changes so far are of numbers that are named
-changes_named : (log : List Record) (x : ℕ) → is_named log x ≡ false → AllByRecursion (λ e. (x == e.number) ≡ false) (entries log)
+-- the changes so far are of xids that are named
+changes_named : (log : List Record) (x : ℕ) → is_named log x ≡ false → AllByRecursion (λ e. (x == e.xid) ≡ false) (entries log)
 changes_named [] x none = tt
 changes_named (r ∷ log) x none = by_body r.start r.body (is_named log x) (entries log) none (changes_named log x)
   where
@@ -235,13 +235,13 @@ changes_named (r ∷ log) x none = by_body r.start r.body (is_named log x) (entr
     right true b e = cc
     right false b e = e
 
-    by_body : (start : ℕ) (body : Body) (rest : Bool) (es : List Entry) → (names x body || rest) ≡ false → (rest ≡ false → AllByRecursion (λ (e : Entry). (x == e.number) ≡ false) es) →
-        AllByRecursion (λ (e : Entry). (x == e.number) ≡ false) (entry_at start body ++ es)
+    by_body : (start : ℕ) (body : Body) (rest : Bool) (es : List Entry) → (names x body || rest) ≡ false → (rest ≡ false → AllByRecursion (λ (e : Entry). (x == e.xid) ≡ false) es) →
+        AllByRecursion (λ (e : Entry). (x == e.xid) ≡ false) (entry_at start body ++ es)
     by_body start (Assign sub parent) rest es none k = k (right (names x (Assign sub parent)) rest none)
-    by_body start (Changed number change) rest es none k = (left (x == number) rest none, k (right (x == number) rest none))
-    by_body start (AbortSub number) rest es none k = k (right (x == number) rest none)
-    by_body start (Abort number) rest es none k = k (right (x == number) rest none)
-    by_body start (Commit number time) rest es none k = k (right (x == number) rest none)
+    by_body start (Changed xid change) rest es none k = (left (x == xid) rest none, k (right (x == xid) rest none))
+    by_body start (AbortSub xid) rest es none k = k (right (x == xid) rest none)
+    by_body start (Abort xid) rest es none k = k (right (x == xid) rest none)
+    by_body start (Commit xid time) rest es none k = k (right (x == xid) rest none)
 
 -- A subtransaction that no record names yet has no changes.
 pub live-assign : (log : List Record) (start end sub parent : ℕ) → is_named log sub ≡ false →
@@ -253,14 +253,14 @@ live-assign log start end sub parent unnamed =
     chains : (r : Record) (x : ℕ) → r.body ≡ Assign sub parent → (sub == x) ≡ false → chain (log ++ r ∷ []) x ≡ chain log x
     chains r x is other = chain-append log r x ∙ rw (is, other) refl
 
-    agree_by : (r : Record) (e : Entry) → r.body ≡ Assign sub parent → (sub == e.number) ≡ false → is_live (log ++ r ∷ []) e ≡ (is_live log e && true)
+    agree_by : (r : Record) (e : Entry) → r.body ≡ Assign sub parent → (sub == e.xid) ≡ false → is_live (log ++ r ∷ []) e ≡ (is_live log e && true)
     agree_by r e is other =
-        let chained : chain (log ++ r ∷ []) e.number ≡ chain log e.number = chains r e.number is other in
+        let chained : chain (log ++ r ∷ []) e.xid ≡ chain log e.xid = chains r e.xid is other in
         let ended : (x : ℕ) → has_ended (log ++ r ∷ []) x ≡ has_ended log x = λ x. has_ended-one log r x ∙ rw is (or_false (has_ended log x)) in
         let undone : (x : ℕ) → is_undone (log ++ r ∷ []) x ≡ is_undone log x = λ x. is_undone-one log r x ∙ rw is (or_false (is_undone log x)) in
-        rw (chained, ended (top_of log e.number), list_any_agrees (is_undone (log ++ r ∷ [])) (is_undone log) undone (chain log e.number)) (and_true (is_live log e))
+        rw (chained, ended (top_of log e.xid), list_any_agrees (is_undone (log ++ r ∷ [])) (is_undone log) undone (chain log e.xid)) (and_true (is_live log e))
 
-    agree : (e : Entry) → (sub == e.number) ≡ false → is_live (log ++ record { start = start; end = end; body = Assign sub parent } ∷ []) e ≡ (is_live log e && true)
+    agree : (e : Entry) → (sub == e.xid) ≡ false → is_live (log ++ record { start = start; end = end; body = Assign sub parent } ∷ []) e ≡ (is_live log e && true)
     agree e other = agree_by (record { start = start; end = end; body = Assign sub parent }) e refl other
 
 kept_test : (b h d : Bool) → (b ≡ true → h ≡ false) → (b && not d) ≡ ((not h && not d) && b)
@@ -273,14 +273,14 @@ kept_test false false true k = refl
 kept_test false false false k = refl
 
 -- What a transaction in progress keeps are its live changes.
-pub kept-live : (log : List Record) (t : ℕ) → has_ended log t ≡ false → kept log t ≡ filter (λ e. top_of log e.number == t) (live log)
+pub kept-live : (log : List Record) (t : ℕ) → has_ended log t ≡ false → kept log t ≡ filter (λ e. top_of log e.xid == t) (live log)
 kept-live log t running =
-    filter_agrees (is_kept log t) (λ e. is_live log e && (top_of log e.number == t)) (entries log) (all_agree _ _ agree (entries log))
-    ∙ sym (filter_twice (λ e. top_of log e.number == t) (is_live log) (entries log))
+    filter_agrees (is_kept log t) (λ e. is_live log e && (top_of log e.xid == t)) (entries log) (all_agree _ _ agree (entries log))
+    ∙ sym (filter_twice (λ e. top_of log e.xid == t) (is_live log) (entries log))
   where
-    agree : (e : Entry) → is_kept log t e ≡ (is_live log e && (top_of log e.number == t))
-    agree e = kept_test (top_of log e.number == t) (has_ended log (top_of log e.number)) (is_dropped log e.number)
-        (λ same. ap (has_ended log) (eqb-true (top_of log e.number) t same) ∙ running)
+    agree : (e : Entry) → is_kept log t e ≡ (is_live log e && (top_of log e.xid == t))
+    agree e = kept_test (top_of log e.xid == t) (has_ended log (top_of log e.xid)) (is_dropped log e.xid)
+        (λ same. ap (has_ended log) (eqb-true (top_of log e.xid) t same) ∙ running)
 
 -- what ends next has not ended yet
 pub open-running : (log : List Record) (t : ℕ) → is_assigned log t ≡ false → IsOpen log t → has_ended log t ≡ false

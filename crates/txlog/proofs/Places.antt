@@ -15,15 +15,15 @@ use Rattle.txlog.proofs.Laws.{is_named-one, is_assigned-one, chain-append, all_w
 use Rattle.txlog.proofs.LiveList.{eqb_comm}
 use Rattle.txlog.proofs.Progress.{chain-quiet}
 
--- a record assigns no number that was named before it
+-- a record assigns no xid that was named before it
 next-assigns : (before : List Record) (body : Body) (x : ℕ) → is_named before x ≡ true → IsNext before body → assigns x body ≡ false
 next-assigns before (Assign sub parent) x named next = ne_eqb sub x (λ same. let both : true ≡ false = sym named ∙ ap (is_named before) (sym same) ∙ next.0 in cc)
-next-assigns before (Changed number change) x named next = refl
-next-assigns before (AbortSub number) x named next = refl
-next-assigns before (Abort number) x named next = refl
-next-assigns before (Commit number time) x named next = refl
+next-assigns before (Changed xid change) x named next = refl
+next-assigns before (AbortSub xid) x named next = refl
+next-assigns before (Abort xid) x named next = refl
+next-assigns before (Commit xid time) x named next = refl
 
--- the chain of a number that is named stays
+-- the chain of an xid that is named stays
 pub chain-stable : (before rest : List Record) (x : ℕ) → is_named before x ≡ true → WellFormedAfter before rest → chain (before ++ rest) x ≡ chain before x
 chain-stable before [] x named h = ap (λ log. chain log x) (append-nil before)
 chain-stable before (r ∷ rest) x named h =
@@ -31,39 +31,39 @@ chain-stable before (r ∷ rest) x named h =
     ∙ chain-stable (before ++ r ∷ []) rest x (is_named-one before r x ∙ rw named refl) h.1
     ∙ chain-quiet before r x (next-assigns before r.body x named h.0)
 
--- the changes are of numbers that are named
-changes-named : (log : List Record) → AllByRecursion (λ e. is_named log e.number ≡ true) (entries log)
+-- the changes are of xids that are named
+changes-named : (log : List Record) → AllByRecursion (λ e. is_named log e.xid ≡ true) (entries log)
 changes-named [] = tt
-changes-named (r ∷ log) = by_body r.start r.body (all_when _ _ (λ (e : Entry) (named : is_named log e.number ≡ true). or_right (names e.number r.body) (is_named log e.number) named) (entries log) (changes-named log))
+changes-named (r ∷ log) = by_body r.start r.body (all_when _ _ (λ (e : Entry) (named : is_named log e.xid ≡ true). or_right (names e.xid r.body) (is_named log e.xid) named) (entries log) (changes-named log))
   where
     or_right : (a b : Bool) → b ≡ true → (a || b) ≡ true
     or_right true b e = refl
     or_right false b e = e
 
-    by_body : (start : ℕ) (body : Body) → AllByRecursion (λ (e : Entry). (names e.number body || is_named log e.number) ≡ true) (entries log) →
-        AllByRecursion (λ (e : Entry). (names e.number body || is_named log e.number) ≡ true) (entry_at start body ++ entries log)
+    by_body : (start : ℕ) (body : Body) → AllByRecursion (λ (e : Entry). (names e.xid body || is_named log e.xid) ≡ true) (entries log) →
+        AllByRecursion (λ (e : Entry). (names e.xid body || is_named log e.xid) ≡ true) (entry_at start body ++ entries log)
     by_body start (Assign sub parent) all = all
-    by_body start (Changed number change) all = (rw (eq-eqb number number refl) refl, all)
-    by_body start (AbortSub number) all = all
-    by_body start (Abort number) all = all
-    by_body start (Commit number time) all = all
+    by_body start (Changed xid change) all = (rw (eq-eqb xid xid refl) refl, all)
+    by_body start (AbortSub xid) all = all
+    by_body start (Abort xid) all = all
+    by_body start (Commit xid time) all = all
 
 pub kept-at : (before rest : List Record) (top : ℕ) → WellFormedAfter before rest → kept_at (before ++ rest) top (length before) ≡ kept before top
 kept-at before rest top h =
-    rw (take-append_seam before rest) (filter_agrees (λ e. (top_of (before ++ rest) e.number == top) && not (list_any (is_undone before) (chain (before ++ rest) e.number))) (is_kept before top) (entries before)
-    (all_when _ _ (λ (e : Entry) (named : is_named before e.number ≡ true). let same = chain-stable before rest e.number named h in rw same refl) (entries before) (changes-named before)))
+    rw (take-append_seam before rest) (filter_agrees (λ e. (top_of (before ++ rest) e.xid == top) && not (list_any (is_undone before) (chain (before ++ rest) e.xid))) (is_kept before top) (entries before)
+    (all_when _ _ (λ (e : Entry) (named : is_named before e.xid ≡ true). let same = chain-stable before rest e.xid named h in rw same refl) (entries before) (changes-named before)))
 
 placed-same : (s : ℕ) (before rest : List Record) (start end : ℕ) (body : Body) → WellFormedAfter before rest →
     placed_at s (before ++ rest) (length before) start end body ≡ committed_at s before start end body
 placed-same s before rest start end (Assign sub parent) h = refl
-placed-same s before rest start end (Changed number change) h = refl
-placed-same s before rest start end (AbortSub number) h = refl
-placed-same s before rest start end (Abort number) h = refl
-placed-same s before rest start end (Commit number time) h = by_changes (kept-at before rest number h)
+placed-same s before rest start end (Changed xid change) h = refl
+placed-same s before rest start end (AbortSub xid) h = refl
+placed-same s before rest start end (Abort xid) h = refl
+placed-same s before rest start end (Commit xid time) h = by_changes (kept-at before rest xid h)
   where
-    by_changes : kept_at (before ++ rest) number (length before) ≡ kept before number →
-        placed_at s (before ++ rest) (length before) start end (Commit number time) ≡ committed_at s before start end (Commit number time)
-    by_changes e = ap (λ (es : List Entry). cond (nat_le s start) (record { start = start; end = end; time = time; number = number; changes = es } ∷ []) []) e
+    by_changes : kept_at (before ++ rest) xid (length before) ≡ kept before xid →
+        placed_at s (before ++ rest) (length before) start end (Commit xid time) ≡ committed_at s before start end (Commit xid time)
+    by_changes e = ap (λ (es : List Entry). cond (nat_le s start) (record { start = start; end = end; time = time; xid = xid; changes = es } ∷ []) []) e
 
 placed-from : (s : ℕ) (before rest : List Record) → WellFormedAfter before rest → placed_from s (before ++ rest) (length before) rest ≡ committed_from s before rest
 placed-from s before [] h = refl
@@ -98,10 +98,10 @@ parent-body (Assign sub parent) x y is = by_test (sub == x) (parent == y) refl i
     by_test true true same is = or_right (y == sub) (y == parent) (eqb_comm y parent ∙ same)
     by_test true false same is = absurd cc
     by_test false b same is = absurd cc
-parent-body (Changed number change) x y is = absurd cc
-parent-body (AbortSub number) x y is = absurd cc
-parent-body (Abort number) x y is = absurd cc
-parent-body (Commit number time) x y is = absurd cc
+parent-body (Changed xid change) x y is = absurd cc
+parent-body (AbortSub xid) x y is = absurd cc
+parent-body (Abort xid) x y is = absurd cc
+parent-body (Commit xid time) x y is = absurd cc
 
 parent-named : (log : List Record) (x y : ℕ) → is_parent log x y ≡ true → is_named log y ≡ true
 parent-named [] x y is = absurd cc
@@ -133,10 +133,10 @@ chain-one log start end (Assign sub parent) next h x = by_test (sub == x) refl
         chain-under (log ++ record { start = start; end = end; body = Assign sub parent } ∷ []) x parent (chain log parent) here
         (chain-kept log (record { start = start; end = end; body = Assign sub parent }) parent (chain log parent) next next.1 (h parent))
     by_test false same = chain-kept log (record { start = start; end = end; body = Assign sub parent }) x (chain log x) next same (h x)
-chain-one log start end (Changed number change) next h x = chain-kept log (record { start = start; end = end; body = Changed number change }) x (chain log x) next refl (h x)
-chain-one log start end (AbortSub number) next h x = chain-kept log (record { start = start; end = end; body = AbortSub number }) x (chain log x) next refl (h x)
-chain-one log start end (Abort number) next h x = chain-kept log (record { start = start; end = end; body = Abort number }) x (chain log x) next refl (h x)
-chain-one log start end (Commit number time) next h x = chain-kept log (record { start = start; end = end; body = Commit number time }) x (chain log x) next refl (h x)
+chain-one log start end (Changed xid change) next h x = chain-kept log (record { start = start; end = end; body = Changed xid change }) x (chain log x) next refl (h x)
+chain-one log start end (AbortSub xid) next h x = chain-kept log (record { start = start; end = end; body = AbortSub xid }) x (chain log x) next refl (h x)
+chain-one log start end (Abort xid) next h x = chain-kept log (record { start = start; end = end; body = Abort xid }) x (chain log x) next refl (h x)
+chain-one log start end (Commit xid time) next h x = chain-kept log (record { start = start; end = end; body = Commit xid time }) x (chain log x) next refl (h x)
 
 chain-all : (before rest : List Record) → WellFormedAfter before rest → ((x : ℕ) → IsChain before x (chain before x)) → (x : ℕ) → IsChain (before ++ rest) x (chain (before ++ rest) x)
 chain-all before [] h each x = rw (append-nil before) (each x)

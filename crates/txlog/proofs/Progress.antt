@@ -1,4 +1,4 @@
--- Transactions in progress: their numbers are open, belong to no other, and stay so where a record names none of them.
+-- Transactions in progress: their xids are open, belong to no other, and stay so where a record names none of them.
 use Rattle.std.proofs.Common.{◌≡◌, ℕ, zero, suc, ◌+◌, ◌<◌, ◌≤◌, ◌==◌, Bool, true, false, List, [], ◌∷◌, ◌++◌, length, take, get_or, length-take, length-append, add-one, refl, sym, ap, ◌∙◌, arith}
 use Rattle.std.specs.List.{list_any, AllByRecursion}
 use Rattle.std.proofs.lemmas.Bool.{eqb-true, eqb-false}
@@ -8,7 +8,7 @@ use Rattle.txlog.specs.declared.record.Body.{Body}
 use Rattle.txlog.specs.declared.record.Body.TheVariants.{Assign, Change as Changed, AbortSub, Abort, Commit}
 use Rattle.txlog.specs.Log.{assigns, is_assigned, chain_step, chain, last_of, top_of, undoes, is_undone, ends, IsOpen}
 use Rattle.txlog.specs.Publishing.{Open}
-use Rattle.txlog.specs.Invariants.{IsNested, IsInProgress, numbers_of}
+use Rattle.txlog.specs.Invariants.{IsNested, IsInProgress, xids_of}
 use Rattle.txlog.proofs.LiveList.{all_append}
 use Rattle.txlog.proofs.Laws.{has_ended-one, is_assigned-one, is_undone-one, chain-append, chain-unassigned}
 
@@ -24,7 +24,7 @@ pub chain-innermost : (log : List Record) (y : ℕ) (below xs : List ℕ) → ch
 chain-innermost log y below [] is nested = is
 chain-innermost log y below (x ∷ xs) is nested = chain-innermost log x (y ∷ below) xs nested.0 nested.2
 
--- whatever the chain grows by, it ends in the same number
+-- whatever the chain grows by, it ends in the same xid
 last_of-onto : (z y : ℕ) (below xs : List ℕ) → last_of z (onto (y ∷ below) xs) ≡ last_of y below
 last_of-onto z y below [] = refl
 last_of-onto z y below (x ∷ xs) = last_of-onto z x (y ∷ below) xs
@@ -34,22 +34,22 @@ any-onto p [] [] none more = refl
 any-onto p (y ∷ below) [] none more = rw none.0 (any-onto p below [] none.1 tt)
 any-onto p below (x ∷ xs) none more = any-onto p (x ∷ below) xs (more.0, none) more.1
 
-pub IsOpen-innermost : (log : List Record) (next : ℕ) (o : Open) → IsInProgress log next o → IsOpen log (last_of o.number o.savepoints)
+pub IsOpen-innermost : (log : List Record) (next : ℕ) (o : Open) → IsInProgress log next o → IsOpen log (last_of o.xid o.savepoints)
 IsOpen-innermost log next o h =
-    let whole : chain log (last_of o.number o.savepoints) ≡ onto (o.number ∷ []) o.savepoints =
-    chain-innermost log o.number [] o.savepoints (chain-unassigned log o.number h.top) h.nested in
+    let whole : chain log (last_of o.xid o.savepoints) ≡ onto (o.xid ∷ []) o.savepoints =
+    chain-innermost log o.xid [] o.savepoints (chain-unassigned log o.xid h.top) h.nested in
     record {
-      running = rw (whole, last_of-onto (last_of o.number o.savepoints) o.number [] o.savepoints) h.running;
-      undropped = rw whole (any-onto (is_undone log) (o.number ∷ []) o.savepoints (h.undropped.0, tt) h.undropped.1);
+      running = rw (whole, last_of-onto (last_of o.xid o.savepoints) o.xid [] o.savepoints) h.running;
+      undropped = rw whole (any-onto (is_undone log) (o.xid ∷ []) o.savepoints (h.undropped.0, tt) h.undropped.1);
     }
 
 nested-tops : (log : List Record) (t y : ℕ) (below xs : List ℕ) → last_of y below ≡ t → IsNested log (y ∷ below) xs → AllByRecursion (λ x. top_of log x ≡ t) xs
 nested-tops log t y below [] is nested = tt
 nested-tops log t y below (x ∷ xs) is nested = (rw nested.0 is, nested-tops log t x (y ∷ below) xs is nested.2)
 
--- the numbers of a transaction have it as their top
-pub numbers-top : (log : List Record) (next : ℕ) (o : Open) → IsInProgress log next o → AllByRecursion (λ x. top_of log x ≡ o.number) (numbers_of o)
-numbers-top log next o h = (rw (chain-unassigned log o.number h.top) refl, nested-tops log o.number o.number [] o.savepoints refl h.nested)
+-- the xids of a transaction have it as their top
+pub numbers-top : (log : List Record) (next : ℕ) (o : Open) → IsInProgress log next o → AllByRecursion (λ x. top_of log x ≡ o.xid) (xids_of o)
+numbers-top log next o h = (rw (chain-unassigned log o.xid h.top) refl, nested-tops log o.xid o.xid [] o.savepoints refl h.nested)
 
 -- CUT AT A DEPTH
 
@@ -63,20 +63,20 @@ nested_take log zero below xs h = tt
 nested_take log (suc n) below [] h = tt
 nested_take log (suc n) below (x ∷ xs) h = (h.0, h.1, nested_take log n (x ∷ below) xs h.2)
 
-pub in_progress_cut : (log : List Record) (next n : ℕ) (o : Open) → IsInProgress log next o → IsInProgress log next (record { number = o.number; savepoints = take n o.savepoints })
+pub in_progress_cut : (log : List Record) (next n : ℕ) (o : Open) → IsInProgress log next o → IsInProgress log next (record { xid = o.xid; savepoints = take n o.savepoints })
 in_progress_cut log next n o h = record {
   below = (h.below.0, all_take _ n o.savepoints h.below.1);
   top = h.top;
   running = h.running;
   subs = all_take _ n o.savepoints h.subs;
   undropped = (h.undropped.0, all_take _ n o.savepoints h.undropped.1);
-  nested = nested_take log n (o.number ∷ []) o.savepoints h.nested;
+  nested = nested_take log n (o.xid ∷ []) o.savepoints h.nested;
   deep = omega (arith, length-take n o.savepoints, h.deep);
 }
 
 -- ONE MORE RECORD
 
--- a body does nothing to a number
+-- a body does nothing to an xid
 pub record IsQuiet (body : Body) (x : ℕ) : Type 0 where
   pub assigned : assigns x body ≡ false
   pub ended : ends x body ≡ false
@@ -84,10 +84,10 @@ pub record IsQuiet (body : Body) (x : ℕ) : Type 0 where
 
 step-quiet : (above : ℕ → List ℕ) (body : Body) (x : ℕ) → assigns x body ≡ false → chain_step above body x ≡ above x
 step-quiet above (Assign sub parent) x other = rw other refl
-step-quiet above (Changed number change) x other = refl
-step-quiet above (AbortSub number) x other = refl
-step-quiet above (Abort number) x other = refl
-step-quiet above (Commit number time) x other = refl
+step-quiet above (Changed xid change) x other = refl
+step-quiet above (AbortSub xid) x other = refl
+step-quiet above (Abort xid) x other = refl
+step-quiet above (Commit xid time) x other = refl
 
 pub chain-quiet : (log : List Record) (r : Record) (x : ℕ) → assigns x r.body ≡ false → chain (log ++ r ∷ []) x ≡ chain log x
 chain-quiet log r x other = chain-append log r x ∙ step-quiet (chain log) r.body x other
@@ -108,19 +108,19 @@ below-more : (next more : ℕ) (xs : List ℕ) → next ≤ more → AllByRecurs
 below-more next more [] le all = tt
 below-more next more (x ∷ xs) le all = (omega (arith, all.0), below-more next more xs le all.1)
 
-pub in_progress_quiet : (log : List Record) (r : Record) (next more : ℕ) (o : Open) → next ≤ more → AllByRecursion (IsQuiet r.body) (numbers_of o) →
+pub in_progress_quiet : (log : List Record) (r : Record) (next more : ℕ) (o : Open) → next ≤ more → AllByRecursion (IsQuiet r.body) (xids_of o) →
     IsInProgress log next o → IsInProgress (log ++ r ∷ []) more o
 in_progress_quiet log r next more o le quiet h = record {
-  below = below-more next more (numbers_of o) le h.below;
-  top = is_assigned-one log r o.number ∙ rw (h.top, quiet.0.assigned) refl;
-  running = has_ended-one log r o.number ∙ rw (h.running, quiet.0.ended) refl;
+  below = below-more next more (xids_of o) le h.below;
+  top = is_assigned-one log r o.xid ∙ rw (h.top, quiet.0.assigned) refl;
+  running = has_ended-one log r o.xid ∙ rw (h.running, quiet.0.ended) refl;
   subs = subs-more log r o.savepoints h.subs;
-  undropped = undropped-quiet log r (numbers_of o) quiet h.undropped;
-  nested = nested-quiet log r (o.number ∷ []) o.savepoints quiet.1 h.nested;
+  undropped = undropped-quiet log r (xids_of o) quiet h.undropped;
+  nested = nested-quiet log r (o.xid ∷ []) o.savepoints quiet.1 h.nested;
   deep = h.deep;
 }
 
--- numbers of different transactions differ
+-- xids of different transactions differ
 pub tops_apart : (log : List Record) (x y s t : ℕ) → top_of log x ≡ s → top_of log y ≡ t → (s == t) ≡ false → (x == y) ≡ false
 tops_apart log x y s t x_top y_top other = by_test (x == y) (λ same.
     let one : s ≡ t = sym x_top ∙ ap (top_of log) (eqb-true x y same) ∙ y_top in
@@ -141,15 +141,15 @@ nested_push log x below [] h is low = (is, low, tt)
 nested_push log x below (y ∷ xs) h is low = (h.0, h.1, nested_push log x (y ∷ below) xs h.2 is low)
 
 pub in_progress_push : (log : List Record) (next x : ℕ) (o : Open) → IsInProgress log next o → x < next → is_assigned log x ≡ true → is_undone log x ≡ false →
-    chain log x ≡ x ∷ onto (o.number ∷ []) o.savepoints → AllByRecursion (λ y. y < x) (numbers_of o) → length o.savepoints < MAX_DEPTH →
-    IsInProgress log next (record { number = o.number; savepoints = o.savepoints ++ x ∷ [] })
+    chain log x ≡ x ∷ onto (o.xid ∷ []) o.savepoints → AllByRecursion (λ y. y < x) (xids_of o) → length o.savepoints < MAX_DEPTH →
+    IsInProgress log next (record { xid = o.xid; savepoints = o.savepoints ++ x ∷ [] })
 in_progress_push log next x o h lt sub undropped is low shallow = record {
   below = (h.below.0, all_append _ o.savepoints (x ∷ []) h.below.1 (lt, tt));
   top = h.top;
   running = h.running;
   subs = all_append _ o.savepoints (x ∷ []) h.subs (sub, tt);
   undropped = (h.undropped.0, all_append _ o.savepoints (x ∷ []) h.undropped.1 (undropped, tt));
-  nested = nested_push log x (o.number ∷ []) o.savepoints h.nested is (all_onto (λ y. y < x) (o.number ∷ []) o.savepoints (low.0, tt) low.1);
+  nested = nested_push log x (o.xid ∷ []) o.savepoints h.nested is (all_onto (λ y. y < x) (o.xid ∷ []) o.savepoints (low.0, tt) low.1);
   deep = omega (arith, shallow, length-append o.savepoints (x ∷ []));
 }
 
@@ -164,11 +164,11 @@ nested_at log n below [] lt h = absurd (omega arith)
 nested_at log zero below (x ∷ xs) lt h = h.1
 nested_at log (suc n) below (x ∷ xs) lt h = nested_at log n (x ∷ below) xs (omega arith) h.2
 
--- the savepoint at a place is above all numbers before it
+-- the savepoint at a place is above all xids before it
 pub above_numbers : (log : List Record) (next n : ℕ) (o : Open) → IsInProgress log next o → n < length o.savepoints →
-    AllByRecursion (λ y. y < get_or o.savepoints n 0) (o.number ∷ take n o.savepoints)
+    AllByRecursion (λ y. y < get_or o.savepoints n 0) (o.xid ∷ take n o.savepoints)
 above_numbers log next n o h lt =
-    let both = all_from_onto (λ y. y < get_or o.savepoints n 0) (o.number ∷ []) (take n o.savepoints) (nested_at log n (o.number ∷ []) o.savepoints lt h.nested) in
+    let both = all_from_onto (λ y. y < get_or o.savepoints n 0) (o.xid ∷ []) (take n o.savepoints) (nested_at log n (o.xid ∷ []) o.savepoints lt h.nested) in
     (both.0.0, both.1)
 
 pub last_of-take : (y n : ℕ) (xs : List ℕ) → n < length xs → last_of y (take (n + 1) xs) ≡ get_or xs n 0

@@ -8,13 +8,13 @@ use Rattle.tables.specs.declared.table.Table.{Table}
 use Rattle.tables.specs.declared.change.Change.{Change}
 use Rattle.tables.specs.Tables.{FitsChange}
 use Rattle.txlog.specs.declared.limits.TheConstants.{MAX_LIVE, MAX_DEPTH, MAX_RECORDS}
-use Rattle.txlog.specs.declared.record.TheConstants.{FIRST_POSITION, FIRST_NUMBER}
+use Rattle.txlog.specs.declared.record.TheConstants.{FIRST_POSITION, FIRST_XID}
 use Rattle.txlog.specs.declared.record.Record.{Record}
 use Rattle.txlog.specs.declared.record.Body.{Body}
 use Rattle.txlog.specs.declared.record.Body.TheVariants.{Assign, Change as Changed, AbortSub, Abort, Commit}
 use Rattle.txlog.specs.Log.{IsSized, IsOpen, IsNext, FitsBody, FitsRecord, size_of, end_of, names, is_named, assigns, is_assigned, chain, last_of, top_of, undoes, is_undone, ends}
 use Rattle.txlog.specs.Publishing.{Open, PublisherState, record_after, room, is_live, savepoints_of, innermost, with_savepoints, without, begun, changed, saved, released, rolled_back, ended, after_commit, after_abort}
-use Rattle.txlog.specs.Invariants.{IsLog, IsInProgress, IsPublisher, numbers_of}
+use Rattle.txlog.specs.Invariants.{IsLog, IsInProgress, IsPublisher, xids_of}
 use Rattle.txlog.proofs.Laws.{end_of-append, follows-append, WellFormedAfter-append, is_named-one, is_assigned-one, is_undone-one, chain-append, chain-unassigned, all_when}
 use Rattle.txlog.proofs.LiveList.{eqb_comm, all_append, found, length-with_savepoints, rising-with_savepoints, all_changed, all_without, rising-without, length-without, rising-push}
 use Rattle.txlog.proofs.Progress.{onto, chain-innermost, IsOpen-innermost, numbers-top, in_progress_push, above_numbers, last_of-take, all_at, in_progress_cut, IsQuiet, in_progress_quiet, tops_apart}
@@ -34,13 +34,13 @@ log_grown tables log body h next fits small few =
       near = rw (end_of-append FIRST_POSITION log (record_after log body ∷ [])) (omega (arith, h.near, small, length-append log (record_after log body ∷ [])));
     }
 
--- no number that comes later is named
+-- no xid that comes later is named
 fresh_grown : (log : List Record) (r : Record) (next more : ℕ) → next ≤ more → ((x : ℕ) → next ≤ x → is_named log x ≡ false) → ((x : ℕ) → more ≤ x → names x r.body ≡ false) →
     (x : ℕ) → more ≤ x → is_named (log ++ r ∷ []) x ≡ false
 fresh_grown log r next more le fresh later x above = is_named-one log r x ∙ rw (fresh x (omega arith), later x above) refl
 
-later_than : (number more x : ℕ) → number < more → more ≤ x → (x == number) ≡ false
-later_than number more x below above = ne_eqb x number (λ is. absurd (omega (arith, is)))
+later_than : (xid more x : ℕ) → xid < more → more ≤ x → (x == xid) ≡ false
+later_than xid more x below above = ne_eqb x xid (λ is. absurd (omega (arith, is)))
 
 -- what no record names is no subtransaction, has not ended and is not rolled back
 unnamed : (test : ℕ → Body → Bool) (x : ℕ) → ((body : Body) → names x body ≡ false → test x body ≡ false) → (log : List Record) → is_named log x ≡ false → list_any (λ r. test x r.body) log ≡ false
@@ -58,33 +58,33 @@ or_first false b e = refl
 
 unnamed-assigns : (x : ℕ) (body : Body) → names x body ≡ false → assigns x body ≡ false
 unnamed-assigns x (Assign sub parent) none = eqb_comm sub x ∙ or_first (x == sub) (x == parent) none
-unnamed-assigns x (Changed number change) none = refl
-unnamed-assigns x (AbortSub number) none = refl
-unnamed-assigns x (Abort number) none = refl
-unnamed-assigns x (Commit number time) none = refl
+unnamed-assigns x (Changed xid change) none = refl
+unnamed-assigns x (AbortSub xid) none = refl
+unnamed-assigns x (Abort xid) none = refl
+unnamed-assigns x (Commit xid time) none = refl
 
 unnamed-ends : (x : ℕ) (body : Body) → names x body ≡ false → ends x body ≡ false
 unnamed-ends x (Assign sub parent) none = refl
-unnamed-ends x (Changed number change) none = refl
-unnamed-ends x (AbortSub number) none = refl
-unnamed-ends x (Abort number) none = eqb_comm number x ∙ none
-unnamed-ends x (Commit number time) none = eqb_comm number x ∙ none
+unnamed-ends x (Changed xid change) none = refl
+unnamed-ends x (AbortSub xid) none = refl
+unnamed-ends x (Abort xid) none = eqb_comm xid x ∙ none
+unnamed-ends x (Commit xid time) none = eqb_comm xid x ∙ none
 
 unnamed-undoes : (x : ℕ) (body : Body) → names x body ≡ false → undoes x body ≡ false
 unnamed-undoes x (Assign sub parent) none = refl
-unnamed-undoes x (Changed number change) none = refl
-unnamed-undoes x (AbortSub number) none = eqb_comm number x ∙ none
-unnamed-undoes x (Abort number) none = refl
-unnamed-undoes x (Commit number time) none = refl
+unnamed-undoes x (Changed xid change) none = refl
+unnamed-undoes x (AbortSub xid) none = eqb_comm xid x ∙ none
+unnamed-undoes x (Abort xid) none = refl
+unnamed-undoes x (Commit xid time) none = refl
 
 -- CALLS THAT WRITE NO RECORD
 
-pub at_first-IsPublisher : (tables : List Table) (records : ℕ) → records ≤ MAX_RECORDS → IsPublisher (record { tables = tables; capacity = records; log = []; next = FIRST_NUMBER; live = [] })
-at_first-IsPublisher tables records le = record {
+pub new_publisher-IsPublisher : (tables : List Table) (records : ℕ) → records ≤ MAX_RECORDS → IsPublisher (record { tables = tables; capacity = records; log = []; next = FIRST_XID; live = [] })
+new_publisher-IsPublisher tables records le = record {
   log = record { good = record { follows = refl; sizes = tt; order = tt }; in_range = tt; near = omega arith };
   limit = le;
   reserve = omega arith;
-  numbers = omega arith;
+  xids = omega arith;
   few = omega arith;
   fresh = λ x above. refl;
   rising = tt;
@@ -93,7 +93,7 @@ at_first-IsPublisher tables records le = record {
 
 in_progress_later : (log : List Record) (next more : ℕ) → next ≤ more → (o : Open) → IsInProgress log next o → IsInProgress log more o
 in_progress_later log next more le o h = record {
-  below = all_when _ _ (λ (x : ℕ) (lt : x < next). omega (arith, lt, le)) (numbers_of o) h.below;
+  below = all_when _ _ (λ (x : ℕ) (lt : x < next). omega (arith, lt, le)) (xids_of o) h.below;
   top = h.top;
   running = h.running;
   subs = h.subs;
@@ -104,17 +104,17 @@ in_progress_later log next more le o h = record {
 
 pub begun-IsPublisher : (s : PublisherState) → IsPublisher s → length s.live < MAX_LIVE → 0 < room s → IsPublisher (begun s)
 begun-IsPublisher s h few free =
-    let o : Open = record { number = s.next; savepoints = [] } in
-    let longer : length (s.live ++ record { number = s.next; savepoints = [] } ∷ []) ≡ length s.live + 1 = length-append s.live (record { number = s.next; savepoints = [] } ∷ []) in
+    let o : Open = record { xid = s.next; savepoints = [] } in
+    let longer : length (s.live ++ record { xid = s.next; savepoints = [] } ∷ []) ≡ length s.live + 1 = length-append s.live (record { xid = s.next; savepoints = [] } ∷ []) in
     record {
       log = h.log;
       limit = h.limit;
       reserve = omega (arith, longer, free);
-      numbers = omega (arith, longer, h.numbers);
+      xids = omega (arith, longer, h.xids);
       few = omega (arith, longer, few);
       fresh = λ x above. h.fresh x (omega arith);
-      rising = rising-push s.live (record { number = s.next; savepoints = [] }) (all_when _ _ (λ (p : Open) (running : IsInProgress s.log s.next p). running.below.0) s.live h.live) h.rising;
-      live = all_append _ s.live (record { number = s.next; savepoints = [] } ∷ []) (all_when _ _ (in_progress_later s.log s.next (s.next + 1) (omega arith)) s.live h.live) (
+      rising = rising-push s.live (record { xid = s.next; savepoints = [] }) (all_when _ _ (λ (p : Open) (running : IsInProgress s.log s.next p). running.below.0) s.live h.live) h.rising;
+      live = all_append _ s.live (record { xid = s.next; savepoints = [] } ∷ []) (all_when _ _ (in_progress_later s.log s.next (s.next + 1) (omega arith)) s.live h.live) (
         record {
           below = (omega arith, tt);
           top = unnamed assigns s.next (unnamed-assigns s.next) s.log (h.fresh s.next (omega arith));
@@ -128,21 +128,21 @@ begun-IsPublisher s h few free =
       );
     }
 
-pub released-IsPublisher : (s : PublisherState) (number depth : ℕ) → IsPublisher s → is_live number s.live ≡ true → IsPublisher (released number depth s)
-released-IsPublisher s number depth h is =
-    let xs : List ℕ = take (depth - 1) (savepoints_of number s.live) in
-    let same : length (with_savepoints number (take (depth - 1) (savepoints_of number s.live)) s.live) ≡ length s.live = length-with_savepoints number xs s.live in
-    let o : IsInProgress s.log s.next (record { number = number; savepoints = savepoints_of number s.live }) = found _ number s.live is h.live in
+pub released-IsPublisher : (s : PublisherState) (xid depth : ℕ) → IsPublisher s → is_live xid s.live ≡ true → IsPublisher (released xid depth s)
+released-IsPublisher s xid depth h is =
+    let xs : List ℕ = take (depth - 1) (savepoints_of xid s.live) in
+    let same : length (with_savepoints xid (take (depth - 1) (savepoints_of xid s.live)) s.live) ≡ length s.live = length-with_savepoints xid xs s.live in
+    let o : IsInProgress s.log s.next (record { xid = xid; savepoints = savepoints_of xid s.live }) = found _ xid s.live is h.live in
     record {
       log = h.log;
       limit = h.limit;
       reserve = omega (arith, same, h.reserve);
-      numbers = omega (arith, same, h.numbers);
+      xids = omega (arith, same, h.xids);
       few = omega (arith, same, h.few);
       fresh = h.fresh;
-      rising = rising-with_savepoints number xs s.live h.rising;
-      live = all_changed (IsInProgress s.log s.next) (IsInProgress s.log s.next) number xs s.live h.rising h.live (λ p running other. running)
-          (in_progress_cut s.log s.next (depth - 1) (record { number = number; savepoints = savepoints_of number s.live }) o);
+      rising = rising-with_savepoints xid xs s.live h.rising;
+      live = all_changed (IsInProgress s.log s.next) (IsInProgress s.log s.next) xid xs s.live h.rising h.live (λ p running other. running)
+          (in_progress_cut s.log s.next (depth - 1) (record { xid = xid; savepoints = savepoints_of xid s.live }) o);
     }
 
 -- CALLS THAT WRITE A RECORD
@@ -151,143 +151,143 @@ all_innermost : (P : ℕ → Type 0) (y : ℕ) (xs : List ℕ) → AllByRecursio
 all_innermost P y [] all = all.0
 all_innermost P y (x ∷ xs) all = all_innermost P x xs all.1
 
-open_at : (s : PublisherState) (number : ℕ) → IsPublisher s → is_live number s.live ≡ true →
-    IsInProgress s.log s.next (record { number = number; savepoints = savepoints_of number s.live })
-open_at s number h is = found (IsInProgress s.log s.next) number s.live is h.live
+open_at : (s : PublisherState) (xid : ℕ) → IsPublisher s → is_live xid s.live ≡ true →
+    IsInProgress s.log s.next (record { xid = xid; savepoints = savepoints_of xid s.live })
+open_at s xid h is = found (IsInProgress s.log s.next) xid s.live is h.live
 
 all_quiet : (body : Body) → ((x : ℕ) → IsQuiet body x) → (xs : List ℕ) → AllByRecursion (IsQuiet body) xs
 all_quiet body quiet [] = tt
 all_quiet body quiet (x ∷ xs) = (quiet x, all_quiet body quiet xs)
 
-innermost_below : (s : PublisherState) (number : ℕ) → IsPublisher s → is_live number s.live ≡ true → innermost number s.live < s.next
-innermost_below s number h is = all_innermost (λ x. x < s.next) number (savepoints_of number s.live) (open_at s number h is).below
+innermost_below : (s : PublisherState) (xid : ℕ) → IsPublisher s → is_live xid s.live ≡ true → innermost xid s.live < s.next
+innermost_below s xid h is = all_innermost (λ x. x < s.next) xid (savepoints_of xid s.live) (open_at s xid h is).below
 
-pub changed-IsPublisher : (s : PublisherState) (number : ℕ) (change : Change) → IsPublisher s → is_live number s.live ≡ true → 0 < room s →
-    FitsChange s.tables change → size_of (Changed (innermost number s.live) change) ≤ 2 ^ 14 → IsPublisher (changed number change s)
-changed-IsPublisher s number change h is free fits small =
-    let body : Body = Changed (innermost number s.live) change in
-    let r : Record = record_after s.log (Changed (innermost number s.live) change) in
-    let below : innermost number s.live < s.next = innermost_below s number h is in
-    let longer : length (s.log ++ record_after s.log (Changed (innermost number s.live) change) ∷ []) ≡ length s.log + 1 = length-append s.log (r ∷ []) in
+pub changed-IsPublisher : (s : PublisherState) (xid : ℕ) (change : Change) → IsPublisher s → is_live xid s.live ≡ true → 0 < room s →
+    FitsChange s.tables change → size_of (Changed (innermost xid s.live) change) ≤ 2 ^ 14 → IsPublisher (changed xid change s)
+changed-IsPublisher s xid change h is free fits small =
+    let body : Body = Changed (innermost xid s.live) change in
+    let r : Record = record_after s.log (Changed (innermost xid s.live) change) in
+    let below : innermost xid s.live < s.next = innermost_below s xid h is in
+    let longer : length (s.log ++ record_after s.log (Changed (innermost xid s.live) change) ∷ []) ≡ length s.log + 1 = length-append s.log (r ∷ []) in
     record {
-      log = log_grown s.tables s.log body h.log (IsOpen-innermost s.log s.next (record { number = number; savepoints = savepoints_of number s.live }) (open_at s number h is))
-          (omega (arith, h.limit, h.numbers, h.reserve), fits) small (omega (arith, h.limit));
+      log = log_grown s.tables s.log body h.log (IsOpen-innermost s.log s.next (record { xid = xid; savepoints = savepoints_of xid s.live }) (open_at s xid h is))
+          (omega (arith, h.limit, h.xids, h.reserve), fits) small (omega (arith, h.limit));
       limit = h.limit;
       reserve = omega (arith, longer, free);
-      numbers = omega (arith, longer, h.numbers);
+      xids = omega (arith, longer, h.xids);
       few = h.few;
-      fresh = fresh_grown s.log r s.next s.next (omega arith) h.fresh (λ x above. later_than (innermost number s.live) s.next x below above);
+      fresh = fresh_grown s.log r s.next s.next (omega arith) h.fresh (λ x above. later_than (innermost xid s.live) s.next x below above);
       rising = h.rising;
       live = all_when _ _ (λ (p : Open) (running : IsInProgress s.log s.next p).
-          in_progress_quiet s.log r s.next s.next p (omega arith) (all_quiet body (λ x. record { assigned = refl; ended = refl; undone = refl }) (numbers_of p)) running) s.live h.live;
+          in_progress_quiet s.log r s.next s.next p (omega arith) (all_quiet body (λ x. record { assigned = refl; ended = refl; undone = refl }) (xids_of p)) running) s.live h.live;
     }
 
--- the end of another transaction does nothing to the numbers of this one
-quiet_by_top : (log : List Record) (next y t : ℕ) (body : Body) (p : Open) → IsInProgress log next p → top_of log y ≡ t → (p.number == t) ≡ false →
-    ((x : ℕ) → (y == x) ≡ false → IsQuiet body x) → AllByRecursion (IsQuiet body) (numbers_of p)
+-- the end of another transaction does nothing to the xids of this one
+quiet_by_top : (log : List Record) (next y t : ℕ) (body : Body) (p : Open) → IsInProgress log next p → top_of log y ≡ t → (p.xid == t) ≡ false →
+    ((x : ℕ) → (y == x) ≡ false → IsQuiet body x) → AllByRecursion (IsQuiet body) (xids_of p)
 quiet_by_top log next y t body p running top other quiet =
-    all_when _ _ (λ (x : ℕ) (x_top : top_of log x ≡ p.number). quiet x (tops_apart log y x t p.number top x_top (eqb_comm t p.number ∙ other))) (numbers_of p) (numbers-top log next p running)
+    all_when _ _ (λ (x : ℕ) (x_top : top_of log x ≡ p.xid). quiet x (tops_apart log y x t p.xid top x_top (eqb_comm t p.xid ∙ other))) (xids_of p) (numbers-top log next p running)
 
-ended-IsPublisher : (s : PublisherState) (number : ℕ) (body : Body) → IsPublisher s → is_live number s.live ≡ true →
-    (is_assigned s.log number ≡ false → IsOpen s.log number → IsNext s.log body) → (number < 2 ^ 32 → FitsBody s.tables body) → size_of body ≤ 2 ^ 14 →
-    ((x : ℕ) → names x body ≡ (x == number)) → ((x : ℕ) → (number == x) ≡ false → IsQuiet body x) → IsPublisher (ended number body s)
-ended-IsPublisher s number body h is next fits small naming quiet =
-    let o : IsInProgress s.log s.next (record { number = number; savepoints = savepoints_of number s.live }) = open_at s number h is in
-    let alone : IsOpen s.log number = IsOpen-innermost s.log s.next (record { number = number; savepoints = [] })
-    (in_progress_cut s.log s.next 0 (record { number = number; savepoints = savepoints_of number s.live }) o) in
+ended-IsPublisher : (s : PublisherState) (xid : ℕ) (body : Body) → IsPublisher s → is_live xid s.live ≡ true →
+    (is_assigned s.log xid ≡ false → IsOpen s.log xid → IsNext s.log body) → (xid < 2 ^ 32 → FitsBody s.tables body) → size_of body ≤ 2 ^ 14 →
+    ((x : ℕ) → names x body ≡ (x == xid)) → ((x : ℕ) → (xid == x) ≡ false → IsQuiet body x) → IsPublisher (ended xid body s)
+ended-IsPublisher s xid body h is next fits small naming quiet =
+    let o : IsInProgress s.log s.next (record { xid = xid; savepoints = savepoints_of xid s.live }) = open_at s xid h is in
+    let alone : IsOpen s.log xid = IsOpen-innermost s.log s.next (record { xid = xid; savepoints = [] })
+    (in_progress_cut s.log s.next 0 (record { xid = xid; savepoints = savepoints_of xid s.live }) o) in
     let r : Record = record_after s.log body in
-    let below : number < s.next = o.below.0 in
-    let top : top_of s.log number ≡ number = rw (chain-unassigned s.log number o.top) refl in
+    let below : xid < s.next = o.below.0 in
+    let top : top_of s.log xid ≡ xid = rw (chain-unassigned s.log xid o.top) refl in
     let longer : length (s.log ++ record_after s.log body ∷ []) ≡ length s.log + 1 = length-append s.log (r ∷ []) in
-    let fewer : length (without number s.live) + 1 ≡ length s.live = length-without number s.live h.rising is in
+    let fewer : length (without xid s.live) + 1 ≡ length s.live = length-without xid s.live h.rising is in
     record {
-      log = log_grown s.tables s.log body h.log (next o.top alone) (fits (omega (arith, h.limit, h.numbers, h.reserve))) small (omega (arith, h.limit, h.reserve));
+      log = log_grown s.tables s.log body h.log (next o.top alone) (fits (omega (arith, h.limit, h.xids, h.reserve))) small (omega (arith, h.limit, h.reserve));
       limit = h.limit;
       reserve = omega (arith, longer, fewer, h.reserve);
-      numbers = omega (arith, longer, fewer, h.numbers);
+      xids = omega (arith, longer, fewer, h.xids);
       few = omega (arith, fewer, h.few);
-      fresh = fresh_grown s.log r s.next s.next (omega arith) h.fresh (λ x above. naming x ∙ later_than number s.next x below above);
-      rising = rising-without number s.live h.rising;
-      live = all_without (IsInProgress s.log s.next) (IsInProgress (s.log ++ r ∷ []) s.next) number s.live h.live
-          (λ p running other. in_progress_quiet s.log r s.next s.next p (omega arith) (quiet_by_top s.log s.next number number body p running top other quiet) running);
+      fresh = fresh_grown s.log r s.next s.next (omega arith) h.fresh (λ x above. naming x ∙ later_than xid s.next x below above);
+      rising = rising-without xid s.live h.rising;
+      live = all_without (IsInProgress s.log s.next) (IsInProgress (s.log ++ r ∷ []) s.next) xid s.live h.live
+          (λ p running other. in_progress_quiet s.log r s.next s.next p (omega arith) (quiet_by_top s.log s.next xid xid body p running top other quiet) running);
     }
 
-pub after_commit-IsPublisher : (s : PublisherState) (number : ℕ) (time : ℤ) → IsPublisher s → is_live number s.live ≡ true → FitsSigned w64 time → IsPublisher (after_commit number time s)
-after_commit-IsPublisher s number time h is fits =
-    ended-IsPublisher s number (Commit number time) h is (λ top alone. (top, alone)) (λ lt. (lt, fits)) (omega arith) (λ x. refl)
+pub after_commit-IsPublisher : (s : PublisherState) (xid : ℕ) (time : ℤ) → IsPublisher s → is_live xid s.live ≡ true → FitsSigned w64 time → IsPublisher (after_commit xid time s)
+after_commit-IsPublisher s xid time h is fits =
+    ended-IsPublisher s xid (Commit xid time) h is (λ top alone. (top, alone)) (λ lt. (lt, fits)) (omega arith) (λ x. refl)
     (λ x other. record { assigned = refl; ended = other; undone = refl })
 
-pub after_abort-IsPublisher : (s : PublisherState) (number : ℕ) → IsPublisher s → is_live number s.live ≡ true → IsPublisher (after_abort number s)
-after_abort-IsPublisher s number h is =
-    ended-IsPublisher s number (Abort number) h is (λ top alone. (top, alone)) (λ lt. lt) (omega arith) (λ x. refl)
+pub after_abort-IsPublisher : (s : PublisherState) (xid : ℕ) → IsPublisher s → is_live xid s.live ≡ true → IsPublisher (after_abort xid s)
+after_abort-IsPublisher s xid h is =
+    ended-IsPublisher s xid (Abort xid) h is (λ top alone. (top, alone)) (λ lt. lt) (omega arith) (λ x. refl)
     (λ x other. record { assigned = refl; ended = other; undone = refl })
 
-pub saved-IsPublisher : (s : PublisherState) (number : ℕ) → IsPublisher s → is_live number s.live ≡ true → length (savepoints_of number s.live) < MAX_DEPTH → 0 < room s → IsPublisher (saved number s)
-saved-IsPublisher s number h is shallow free =
-    let xs : List ℕ = savepoints_of number s.live in
-    let parent : ℕ = innermost number s.live in
+pub saved-IsPublisher : (s : PublisherState) (xid : ℕ) → IsPublisher s → is_live xid s.live ≡ true → length (savepoints_of xid s.live) < MAX_DEPTH → 0 < room s → IsPublisher (saved xid s)
+saved-IsPublisher s xid h is shallow free =
+    let xs : List ℕ = savepoints_of xid s.live in
+    let parent : ℕ = innermost xid s.live in
     let body : Body = Assign s.next parent in
     let r : Record = record_after s.log body in
-    let o : Open = record { number = number; savepoints = xs } in
-    let running : IsInProgress s.log s.next o = open_at s number h is in
-    let below : parent < s.next = innermost_below s number h is in
+    let o : Open = record { xid = xid; savepoints = xs } in
+    let running : IsInProgress s.log s.next o = open_at s xid h is in
+    let below : parent < s.next = innermost_below s xid h is in
     let longer : length (s.log ++ r ∷ []) ≡ length s.log + 1 = length-append s.log (r ∷ []) in
-    let same : length (with_savepoints number (xs ++ s.next ∷ []) s.live) ≡ length s.live = length-with_savepoints number (xs ++ s.next ∷ []) s.live in
+    let same : length (with_savepoints xid (xs ++ s.next ∷ []) s.live) ≡ length s.live = length-with_savepoints xid (xs ++ s.next ∷ []) s.live in
     let unheard : is_named s.log s.next ≡ false = h.fresh s.next (omega arith) in
-    let quiet : (p : Open) → IsInProgress s.log s.next p → AllByRecursion (IsQuiet body) (numbers_of p) =
-    λ p progress. all_when _ _ (λ (x : ℕ) (lt : x < s.next). record { assigned = ne_eqb s.next x (λ e. absurd (omega (arith, lt, e))); ended = refl; undone = refl }) (numbers_of p) progress.below in
-    let chained : chain (s.log ++ r ∷ []) s.next ≡ s.next ∷ onto (number ∷ []) xs =
-    chain-append s.log r s.next ∙ rw (eq-eqb s.next s.next refl) (ap (λ ys. s.next ∷ ys) (chain-innermost s.log number [] xs (chain-unassigned s.log number running.top) running.nested)) in
+    let quiet : (p : Open) → IsInProgress s.log s.next p → AllByRecursion (IsQuiet body) (xids_of p) =
+    λ p progress. all_when _ _ (λ (x : ℕ) (lt : x < s.next). record { assigned = ne_eqb s.next x (λ e. absurd (omega (arith, lt, e))); ended = refl; undone = refl }) (xids_of p) progress.below in
+    let chained : chain (s.log ++ r ∷ []) s.next ≡ s.next ∷ onto (xid ∷ []) xs =
+    chain-append s.log r s.next ∙ rw (eq-eqb s.next s.next refl) (ap (λ ys. s.next ∷ ys) (chain-innermost s.log xid [] xs (chain-unassigned s.log xid running.top) running.nested)) in
     let assigned : is_assigned (s.log ++ r ∷ []) s.next ≡ true =
     is_assigned-one s.log r s.next ∙ rw (unnamed assigns s.next (unnamed-assigns s.next) s.log unheard, eq-eqb s.next s.next refl) refl in
     let undropped : is_undone (s.log ++ r ∷ []) s.next ≡ false =
     is_undone-one s.log r s.next ∙ rw (unnamed undoes s.next (unnamed-undoes s.next) s.log unheard) refl in
     record {
       log = log_grown s.tables s.log body h.log (unheard, ne_eqb s.next parent (λ e. absurd (omega (arith, below, e))), IsOpen-innermost s.log s.next o running)
-          (omega (arith, h.limit, h.numbers, h.reserve, free), omega (arith, below, h.limit, h.numbers, h.reserve)) (omega arith) (omega (arith, h.limit, free));
+          (omega (arith, h.limit, h.xids, h.reserve, free), omega (arith, below, h.limit, h.xids, h.reserve)) (omega arith) (omega (arith, h.limit, free));
       limit = h.limit;
       reserve = omega (arith, longer, same, free);
-      numbers = omega (arith, longer, same, h.numbers);
+      xids = omega (arith, longer, same, h.xids);
       few = omega (arith, same, h.few);
       fresh = fresh_grown s.log r s.next (s.next + 1) (omega arith) h.fresh
           (λ x above. rw (later_than s.next (s.next + 1) x (omega arith) above, later_than parent (s.next + 1) x (omega (arith, below)) above) refl);
-      rising = rising-with_savepoints number (xs ++ s.next ∷ []) s.live h.rising;
-      live = all_changed (IsInProgress s.log s.next) (IsInProgress (s.log ++ r ∷ []) (s.next + 1)) number (xs ++ s.next ∷ []) s.live h.rising h.live
+      rising = rising-with_savepoints xid (xs ++ s.next ∷ []) s.live h.rising;
+      live = all_changed (IsInProgress s.log s.next) (IsInProgress (s.log ++ r ∷ []) (s.next + 1)) xid (xs ++ s.next ∷ []) s.live h.rising h.live
           (λ p progress other. in_progress_quiet s.log r s.next (s.next + 1) p (omega arith) (quiet p progress) progress)
           (in_progress_push (s.log ++ r ∷ []) (s.next + 1) s.next o (in_progress_quiet s.log r s.next (s.next + 1) o (omega arith) (quiet o running) running)
           (omega arith) assigned undropped chained running.below shallow);
     }
 
-pub rolled_back-IsPublisher : (s : PublisherState) (number depth : ℕ) → IsPublisher s → is_live number s.live ≡ true → 0 < depth → depth ≤ length (savepoints_of number s.live) → 0 < room s → IsPublisher (rolled_back number depth s)
-rolled_back-IsPublisher s number depth h is some within free =
-    let xs : List ℕ = savepoints_of number s.live in
+pub rolled_back-IsPublisher : (s : PublisherState) (xid depth : ℕ) → IsPublisher s → is_live xid s.live ≡ true → 0 < depth → depth ≤ length (savepoints_of xid s.live) → 0 < room s → IsPublisher (rolled_back xid depth s)
+rolled_back-IsPublisher s xid depth h is some within free =
+    let xs : List ℕ = savepoints_of xid s.live in
     let n : ℕ = depth - 1 in
     let sub : ℕ = get_or xs n 0 in
     let lt : n < length xs = omega (arith, some, within) in
     let body : Body = AbortSub sub in
     let r : Record = record_after s.log body in
-    let o : Open = record { number = number; savepoints = xs } in
-    let running : IsInProgress s.log s.next o = open_at s number h is in
-    let cut : IsInProgress s.log s.next (record { number = number; savepoints = take n xs }) = in_progress_cut s.log s.next n o running in
+    let o : Open = record { xid = xid; savepoints = xs } in
+    let running : IsInProgress s.log s.next o = open_at s xid h is in
+    let cut : IsInProgress s.log s.next (record { xid = xid; savepoints = take n xs }) = in_progress_cut s.log s.next n o running in
     let below : sub < s.next = all_at (λ x. x < s.next) n xs lt running.below.1 in
     let longer : length (s.log ++ r ∷ []) ≡ length s.log + 1 = length-append s.log (r ∷ []) in
-    let same : length (with_savepoints number (take n xs) s.live) ≡ length s.live = length-with_savepoints number (take n xs) s.live in
-    let last : last_of number (take (n + 1) xs) ≡ sub = last_of-take number n xs lt in
-    let alive : IsOpen s.log sub = subst (λ (x : ℕ). IsOpen s.log x) last (IsOpen-innermost s.log s.next (record { number = number; savepoints = take (n + 1) xs }) (in_progress_cut s.log s.next (n + 1) o running)) in
-    let top : top_of s.log sub ≡ number = all_at (λ x. top_of s.log x ≡ number) n xs lt (numbers-top s.log s.next o running).1 in
+    let same : length (with_savepoints xid (take n xs) s.live) ≡ length s.live = length-with_savepoints xid (take n xs) s.live in
+    let last : last_of xid (take (n + 1) xs) ≡ sub = last_of-take xid n xs lt in
+    let alive : IsOpen s.log sub = subst (λ (x : ℕ). IsOpen s.log x) last (IsOpen-innermost s.log s.next (record { xid = xid; savepoints = take (n + 1) xs }) (in_progress_cut s.log s.next (n + 1) o running)) in
+    let top : top_of s.log sub ≡ xid = all_at (λ x. top_of s.log x ≡ xid) n xs lt (numbers-top s.log s.next o running).1 in
     let quiet : (x : ℕ) → (sub == x) ≡ false → IsQuiet body x = λ x other. record { assigned = refl; ended = refl; undone = other } in
-    let kept : AllByRecursion (IsQuiet body) (number ∷ take n xs) =
-    all_when _ _ (λ (x : ℕ) (low : x < sub). quiet x (ne_eqb sub x (λ e. absurd (omega (arith, low, e))))) (number ∷ take n xs) (above_numbers s.log s.next n o running lt) in
+    let kept : AllByRecursion (IsQuiet body) (xid ∷ take n xs) =
+    all_when _ _ (λ (x : ℕ) (low : x < sub). quiet x (ne_eqb sub x (λ e. absurd (omega (arith, low, e))))) (xid ∷ take n xs) (above_numbers s.log s.next n o running lt) in
     record {
       log = log_grown s.tables s.log body h.log (all_at (λ x. is_assigned s.log x ≡ true) n xs lt running.subs, alive)
-          (omega (arith, below, h.limit, h.numbers, h.reserve)) (omega arith) (omega (arith, h.limit, free));
+          (omega (arith, below, h.limit, h.xids, h.reserve)) (omega arith) (omega (arith, h.limit, free));
       limit = h.limit;
       reserve = omega (arith, longer, same, free);
-      numbers = omega (arith, longer, same, h.numbers);
+      xids = omega (arith, longer, same, h.xids);
       few = omega (arith, same, h.few);
       fresh = fresh_grown s.log r s.next s.next (omega arith) h.fresh (λ x above. later_than sub s.next x below above);
-      rising = rising-with_savepoints number (take n xs) s.live h.rising;
-      live = all_changed (IsInProgress s.log s.next) (IsInProgress (s.log ++ r ∷ []) s.next) number (take n xs) s.live h.rising h.live
-          (λ p progress other. in_progress_quiet s.log r s.next s.next p (omega arith) (quiet_by_top s.log s.next sub number body p progress top other quiet) progress)
-          (in_progress_quiet s.log r s.next s.next (record { number = number; savepoints = take n xs }) (omega arith) kept cut);
+      rising = rising-with_savepoints xid (take n xs) s.live h.rising;
+      live = all_changed (IsInProgress s.log s.next) (IsInProgress (s.log ++ r ∷ []) s.next) xid (take n xs) s.live h.rising h.live
+          (λ p progress other. in_progress_quiet s.log r s.next s.next p (omega arith) (quiet_by_top s.log s.next sub xid body p progress top other quiet) progress)
+          (in_progress_quiet s.log r s.next s.next (record { xid = xid; savepoints = take n xs }) (omega arith) kept cut);
     }

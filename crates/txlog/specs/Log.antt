@@ -15,13 +15,13 @@ use Rattle.txlog.specs.declared.record.Body.TheVariants.{Assign, Change as Chang
 
 -- POSITIONS
 
--- the bytes of a record's payload: numbers have 4, a time has 8
+-- the bytes of a record's payload: xids have 4, a time has 8
 abbrev pub payload_length : Body → ℕ
 payload_length (Assign sub parent) = 8
-payload_length (Changed number change) = 4 + body_length change
-payload_length (AbortSub number) = 4
-payload_length (Abort number) = 4
-payload_length (Commit number time) = 12
+payload_length (Changed xid change) = 4 + body_length change
+payload_length (AbortSub xid) = 4
+payload_length (Abort xid) = 4
+payload_length (Commit xid time) = 12
 
 -- 16, and the payload rounded up to a multiple of 8
 abbrev pub size_of : Body → ℕ
@@ -39,45 +39,45 @@ end_of at (r ∷ rs) = end_of r.end rs
 
 -- TRANSACTIONS AND SUBTRANSACTIONS
 
--- the number that a record is about: of an Assign it is the subtransaction's
-abbrev pub number_in : Body → ℕ
-number_in (Assign sub parent) = sub
-number_in (Changed number change) = number
-number_in (AbortSub number) = number
-number_in (Abort number) = number
-number_in (Commit number time) = number
+-- the xid that a record is about: of an Assign it is the subtransaction's
+abbrev pub xid_in : Body → ℕ
+xid_in (Assign sub parent) = sub
+xid_in (Changed xid change) = xid
+xid_in (AbortSub xid) = xid
+xid_in (Abort xid) = xid
+xid_in (Commit xid time) = xid
 
--- whether the record names the number; an Assign names the parent too
+-- whether the record names the xid; an Assign names the parent too
 abbrev pub names : ℕ → Body → Bool
 names x (Assign sub parent) = (x == sub) || (x == parent)
-names x (Changed number change) = x == number
-names x (AbortSub number) = x == number
-names x (Abort number) = x == number
-names x (Commit number time) = x == number
+names x (Changed xid change) = x == xid
+names x (AbortSub xid) = x == xid
+names x (Abort xid) = x == xid
+names x (Commit xid time) = x == xid
 
 abbrev pub is_named : List Record → ℕ → Bool
 is_named log x = list_any (λ r. names x r.body) log
 
--- whether the record makes the number a subtransaction
+-- whether the record makes the xid a subtransaction
 abbrev pub assigns : ℕ → Body → Bool
 assigns x (Assign sub parent) = sub == x
-assigns x (Changed number change) = false
-assigns x (AbortSub number) = false
-assigns x (Abort number) = false
-assigns x (Commit number time) = false
+assigns x (Changed xid change) = false
+assigns x (AbortSub xid) = false
+assigns x (Abort xid) = false
+assigns x (Commit xid time) = false
 
 abbrev pub is_assigned : List Record → ℕ → Bool
 is_assigned log x = list_any (λ r. assigns x r.body) log
 
--- The chain of a number: the number, then the parent that its Assign names, and so on to a number without an Assign. It
+-- The chain of an xid: the xid, then the parent that its Assign names, and so on to an xid without an Assign. It
 -- is found from the newest record back: in a well-formed log the Assign of a parent stands before that of its child, so
--- going back from the Assign of a number meets the Assigns of all that are above it.
+-- going back from the Assign of an xid meets the Assigns of all that are above it.
 abbrev pub chain_step : (ℕ → List ℕ) → Body → ℕ → List ℕ
 chain_step above (Assign sub parent) x = if sub == x then x ∷ above parent else above x
-chain_step above (Changed number change) x = above x
-chain_step above (AbortSub number) x = above x
-chain_step above (Abort number) x = above x
-chain_step above (Commit number time) x = above x
+chain_step above (Changed xid change) x = above x
+chain_step above (AbortSub xid) x = above x
+chain_step above (Abort xid) x = above x
+chain_step above (Commit xid time) x = above x
 
 abbrev pub chain_back : List Record → ℕ → List ℕ
 chain_back [] x = x ∷ []
@@ -90,50 +90,50 @@ abbrev pub last_of : ℕ → List ℕ → ℕ
 last_of x [] = x
 last_of x (y ∷ ys) = last_of y ys
 
--- the transaction that the number belongs to: the last of its chain
+-- the transaction that the xid belongs to: the last of its chain
 abbrev pub top_of : List Record → ℕ → ℕ
 top_of log x = last_of x (chain log x)
 
 abbrev pub undoes : ℕ → Body → Bool
 undoes x (Assign sub parent) = false
-undoes x (Changed number change) = false
-undoes x (AbortSub number) = number == x
-undoes x (Abort number) = false
-undoes x (Commit number time) = false
+undoes x (Changed xid change) = false
+undoes x (AbortSub xid) = xid == x
+undoes x (Abort xid) = false
+undoes x (Commit xid time) = false
 
--- an AbortSub names the number
+-- an AbortSub names the xid
 abbrev pub is_undone : List Record → ℕ → Bool
 is_undone log x = list_any (λ r. undoes x r.body) log
 
--- an AbortSub names a member of the number's chain
+-- an AbortSub names a member of the xid's chain
 abbrev pub is_dropped : List Record → ℕ → Bool
 is_dropped log x = list_any (is_undone log) (chain log x)
 
 abbrev pub ends : ℕ → Body → Bool
 ends x (Assign sub parent) = false
-ends x (Changed number change) = false
-ends x (AbortSub number) = false
-ends x (Abort number) = number == x
-ends x (Commit number time) = number == x
+ends x (Changed xid change) = false
+ends x (AbortSub xid) = false
+ends x (Abort xid) = xid == x
+ends x (Commit xid time) = xid == x
 
--- a Commit or an Abort names the number
+-- a Commit or an Abort names the xid
 abbrev pub has_ended : List Record → ℕ → Bool
 has_ended log x = list_any (λ r. ends x r.body) log
 
 -- CHANGES
 
--- a change, the position at which its record starts, and the number that made it
+-- a change, the position at which its record starts, and the xid that made it
 pub record Entry : Type 0 where
   pub position : ℕ
-  pub number : ℕ
+  pub xid : ℕ
   pub change : Change
 
 abbrev pub entry_at : ℕ → Body → List Entry
 entry_at start (Assign sub parent) = []
-entry_at start (Changed number change) = record { position = start; number = number; change = change } ∷ []
-entry_at start (AbortSub number) = []
-entry_at start (Abort number) = []
-entry_at start (Commit number time) = []
+entry_at start (Changed xid change) = record { position = start; xid = xid; change = change } ∷ []
+entry_at start (AbortSub xid) = []
+entry_at start (Abort xid) = []
+entry_at start (Commit xid time) = []
 
 -- the changes of a log, in order
 abbrev pub entries : List Record → List Entry
@@ -141,7 +141,7 @@ entries log = flat_map (λ r. entry_at r.start r.body) log
 
 -- whether a change belongs to this transaction and is not dropped
 abbrev pub is_kept : List Record → ℕ → Entry → Bool
-is_kept log top e = (top_of log e.number == top) && not (is_dropped log e.number)
+is_kept log top e = (top_of log e.xid == top) && not (is_dropped log e.xid)
 
 -- The changes that a transaction keeps, in order, by the records so far. Of a transaction that commits they are judged by
 -- the records before its Commit.
@@ -150,7 +150,7 @@ kept log top = filter (is_kept log top) (entries log)
 
 -- whether a change is not dropped and its transaction has not ended
 abbrev pub is_live : List Record → Entry → Bool
-is_live log e = not (has_ended log (top_of log e.number)) && not (is_dropped log e.number)
+is_live log e = not (has_ended log (top_of log e.xid)) && not (is_dropped log e.xid)
 
 -- the changes of the transactions in progress, in order
 abbrev pub live : List Record → List Entry
@@ -158,22 +158,22 @@ live log = filter (is_live log) (entries log)
 
 -- COMMITTED TRANSACTIONS
 
--- a transaction: where its Commit record starts and ends, its time and number, and the changes that it keeps
+-- a transaction: where its Commit record starts and ends, its time and xid, and the changes that it keeps
 pub record Transaction : Type 0 where
   pub start : ℕ
   pub end : ℕ
   pub time : ℤ
-  pub number : ℕ
+  pub xid : ℕ
   pub changes : List Entry
 
 -- what a record commits, if it is a Commit that starts at the start position s or later
 abbrev pub committed_at : ℕ → List Record → ℕ → ℕ → Body → List Transaction
 committed_at s before start end (Assign sub parent) = []
-committed_at s before start end (Changed number change) = []
-committed_at s before start end (AbortSub number) = []
-committed_at s before start end (Abort number) = []
-committed_at s before start end (Commit number time) =
-    if nat_le s start then record { start = start; end = end; time = time; number = number; changes = kept before number } ∷ [] else []
+committed_at s before start end (Changed xid change) = []
+committed_at s before start end (AbortSub xid) = []
+committed_at s before start end (Abort xid) = []
+committed_at s before start end (Commit xid time) =
+    if nat_le s start then record { start = start; end = end; time = time; xid = xid; changes = kept before xid } ∷ [] else []
 
 abbrev pub committed_by : ℕ → List Record → Record → List Transaction
 committed_by s before r = committed_at s before r.start r.end r.body
@@ -189,21 +189,21 @@ committed log s = committed_from s [] log
 
 -- THE SAME BY PLACES
 
--- Whether an AbortSub before place n names a member of the number's chain, which is that of the whole log.
+-- Whether an AbortSub before place n names a member of the xid's chain, which is that of the whole log.
 abbrev pub is_dropped_at : List Record → ℕ → ℕ → Bool
 is_dropped_at log n x = list_any (is_undone (take n log)) (chain log x)
 
 -- The changes before place n whose top in the whole log is this transaction and which are not dropped before n.
 abbrev pub kept_at : List Record → ℕ → ℕ → List Entry
-kept_at log top n = filter (λ e. (top_of log e.number == top) && not (is_dropped_at log n e.number)) (entries (take n log))
+kept_at log top n = filter (λ e. (top_of log e.xid == top) && not (is_dropped_at log n e.xid)) (entries (take n log))
 
 abbrev pub placed_at : ℕ → List Record → ℕ → ℕ → ℕ → Body → List Transaction
 placed_at s log n start end (Assign sub parent) = []
-placed_at s log n start end (Changed number change) = []
-placed_at s log n start end (AbortSub number) = []
-placed_at s log n start end (Abort number) = []
-placed_at s log n start end (Commit number time) =
-    if nat_le s start then record { start = start; end = end; time = time; number = number; changes = kept_at log number n } ∷ [] else []
+placed_at s log n start end (Changed xid change) = []
+placed_at s log n start end (AbortSub xid) = []
+placed_at s log n start end (Abort xid) = []
+placed_at s log n start end (Commit xid time) =
+    if nat_le s start then record { start = start; end = end; time = time; xid = xid; changes = kept_at log xid n } ∷ [] else []
 
 -- the transactions that the records from place n on commit
 abbrev pub placed_from : ℕ → List Record → ℕ → List Record → List Transaction
@@ -215,19 +215,19 @@ placed_from s log n (r ∷ rs) = placed_at s log n r.start r.end r.body ++ place
 abbrev pub committed_by_places : List Record → ℕ → List Transaction
 committed_by_places log s = placed_from s log 0 log
 
--- whether a record makes this number a subtransaction of that one
+-- whether a record makes this xid a subtransaction of that one
 abbrev pub is_assign : ℕ → ℕ → Body → Bool
 is_assign x y (Assign sub parent) = (sub == x) && (parent == y)
-is_assign x y (Changed number change) = false
-is_assign x y (AbortSub number) = false
-is_assign x y (Abort number) = false
-is_assign x y (Commit number time) = false
+is_assign x y (Changed xid change) = false
+is_assign x y (AbortSub xid) = false
+is_assign x y (Abort xid) = false
+is_assign x y (Commit xid time) = false
 
 abbrev pub is_parent : List Record → ℕ → ℕ → Bool
 is_parent log x y = list_any (λ r. is_assign x y r.body) log
 
--- The number alone where no record assigns it, else the number and the chain of the parent that its Assign names. In a
--- well-formed log `chain log x` is one for each number.
+-- The xid alone where no record assigns it, else the xid and the chain of the parent that its Assign names. In a
+-- well-formed log `chain log x` is one for each xid.
 abbrev pub IsChain : List Record → ℕ → List ℕ → Type 0
 IsChain log x [] = ⊥
 IsChain log x (y ∷ []) = (y ≡ x) × (is_assigned log x ≡ false)
@@ -235,19 +235,19 @@ IsChain log x (y ∷ z ∷ above) = (y ≡ x) × (is_parent log x z ≡ true) ×
 
 -- WELL-FORMED LOGS
 
--- a number may still be named: its transaction has not ended, and no member of its chain has an AbortSub
+-- an xid may still be named: its transaction has not ended, and no member of its chain has an AbortSub
 pub record IsOpen (before : List Record) (x : ℕ) : Type 0 where
   pub running : has_ended before (top_of before x) ≡ false
   pub undropped : is_dropped before x ≡ false
 
 -- What may follow these records. The subtransaction of an Assign is named in no earlier record and is not its own parent.
--- Commit and Abort name a number without an Assign, AbortSub one with an Assign. A number named earlier is still open.
+-- Commit and Abort name an xid without an Assign, AbortSub one with an Assign. An xid named earlier is still open.
 abbrev pub IsNext : List Record → Body → Type 0
 IsNext before (Assign sub parent) = (is_named before sub ≡ false) × ((sub == parent) ≡ false) × IsOpen before parent
-IsNext before (Changed number change) = IsOpen before number
-IsNext before (AbortSub number) = (is_assigned before number ≡ true) × IsOpen before number
-IsNext before (Abort number) = (is_assigned before number ≡ false) × IsOpen before number
-IsNext before (Commit number time) = (is_assigned before number ≡ false) × IsOpen before number
+IsNext before (Changed xid change) = IsOpen before xid
+IsNext before (AbortSub xid) = (is_assigned before xid ≡ true) × IsOpen before xid
+IsNext before (Abort xid) = (is_assigned before xid ≡ false) × IsOpen before xid
+IsNext before (Commit xid time) = (is_assigned before xid ≡ false) × IsOpen before xid
 
 -- each record may follow those before it
 abbrev pub WellFormedAfter : List Record → List Record → Type 0
@@ -264,13 +264,13 @@ pub record IsWellFormedLog (log : List Record) : Type 0 where
 
 -- RANGES
 
--- numbers are of 32 bits, times are signed numbers of 64 bits, changes fit the tables
+-- xids are of 32 bits, times are signed xids of 64 bits, changes fit the tables
 abbrev pub FitsBody : List Table → Body → Type 0
 FitsBody tables (Assign sub parent) = (sub < 2 ^ 32) × (parent < 2 ^ 32)
-FitsBody tables (Changed number change) = (number < 2 ^ 32) × FitsChange tables change
-FitsBody tables (AbortSub number) = number < 2 ^ 32
-FitsBody tables (Abort number) = number < 2 ^ 32
-FitsBody tables (Commit number time) = (number < 2 ^ 32) × FitsSigned w64 time
+FitsBody tables (Changed xid change) = (xid < 2 ^ 32) × FitsChange tables change
+FitsBody tables (AbortSub xid) = xid < 2 ^ 32
+FitsBody tables (Abort xid) = xid < 2 ^ 32
+FitsBody tables (Commit xid time) = (xid < 2 ^ 32) × FitsSigned w64 time
 
 -- positions are of 64 bits
 pub record FitsRecord (tables : List Table) (r : Record) : Type 0 where

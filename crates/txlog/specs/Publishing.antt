@@ -10,7 +10,7 @@ use Rattle.tables.specs.declared.change.Change.{Change}
 use Rattle.tables.specs.Spelling.{row_length, IsShort}
 use Rattle.tables.specs.Tables.{table_of, fits_table}
 use Rattle.txlog.specs.declared.limits.TheConstants.{MAX_LIVE, MAX_DEPTH}
-use Rattle.txlog.specs.declared.record.TheConstants.{FIRST_POSITION, FIRST_NUMBER}
+use Rattle.txlog.specs.declared.record.TheConstants.{FIRST_POSITION, FIRST_XID}
 use Rattle.txlog.specs.declared.record.Record.{Record}
 use Rattle.txlog.specs.declared.record.Body.{Body}
 use Rattle.txlog.specs.declared.record.Body.TheVariants.{Assign, Change as Changed, AbortSub, Abort, Commit}
@@ -21,9 +21,9 @@ use Rattle.txlog.specs.Log.{end_of, last_of, size_of}
 
 -- THE STATE
 
--- a live transaction: its number, and the numbers of its open savepoints, the outermost first
+-- a live transaction: its xid, and the xids of its open savepoints, the outermost first
 pub record Open : Type 0 where
-  pub number : ℕ
+  pub xid : ℕ
   pub savepoints : List ℕ
 
 -- tables, the greatest number of records, the log, the next number, and the live transactions in the order of their numbers
@@ -34,8 +34,8 @@ pub record PublisherState : Type 0 where
   pub next : ℕ
   pub live : List Open
 
-abbrev pub at_first : List Table → ℕ → PublisherState
-at_first tables records = record { tables = tables; capacity = records; log = []; next = FIRST_NUMBER; live = [] }
+abbrev pub new_publisher : List Table → ℕ → PublisherState
+new_publisher tables records = record { tables = tables; capacity = records; log = []; next = FIRST_XID; live = [] }
 
 abbrev pub log_end : PublisherState → ℕ
 log_end s = end_of FIRST_POSITION s.log
@@ -45,24 +45,24 @@ abbrev pub room : PublisherState → ℕ
 room s = s.capacity - (length s.log + length s.live)
 
 abbrev pub is_live : ℕ → List Open → Bool
-is_live number live = list_any (λ o. o.number == number) live
+is_live xid live = list_any (λ o. o.xid == xid) live
 
 abbrev pub savepoints_of : ℕ → List Open → List ℕ
-savepoints_of number [] = []
-savepoints_of number (o ∷ live) = if o.number == number then o.savepoints else savepoints_of number live
+savepoints_of xid [] = []
+savepoints_of xid (o ∷ live) = if o.xid == xid then o.savepoints else savepoints_of xid live
 
 -- the innermost open subtransaction, or the transaction
 abbrev pub innermost : ℕ → List Open → ℕ
-innermost number live = last_of number (savepoints_of number live)
+innermost xid live = last_of xid (savepoints_of xid live)
 
 -- the live transactions, one of them with other savepoints
 abbrev pub with_savepoints : ℕ → List ℕ → List Open → List Open
-with_savepoints number savepoints [] = []
-with_savepoints number savepoints (o ∷ live) =
-    if o.number == number then record { number = o.number; savepoints = savepoints } ∷ live else o ∷ with_savepoints number savepoints live
+with_savepoints xid savepoints [] = []
+with_savepoints xid savepoints (o ∷ live) =
+    if o.xid == xid then record { xid = o.xid; savepoints = savepoints } ∷ live else o ∷ with_savepoints xid savepoints live
 
 abbrev pub without : ℕ → List Open → List Open
-without number live = filter (λ o. not (o.number == number)) live
+without xid live = filter (λ o. not (o.xid == xid)) live
 
 -- CALLS
 
@@ -73,46 +73,46 @@ record_after log body = record { start = end_of FIRST_POSITION log; end = end_of
 abbrev pub with_record : Body → PublisherState → PublisherState
 with_record body s = record s { log = s.log ++ record_after s.log body ∷ [] }
 
--- a transaction begins: it takes the next number, and no record is written
+-- a transaction begins: it takes the next xid, and no record is written
 abbrev pub begun : PublisherState → PublisherState
-begun s = record s { next = s.next + 1; live = s.live ++ record { number = s.next; savepoints = [] } ∷ [] }
+begun s = record s { next = s.next + 1; live = s.live ++ record { xid = s.next; savepoints = [] } ∷ [] }
 
--- a change carries the number of the innermost open subtransaction
+-- a change carries the xid of the innermost open subtransaction
 abbrev pub changed : ℕ → Change → PublisherState → PublisherState
-changed number change s = with_record (Changed (innermost number s.live) change) s
+changed xid change s = with_record (Changed (innermost xid s.live) change) s
 
--- a savepoint takes the next number, under the innermost open one
+-- a savepoint takes the next xid, under the innermost open one
 abbrev pub saved : ℕ → PublisherState → PublisherState
-saved number s = record (with_record (Assign s.next (innermost number s.live)) s) {
+saved xid s = record (with_record (Assign s.next (innermost xid s.live)) s) {
   next = s.next + 1;
-  live = with_savepoints number (savepoints_of number s.live ++ s.next ∷ []) s.live;
+  live = with_savepoints xid (savepoints_of xid s.live ++ s.next ∷ []) s.live;
 }
 
 -- the savepoints of this depth and above are closed, and no record is written
 abbrev pub released : ℕ → ℕ → PublisherState → PublisherState
-released number depth s = record s { live = with_savepoints number (take (depth - 1) (savepoints_of number s.live)) s.live }
+released xid depth s = record s { live = with_savepoints xid (take (depth - 1) (savepoints_of xid s.live)) s.live }
 
 -- the savepoint of this depth is rolled back, and it and those above are closed
 abbrev pub rolled_back : ℕ → ℕ → PublisherState → PublisherState
-rolled_back number depth s = released number depth (with_record (AbortSub (slice_index (savepoints_of number s.live) (depth - 1))) s)
+rolled_back xid depth s = released xid depth (with_record (AbortSub (slice_index (savepoints_of xid s.live) (depth - 1))) s)
 
 -- a transaction ends by this record
 abbrev pub ended : ℕ → Body → PublisherState → PublisherState
-ended number body s = record (with_record body s) { live = without number s.live }
+ended xid body s = record (with_record body s) { live = without xid s.live }
 
 abbrev pub after_commit : ℕ → ℤ → PublisherState → PublisherState
-after_commit number time s = ended number (Commit number time) s
+after_commit xid time s = ended xid (Commit xid time) s
 
 abbrev pub after_abort : ℕ → PublisherState → PublisherState
-after_abort number s = ended number (Abort number) s
+after_abort xid s = ended xid (Abort xid) s
 
--- what a commit tells: the place of its record in the log, where it starts and ends, and the transaction's number
+-- what a commit tells: the place of its record in the log, where it starts and ends, and the transaction's xid
 abbrev pub receipt_of : ℕ → ℤ → PublisherState → Receipt
-receipt_of number time s = record {
+receipt_of xid time s = record {
   place = length s.log;
   start = log_end s;
-  end = log_end s + size_of (Commit number time);
-  top = number;
+  end = log_end s + size_of (Commit xid time);
+  xid = xid;
 }
 
 -- REFUSALS
@@ -124,9 +124,9 @@ room_refusal s = if room s == 0 then Some faults.LogFull else None
 abbrev pub begin_refusal : PublisherState → Option SessionFault
 begin_refusal s = if nat_le MAX_LIVE (length s.live) then Some faults.TooManyLive else room_refusal s
 
--- every call on a transaction asks first whether its number is live
+-- every call on a transaction asks first whether its xid is live
 abbrev pub live_refusal : ℕ → PublisherState → Option SessionFault → Option SessionFault
-live_refusal number s other = if is_live number s.live then other else Some faults.NoTransaction
+live_refusal xid s other = if is_live xid s.live then other else Some faults.NoTransaction
 
 abbrev pub row_refusal : Option Table → List Value → Option SessionFault → Option SessionFault
 row_refusal None row other = Some faults.UnknownTable
@@ -134,45 +134,45 @@ row_refusal (Some table) row other =
     if fits_table table row then (if nat_lt MAX_ROW_LENGTH (row_length row) then Some faults.TooLarge else other) else Some faults.RowShape
 
 abbrev pub insert_refusal : ℕ → ℕ → List Value → PublisherState → Option SessionFault
-insert_refusal number oid row s = live_refusal number s (row_refusal (table_of oid s.tables) row (room_refusal s))
+insert_refusal xid oid row s = live_refusal xid s (row_refusal (table_of oid s.tables) row (room_refusal s))
 
 abbrev pub savepoint_refusal : ℕ → PublisherState → Option SessionFault
-savepoint_refusal number s =
-    live_refusal number s (if nat_le MAX_DEPTH (length (savepoints_of number s.live)) then Some faults.TooDeep else room_refusal s)
+savepoint_refusal xid s =
+    live_refusal xid s (if nat_le MAX_DEPTH (length (savepoints_of xid s.live)) then Some faults.TooDeep else room_refusal s)
 
 -- there is no savepoint of depth 0
 abbrev pub depth_refusal : ℕ → ℕ → PublisherState → Option SessionFault → Option SessionFault
-depth_refusal number depth s other =
-    if (depth == 0) || nat_lt (length (savepoints_of number s.live)) depth then Some faults.NoSavepoint else other
+depth_refusal xid depth s other =
+    if (depth == 0) || nat_lt (length (savepoints_of xid s.live)) depth then Some faults.NoSavepoint else other
 
 abbrev pub rollback_refusal : ℕ → ℕ → PublisherState → Option SessionFault
-rollback_refusal number depth s = live_refusal number s (depth_refusal number depth s (room_refusal s))
+rollback_refusal xid depth s = live_refusal xid s (depth_refusal xid depth s (room_refusal s))
 
 abbrev pub release_refusal : ℕ → ℕ → PublisherState → Option SessionFault
-release_refusal number depth s = live_refusal number s (depth_refusal number depth s None)
+release_refusal xid depth s = live_refusal xid s (depth_refusal xid depth s None)
 
 -- a transaction ends whatever the room
 abbrev pub end_refusal : ℕ → PublisherState → Option SessionFault
-end_refusal number s = live_refusal number s None
+end_refusal xid s = live_refusal xid s None
 
-abbrev pub JudgedFault : Option SessionFault → SessionFault → Type 0
-JudgedFault refusal faults.Memory = refusal ≡ None
-JudgedFault refusal fault = refusal ≡ Some fault
+abbrev pub IsRefusalOrMemory : Option SessionFault → SessionFault → Type 0
+IsRefusalOrMemory refusal faults.Memory = refusal ≡ None
+IsRefusalOrMemory refusal fault = refusal ≡ Some fault
 
 -- A call answers its refusal; without one it is Ok, or memory was refused.
-abbrev pub Judged : {A : Type 0} → Option SessionFault → Result A SessionFault → Type 0
-Judged refusal (Ok x) = refusal ≡ None
-Judged refusal (Err fault) = JudgedFault refusal fault
+abbrev pub RefusedOrMemory : {A : Type 0} → Option SessionFault → Result A SessionFault → Type 0
+RefusedOrMemory refusal (Ok x) = refusal ≡ None
+RefusedOrMemory refusal (Err fault) = IsRefusalOrMemory refusal fault
 
 -- the same of a call that gives its transaction back
-abbrev pub JudgedBack : {A T : Type 0} → Option SessionFault → Result A (T × SessionFault) → Type 0
-JudgedBack refusal (Ok x) = refusal ≡ None
-JudgedBack refusal (Err back) = JudgedFault refusal back.1
+abbrev pub RefusedOrMemoryBack : {A T : Type 0} → Option SessionFault → Result A (T × SessionFault) → Type 0
+RefusedOrMemoryBack refusal (Ok x) = refusal ≡ None
+RefusedOrMemoryBack refusal (Err back) = IsRefusalOrMemory refusal back.1
 
 -- a test of a call: it is Ok exactly where there is no refusal
-abbrev pub Refuses : {A : Type 0} → Option SessionFault → Result A SessionFault → Type 0
-Refuses refusal (Ok x) = refusal ≡ None
-Refuses refusal (Err fault) = refusal ≡ Some fault
+abbrev pub RefusedExactly : {A : Type 0} → Option SessionFault → Result A SessionFault → Type 0
+RefusedExactly refusal (Ok x) = refusal ≡ None
+RefusedExactly refusal (Err fault) = refusal ≡ Some fault
 
 -- the text of a fault's code
 abbrev pub code_of : SessionFault → List ℕ
@@ -199,7 +199,7 @@ shared records = map (λ r. r.value) records
 -- the change of a record that is written has a body of at most its limit
 abbrev pub IsShortBody : Body → Type 0
 IsShortBody (Assign sub parent) = Unit {0}
-IsShortBody (Changed number change) = IsShort change
-IsShortBody (AbortSub number) = Unit {0}
-IsShortBody (Abort number) = Unit {0}
-IsShortBody (Commit number time) = Unit {0}
+IsShortBody (Changed xid change) = IsShort change
+IsShortBody (AbortSub xid) = Unit {0}
+IsShortBody (Abort xid) = Unit {0}
+IsShortBody (Commit xid time) = Unit {0}

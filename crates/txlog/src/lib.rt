@@ -15,7 +15,7 @@ pub use fault::SessionFault;
 pub use limits::{MAX_DEPTH, MAX_LIVE, MAX_RECORDS};
 pub use publisher::Publisher;
 pub use receipt::Receipt;
-pub use record::{Body, FIRST_NUMBER, FIRST_POSITION, Record};
+pub use record::{Body, FIRST_XID, FIRST_POSITION, Record};
 pub use tx::Tx;
 
 #[cfg(test)]

@@ -6,7 +6,7 @@ use crate::running::Running;
 use std::alloc::{AllocError, Global};
 use std::marker::Model;
 
-/// The live transactions in the order of their numbers.
+/// The live transactions in the order of their xids.
 #[derive(Debug, Drop)]
 pub(crate) struct Live {
     running: Vec<Running>,
@@ -36,19 +36,19 @@ impl Live {
         self.running.len()
     }
 
-    pub(crate) fn contains(&self, number: u32) -> bool
-        ensures { result ≡ is_live number self.now }
+    pub(crate) fn contains(&self, xid: u32) -> bool
+        ensures { result ≡ is_live xid self.now }
     {
         self.running
             .iter()
-            .any(|running| running.number() == number)
+            .any(|running| running.xid() == xid)
     }
 
-    pub(crate) fn savepoints(&self, number: u32) -> &[u32]
-        ensures { result.now ≡ savepoints_of number self.now }
+    pub(crate) fn savepoints(&self, xid: u32) -> &[u32]
+        ensures { result.now ≡ savepoints_of xid self.now }
     {
         for running in &self.running {
-            if running.number() == number {
+            if running.xid() == xid {
                 return running.savepoints();
             }
         }
@@ -56,40 +56,40 @@ impl Live {
     }
 
     /// The innermost open savepoint of a transaction, or the transaction.
-    pub(crate) fn innermost(&self, number: u32) -> u32
-        ensures { result ≡ innermost number self.now }
+    pub(crate) fn innermost(&self, xid: u32) -> u32
+        ensures { result ≡ innermost xid self.now }
     {
-        last_or(number, self.savepoints(number))
+        last_or(xid, self.savepoints(xid))
     }
 
-    pub(crate) fn push(&mut self, number: u32) -> Result<(), AllocError>
-        ensures ok { OnOk result (self.new ≡ self.old ++ record { number = number; savepoints = [] } ∷ []) }
+    pub(crate) fn push(&mut self, xid: u32) -> Result<(), AllocError>
+        ensures ok { OnOk result (self.new ≡ self.old ++ record { xid = xid; savepoints = [] } ∷ []) }
         ensures err { OnErr result (self.new ≡ self.old) }
     {
         let alloc = *self.running.allocator();
-        self.running.push(Running::new(alloc, number))?;
+        self.running.push(Running::new(alloc, xid))?;
         Ok(())
     }
 
-    pub(crate) fn remove(&mut self, number: u32)
-        ensures { self.new ≡ without number self.old }
+    pub(crate) fn remove(&mut self, xid: u32)
+        ensures { self.new ≡ without xid self.old }
     {
-        self.running.retain(|running| running.number() != number);
+        self.running.retain(|running| running.xid() != xid);
     }
 
-    fn place_of(&self, number: u32) -> Option<usize>
-        ensures value { result ≡ position (λ o. o.number == number) self.now }
+    fn place_of(&self, xid: u32) -> Option<usize>
+        ensures value { result ≡ position (λ o. o.xid == xid) self.now }
         ensures within { IfSome result (λ place. place < length self.now) }
     {
         let mut running = self.running.iter();
-        running.position(|running| running.number() == number)
+        running.position(|running| running.xid() == xid)
     }
 
-    pub(crate) fn push_savepoint(&mut self, number: u32, savepoint: u32) -> Result<(), AllocError>
-        ensures ok { OnOk result (self.new ≡ with_savepoints number (savepoints_of number self.old ++ savepoint ∷ []) self.old) }
+    pub(crate) fn push_savepoint(&mut self, xid: u32, savepoint: u32) -> Result<(), AllocError>
+        ensures ok { OnOk result (self.new ≡ with_savepoints xid (savepoints_of xid self.old ++ savepoint ∷ []) self.old) }
         ensures err { OnErr result (self.new ≡ self.old) }
     {
-        match self.place_of(number) {
+        match self.place_of(xid) {
             Some(place) => {
                 let running = &mut self.running[place];
                 running.push(savepoint)?;
@@ -100,21 +100,21 @@ impl Live {
     }
 
     /// Keeps the first `depth` savepoints of a transaction.
-    pub(crate) fn truncate_savepoints(&mut self, number: u32, depth: usize)
-        ensures { self.new ≡ with_savepoints number (take depth (savepoints_of number self.old)) self.old }
+    pub(crate) fn truncate_savepoints(&mut self, xid: u32, depth: usize)
+        ensures { self.new ≡ with_savepoints xid (take depth (savepoints_of xid self.old)) self.old }
     {
-        if let Some(place) = self.place_of(number) {
+        if let Some(place) = self.place_of(xid) {
             let running = &mut self.running[place];
             running.truncate(depth);
         }
     }
 }
 
-fn last_or(number: u32, savepoints: &[u32]) -> u32
-    ensures { result ≡ last_of number savepoints.now }
+fn last_or(xid: u32, savepoints: &[u32]) -> u32
+    ensures { result ≡ last_of xid savepoints.now }
 {
     match savepoints {
-        [] => number,
+        [] => xid,
         [.., last] => *last,
     }
 }

@@ -1,14 +1,14 @@
 ghost use Rattle.std.specs.Prelude.{◌≡◌, ◌+◌, ◌-◌, ◌≤◌, ◌<◌, IfErr, IfOk, Ok, OnErr, OnOk, Some, None, drop, length, slice_index, take, true};
 ghost use Rattle.tables.specs.Tables.{FitsChange};
 ghost use Rattle.txlog.specs.Invariants.{IsPublisher};
-ghost use Rattle.txlog.specs.Publishing.{Judged, JudgedBack, Refuses, after_abort, after_commit, at_first, begin_refusal, begun, changed, end_refusal, insert_refusal, is_live, log_end, receipt_of, release_refusal, released, rollback_refusal, rolled_back, room, saved, savepoint_refusal, savepoints_of, shared};
+ghost use Rattle.txlog.specs.Publishing.{RefusedOrMemory, RefusedOrMemoryBack, RefusedExactly, after_abort, after_commit, new_publisher, begin_refusal, begun, changed, end_refusal, insert_refusal, is_live, log_end, receipt_of, release_refusal, released, rollback_refusal, rolled_back, room, saved, savepoint_refusal, savepoints_of, shared};
 
 use crate::fault::SessionFault;
 use crate::limits::{MAX_DEPTH, MAX_LIVE, MAX_RECORDS};
 use crate::live::Live;
 use crate::log::Log;
 use crate::receipt::Receipt;
-use crate::record::{Body, FIRST_NUMBER, Record};
+use crate::record::{Body, FIRST_XID, Record};
 use crate::tx::Tx;
 use std::alloc::{AllocError, Global};
 use std::marker::Model;
@@ -41,14 +41,14 @@ impl Publisher {
     pub fn new(alloc: Global, catalog: Catalog, records: usize) -> Result<Self, SessionFault>
         requires some { 1 ≤ records }
         requires few { records ≤ MAX_RECORDS }
-        ensures ok { IfOk result (λ p. p ≡ at_first catalog records) }
+        ensures ok { IfOk result (λ p. p ≡ new_publisher catalog records) }
         ensures err { IfErr result (λ e. e ≡ SessionFault.Memory) }
     {
         Ok(Publisher {
             catalog,
             capacity: records,
             log: Log::new(alloc),
-            next: FIRST_NUMBER,
+            next: FIRST_XID,
             live: Live::new(alloc),
         })
     }
@@ -86,7 +86,7 @@ impl Publisher {
     pub fn begin(&mut self) -> Result<Tx, SessionFault>
         ensures ok { IfOk result (λ tx. (tx ≡ self.old.next) × (self.new ≡ begun self.old)) }
         ensures err { OnErr result (self.new ≡ self.old) }
-        ensures refused { Judged (begin_refusal self.old) result }
+        ensures refused { RefusedOrMemory (begin_refusal self.old) result }
         ensures publisher { IsPublisher self.new }
     {
         if self.live.len() >= MAX_LIVE {
@@ -95,35 +95,35 @@ impl Publisher {
         if self.room() == 0 {
             return Err(SessionFault::LogFull);
         }
-        let number = self.next;
-        self.live.push(number)?;
-        self.next = number + 1;
-        Ok(Tx::new(number))
+        let xid = self.next;
+        self.live.push(xid)?;
+        self.next = xid + 1;
+        Ok(Tx::new(xid))
     }
 
     /// Inserts a row. S14, S1, S2, S6, S7, S11 in this order.
     pub fn insert(&mut self, tx: &mut Tx, oid: u32, row: Row) -> Result<(), SessionFault>
         ensures ok { OnOk result (self.new ≡ changed tx.old (Change.Insert oid row) self.old) }
         ensures err { OnErr result (self.new ≡ self.old) }
-        ensures refused { Judged (insert_refusal tx.old oid row self.old) result }
+        ensures refused { RefusedOrMemory (insert_refusal tx.old oid row self.old) result }
         ensures tx { tx.new ≡ tx.old }
         ensures publisher { IsPublisher self.new }
     {
-        let number = tx.number();
-        self.test_insert(number, oid, &row)?;
-        let innermost = self.live.innermost(number);
+        let xid = tx.xid();
+        self.test_insert(xid, oid, &row)?;
+        let innermost = self.live.innermost(xid);
         self.log
             .push(Body::Change(innermost, Change::Insert(oid, row)))?;
         Ok(())
     }
 
-    fn test_insert(&self, number: u32, oid: u32, row: &Row) -> Result<(), SessionFault>
-        ensures refused { Refuses (insert_refusal number oid row.now self.now) result }
-        ensures live { OnOk result (is_live number self.now.live ≡ true) }
+    fn test_insert(&self, xid: u32, oid: u32, row: &Row) -> Result<(), SessionFault>
+        ensures refused { RefusedExactly (insert_refusal xid oid row.now self.now) result }
+        ensures live { OnOk result (is_live xid self.now.live ≡ true) }
         ensures room { OnOk result (0 < room self.now) }
         ensures fits { OnOk result (FitsChange self.now.tables (Change.Insert oid row.now)) }
     {
-        if !self.live.contains(number) {
+        if !self.live.contains(xid) {
             return Err(SessionFault::NoTransaction);
         }
         let Some(table) = self.catalog.table(oid) else {
@@ -145,26 +145,26 @@ impl Publisher {
     pub fn commit(&mut self, tx: Tx, time: i64) -> Result<Receipt, (Tx, SessionFault)>
         ensures ok { IfOk result (λ receipt. (receipt ≡ receipt_of tx time self.old) × (self.new ≡ after_commit tx time self.old)) }
         ensures err { IfErr result (λ back. (back.0 ≡ tx) × (self.new ≡ self.old)) }
-        ensures refused { JudgedBack (end_refusal tx self.old) result }
+        ensures refused { RefusedOrMemoryBack (end_refusal tx self.old) result }
         ensures publisher { IsPublisher self.new }
     {
-        let number = tx.number();
-        if !self.live.contains(number) {
+        let xid = tx.xid();
+        if !self.live.contains(xid) {
             return Err((tx, SessionFault::NoTransaction));
         }
         let place = self.log.len();
         let start = self.log.end();
-        match self.log.push(Body::Commit(number, time)) {
+        match self.log.push(Body::Commit(xid, time)) {
             Ok(()) => {}
             Err(_) => return Err((tx, SessionFault::Memory)),
         }
-        self.live.remove(number);
+        self.live.remove(xid);
         tx.spend();
         Ok(Receipt {
             place,
             start,
             end: self.log.end(),
-            top: number,
+            xid,
         })
     }
 
@@ -172,18 +172,18 @@ impl Publisher {
     pub fn abort(&mut self, tx: Tx) -> Result<(), (Tx, SessionFault)>
         ensures ok { OnOk result (self.new ≡ after_abort tx self.old) }
         ensures err { IfErr result (λ back. (back.0 ≡ tx) × (self.new ≡ self.old)) }
-        ensures refused { JudgedBack (end_refusal tx self.old) result }
+        ensures refused { RefusedOrMemoryBack (end_refusal tx self.old) result }
         ensures publisher { IsPublisher self.new }
     {
-        let number = tx.number();
-        if !self.live.contains(number) {
+        let xid = tx.xid();
+        if !self.live.contains(xid) {
             return Err((tx, SessionFault::NoTransaction));
         }
-        match self.log.push(Body::Abort(number)) {
+        match self.log.push(Body::Abort(xid)) {
             Ok(()) => {}
             Err(_) => return Err((tx, SessionFault::Memory)),
         }
-        self.live.remove(number);
+        self.live.remove(xid);
         tx.spend();
         Ok(())
     }
@@ -193,19 +193,19 @@ impl Publisher {
         ensures depth { IfOk result (λ depth. depth ≡ length (savepoints_of tx.old self.old.live) + 1) }
         ensures ok { OnOk result (self.new ≡ saved tx.old self.old) }
         ensures err { OnErr result (self.new ≡ self.old) }
-        ensures refused { Judged (savepoint_refusal tx.old self.old) result }
+        ensures refused { RefusedOrMemory (savepoint_refusal tx.old self.old) result }
         ensures tx { tx.new ≡ tx.old }
         ensures publisher { IsPublisher self.new }
     {
-        let number = tx.number();
-        let depth = self.test_savepoint(number)?;
-        let parent = self.live.innermost(number);
+        let xid = tx.xid();
+        let depth = self.test_savepoint(xid)?;
+        let parent = self.live.innermost(xid);
         let savepoint = self.next;
-        self.live.push_savepoint(number, savepoint)?;
+        self.live.push_savepoint(xid, savepoint)?;
         match self.log.push(Body::Assign(savepoint, parent)) {
             Ok(()) => {}
             Err(_) => {
-                self.live.truncate_savepoints(number, depth);
+                self.live.truncate_savepoints(xid, depth);
                 return Err(SessionFault::Memory);
             }
         }
@@ -214,16 +214,16 @@ impl Publisher {
     }
 
     /// The depth before a savepoint.
-    fn test_savepoint(&self, number: u32) -> Result<usize, SessionFault>
-        ensures refused { Refuses (savepoint_refusal number self.now) result }
-        ensures live { OnOk result (is_live number self.now.live ≡ true) }
+    fn test_savepoint(&self, xid: u32) -> Result<usize, SessionFault>
+        ensures refused { RefusedExactly (savepoint_refusal xid self.now) result }
+        ensures live { OnOk result (is_live xid self.now.live ≡ true) }
         ensures room { OnOk result (0 < room self.now) }
-        ensures depth { IfOk result (λ depth. (depth ≡ length (savepoints_of number self.now.live)) × (depth < MAX_DEPTH)) }
+        ensures depth { IfOk result (λ depth. (depth ≡ length (savepoints_of xid self.now.live)) × (depth < MAX_DEPTH)) }
     {
-        if !self.live.contains(number) {
+        if !self.live.contains(xid) {
             return Err(SessionFault::NoTransaction);
         }
-        let depth = self.live.savepoints(number).len();
+        let depth = self.live.savepoints(xid).len();
         if depth >= MAX_DEPTH {
             return Err(SessionFault::TooDeep);
         }
@@ -237,29 +237,29 @@ impl Publisher {
     pub fn rollback_to(&mut self, tx: &mut Tx, depth: u32) -> Result<(), SessionFault>
         ensures ok { OnOk result (self.new ≡ rolled_back tx.old depth self.old) }
         ensures err { OnErr result (self.new ≡ self.old) }
-        ensures refused { Judged (rollback_refusal tx.old depth self.old) result }
+        ensures refused { RefusedOrMemory (rollback_refusal tx.old depth self.old) result }
         ensures tx { tx.new ≡ tx.old }
         ensures publisher { IsPublisher self.new }
     {
-        let number = tx.number();
-        let savepoint = self.test_rollback(number, depth as usize)?;
+        let xid = tx.xid();
+        let savepoint = self.test_rollback(xid, depth as usize)?;
         self.log.push(Body::AbortSub(savepoint))?;
-        self.live.truncate_savepoints(number, depth as usize - 1);
+        self.live.truncate_savepoints(xid, depth as usize - 1);
         Ok(())
     }
 
     /// The savepoint of this depth.
-    fn test_rollback(&self, number: u32, depth: usize) -> Result<u32, SessionFault>
-        ensures refused { Refuses (rollback_refusal number depth self.now) result }
-        ensures live { OnOk result (is_live number self.now.live ≡ true) }
+    fn test_rollback(&self, xid: u32, depth: usize) -> Result<u32, SessionFault>
+        ensures refused { RefusedExactly (rollback_refusal xid depth self.now) result }
+        ensures live { OnOk result (is_live xid self.now.live ≡ true) }
         ensures room { OnOk result (0 < room self.now) }
-        ensures depth { OnOk result ((0 < depth) × (depth ≤ length (savepoints_of number self.now.live))) }
-        ensures value { IfOk result (λ s. s ≡ slice_index (savepoints_of number self.now.live) (depth - 1)) }
+        ensures depth { OnOk result ((0 < depth) × (depth ≤ length (savepoints_of xid self.now.live))) }
+        ensures value { IfOk result (λ s. s ≡ slice_index (savepoints_of xid self.now.live) (depth - 1)) }
     {
-        if !self.live.contains(number) {
+        if !self.live.contains(xid) {
             return Err(SessionFault::NoTransaction);
         }
-        let savepoints = self.live.savepoints(number);
+        let savepoints = self.live.savepoints(xid);
         if depth == 0 || savepoints.len() < depth {
             return Err(SessionFault::NoSavepoint);
         }
@@ -273,19 +273,19 @@ impl Publisher {
     pub fn release(&mut self, tx: &mut Tx, depth: u32) -> Result<(), SessionFault>
         ensures ok { OnOk result (self.new ≡ released tx.old depth self.old) }
         ensures err { OnErr result (self.new ≡ self.old) }
-        ensures refused { Refuses (release_refusal tx.old depth self.old) result }
+        ensures refused { RefusedExactly (release_refusal tx.old depth self.old) result }
         ensures tx { tx.new ≡ tx.old }
         ensures publisher { IsPublisher self.new }
     {
-        let number = tx.number();
-        if !self.live.contains(number) {
+        let xid = tx.xid();
+        if !self.live.contains(xid) {
             return Err(SessionFault::NoTransaction);
         }
         let depth = depth as usize;
-        if depth == 0 || self.live.savepoints(number).len() < depth {
+        if depth == 0 || self.live.savepoints(xid).len() < depth {
             return Err(SessionFault::NoSavepoint);
         }
-        self.live.truncate_savepoints(number, depth - 1);
+        self.live.truncate_savepoints(xid, depth - 1);
         Ok(())
     }
 

@@ -6,6 +6,6 @@ pub struct Receipt {
     /// The positions where the record starts and ends.
     pub start: u64,
     pub end: u64,
-    /// The number of the transaction.
-    pub top: u32,
+    /// The xid of the transaction.
+    pub xid: u32,
 }

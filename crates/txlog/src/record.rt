@@ -8,8 +8,8 @@ use tables::{Change, body_len};
 /// The position at which the first record starts, 0/1000000.
 pub const FIRST_POSITION: u64 = 0x100_0000;
 
-/// The number of the first transaction.
-pub const FIRST_NUMBER: u32 = 700;
+/// The xid of the first transaction.
+pub const FIRST_XID: u32 = 700;
 
 /// A record of the log. It starts where the one before it ends; both are byte positions of the log.
 #[derive(Debug, Drop, PartialEq)]

@@ -3,10 +3,10 @@ ghost use Rattle.std.specs.Prelude.{◌≡◌, ◌∷◌, ◌++◌, [], OnErr, O
 use std::alloc::{AllocError, Global};
 use std::marker::Model;
 
-/// A live transaction: its number, and the numbers of its open savepoints, the outermost first.
+/// A live transaction: its xid, and the xids of its open savepoints, the outermost first.
 #[derive(Debug, Drop)]
 pub(crate) struct Running {
-    number: u32,
+    xid: u32,
     savepoints: Vec<u32>,
 }
 
@@ -15,23 +15,23 @@ impl Model for Running {
 
     ghost Value = { Open };
 
-    ghost view = { λ r. record { number = r.number; savepoints = r.savepoints.items } };
+    ghost view = { λ r. record { xid = r.xid; savepoints = r.savepoints.items } };
 }
 
 impl Running {
-    pub(crate) fn new(alloc: Global, number: u32) -> Self
-        ensures { result ≡ record { number = number; savepoints = [] } }
+    pub(crate) fn new(alloc: Global, xid: u32) -> Self
+        ensures { result ≡ record { xid = xid; savepoints = [] } }
     {
         Running {
-            number,
+            xid,
             savepoints: Vec::new(alloc),
         }
     }
 
-    pub(crate) fn number(&self) -> u32
-        ensures { result ≡ self.now.number }
+    pub(crate) fn xid(&self) -> u32
+        ensures { result ≡ self.now.xid }
     {
-        self.number
+        self.xid
     }
 
     pub(crate) fn savepoints(&self) -> &[u32]

@@ -64,10 +64,10 @@ enum Seen {
 fn look_at(body: &Body) -> Seen {
     match body {
         Body::Assign(sub, parent) => Seen::Assign(*sub, *parent),
-        Body::Change(number, _) => Seen::Insert(*number),
-        Body::AbortSub(number) => Seen::AbortSub(*number),
-        Body::Abort(number) => Seen::Abort(*number),
-        Body::Commit(number, time) => Seen::Commit(*number, *time),
+        Body::Change(xid, _) => Seen::Insert(*xid),
+        Body::AbortSub(xid) => Seen::AbortSub(*xid),
+        Body::Abort(xid) => Seen::Abort(*xid),
+        Body::Commit(xid, time) => Seen::Commit(*xid, *time),
     }
 }
 
@@ -96,7 +96,7 @@ fn one_transaction(rt: HostRuntime) -> Result<(), Fail> {
             place: 1,
             start: 0x100_0030,
             end: 0x100_0050,
-            top: 700
+            xid: 700
         }
     );
     assert_eq!(rt; publisher.end(), 0x100_0050);

@@ -2,10 +2,10 @@ ghost use Rattle.std.specs.Prelude.{◌≡◌};
 
 use std::marker::Model;
 
-/// A session's hold on a transaction, spent by commit, abort or leave. Contracts see the transaction's number.
+/// A session's hold on a transaction, spent by commit, abort or leave. Contracts see the transaction's xid.
 #[derive(Debug)]
 pub struct Tx {
-    number: u32,
+    xid: u32,
 }
 
 impl Model for Tx {
@@ -13,23 +13,23 @@ impl Model for Tx {
 
     ghost Value = { ℕ };
 
-    ghost view = { λ t. t.number };
+    ghost view = { λ t. t.xid };
 }
 
 impl Tx {
-    pub(crate) fn new(number: u32) -> Self
-        ensures { result ≡ number }
+    pub(crate) fn new(xid: u32) -> Self
+        ensures { result ≡ xid }
     {
-        Tx { number }
+        Tx { xid }
     }
 
-    pub(crate) fn number(&self) -> u32
+    pub(crate) fn xid(&self) -> u32
         ensures { result ≡ self.now }
     {
-        self.number
+        self.xid
     }
 
     pub(crate) fn spend(self) {
-        let Tx { number: _ } = self;
+        let Tx { xid: _ } = self;
     }
 }

@@ -6,7 +6,7 @@ use Rattle.std.proofs.lemmas.Option.{slice_get_read, slice_get_within}
 use Rattle.std.proofs.Math.Seq.{map-set_same, drop-cons}
 use Rattle.txlog.specs.declared.record.Record.{Record}
 use Rattle.txlog.specs.declared.fault.SessionFault.{SessionFault}
-use Rattle.txlog.specs.Publishing.{PublisherState, JudgedFault}
+use Rattle.txlog.specs.Publishing.{PublisherState, IsRefusalOrMemory}
 use Rattle.world.specs.declared.action.Action.{Action}
 use Rattle.world.specs.declared.answer.Answer.{Answer}
 use Rattle.world.specs.declared.answer.Answer.TheVariants as answers
@@ -14,7 +14,7 @@ use Rattle.world.specs.declared.fault.WorldFault.{WorldFault}
 use Rattle.world.specs.declared.session.Session.{Session}
 use Rattle.world.specs.declared.connection.Connection.{Connection}
 use Rattle.world.specs.declared.machine.Machine.{Machine}
-use Rattle.world.specs.State.{Link, Named, number_of, without_name}
+use Rattle.world.specs.State.{Link, Named, xid_of, without_name}
 use Rattle.world.specs.Actions.{Acts, linked}
 use Rattle.world.specs.Sessions.{named, IsNamedAt, desk}
 use Rattle.world.specs.Events.{Called, Asks, OfNumber, ActsAt, when_done}
@@ -40,11 +40,11 @@ as_it_was (answers.Sender fault) names = refl
 
 pub asked : (name : List ℕ) (place : ℕ) (ss : List Session) (p q : PublisherState) (s t : Session) (a : Answer) (refusal : ℕ → Option SessionFault) (done : ℕ → PublisherState)
     → IsNamedAt name place ss → s ≡ slice_index_or ss place s → t ≡ s → Called (refusal s.tx) (done s.tx) p a q
-    → OfNumber (number_of name (map named ss)) (λ n. Asks (refusal n) (done n) (map named ss) (desk p ss) a (desk q (slice_set ss place t)))
+    → OfNumber (xid_of name (map named ss)) (λ n. Asks (refusal n) (done n) (map named ss) (desk p ss) a (desk q (slice_set ss place t)))
 asked name place ss p q s t a refusal done at value same called =
     let here : at.session ≡ s = one_there ss place at.session s at.there (slice_get_read ss (length ss) place s refl (slice_get_within ss place at.session at.there) value) in
     let P : Option ℕ → Type 0 = λ o. OfNumber o (λ n. Asks (refusal n) (done n) (map named ss) (desk p ss) a (desk q (slice_set ss place t))) in
-    subst P (sym (at.number ∙ ap (λ (x : Session). Option.Some x.tx) here)) (record { called = called; named = kept_names ss place s t value same ∙ as_it_was a (map named ss) })
+    subst P (sym (at.xid ∙ ap (λ (x : Session). Option.Some x.tx) here)) (record { called = called; named = kept_names ss place s t value same ∙ as_it_was a (map named ss) })
 
 -- taken out, and put back in its place
 put_back : {A : Type 0} (xs : List A) (k : ℕ) (x : A) → k < length xs → x ≡ slice_index_or xs k x → insert (remove xs k) k x ≡ xs
@@ -58,21 +58,21 @@ put_back xs k x lt value =
 
 pub ended : (name : List ℕ) (place : ℕ) (ss rest : List Session) (p q : PublisherState) (s : Session) (refusal : ℕ → Option SessionFault) (done : ℕ → PublisherState)
     → IsNamedAt name place ss → s ≡ slice_index_or ss place s → refusal s.tx ≡ None → q ≡ done s.tx → rest ≡ remove ss place
-    → OfNumber (number_of name (map named ss)) (λ n. Asks (refusal n) (done n) (without_name name (map named ss)) (desk p ss) answers.Done (desk q rest))
+    → OfNumber (xid_of name (map named ss)) (λ n. Asks (refusal n) (done n) (without_name name (map named ss)) (desk p ss) answers.Done (desk q rest))
 ended name place ss rest p q s refusal done at value none is out =
     let here : at.session ≡ s = one_there ss place at.session s at.there (slice_get_read ss (length ss) place s refl (slice_get_within ss place at.session at.there) value) in
     let P : Option ℕ → Type 0 = λ o. OfNumber o (λ n. Asks (refusal n) (done n) (without_name name (map named ss)) (desk p ss) answers.Done (desk q rest)) in
-    subst P (sym (at.number ∙ ap (λ (x : Session). Option.Some x.tx) here)) (record { called = (none, is); named = ap (map named) out ∙ sym at.without })
+    subst P (sym (at.xid ∙ ap (λ (x : Session). Option.Some x.tx) here)) (record { called = (none, is); named = ap (map named) out ∙ sym at.without })
 
 pub given_back : (name : List ℕ) (place : ℕ) (ss rest new : List Session) (p q : PublisherState) (s back : Session) (fault : SessionFault) (refusal : ℕ → Option SessionFault) (done : ℕ → PublisherState)
-    → IsNamedAt name place ss → s ≡ slice_index_or ss place s → back ≡ s → JudgedFault (refusal s.tx) fault → q ≡ p → rest ≡ remove ss place → new ≡ insert rest place back
-    → OfNumber (number_of name (map named ss)) (λ n. Asks (refusal n) (done n) (without_name name (map named ss)) (desk p ss) (answers.Session fault) (desk q new))
+    → IsNamedAt name place ss → s ≡ slice_index_or ss place s → back ≡ s → IsRefusalOrMemory (refusal s.tx) fault → q ≡ p → rest ≡ remove ss place → new ≡ insert rest place back
+    → OfNumber (xid_of name (map named ss)) (λ n. Asks (refusal n) (done n) (without_name name (map named ss)) (desk p ss) (answers.Session fault) (desk q new))
 given_back name place ss rest new p q s back fault refusal done at value same judged is out put =
     let lt = slice_get_within ss place at.session at.there in
     let here : at.session ≡ s = one_there ss place at.session s at.there (slice_get_read ss (length ss) place s refl lt value) in
     let whole : new ≡ ss = put ∙ ap (λ l. insert l place back) out ∙ ap (λ x. insert (remove ss place) place x) same ∙ put_back ss place s lt value in
     let P : Option ℕ → Type 0 = λ o. OfNumber o (λ n. Asks (refusal n) (done n) (without_name name (map named ss)) (desk p ss) (answers.Session fault) (desk q new)) in
-    subst P (sym (at.number ∙ ap (λ (x : Session). Option.Some x.tx) here)) (record { called = (judged, is); named = ap (map named) whole })
+    subst P (sym (at.xid ∙ ap (λ (x : Session). Option.Some x.tx) here)) (record { called = (judged, is); named = ap (map named) whole })
 
 -- ---- connections
 

@@ -5,7 +5,7 @@ use Rattle.std.specs.Str.{bytes_eq}
 use Rattle.sender.specs.Sending.{SenderState}
 use Rattle.world.specs.declared.session.Session.{Session}
 use Rattle.world.specs.declared.connection.Connection.{Connection}
-use Rattle.world.specs.State.{Named, Link, link_with, number_of, is_of, link_of}
+use Rattle.world.specs.State.{Named, Link, link_with, xid_of, is_of, link_of}
 use Rattle.world.specs.Actions.{linked}
 use Rattle.world.specs.Sessions.{named, place_from, IsNamedAt}
 use Rattle.world.specs.Machine.{link_place, IsLinkAt}
@@ -36,7 +36,7 @@ found_named name [] at k e = absurd cc
 found_named name (s ∷ ss) at zero e = by_test (bytes_eq s.name name) refl e
   where
     by_test : (b : Bool) → bytes_eq s.name name ≡ b → cond b (Some at) (place_from (at + 1) name (map named ss)) ≡ Some (at + 0) → IsNamedAt name 0 (s ∷ ss)
-    by_test true is e = record { session = s; there = refl; number = rw is refl; without = rw is refl }
+    by_test true is e = record { session = s; there = refl; xid = rw is refl; without = rw is refl }
     by_test false is e = absurd (omega (arith, no_sooner name (map named ss) (at + 1) (at + 0) e))
 found_named name (s ∷ ss) at (suc k) e = by_test (bytes_eq s.name name) refl e (found_named name ss (at + 1) k)
   where
@@ -48,20 +48,20 @@ found_named name (s ∷ ss) at (suc k) e = by_test (bytes_eq s.name name) refl e
     by_test true is e later = absurd (omega (arith, same_inside at (at + suc k) e))
     by_test false is e later =
         let inner = later (e ∙ ap place_is next) in
-        record { session = inner.session; there = inner.there; number = rw is inner.number; without = rw is (ap (λ l. named s ∷ l) inner.without) }
+        record { session = inner.session; there = inner.there; xid = rw is inner.xid; without = rw is (ap (λ l. named s ∷ l) inner.without) }
 
 pub named_at : (name : List ℕ) (ss : List Session) (k : ℕ) → place_from 0 name (map named ss) ≡ Some k → IsNamedAt name k ss
 named_at name ss k e = let plain : k ≡ 0 + k = omega arith in found_named name ss 0 k (e ∙ ap place_is plain)
 
-pub is_named_alike : (name : List ℕ) (names : List Named) (at : ℕ) → is_some (place_from at name names) ≡ is_some (number_of name names)
+pub is_named_alike : (name : List ℕ) (names : List Named) (at : ℕ) → is_some (place_from at name names) ≡ is_some (xid_of name names)
 is_named_alike name [] at = refl
 is_named_alike name (n ∷ names) at = by_test (bytes_eq n.name name) (is_named_alike name names (at + 1))
   where
-    by_test : (b : Bool) → is_some (place_from (at + 1) name names) ≡ is_some (number_of name names) → is_some (cond b (Some at) (place_from (at + 1) name names)) ≡ is_some (cond b (Some n.number) (number_of name names))
+    by_test : (b : Bool) → is_some (place_from (at + 1) name names) ≡ is_some (xid_of name names) → is_some (cond b (Some at) (place_from (at + 1) name names)) ≡ is_some (cond b (Some n.xid) (xid_of name names))
     by_test true later = refl
     by_test false later = later
 
-pub none_named : (name : List ℕ) (names : List Named) → place_from 0 name names ≡ None → IsNone (number_of name names)
+pub none_named : (name : List ℕ) (names : List Named) → place_from 0 name names ≡ None → IsNone (xid_of name names)
 none_named name names e = sym (is_named_alike name names 0) ∙ ap is_some e
 
 -- ---- connections

@@ -53,10 +53,10 @@ change_fits tables (changes.Insert oid row) fits = fits.in_range
 
 entry_fits : (tables : List Table) (start : ℕ) (body : Body) → start < 2 ^ 64 → FitsBody tables body → AllByRecursion FitsEntry (entry_at start body)
 entry_fits tables start (Assign sub parent) lt fits = tt
-entry_fits tables start (Changed number change) lt fits = ((lt, change_fits tables change fits.1), tt)
-entry_fits tables start (AbortSub number) lt fits = tt
-entry_fits tables start (Abort number) lt fits = tt
-entry_fits tables start (Commit number time) lt fits = tt
+entry_fits tables start (Changed xid change) lt fits = ((lt, change_fits tables change fits.1), tt)
+entry_fits tables start (AbortSub xid) lt fits = tt
+entry_fits tables start (Abort xid) lt fits = tt
+entry_fits tables start (Commit xid time) lt fits = tt
 
 entries_fit : (tables : List Table) (log : List Record) → IsLogInRange tables log → AllByRecursion FitsEntry (entries log)
 entries_fit tables [] all = tt
@@ -71,19 +71,19 @@ record FitsTransaction (t : Transaction) : Type 0 where
   start : t.start < 2 ^ 64
   end : t.end < 2 ^ 64
   time : FitsSigned w64 t.time
-  number : t.number < 2 ^ 32
+  xid : t.xid < 2 ^ 32
   changes : AllByRecursion FitsEntry t.changes
 
 committed_fit_at : (tables : List Table) (s : ℕ) (before : List Record) (start end : ℕ) (body : Body) → IsLogInRange tables before → start < 2 ^ 64 → end < 2 ^ 64 → FitsBody tables body
     → AllByRecursion FitsTransaction (committed_at s before start end body)
 committed_fit_at tables s before start end (Assign sub parent) all lt_start lt_end fits = tt
-committed_fit_at tables s before start end (Changed number change) all lt_start lt_end fits = tt
-committed_fit_at tables s before start end (AbortSub number) all lt_start lt_end fits = tt
-committed_fit_at tables s before start end (Abort number) all lt_start lt_end fits = tt
-committed_fit_at tables s before start end (Commit number time) all lt_start lt_end fits = by_test (leb s start)
+committed_fit_at tables s before start end (Changed xid change) all lt_start lt_end fits = tt
+committed_fit_at tables s before start end (AbortSub xid) all lt_start lt_end fits = tt
+committed_fit_at tables s before start end (Abort xid) all lt_start lt_end fits = tt
+committed_fit_at tables s before start end (Commit xid time) all lt_start lt_end fits = by_test (leb s start)
   where
-    by_test : (b : Bool) → AllByRecursion FitsTransaction (cond b (record { start = start; end = end; time = time; number = number; changes = kept before number } ∷ []) [])
-    by_test true = (record { start = lt_start; end = lt_end; time = fits.1; number = fits.0; changes = all_filter FitsEntry (is_kept before number) (entries before) (entries_fit tables before all) }, tt)
+    by_test : (b : Bool) → AllByRecursion FitsTransaction (cond b (record { start = start; end = end; time = time; xid = xid; changes = kept before xid } ∷ []) [])
+    by_test true = (record { start = lt_start; end = lt_end; time = fits.1; xid = fits.0; changes = all_filter FitsEntry (is_kept before xid) (entries before) (entries_fit tables before all) }, tt)
     by_test false = tt
 
 committed_fit : (tables : List Table) (s : ℕ) (before rs : List Record) → IsLogInRange tables before → IsLogInRange tables rs → AllByRecursion FitsTransaction (committed_from s before rs)
@@ -118,7 +118,7 @@ published_fit tables selection s before rs selected all_before all =
     (all_map FitsTransaction (FitsPublished (relation selection)) (published_as selection) one (committed_from s before rs) (committed_fit tables s before rs all_before all))
   where
     one : (t : Transaction) → FitsTransaction t → FitsPublished (relation selection) (published_as selection t)
-    one t fits = record { start = fits.start; end = fits.end; time = fits.time; number = fits.number; changes = changes_fit selection t.changes selected fits.changes }
+    one t fits = record { start = fits.start; end = fits.end; time = fits.time; xid = fits.xid; changes = changes_fit selection t.changes selected fits.changes }
 
 pub blocks_fit : (selection : List Table) (clock : ℤ) (ts : List Published) → FitsSigned w64 clock → AllByRecursion (FitsPublished (relation selection)) ts → FitItems (relation selection) (blocks clock ts)
 blocks_fit selection clock [] fits all = tt
@@ -128,12 +128,12 @@ blocks_fit selection clock (t ∷ ts) fits all = ((fits, all.0), blocks_fit sele
 
 late_at : (selection : List Table) (s at : ℕ) (before : List Record) (start end : ℕ) (body : Body) → at ≤ start → AllByRecursion (λ (t : Transaction). at ≤ t.start) (committed_at s before start end body)
 late_at selection s at before start end (Assign sub parent) le = tt
-late_at selection s at before start end (Changed number change) le = tt
-late_at selection s at before start end (AbortSub number) le = tt
-late_at selection s at before start end (Abort number) le = tt
-late_at selection s at before start end (Commit number time) le = by_test (leb s start)
+late_at selection s at before start end (Changed xid change) le = tt
+late_at selection s at before start end (AbortSub xid) le = tt
+late_at selection s at before start end (Abort xid) le = tt
+late_at selection s at before start end (Commit xid time) le = by_test (leb s start)
   where
-    by_test : (b : Bool) → AllByRecursion (λ (t : Transaction). at ≤ t.start) (cond b (record { start = start; end = end; time = time; number = number; changes = kept before number } ∷ []) [])
+    by_test : (b : Bool) → AllByRecursion (λ (t : Transaction). at ≤ t.start) (cond b (record { start = start; end = end; time = time; xid = xid; changes = kept before xid } ∷ []) [])
     by_test true = (le, tt)
     by_test false = tt
 

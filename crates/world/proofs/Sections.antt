@@ -15,7 +15,7 @@ use Rattle.txlog.specs.Log.{IsLogInRange, FitsRecord, IsWellFormedLog, IsSized, 
 use Rattle.txlog.proofs.Laws.{end_of-append, WellFormedAfter-front, WellFormedAfter-back}
 use Rattle.publication.specs.Selection.{relation, FitsTable}
 use Rattle.stream.specs.Words.{word_bytes}
-use Rattle.stream.specs.Items.{alive as alive_word}
+use Rattle.stream.specs.Items.{keepalive_word as alive_word}
 use Rattle.stream.specs.Stream.{IsStream}
 use Rattle.sender.specs.declared.fault.SendFault.{SendFault}
 use Rattle.sender.specs.declared.fault.SendFault.TheVariants as sends
@@ -158,31 +158,31 @@ grown_stream tables log place section clock produced s new part fits table readi
 
 pub fed_alive : (tables : List Table) (log : List Record) (place : ℕ) (section : List Record) (clock : ℤ) (produced : List ℕ) (s new : SenderState) → IsSection tables log place section → FitsSigned w64 clock
     → IsAlive log place produced s → s.failed ≡ false → Fed clock s new section → IsAlive log (place + length section) produced new
-fed_alive tables log place section clock produced s new part fits alive running fed =
-    let reading = alive.running running in
+fed_alive tables log place section clock produced s new part fits keepalive_word running fed =
+    let reading = keepalive_word.running running in
     let next = next_part tables log place section part in
     let grown = take_section tables log place section part in
     record {
-      tables = (let P : List Table → Type 0 = λ ts. AllByRecursion FitsTable ts in subst P (sym fed.selection) alive.tables);
+      tables = (let P : List Table → Type 0 = λ ts. AllByRecursion FitsTable ts in subst P (sym fed.selection) keepalive_word.tables);
       running = λ still. record {
         within = within_section tables log place section part;
         reads = (let P : List Record → Type 0 = λ l. HasRead new l in subst P (sym grown) (fed.reads (take place log) reading.reads next.may));
         at = fed.position ∙ ap (λ (p : ℕ). end_of p section) reading.at ∙ sym (end_of-append FIRST_POSITION (take place log) section) ∙ ap (end_of FIRST_POSITION) (sym grown);
       };
-      streaming = grown_stream tables log place section clock produced s new part fits alive.tables reading alive.streaming fed.selection fed.start fed.position (fed.adds (take place log) reading.reads next.may);
+      streaming = grown_stream tables log place section clock produced s new part fits keepalive_word.tables reading keepalive_word.streaming fed.selection fed.start fed.position (fed.adds (take place log) reading.reads next.may);
     }
 
 -- after a refusal for memory the place is of no use any more
 pub broken_alive : (tables : List Table) (log : List Record) (place any : ℕ) (section : List Record) (clock : ℤ) (produced : List ℕ) (s new : SenderState) → IsSection tables log place section → FitsSigned w64 clock
     → IsAlive log place produced s → s.failed ≡ false → FedSome clock s new section → IsAlive log any produced new
-broken_alive tables log place any section clock produced s new part fits alive running fed =
-    let reading = alive.running running in
+broken_alive tables log place any section clock produced s new part fits keepalive_word running fed =
+    let reading = keepalive_word.running running in
     let less = section_front tables log place fed.count section part in
     let next = next_part tables log place (take fed.count section) less in
     record {
-      tables = (let P : List Table → Type 0 = λ ts. AllByRecursion FitsTable ts in subst P (sym fed.selection) alive.tables);
+      tables = (let P : List Table → Type 0 = λ ts. AllByRecursion FitsTable ts in subst P (sym fed.selection) keepalive_word.tables);
       running = λ still. absurd (both still fed.failed);
-      streaming = grown_stream tables log place (take fed.count section) clock produced s new less fits alive.tables reading alive.streaming fed.selection fed.start fed.position (fed.adds (take place log) reading.reads next.may);
+      streaming = grown_stream tables log place (take fed.count section) clock produced s new less fits keepalive_word.tables reading keepalive_word.streaming fed.selection fed.start fed.position (fed.adds (take place log) reading.reads next.may);
     }
   where
     both : new.failed ≡ false → new.failed ≡ true → ⊥
@@ -204,8 +204,8 @@ read_is tables log place max clock name produced s new section le good at select
 pub fed_acts : (tables : List Table) (log : List Record) (place max : ℕ) (clock : ℤ) (name produced : List ℕ) (s new : SenderState) → IsSection tables log place (take max (drop place log))
     → IsAlive log place produced s → s.failed ≡ false → new.failed ≡ false → Fed clock s new (take max (drop place log))
     → link_with name produced (Some new) ≡ acted log (actions.Read max clock) (link_with name produced (Some s))
-fed_acts tables log place max clock name produced s new part alive running still fed =
-    let reading = alive.running running in
+fed_acts tables log place max clock name produced s new part keepalive_word running still fed =
+    let reading = keepalive_word.running running in
     let section = take max (drop place log) in
     let next = next_part tables log place section part in
     let section_is : section ≡ take max (unread s.position log) = ap (take max) (sym (unread_place log place part.good)) ∙ ap (λ (p : ℕ). take max (unread p log)) (sym reading.at) in
@@ -215,8 +215,8 @@ fed_acts tables log place max clock name produced s new part alive running still
 pub broken_acts : (tables : List Table) (log : List Record) (place max : ℕ) (clock : ℤ) (name produced : List ℕ) (s new : SenderState) → IsSection tables log place (take max (drop place log))
     → IsAlive log place produced s → s.failed ≡ false → FedSome clock s new (take max (drop place log))
     → BreaksDown log max clock (link_with name produced (Some s)) (link_with name produced (Some new))
-broken_acts tables log place max clock name produced s new part alive running fed =
-    let reading = alive.running running in
+broken_acts tables log place max clock name produced s new part keepalive_word running fed =
+    let reading = keepalive_word.running running in
     let section = take max (drop place log) in
     let less = section_front tables log place fed.count section part in
     let next = next_part tables log place (take fed.count section) less in
@@ -253,17 +253,17 @@ not_both p q = let never : true ≡ false = sym p ∙ q in cc
 pub refused_acts : (tables : List Table) (log : List Record) (place max : ℕ) (clock : ℤ) (name produced : List ℕ) (s new : SenderState) (r : Result (Unit {0}) SendFault) (fault : SendFault)
     → IsWellFormedLog log → IsLogInRange tables log → IsAlive log place produced s → r ≡ Err fault → RefusesFeed clock s new r (take max (drop place log))
     → ActsOnFault log (actions.Read max clock) (link_with name produced (Some s)) fault (link_with name produced (Some new))
-refused_acts tables log place max clock name produced s new r sends.Memory good in_range alive is refuses =
+refused_acts tables log place max clock name produced s new r sends.Memory good in_range keepalive_word is refuses =
     let running = was_running s r refuses.failed (λ other. differ (sym is ∙ other)) in
-    (running, broken_acts tables log place max clock name produced s new (section_of tables log place max (alive.running running).within good in_range) alive running (refuses.memory is))
+    (running, broken_acts tables log place max clock name produced s new (section_of tables log place max (keepalive_word.running running).within good in_range) keepalive_word running (refuses.memory is))
   where
     differ : failed_with sends.Memory ≡ failed_with sends.Failed → ⊥
     differ e = cc
-refused_acts tables log place max clock name produced s new r sends.Failed good in_range alive is refuses =
+refused_acts tables log place max clock name produced s new r sends.Failed good in_range keepalive_word is refuses =
     (refl, refuses.failed.0 is, ap (λ (t : SenderState). link_with name produced (Some t)) (refuses.unchanged (refuses.failed.0 is)))
-refused_acts tables log place max clock name produced s new r sends.Gap good in_range alive is refuses =
+refused_acts tables log place max clock name produced s new r sends.Gap good in_range keepalive_word is refuses =
     let running = was_running s r refuses.failed (λ other. differ (sym is ∙ other)) in
-    let reading = alive.running running in
+    let reading = keepalive_word.running running in
     let next = next_part tables log place (take max (drop place log)) (section_of tables log place max reading.within good in_range) in
     let P : ℕ → Type 0 = λ p. follows p (take max (drop place log)) ≡ true in
     absurd (not_both (subst P (sym reading.at) next.follows_on) (refuses.gap is))
@@ -284,14 +284,14 @@ refused_keepalive log clock name produced s new r sends.Gap is failed gap same =
 
 pub refused_alive : (tables : List Table) (log : List Record) (place max : ℕ) (clock : ℤ) (produced : List ℕ) (s new : SenderState) (r : Result (Unit {0}) SendFault) (fault : SendFault)
     → IsWellFormedLog log → IsLogInRange tables log → FitsSigned w64 clock → IsAlive log place produced s → r ≡ Err fault → RefusesFeed clock s new r (take max (drop place log)) → IsAlive log place produced new
-refused_alive tables log place max clock produced s new r sends.Memory good in_range fits alive is refuses =
+refused_alive tables log place max clock produced s new r sends.Memory good in_range fits keepalive_word is refuses =
     let running = was_running s r refuses.failed (λ other. differ (sym is ∙ other)) in
-    broken_alive tables log place place (take max (drop place log)) clock produced s new (section_of tables log place max (alive.running running).within good in_range) fits alive running (refuses.memory is)
+    broken_alive tables log place place (take max (drop place log)) clock produced s new (section_of tables log place max (keepalive_word.running running).within good in_range) fits keepalive_word running (refuses.memory is)
   where
     differ : failed_with sends.Memory ≡ failed_with sends.Failed → ⊥
     differ e = cc
-refused_alive tables log place max clock produced s new r sends.Failed good in_range fits alive is refuses = let P : SenderState → Type 0 = λ t. IsAlive log place produced t in subst P (sym (refuses.unchanged (refuses.failed.0 is))) alive
-refused_alive tables log place max clock produced s new r sends.Gap good in_range fits alive is refuses = let P : SenderState → Type 0 = λ t. IsAlive log place produced t in subst P (sym (refuses.unread is)) alive
+refused_alive tables log place max clock produced s new r sends.Failed good in_range fits keepalive_word is refuses = let P : SenderState → Type 0 = λ t. IsAlive log place produced t in subst P (sym (refuses.unchanged (refuses.failed.0 is))) keepalive_word
+refused_alive tables log place max clock produced s new r sends.Gap good in_range fits keepalive_word is refuses = let P : SenderState → Type 0 = λ t. IsAlive log place produced t in subst P (sym (refuses.unread is)) keepalive_word
 
 pub length_shared : {A : Type 0} (records : List (Arc Record A)) → length (shared records) ≡ length records
 length_shared [] = refl
@@ -301,11 +301,11 @@ length_shared (y ∷ records) = ap suc (length_shared records)
 
 pub kept_alive : (log : List Record) (place : ℕ) (clock : ℤ) (produced : List ℕ) (s : SenderState) → IsAlive log place produced s → FitsSigned w64 clock
     → IsAlive log place produced (record s { held = s.held ++ word_bytes (alive_word s.position clock false) })
-kept_alive log place clock produced s alive fits =
-    let t = alive.streaming in
+kept_alive log place clock produced s keepalive_word fits =
+    let t = keepalive_word.streaming in
     record {
-      tables = alive.tables;
-      running = λ still. let r = alive.running still in record { within = r.within; reads = record { taken = r.reads.taken; names = r.reads.names }; at = r.at };
+      tables = keepalive_word.tables;
+      running = λ still. let r = keepalive_word.running still in record { within = r.within; reads = record { taken = r.reads.taken; names = r.reads.names }; at = r.at };
       streaming = record {
         place = t.place;
         within = t.within;
@@ -326,14 +326,14 @@ take_grown log more place le =
     ap (take place) parted ∙ take_at (take place log) (drop place log ++ more) place (omega (arith, length-take place log))
 
 grown_alive : (log more : List Record) (place : ℕ) (produced : List ℕ) (s : SenderState) → IsAlive log place produced s → IsAlive (log ++ more) place produced s
-grown_alive log more place produced s alive =
-    let t = alive.streaming in
+grown_alive log more place produced s keepalive_word =
+    let t = keepalive_word.streaming in
     let same = take_grown log more t.place t.within in
     let longer : length log ≤ length (log ++ more) = omega (arith, length-append log more) in
     record {
-      tables = alive.tables;
+      tables = keepalive_word.tables;
       running = λ still.
-          let r = alive.running still in
+          let r = keepalive_word.running still in
           let here = take_grown log more place r.within in
           let P : List Record → Type 0 = λ l. HasRead s l in
           record { within = omega (arith, r.within, longer); reads = subst P (sym here) r.reads; at = r.at ∙ ap (end_of FIRST_POSITION) (sym here) };
@@ -348,7 +348,7 @@ grown_alive log more place produced s alive =
 
 pub grown_served : (log more : List Record) (place : ℕ) (produced : List ℕ) (o : Option SenderState) → IsServedBy log place produced o → IsServedBy (log ++ more) place produced o
 grown_served log more place produced None served = tt
-grown_served log more place produced (Some s) alive = grown_alive log more place produced s alive
+grown_served log more place produced (Some s) keepalive_word = grown_alive log more place produced s keepalive_word
 
 -- ---- a start
 

@@ -18,7 +18,7 @@ use Rattle.publication.specs.Selection.{relation}
 use Rattle.stream.specs.declared.word.Keepalive.{Keepalive}
 use Rattle.stream.specs.declared.published.Published.{Published}
 use Rattle.stream.specs.Words.{word_bytes, frames_of}
-use Rattle.stream.specs.Items.{Item, Alive, Block, alive, item_words, words_of, spelled, sent, named_by_all, named_through, FitsPublished, FitsItem}
+use Rattle.stream.specs.Items.{Item, Alive, Block, keepalive_word, item_words, words_of, spelled, sent, relations_sent_by_all, relations_sent_through, FitsPublished, FitsItem}
 use Rattle.stream.specs.Stream.{IsStream, AreSafeKeepalives}
 use Rattle.sender.specs.Published.{published, published_from}
 use Rattle.sender.specs.Sending.{blocks, blocks_behind, MayFollow}
@@ -38,21 +38,21 @@ sent-blocks : (clock : ℤ) (ts : List Published) → sent (blocks clock ts) ≡
 sent-blocks clock [] = refl
 sent-blocks clock (t ∷ ts) = ap (λ l. t ∷ l) (sent-blocks clock ts)
 
-spelled-append : (rel : ℕ → Relation) (named : List ℕ) (a b : List Item) → spelled rel named (a ++ b) ≡ spelled rel named a ++ spelled rel (named_through named (sent a)) b
+spelled-append : (rel : ℕ → Relation) (named : List ℕ) (a b : List Item) → spelled rel named (a ++ b) ≡ spelled rel named a ++ spelled rel (relations_sent_through named (sent a)) b
 spelled-append rel named [] b = refl
 spelled-append rel named (Alive k ∷ a) b =
     let first = item_words rel named (Alive k) in
     flat_map-append word_bytes first (words_of rel named (a ++ b))
     ∙ ap (λ (l : List ℕ). frames_of first ++ l) (spelled-append rel named a b)
-    ∙ sym (append_assoc (frames_of first) (spelled rel named a) (spelled rel (named_through named (sent a)) b))
-    ∙ ap (λ (l : List ℕ). l ++ spelled rel (named_through named (sent a)) b) (sym (flat_map-append word_bytes first (words_of rel named a)))
+    ∙ sym (append_assoc (frames_of first) (spelled rel named a) (spelled rel (relations_sent_through named (sent a)) b))
+    ∙ ap (λ (l : List ℕ). l ++ spelled rel (relations_sent_through named (sent a)) b) (sym (flat_map-append word_bytes first (words_of rel named a)))
 spelled-append rel named (Block clock t ∷ a) b =
     let first = item_words rel named (Block clock t) in
-    let then = named_by_all named t.changes in
+    let then = relations_sent_by_all named t.changes in
     flat_map-append word_bytes first (words_of rel then (a ++ b))
     ∙ ap (λ (l : List ℕ). frames_of first ++ l) (spelled-append rel then a b)
-    ∙ sym (append_assoc (frames_of first) (spelled rel then a) (spelled rel (named_through then (sent a)) b))
-    ∙ ap (λ (l : List ℕ). l ++ spelled rel (named_through then (sent a)) b) (sym (flat_map-append word_bytes first (words_of rel then a)))
+    ∙ sym (append_assoc (frames_of first) (spelled rel then a) (spelled rel (relations_sent_through then (sent a)) b))
+    ∙ ap (λ (l : List ℕ). l ++ spelled rel (relations_sent_through then (sent a)) b) (sym (flat_map-append word_bytes first (words_of rel then a)))
 
 -- ---- safe keepalives
 
@@ -93,7 +93,7 @@ stream_read selection clock b more pre section s limit wider stream grown le lat
       items = stream.items ++ blocks clock ts;
       fits = all_of_both (FitsItem (relation selection)) stream.items (blocks clock ts) stream.fits (blocks_fit selection clock ts fits fit);
       spells = grown ∙ ap (λ (l : List ℕ). l ++ blocks_behind selection clock (published selection pre s) ts) stream.spells
-          ∙ ap (λ (l : List Published). spelled (relation selection) [] stream.items ++ spelled (relation selection) (named_through [] l) (blocks clock ts)) (sym stream.sends)
+          ∙ ap (λ (l : List Published). spelled (relation selection) [] stream.items ++ spelled (relation selection) (relations_sent_through [] l) (blocks clock ts)) (sym stream.sends)
           ∙ sym (spelled-append (relation selection) [] stream.items (blocks clock ts));
       sends = sent-append stream.items (blocks clock ts) ∙ ap (λ l. l ++ sent (blocks clock ts)) stream.sends ∙ ap (λ l. published selection pre s ++ l) (sent-blocks clock ts)
           ∙ sym (published_from-append selection s [] pre section);
@@ -101,14 +101,14 @@ stream_read selection clock b more pre section s limit wider stream grown le lat
     }
 
 pub stream_kept_alive : (rel : ℕ → Relation) (clock : ℤ) (ask : Bool) (b : List ℕ) (ts : List Published) (limit : ℕ) → IsStream rel b ts limit → limit < 2 ^ 64 → FitsSigned w64 clock
-    → IsStream rel (b ++ word_bytes (alive limit clock ask)) ts limit
+    → IsStream rel (b ++ word_bytes (keepalive_word limit clock ask)) ts limit
 stream_kept_alive rel clock ask b ts limit stream lt fits =
     let k : Keepalive = record { position = limit; clock = clock; ask = ask } in
     record {
       items = stream.items ++ (Alive k ∷ []);
       fits = all_of_both (FitsItem rel) stream.items (Alive k ∷ []) stream.fits ((lt, fits), tt);
-      spells = ap (λ (l : List ℕ). l ++ word_bytes (alive limit clock ask)) stream.spells
-          ∙ ap (λ (l : List ℕ). spelled rel [] stream.items ++ l) (sym (flat_map-cons word_bytes (alive limit clock ask) [] ∙ append-nil (word_bytes (alive limit clock ask))))
+      spells = ap (λ (l : List ℕ). l ++ word_bytes (keepalive_word limit clock ask)) stream.spells
+          ∙ ap (λ (l : List ℕ). spelled rel [] stream.items ++ l) (sym (flat_map-cons word_bytes (keepalive_word limit clock ask) [] ∙ append-nil (word_bytes (keepalive_word limit clock ask))))
           ∙ sym (spelled-append rel [] stream.items (Alive k ∷ []));
       sends = sent-append stream.items (Alive k ∷ []) ∙ append-nil (sent stream.items) ∙ stream.sends;
       safe = safe-alive limit stream.items k (omega arith) stream.safe;

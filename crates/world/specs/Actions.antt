@@ -6,7 +6,7 @@ use Rattle.txlog.specs.declared.record.Record.{Record}
 use Rattle.txlog.specs.Log.{end_of}
 use Rattle.publication.specs.Selection.{relation, FitsTable}
 use Rattle.stream.specs.Words.{word_bytes}
-use Rattle.stream.specs.Items.{alive}
+use Rattle.stream.specs.Items.{keepalive_word}
 use Rattle.stream.specs.Stream.{IsStream}
 use Rattle.sender.specs.declared.fault.SendFault.{SendFault}
 use Rattle.sender.specs.declared.fault.SendFault.TheVariants as sends
@@ -38,7 +38,7 @@ read_on log clock section l = record l {
 
 abbrev pub acted : List Record → Action → Link → Link
 acted log (actions.Read max clock) l = read_on log clock (take max (unread l.position log)) l
-acted log (actions.Keepalive clock) l = record l { held = l.held ++ word_bytes (alive l.position clock false) }
+acted log (actions.Keepalive clock) l = record l { held = l.held ++ word_bytes (keepalive_word l.position clock false) }
 acted log (actions.Drain n) l = record l { produced = l.produced ++ take n l.held; held = drop n l.held }
 acted log actions.Cut l = link_with l.name l.produced None
 

@@ -7,7 +7,7 @@ use Rattle.tables.specs.Tables.{table_named}
 use Rattle.txlog.specs.declared.record.TheConstants.{FIRST_POSITION}
 use Rattle.txlog.specs.declared.fault.SessionFault.{SessionFault}
 use Rattle.txlog.specs.declared.fault.SessionFault.TheVariants as faults
-use Rattle.txlog.specs.Publishing.{PublisherState, JudgedFault, begun, changed, saved, rolled_back, released, after_commit, after_abort, begin_refusal, insert_refusal, savepoint_refusal, rollback_refusal, release_refusal, end_refusal}
+use Rattle.txlog.specs.Publishing.{PublisherState, IsRefusalOrMemory, begun, changed, saved, rolled_back, released, after_commit, after_abort, begin_refusal, insert_refusal, savepoint_refusal, rollback_refusal, release_refusal, end_refusal}
 use Rattle.publication.specs.declared.fault.PubFault.TheVariants as pubs
 use Rattle.publication.specs.Publications.{selected, is_unknown}
 use Rattle.world.specs.declared.action.Action.{Action}
@@ -17,7 +17,7 @@ use Rattle.world.specs.declared.event.Event.TheVariants as events
 use Rattle.world.specs.declared.event.Literal.{Literal}
 use Rattle.world.specs.declared.answer.Answer.{Answer}
 use Rattle.world.specs.declared.answer.Answer.TheVariants as answers
-use Rattle.world.specs.State.{Link, Named, WorldState, number_of, without_name, link_of, at_name}
+use Rattle.world.specs.State.{Link, Named, WorldState, xid_of, without_name, link_of, at_name}
 use Rattle.world.specs.Actions.{Acts}
 use Rattle.world.specs.Sessions.{Desk, row_in}
 
@@ -25,17 +25,17 @@ use Rattle.world.specs.Sessions.{Desk, row_in}
 
 -- a line of the transaction of this number
 abbrev pub inserted_in : Option Table → ℕ → List Literal → PublisherState → PublisherState
-inserted_in None number literals p = p
-inserted_in (Some table) number literals p = changed number (changes.Insert table.oid (row_in table.columns literals)) p
+inserted_in None xid literals p = p
+inserted_in (Some table) xid literals p = changed xid (changes.Insert table.oid (row_in table.columns literals)) p
 
 abbrev pub insert_refused : Option Table → ℕ → List Literal → PublisherState → Option SessionFault
-insert_refused None number literals p = Some faults.UnknownTable
-insert_refused (Some table) number literals p = insert_refusal number table.oid (row_in table.columns literals) p
+insert_refused None xid literals p = Some faults.UnknownTable
+insert_refused (Some table) xid literals p = insert_refusal xid table.oid (row_in table.columns literals) p
 
 -- A call of the publisher: done, it left this state; refused, by this refusal or for memory, it left the state as it was.
 abbrev pub Called : Option SessionFault → PublisherState → PublisherState → Answer → PublisherState → Type 0
 Called refusal done old answers.Done new = (refusal ≡ None) × (new ≡ done)
-Called refusal done old (answers.Session fault) new = JudgedFault refusal fault × (new ≡ old)
+Called refusal done old (answers.Session fault) new = IsRefusalOrMemory refusal fault × (new ≡ old)
 Called refusal done old (answers.Slot fault) new = ⊥
 Called refusal done old (answers.Publication fault) new = ⊥
 Called refusal done old (answers.Sender fault) new = ⊥
@@ -60,14 +60,14 @@ OfNumber (Some n) Holds = Holds n
 -- what a session line does: the one call that it names, for the transaction of its name
 abbrev pub Calls : Event → Desk → Answer → Desk → Type 0
 Calls (events.Begin t) old answer new =
-    IsNone (number_of t old.names) × Asks (begin_refusal old.publisher) (begun old.publisher) (old.names ++ record { name = t; number = old.publisher.next } ∷ []) old answer new
-Calls (events.Insert t table row) old answer new = OfNumber (number_of t old.names) (λ n.
+    IsNone (xid_of t old.names) × Asks (begin_refusal old.publisher) (begun old.publisher) (old.names ++ record { name = t; xid = old.publisher.next } ∷ []) old answer new
+Calls (events.Insert t table row) old answer new = OfNumber (xid_of t old.names) (λ n.
     Asks (insert_refused (table_named table old.publisher.tables) n row old.publisher) (inserted_in (table_named table old.publisher.tables) n row old.publisher) old.names old answer new)
-Calls (events.Savepoint t) old answer new = OfNumber (number_of t old.names) (λ n. Asks (savepoint_refusal n old.publisher) (saved n old.publisher) old.names old answer new)
-Calls (events.Rollback t depth) old answer new = OfNumber (number_of t old.names) (λ n. Asks (rollback_refusal n depth old.publisher) (rolled_back n depth old.publisher) old.names old answer new)
-Calls (events.Release t depth) old answer new = OfNumber (number_of t old.names) (λ n. Asks (release_refusal n depth old.publisher) (released n depth old.publisher) old.names old answer new)
-Calls (events.Commit t time) old answer new = OfNumber (number_of t old.names) (λ n. Asks (end_refusal n old.publisher) (after_commit n time old.publisher) (without_name t old.names) old answer new)
-Calls (events.Abort t) old answer new = OfNumber (number_of t old.names) (λ n. Asks (end_refusal n old.publisher) (after_abort n old.publisher) (without_name t old.names) old answer new)
+Calls (events.Savepoint t) old answer new = OfNumber (xid_of t old.names) (λ n. Asks (savepoint_refusal n old.publisher) (saved n old.publisher) old.names old answer new)
+Calls (events.Rollback t depth) old answer new = OfNumber (xid_of t old.names) (λ n. Asks (rollback_refusal n depth old.publisher) (rolled_back n depth old.publisher) old.names old answer new)
+Calls (events.Release t depth) old answer new = OfNumber (xid_of t old.names) (λ n. Asks (release_refusal n depth old.publisher) (released n depth old.publisher) old.names old answer new)
+Calls (events.Commit t time) old answer new = OfNumber (xid_of t old.names) (λ n. Asks (end_refusal n old.publisher) (after_commit n time old.publisher) (without_name t old.names) old answer new)
+Calls (events.Abort t) old answer new = OfNumber (xid_of t old.names) (λ n. Asks (end_refusal n old.publisher) (after_abort n old.publisher) (without_name t old.names) old answer new)
 Calls (events.Start c slot position names) old answer new = ⊥
 Calls (events.Read c max clock) old answer new = ⊥
 Calls (events.Keepalive c clock) old answer new = ⊥
@@ -76,13 +76,13 @@ Calls (events.Cut c) old answer new = ⊥
 
 -- a session line whose name is not known, or is for a second time; other lines are no session lines
 abbrev pub IsBadCall : Event → List Named → Type 0
-IsBadCall (events.Begin t) names = IsSome (number_of t names)
-IsBadCall (events.Insert t table row) names = IsNone (number_of t names)
-IsBadCall (events.Savepoint t) names = IsNone (number_of t names)
-IsBadCall (events.Rollback t depth) names = IsNone (number_of t names)
-IsBadCall (events.Release t depth) names = IsNone (number_of t names)
-IsBadCall (events.Commit t time) names = IsNone (number_of t names)
-IsBadCall (events.Abort t) names = IsNone (number_of t names)
+IsBadCall (events.Begin t) names = IsSome (xid_of t names)
+IsBadCall (events.Insert t table row) names = IsNone (xid_of t names)
+IsBadCall (events.Savepoint t) names = IsNone (xid_of t names)
+IsBadCall (events.Rollback t depth) names = IsNone (xid_of t names)
+IsBadCall (events.Release t depth) names = IsNone (xid_of t names)
+IsBadCall (events.Commit t time) names = IsNone (xid_of t names)
+IsBadCall (events.Abort t) names = IsNone (xid_of t names)
 IsBadCall (events.Start c slot position publications) names = Unit {0}
 IsBadCall (events.Read c max clock) names = Unit {0}
 IsBadCall (events.Keepalive c clock) names = Unit {0}

@@ -10,10 +10,10 @@ use Rattle.txlog.specs.Publishing.{PublisherState}
 use Rattle.world.specs.declared.event.Literal.{Literal}
 use Rattle.world.specs.declared.event.Literal.TheVariants as literals
 use Rattle.world.specs.declared.session.Session.{Session}
-use Rattle.world.specs.State.{Named, number_of, without_name}
+use Rattle.world.specs.State.{Named, xid_of, without_name}
 
 abbrev pub named : Session → Named
-named s = record { name = s.name; number = s.tx }
+named s = record { name = s.name; xid = s.tx }
 
 -- where the transaction of this name stands, counted from a number on
 abbrev pub place_from : ℕ → List ℕ → List Named → Option ℕ
@@ -24,7 +24,7 @@ place_from at name (n ∷ names) = if bytes_eq n.name name then Some at else pla
 pub record IsNamedAt (name : List ℕ) (place : ℕ) (sessions : List Session) : Type 0 where
   pub session : Session
   pub there : slice_get sessions place ≡ Some session
-  pub number : number_of name (map named sessions) ≡ Some session.tx
+  pub xid : xid_of name (map named sessions) ≡ Some session.tx
   pub without : without_name name (map named sessions) ≡ map named (remove sessions place)
 
 -- what session lines see and change

@@ -2,7 +2,7 @@
 use Rattle.std.specs.Prelude.{ℕ, Bool, true, false, ◌&&◌, List, [], ◌∷◌, Option, Some, None, if◌then◌else◌}
 use Rattle.std.specs.Str.{bytes_eq}
 use Rattle.tables.specs.declared.table.Table.{Table}
-use Rattle.txlog.specs.Publishing.{PublisherState, at_first}
+use Rattle.txlog.specs.Publishing.{PublisherState, new_publisher}
 use Rattle.publication.specs.Publications.{Publication}
 use Rattle.sender.specs.Sending.{SenderState}
 use Rattle.world.specs.declared.answer.Answer.{Answer}
@@ -10,7 +10,7 @@ use Rattle.world.specs.declared.answer.Answer.{Answer}
 -- a session's transaction, by its name
 pub record Named : Type 0 where
   pub name : List ℕ
-  pub number : ℕ
+  pub xid : ℕ
 
 -- A start of a sender: the connection's name, and what the sender has produced. While the sender is there: what it selects,
 -- where it starts, how far it has read, whether it has failed, and what it holds.
@@ -38,7 +38,7 @@ pub record Setting : Type 0 where
 
 -- before the first event the log is empty, and nobody is there
 abbrev pub at_start : Setting → WorldState
-at_start setting = record { publication = setting.publication; publisher = at_first setting.tables setting.records; names = []; links = [] }
+at_start setting = record { publication = setting.publication; publisher = new_publisher setting.tables setting.records; names = []; links = [] }
 
 -- what a world tells of itself: its state, and what each event so far answered
 pub record Course : Type 0 where
@@ -46,9 +46,9 @@ pub record Course : Type 0 where
   pub answers : List Answer
 
 -- the number of the transaction of this name
-abbrev pub number_of : List ℕ → List Named → Option ℕ
-number_of name [] = None
-number_of name (n ∷ names) = if bytes_eq n.name name then Some n.number else number_of name names
+abbrev pub xid_of : List ℕ → List Named → Option ℕ
+xid_of name [] = None
+xid_of name (n ∷ names) = if bytes_eq n.name name then Some n.xid else xid_of name names
 
 abbrev pub without_name : List ℕ → List Named → List Named
 without_name name [] = []

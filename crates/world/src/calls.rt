@@ -1,7 +1,7 @@
 //! The session lines of a script: each makes the one call of the publisher that it names.
 
 ghost use Rattle.std.specs.Prelude.{◌≡◌, ◌<◌, map, is_some, length, Err, IfOk, OnErr, IsNone};
-ghost use Rattle.world.specs.State.{number_of};
+ghost use Rattle.world.specs.State.{xid_of};
 ghost use Rattle.world.specs.Sessions.{IsNamedAt, desk, named};
 ghost use Rattle.world.specs.Events.{Calls, IsBadCall};
 ghost use Rattle.world.specs.Machine.{Grows};
@@ -48,7 +48,7 @@ pub(crate) fn call(
 fn known_place(sessions: &[Session], name: &Text) -> Result<usize, WorldFault>
     ensures there { IfOk result (λ place. IsNamedAt name.now place sessions.now) }
     ensures within { IfOk result (λ place. place < length sessions.now) }
-    ensures bad { OnErr result (IsNone (number_of name.now (map named sessions.now))) }
+    ensures bad { OnErr result (IsNone (xid_of name.now (map named sessions.now))) }
 {
     match place_of(sessions, name) {
         Some(place) => return Ok(place),
@@ -57,7 +57,7 @@ fn known_place(sessions: &[Session], name: &Text) -> Result<usize, WorldFault>
 }
 
 fn is_known(sessions: &[Session], name: &Text) -> bool
-    ensures { result ≡ is_some (number_of name.now (map named sessions.now)) }
+    ensures { result ≡ is_some (xid_of name.now (map named sessions.now)) }
 {
     place_of(sessions, name).is_some()
 }

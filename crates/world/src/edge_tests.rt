@@ -117,8 +117,8 @@ fn the_seventeenth_savepoint_is_refused(rt: HostRuntime) -> Result<(), Fail> {
 fn the_257th_live_transaction_is_refused(rt: HostRuntime) -> Result<(), Fail> {
     let alloc = rt.alloc();
     let mut schedule = String::new(alloc);
-    for number in 1..258 {
-        write!(schedule, "begin T{number}\n")?;
+    for xid in 1..258 {
+        write!(schedule, "begin T{xid}\n")?;
     }
     assert!(rt; printed(alloc, schedule.as_str())?.as_str() == "257 S10\n");
     Ok(())

@@ -2,7 +2,7 @@
 
 ghost use Rattle.std.specs.Prelude.{◌≡◌, ◌<◌, map, length, None, IfErr, IfOk, IfSome, OnErr, OnOk};
 ghost use Rattle.tables.specs.Tables.{table_named};
-ghost use Rattle.txlog.specs.Publishing.{JudgedFault, saved, rolled_back, released, after_commit, after_abort, savepoint_refusal, rollback_refusal, release_refusal, end_refusal};
+ghost use Rattle.txlog.specs.Publishing.{IsRefusalOrMemory, saved, rolled_back, released, after_commit, after_abort, savepoint_refusal, rollback_refusal, release_refusal, end_refusal};
 ghost use Rattle.world.specs.Sessions.{named, place_from};
 ghost use Rattle.world.specs.Events.{Called, insert_refused, inserted_in};
 ghost use Rattle.world.specs.Machine.{Grows};
@@ -86,7 +86,7 @@ impl Session {
         time: i64,
     ) -> Result<(), (Session, SessionFault)>
         ensures ok { OnOk result ((end_refusal self.tx publisher.old ≡ None) × (publisher.new ≡ after_commit self.tx time publisher.old)) }
-        ensures err { IfErr result (λ back. (back.0 ≡ self) × JudgedFault (end_refusal self.tx publisher.old) back.1 × (publisher.new ≡ publisher.old)) }
+        ensures err { IfErr result (λ back. (back.0 ≡ self) × IsRefusalOrMemory (end_refusal self.tx publisher.old) back.1 × (publisher.new ≡ publisher.old)) }
         ensures grows { Grows publisher.old.log publisher.new.log }
     {
         let Session { name, tx } = self;
@@ -99,7 +99,7 @@ impl Session {
     /// A refused transaction is given back.
     pub(crate) fn abort(self, publisher: &mut Publisher) -> Result<(), (Session, SessionFault)>
         ensures ok { OnOk result ((end_refusal self.tx publisher.old ≡ None) × (publisher.new ≡ after_abort self.tx publisher.old)) }
-        ensures err { IfErr result (λ back. (back.0 ≡ self) × JudgedFault (end_refusal self.tx publisher.old) back.1 × (publisher.new ≡ publisher.old)) }
+        ensures err { IfErr result (λ back. (back.0 ≡ self) × IsRefusalOrMemory (end_refusal self.tx publisher.old) back.1 × (publisher.new ≡ publisher.old)) }
         ensures grows { Grows publisher.old.log publisher.new.log }
     {
         let Session { name, tx } = self;

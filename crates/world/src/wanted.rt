@@ -35,12 +35,12 @@ impl Frames {
         Ok(self)
     }
 
-    pub(crate) fn begin(self, number: u32, position: u64, time: i64) -> Result<Self, AllocError> {
+    pub(crate) fn begin(self, xid: u32, position: u64, time: i64) -> Result<Self, AllocError> {
         let mut frames = self.message(21, position)?;
         frames.bytes.push(b'B')?;
         frames.bytes.extend_from_slice(&position.to_be_bytes())?;
         frames.bytes.extend_from_slice(&time.to_be_bytes())?;
-        frames.bytes.extend_from_slice(&number.to_be_bytes())?;
+        frames.bytes.extend_from_slice(&xid.to_be_bytes())?;
         Ok(frames)
     }
 

@@ -5,5 +5,5 @@ use Rattle.reorder.specs.Strands.{undone_in}
 use Rattle.reorder.proofs.strands.is_dropped.Given as goal
 
 -- what is left decides
-abbrev pub invariant-loop-number : goal.invariant-loop-number
-invariant-loop-number l = list_any (λ y. undone_in (get nat_eq l.strands y)) (drop l.number-index l.strand.above) ≡ list_any (λ y. undone_in (get nat_eq l.strands y)) l.strand.above
+abbrev pub invariant-loop-xid : goal.invariant-loop-xid
+invariant-loop-xid l = list_any (λ y. undone_in (get nat_eq l.strands y)) (drop l.xid-index l.strand.above) ≡ list_any (λ y. undone_in (get nat_eq l.strands y)) l.strand.above

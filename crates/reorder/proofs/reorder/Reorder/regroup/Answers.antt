@@ -24,11 +24,11 @@ returns-clause-takes c =
           (same_body _ _ _ c.deref.ensures w.in-Assign.is) w.in_ok-open-in-Assign.ensures.known w.in_ok-open-in-Assign.ensures.fresh w.in_ok-assign-in-Assign.ensures)
       | in-Change+in_ok-open-in-Change+in_ok-kept-in-Change+in_ok-push-in-Change w ↦
           carried (state c.self.inside.strands c.self.inside.failed) c.args.self.now (state w.push.new.self c.self.inside.failed) c.match-deref.self c.args.next.now.value None c.self.view_is w.self-is
-          (taken_change c.self.inside.strands w.open-in-Change.new.self w.push.new.self c.self.inside.failed c.self.inside.failed c.args.next.now.value w.in-Change.number w.in-Change.field-1
+          (taken_change c.self.inside.strands w.open-in-Change.new.self w.push.new.self c.self.inside.failed c.self.inside.failed c.args.next.now.value w.in-Change.xid w.in-Change.field-1
           (same_body _ _ _ c.deref.ensures w.in-Change.is) w.in_ok-open-in-Change.ensures.known w.in_ok-open-in-Change.ensures.fresh (rw (← w.in_ok-kept-in-Change.ensures) w.in_ok-push-in-Change.ensures))
       | in-AbortSub w ↦
           carried (state c.self.inside.strands c.self.inside.failed) c.args.self.now (state w.undo.new.self c.self.inside.failed) c.match-deref.self c.args.next.now.value None c.self.view_is w.self-is
-          (taken_rollback c.self.inside.strands w.undo.new.self c.self.inside.failed c.self.inside.failed c.args.next.now.value w.in-AbortSub.number (same_body _ _ _ c.deref.ensures w.in-AbortSub.is) w.undo.ensures)
+          (taken_rollback c.self.inside.strands w.undo.new.self c.self.inside.failed c.self.inside.failed c.args.next.now.value w.in-AbortSub.xid (same_body _ _ _ c.deref.ensures w.in-AbortSub.is) w.undo.ensures)
       | in-Abort w ↦
           carried (state c.self.inside.strands c.self.inside.failed) c.args.self.now (state w.end.new.self c.self.inside.failed) c.match-deref.self c.args.next.now.value None c.self.view_is w.self-is
           (taken_abort c.self.inside.strands w.end.new.self c.self.inside.failed c.self.inside.failed c.args.next.now.value w.in-Abort.top (same_body _ _ _ c.deref.ensures w.in-Abort.is) w.end.ensures)

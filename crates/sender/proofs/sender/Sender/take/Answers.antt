@@ -5,7 +5,7 @@ use Rattle.txlog.specs.declared.record.Record.{Record}
 use Rattle.publication.specs.Selection.{relation}
 use Rattle.reorder.specs.declared.ready.Step.{Step}
 use Rattle.reorder.specs.Taking.{ReorderState, Takes, readied}
-use Rattle.stream.specs.Items.{spelled, named_through}
+use Rattle.stream.specs.Items.{spelled, relations_sent_through}
 use Rattle.sender.specs.Sending.{SenderState, TookOne, released, blocks}
 use Rattle.sender.proofs.sender.Sender.take.Goals as goal
 
@@ -18,7 +18,7 @@ returns-in-Ok-Ready-clause-ok c =
       position = i.position;
       failed = i.failed;
       held = i.outgoing.held.items;
-      named = reverse i.outgoing.named.items;
+      relations_sent = reverse i.outgoing.relations_sent.items;
       reorder = i.reorder;
     } in
     let j = c.self-in-Ok-Ready.inside in
@@ -28,7 +28,7 @@ returns-in-Ok-Ready-clause-ok c =
       position = c.deref-in-Ok-Ready-2.result.now.end;
       failed = j.failed;
       held = j.outgoing.held.items;
-      named = reverse j.outgoing.named.items;
+      relations_sent = reverse j.outgoing.relations_sent.items;
       reorder = c.finish.new.self;
     } in
     let after : SenderState = c.publish-published.new.self in
@@ -36,7 +36,7 @@ returns-in-Ok-Ready-clause-ok c =
     let told = c.publish-published.ensures in
     let record_is = c.deref-in-Ok-Ready.ensures in
     let published = rw (to_z-of_z w64 c.args.clock c.ranges.clock, record_is) at c.in_ok-published-in-Ok-Ready.ensures.held in
-    let named = rw record_is at c.in_ok-published-in-Ok-Ready.ensures.named in
+    let relations_sent = rw record_is at c.in_ok-published-in-Ok-Ready.ensures.relations_sent in
     let taken = rw c.in-Ok-Ready.field-0-is at c.in-Ok-Ready.ensures.ok in
     let P : SenderState → Type 0 = λ a. TookOne c.args.clock a new c.args.next.now.value in
     subst P c.self.view_is (record {
@@ -46,5 +46,5 @@ returns-in-Ok-Ready-clause-ok c =
       start = ap (λ (s : SenderState). s.start) e ∙ told.start;
       position = ap (λ (r : Record). r.end) c.deref-in-Ok-Ready-2.ensures;
       held = ap (λ (s : SenderState). s.held) e ∙ published;
-      named = ap (λ (s : SenderState). s.named) e ∙ named;
+      relations_sent = ap (λ (s : SenderState). s.relations_sent) e ∙ relations_sent;
     })

@@ -16,7 +16,7 @@ returns-in-Err-clause-memory c =
       position = i.position;
       failed = true;
       held = i.outgoing.held.items;
-      named = reverse i.outgoing.named.items;
+      relations_sent = reverse i.outgoing.relations_sent.items;
       reorder = i.reorder;
     } in
     fed_some c.args.clock c.args.self.now c.loop-record.self c.take.new.self new c.args.records.now c.loop-record.record-index (omega arith) (rw (to_z-of_z w64 c.args.clock c.ranges.clock) at c.loop-record.invariant.fed) c.in-Err.ensures.err

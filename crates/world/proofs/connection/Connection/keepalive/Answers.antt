@@ -15,9 +15,9 @@ returns-in-Ok-clause-served c =
     let produced = c.args.self.now.produced.items in
     let s : SenderState = c.in-Some.sender in
     let P : Option SenderState → Type 0 = λ o. IsServedBy log place produced o in
-    let alive : IsAlive log place produced s = subst P c.in-Some.is c.requires.served in
+    let keepalive_word : IsAlive log place produced s = subst P c.in-Some.is c.requires.served in
     let told = rw (to_z-of_z w64 c.args.clock c.ranges.clock) at c.in-Ok.ensures.ok in
-    rw told (kept_alive log place c.args.clock produced s alive c.ranges.clock)
+    rw told (kept_alive log place c.args.clock produced s keepalive_word c.ranges.clock)
 
 pub returns-in-Ok-clause-acts : goal.returns-in-Ok-clause-acts
 returns-in-Ok-clause-acts c =

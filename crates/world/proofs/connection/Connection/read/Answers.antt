@@ -17,14 +17,14 @@ returns-in-Ok-clause-acts c =
     let name = c.args.self.now.name in
     let s : SenderState = c.in-Some.sender in
     let P : Option SenderState → Type 0 = λ o. IsServedBy log place produced o in
-    let alive : IsAlive log place produced s = subst P c.in-Some.is c.requires.served in
+    let keepalive_word : IsAlive log place produced s = subst P c.in-Some.is c.requires.served in
     let running = was_running s c.feed.result c.feed.ensures.failed (λ other. cc) in
     let publisher = c.tail.ensures.publisher in
-    let part = section_of c.args.publisher.now.tables log place c.args.max (alive.running running).within publisher.log.good publisher.log.in_range in
+    let part = section_of c.args.publisher.now.tables log place c.args.max (keepalive_word.running running).within publisher.log.good publisher.log.in_range in
     let fed = rw (to_z-of_z w64 c.args.clock c.ranges.clock, c.as_slice-section.ensures.value, c.in_ok-records.ensures.records) at c.in-Ok.ensures.ok in
     let F : Option SenderState → Type 0 = λ o. (link_with name produced o).failed ≡ false in (
       subst F (sym c.in-Some.is) running,
-      fed_acts c.args.publisher.now.tables log place c.args.max c.args.clock name produced s c.feed.new.self part alive running c.in-Ok.ensures.running fed
+      fed_acts c.args.publisher.now.tables log place c.args.max c.args.clock name produced s c.feed.new.self part keepalive_word running c.in-Ok.ensures.running fed
           ∙ ap (λ (o : Option SenderState). acted log (actions.Read c.args.max c.args.clock) (link_with name produced o)) (sym c.in-Some.is),
     )
 
@@ -35,16 +35,16 @@ returns-in-Ok-clause-served c =
     let produced = c.args.self.now.produced.items in
     let s : SenderState = c.in-Some.sender in
     let P : Option SenderState → Type 0 = λ o. IsServedBy log place produced o in
-    let alive : IsAlive log place produced s = subst P c.in-Some.is c.requires.served in
+    let keepalive_word : IsAlive log place produced s = subst P c.in-Some.is c.requires.served in
     let running = was_running s c.feed.result c.feed.ensures.failed (λ other. cc) in
     let publisher = c.tail.ensures.publisher in
-    let part = section_of c.args.publisher.now.tables log place c.args.max (alive.running running).within publisher.log.good publisher.log.in_range in
+    let part = section_of c.args.publisher.now.tables log place c.args.max (keepalive_word.running running).within publisher.log.good publisher.log.in_range in
     let slice = c.as_slice-section.result.now in
     let section_is = ap shared c.as_slice-section.ensures.value ∙ c.in_ok-records.ensures.records in
     let len : length (take c.args.max (drop place log)) ≡ length slice = ap length (sym section_is) ∙ length_shared slice in
     let fed = rw (to_z-of_z w64 c.args.clock c.ranges.clock, section_is) at c.in-Ok.ensures.ok in
     let N : ℕ → Type 0 = λ n. IsAlive log (place + n) produced c.feed.new.self in
-    subst N len (fed_alive c.args.publisher.now.tables log place (take c.args.max (drop place log)) c.args.clock produced s c.feed.new.self part c.ranges.clock alive running fed)
+    subst N len (fed_alive c.args.publisher.now.tables log place (take c.args.max (drop place log)) c.args.clock produced s c.feed.new.self part c.ranges.clock keepalive_word running fed)
 
 pub returns-in-Err-clause-acts : goal.returns-in-Err-clause-acts
 returns-in-Err-clause-acts c =
@@ -55,12 +55,12 @@ returns-in-Err-clause-acts c =
     let s : SenderState = c.in-Some.sender in
     let new : SenderState = c.feed.new.self in
     let P : Option SenderState → Type 0 = λ o. IsServedBy log place produced o in
-    let alive : IsAlive log place produced s = subst P c.in-Some.is c.requires.served in
+    let keepalive_word : IsAlive log place produced s = subst P c.in-Some.is c.requires.served in
     let publisher = c.tail.ensures.publisher in
     let section_is = ap shared c.as_slice-section.ensures.value ∙ c.in_ok-records.ensures.records in
     let clocked = rw (to_z-of_z w64 c.args.clock c.ranges.clock, section_is) at c.feed.ensures.memory in
     let Q : Option SenderState → Type 0 = λ o. ActsOnFault log (actions.Read c.args.max c.args.clock) (link_with name produced o) c.in-Err.fault (link_with name produced (Some new)) in
-    subst Q (sym c.in-Some.is) (refused_acts c.args.publisher.now.tables log place c.args.max c.args.clock name produced s new c.feed.result c.in-Err.fault publisher.log.good publisher.log.in_range alive c.in-Err.is
+    subst Q (sym c.in-Some.is) (refused_acts c.args.publisher.now.tables log place c.args.max c.args.clock name produced s new c.feed.result c.in-Err.fault publisher.log.good publisher.log.in_range keepalive_word c.in-Err.is
     (record { memory = clocked; failed = c.feed.ensures.failed; unchanged = c.feed.ensures.unchanged; unread = c.feed.ensures.unread; gap = λ is. (rw section_is at (c.feed.ensures.gap.0 is)).1 }))
 
 pub returns-in-Err-clause-served : goal.returns-in-Err-clause-served
@@ -71,9 +71,9 @@ returns-in-Err-clause-served c =
     let s : SenderState = c.in-Some.sender in
     let new : SenderState = c.feed.new.self in
     let P : Option SenderState → Type 0 = λ o. IsServedBy log place produced o in
-    let alive : IsAlive log place produced s = subst P c.in-Some.is c.requires.served in
+    let keepalive_word : IsAlive log place produced s = subst P c.in-Some.is c.requires.served in
     let publisher = c.tail.ensures.publisher in
     let section_is = ap shared c.as_slice-section.ensures.value ∙ c.in_ok-records.ensures.records in
     let clocked = rw (to_z-of_z w64 c.args.clock c.ranges.clock, section_is) at c.feed.ensures.memory in
-    refused_alive c.args.publisher.now.tables log place c.args.max c.args.clock produced s new c.feed.result c.in-Err.fault publisher.log.good publisher.log.in_range c.ranges.clock alive c.in-Err.is
+    refused_alive c.args.publisher.now.tables log place c.args.max c.args.clock produced s new c.feed.result c.in-Err.fault publisher.log.good publisher.log.in_range c.ranges.clock keepalive_word c.in-Err.is
     (record { memory = clocked; failed = c.feed.ensures.failed; unchanged = c.feed.ensures.unchanged; unread = c.feed.ensures.unread; gap = λ is. (rw section_is at (c.feed.ensures.gap.0 is)).1 })
