@@ -6,7 +6,7 @@ ghost use Rattle.schedule.specs.declared.fault.WorldFault.TheVariants.{Memory};
 use crate::event::Event;
 use std::alloc::{AllocError, AllocFailed};
 use std::fmt;
-use std::fmt::{Display, Formatter};
+use std::fmt::{Display, Formatter, Write};
 use thiserror::Error;
 
 /// Why an event did not happen at all. It changed nothing.
@@ -43,7 +43,7 @@ pub struct BadEvent {
 }
 
 impl Display for BadEvent {
-    fn fmt(&self, f: &mut Formatter<'_>) -> fmt::Result {
+    fn fmt<W: Write>(&self, f: &mut Formatter<W>) -> Result<(), fmt::Error> {
         write!(f, "line {}: V1: ", self.line)?;
         match &self.event {
             Event::Begin(name) => write!(f, "transaction {} is in progress", name.as_str()),
