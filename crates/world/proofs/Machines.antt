@@ -1,8 +1,9 @@
 -- The machine between two events: a longer log leaves every start served, a call or an act is its event in the world.
-use Rattle.std.proofs.Common.{◌≡◌, ℕ, ℤ, Bool, true, false, List, [], ◌∷◌, ◌++◌, map, Option, Some, None, refl, sym, ap, subst, ◌∙◌, option_map}
+use Rattle.std.proofs.Common.{◌≡◌, ◌+◌, length, ℕ, ℤ, Bool, true, false, List, [], ◌∷◌, ◌++◌, map, Option, Some, None, refl, sym, ap, subst, ◌∙◌, option_map, arith}
 use Rattle.std.specs.Prelude.{Result, Ok, Err, IfOk, OnErr, is_some, not, slice_get}
 use Rattle.std.specs.List.{AllByRecursion}
 use Rattle.std.proofs.lemmas.Option.{slice_get-map}
+use Rattle.std.proofs.lemmas.List.{length-map, map-append}
 use Rattle.txlog.specs.declared.record.Record.{Record}
 use Rattle.txlog.specs.Publishing.{PublisherState}
 use Rattle.sender.specs.declared.fault.SendFault.TheVariants as sends
@@ -24,7 +25,7 @@ use Rattle.world.specs.ConnectionLines.{Acts}
 use Rattle.world.specs.Steps.{IsStep, is_bad, session_state}
 use Rattle.world.specs.Machine.{named_tx, sessions_state, IsCallOf, Grows, IsServed, ActsIn, IsOpenStartAt, is_open, open_places, without_place, start_state, state_with, shown}
 use Rattle.world.proofs.Sections.{grown_served}
-use Rattle.world.proofs.Openings.{places_kept, places_less}
+use Rattle.world.proofs.Openings.{places_kept, places_less, places_with_one}
 use Rattle.world.proofs.Asking.{one_there}
 
 served_on : (log more : List Record) (cs : List Start) → AllByRecursion (IsServed log) cs → AllByRecursion (IsServed (log ++ more)) cs
@@ -93,23 +94,23 @@ bad_known (Some xid) ask = refl
 
 -- ---- a connection's line
 
-abbrev is_cut : Action → Bool
+abbrev pub is_cut : Action → Bool
 is_cut actions.Cut = true
 is_cut action = false
 
 stays_open : (log : List Record) (action : Action) (old new : StartState) (a : Answer) → is_cut action ≡ false → Acts log action old a new → new.is_open ≡ old.is_open
-stays_open log (actions.Read max clock) old new answers.Done no acts = ap (λ (s : StartState). s.is_open) acts.1
-stays_open log (actions.Keepalive clock) old new answers.Done no acts = ap (λ (s : StartState). s.is_open) acts.1
-stays_open log (actions.Drain n) old new answers.Done no acts = ap (λ (s : StartState). s.is_open) acts.1
-stays_open log actions.Cut old new a no acts = let never : true ≡ false = no in cc
-stays_open log (actions.Read max clock) old new (answers.Sender sends.Memory) no acts = ap (λ (s : StartState). s.is_open) acts.1.is
-stays_open log (actions.Keepalive clock) old new (answers.Sender sends.Memory) no acts = ap (λ (s : StartState). s.is_open) acts.1
-stays_open log (actions.Drain n) old new (answers.Sender sends.Memory) no acts = absurd acts.1
-stays_open log action old new (answers.Sender sends.Failed) no acts = ap (λ (s : StartState). s.is_open) acts.2
-stays_open log action old new (answers.Sender sends.Gap) no acts = absurd acts
-stays_open log action old new (answers.Session fault) no acts = absurd acts
-stays_open log action old new (answers.Slot fault) no acts = absurd acts
-stays_open log action old new (answers.Publication fault) no acts = absurd acts
+stays_open log (actions.Read max clock) old new answers.Done goes acts = ap (λ (s : StartState). s.is_open) acts.1
+stays_open log (actions.Keepalive clock) old new answers.Done goes acts = ap (λ (s : StartState). s.is_open) acts.1
+stays_open log (actions.Drain n) old new answers.Done goes acts = ap (λ (s : StartState). s.is_open) acts.1
+stays_open log actions.Cut old new a goes acts = let never : true ≡ false = goes in cc
+stays_open log (actions.Read max clock) old new (answers.Sender sends.Memory) goes acts = ap (λ (s : StartState). s.is_open) acts.1.is
+stays_open log (actions.Keepalive clock) old new (answers.Sender sends.Memory) goes acts = ap (λ (s : StartState). s.is_open) acts.1
+stays_open log (actions.Drain n) old new (answers.Sender sends.Memory) goes acts = absurd acts.1
+stays_open log action old new (answers.Sender sends.Failed) goes acts = ap (λ (s : StartState). s.is_open) acts.2
+stays_open log action old new (answers.Sender sends.Gap) goes acts = absurd acts
+stays_open log action old new (answers.Session fault) goes acts = absurd acts
+stays_open log action old new (answers.Slot fault) goes acts = absurd acts
+stays_open log action old new (answers.Publication fault) goes acts = absurd acts
 
 is_closed : (log : List Record) (old new : StartState) (a : Answer) → Acts log actions.Cut old a new → new.is_open ≡ false
 is_closed log old new answers.Done acts = ap (λ (s : StartState). s.is_open) acts.1
@@ -124,16 +125,30 @@ open_shown : (connection produced : List ℕ) (w : Walsender) → is_open w ≡ 
 open_shown connection produced (walsenders.Open s) is = refl
 open_shown connection produced (walsenders.Cut e) is = is
 
-pub found_on : (log : List Record) (place : ℕ) (action : Action) (cs new : List Start) (open : List ℕ) (a : Answer) → is_cut action ≡ false → ActsIn log place action cs a new → open ≡ open_places 0 (map start_state cs)
-    → open ≡ open_places 0 (map start_state new)
-found_on log place action cs new open a no acts found =
+pub found_on : (log : List Record) (place : ℕ) (action : Action) (cs new : List Start) (places : List ℕ) (a : Answer) → is_cut action ≡ false → ActsIn log place action cs a new → places ≡ open_places 0 (map start_state cs)
+    → places ≡ open_places 0 (map start_state new)
+found_on log place action cs new places a goes acts found =
     let there = slice_get-map start_state cs place ∙ ap (option_map start_state) acts.there in
-    found ∙ sym (places_kept 0 (map start_state cs) place (start_state acts.before) acts.after there (stays_open log action (start_state acts.before) acts.after a no acts.acts)) ∙ ap (open_places 0) (sym acts.is)
+    found ∙ sym (places_kept 0 (map start_state cs) place (start_state acts.before) acts.after there (stays_open log action (start_state acts.before) acts.after a goes acts.acts)) ∙ ap (open_places 0) (sym acts.is)
 
-pub found_less : (log : List Record) (name : List ℕ) (place : ℕ) (cs new : List Start) (open : List ℕ) (a : Answer) → IsOpenStartAt name place cs → ActsIn log place actions.Cut cs a new → open ≡ open_places 0 (map start_state cs)
-    → without_place place open ≡ open_places 0 (map start_state new)
-found_less log name place cs new open a at acts found =
+pub found_less : (log : List Record) (name : List ℕ) (place : ℕ) (cs new : List Start) (places : List ℕ) (a : Answer) → IsOpenStartAt name place cs → ActsIn log place actions.Cut cs a new → places ≡ open_places 0 (map start_state cs)
+    → without_place place places ≡ open_places 0 (map start_state new)
+found_less log name place cs new places a at acts found =
     let there = slice_get-map start_state cs place ∙ ap (option_map start_state) acts.there in
     let same : at.start ≡ acts.before = one_there cs place at.start acts.before at.there acts.there in
     let was : (start_state acts.before).is_open ≡ true = ap (λ (s : Start). (start_state s).is_open) (sym same) ∙ open_shown at.start.connection at.start.produced.items at.start.walsender at.opened in
-    ap (without_place place) found ∙ places_less 0 (map start_state cs) place (start_state acts.before) acts.after there was (is_closed log (start_state acts.before) acts.after a acts.acts) ∙ ap (open_places 0) (sym acts.is)
+    ap (without_place place) found ∙ places_less 0 (map start_state cs) place place (start_state acts.before) acts.after (omega arith) there was (is_closed log (start_state acts.before) acts.after a acts.acts) ∙ ap (open_places 0) (sym acts.is)
+
+pub no_cut : (action : Action) → (action ≡ actions.Cut → ⊥) → is_cut action ≡ false
+no_cut (actions.Read max clock) other = refl
+no_cut (actions.Keepalive clock) other = refl
+no_cut (actions.Drain n) other = refl
+no_cut actions.Cut other = absurd (other refl)
+
+pub found_more : (cs new : List Start) (places more : List ℕ) (s : Start) (n : ℕ) → new ≡ cs ++ s ∷ [] → more ≡ places ++ n ∷ [] → n ≡ length cs → (start_state s).is_open ≡ true → places ≡ open_places 0 (map start_state cs)
+    → more ≡ open_places 0 (map start_state new)
+found_more cs new places more s n new_is more_is n_is opened found =
+    let count : n ≡ 0 + length (map start_state cs) = omega (arith, n_is, length-map cs start_state) in
+    more_is ∙ ap (λ l. l ++ n ∷ []) found ∙ ap (λ (m : ℕ). open_places 0 (map start_state cs) ++ m ∷ []) count
+    ∙ sym (places_with_one 0 (map start_state cs) (start_state s) opened)
+    ∙ ap (open_places 0) (sym (ap (map start_state) new_is ∙ map-append start_state cs (s ∷ [])))

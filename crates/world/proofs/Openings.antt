@@ -2,7 +2,7 @@
 use Rattle.std.proofs.Common.{◌≡◌, ◌+◌, ◌≤◌, ◌<◌, ℕ, zero, suc, Bool, true, false, cond, eqb, List, [], ◌∷◌, ◌++◌, map, length, Option, Some, None, refl, sym, ap, subst, ◌∙◌, append_assoc, arith}
 use Rattle.std.specs.Prelude.{IsSome, IsNone, is_some, slice_get, slice_set}
 use Rattle.std.specs.Str.{bytes_eq}
-use Rattle.std.proofs.lemmas.Bool.{eqb-true}
+use Rattle.std.proofs.lemmas.Bool.{eq-eqb, ne_eqb}
 use Rattle.std.proofs.lemmas.List.{length-append}
 use Rattle.world.specs.declared.start.Start.{Start}
 use Rattle.world.specs.declared.start.Walsender.{Walsender}
@@ -61,41 +61,42 @@ get_behind (p ∷ pre) starts s = get_behind pre starts s
 
 same_place : (name : List ℕ) (pre starts : List StartState) → place_among name (pre ++ starts) (open_places (length pre) starts) ≡ start_place (length pre) name starts
 same_place name pre [] = refl
-same_place name pre (s ∷ starts) = by_test s.is_open refl
+same_place name pre (s ∷ starts) = by_test (same_place name (pre ++ s ∷ []) starts) s.is_open refl
   where
     longer : length (pre ++ s ∷ []) ≡ length pre + 1
     longer = length-append pre (s ∷ [])
 
-    later : place_among name (pre ++ s ∷ starts) (open_places (length pre + 1) starts) ≡ start_place (length pre + 1) name starts
-    later =
+    later : place_among name ((pre ++ s ∷ []) ++ starts) (open_places (length (pre ++ s ∷ [])) starts) ≡ start_place (length (pre ++ s ∷ [])) name starts
+        → place_among name (pre ++ s ∷ starts) (open_places (length pre + 1) starts) ≡ start_place (length pre + 1) name starts
+    later inner =
         let P : ℕ → Type 0 = λ n. place_among name (pre ++ s ∷ starts) (open_places n starts) ≡ start_place n name starts in
         let Q : List StartState → Type 0 = λ l. place_among name l (open_places (length (pre ++ s ∷ [])) starts) ≡ start_place (length (pre ++ s ∷ [])) name starts in
-        subst P longer (subst Q (append_assoc pre (s ∷ []) starts) (same_place name (pre ++ s ∷ []) starts))
+        subst P longer (subst Q (append_assoc pre (s ∷ []) starts) inner)
 
     here : is_for name (slice_get (pre ++ s ∷ starts) (length pre)) ≡ is_open_for name s
     here = ap (is_for name) (get_behind pre starts s)
 
     closed : (b : Bool) → s.is_open ≡ false → is_open_for name s ≡ b → b ≡ false
     closed false shut is = refl
-    closed true shut is = let both = (both_true (bytes_eq s.connection name) s.is_open is).1 in sym shut ∙ both ∙ (let never : true ≡ false = sym both ∙ shut in never)
+    closed true shut is = sym (both_true (bytes_eq s.connection name) s.is_open is).1 ∙ shut
 
-    by_test : (b : Bool) → s.is_open ≡ b
+    by_test : place_among name ((pre ++ s ∷ []) ++ starts) (open_places (length (pre ++ s ∷ [])) starts) ≡ start_place (length (pre ++ s ∷ [])) name starts → (b : Bool) → s.is_open ≡ b
         → place_among name (pre ++ s ∷ starts) (cond b (length pre ∷ open_places (length pre + 1) starts) (open_places (length pre + 1) starts)) ≡ cond (is_open_for name s) (Some (length pre)) (start_place (length pre + 1) name starts)
-    by_test true is = ap (λ (c : Bool). cond c (Some (length pre)) (place_among name (pre ++ s ∷ starts) (open_places (length pre + 1) starts))) here
-        ∙ ap (λ (o : Option ℕ). cond (is_open_for name s) (Some (length pre)) o) later
-    by_test false is = later ∙ ap (λ (c : Bool). cond c (Some (length pre)) (start_place (length pre + 1) name starts)) (sym (closed (is_open_for name s) is refl))
+    by_test inner true is = ap (λ (c : Bool). cond c (Some (length pre)) (place_among name (pre ++ s ∷ starts) (open_places (length pre + 1) starts))) here
+        ∙ ap (λ (o : Option ℕ). cond (is_open_for name s) (Some (length pre)) o) (later inner)
+    by_test inner false is = later inner ∙ ap (λ (c : Bool). cond c (Some (length pre)) (start_place (length pre + 1) name starts)) (sym (closed (is_open_for name s) is refl))
 
-pub place_found : (name : List ℕ) (starts : List StartState) (open : List ℕ) → open ≡ open_places 0 starts → place_among name starts open ≡ start_place 0 name starts
-place_found name starts open is = ap (place_among name starts) is ∙ same_place name [] starts
+pub place_found : (name : List ℕ) (starts : List StartState) (places : List ℕ) → places ≡ open_places 0 starts → place_among name starts places ≡ start_place 0 name starts
+place_found name starts places is = ap (place_among name starts) is ∙ same_place name [] starts
 
-pub open_at : (name : List ℕ) (cs : List Start) (open : List ℕ) (k : ℕ) → open ≡ open_places 0 (map start_state cs) → place_among name (map start_state cs) open ≡ Some k → IsOpenStartAt name k cs
-open_at name cs open k is e = let plain : k ≡ 0 + k = omega arith in found name cs 0 k (sym (place_found name (map start_state cs) open is) ∙ e ∙ ap place_is plain)
+pub open_at : (name : List ℕ) (cs : List Start) (places : List ℕ) (k : ℕ) → places ≡ open_places 0 (map start_state cs) → place_among name (map start_state cs) places ≡ Some k → IsOpenStartAt name k cs
+open_at name cs places k is e = let plain : k ≡ 0 + k = omega arith in found name cs 0 k (sym (place_found name (map start_state cs) places is) ∙ e ∙ ap place_is plain)
 
-pub is_open_alike : (name : List ℕ) (starts : List StartState) (open : List ℕ) → open ≡ open_places 0 starts → is_some (place_among name starts open) ≡ is_some (open_start name starts)
-is_open_alike name starts open is = ap is_some (place_found name starts open is) ∙ is_found_alike name starts 0
+pub is_open_alike : (name : List ℕ) (starts : List StartState) (places : List ℕ) → places ≡ open_places 0 starts → is_some (place_among name starts places) ≡ is_some (open_start name starts)
+is_open_alike name starts places is = ap is_some (place_found name starts places is) ∙ is_found_alike name starts 0
 
-pub none_open : (name : List ℕ) (starts : List StartState) (open : List ℕ) → open ≡ open_places 0 starts → place_among name starts open ≡ None → IsNone (open_start name starts)
-none_open name starts open is e = sym (is_open_alike name starts open is) ∙ ap is_some e
+pub none_open : (name : List ℕ) (starts : List StartState) (places : List ℕ) → places ≡ open_places 0 starts → place_among name starts places ≡ None → IsNone (open_start name starts)
+none_open name starts places is e = sym (is_open_alike name starts places is) ∙ ap is_some e
 
 -- ---- a start comes, and is cut
 
@@ -119,20 +120,31 @@ places_kept at (t ∷ starts) zero s new there same =
     ap (λ (b : Bool). cond b (at ∷ open_places (at + 1) starts) (open_places (at + 1) starts)) (same ∙ ap (λ (x : StartState). x.is_open) (sym here))
 places_kept at (t ∷ starts) (suc k) s new there same = ap (λ l. cond t.is_open (at ∷ l) l) (places_kept (at + 1) starts k s new there same)
 
--- a start that is cut
-pub places_less : (at : ℕ) (starts : List StartState) (k : ℕ) (s new : StartState) → slice_get starts k ≡ Some s → s.is_open ≡ true → new.is_open ≡ false → without_place (at + k) (open_places at starts) ≡ open_places at (slice_set starts k new)
-places_less at [] k s new there was now = absurd cc
-places_less at (t ∷ starts) zero s new there was now =
-    let here : t.is_open ≡ true = ap (λ (x : StartState). x.is_open) (same_inside t s there) ∙ was in
-    let first : eqb at (at + 0) ≡ true = omega arith in
-    rw (here, first, now) refl
-places_less at (t ∷ starts) (suc k) s new there was now =
-    let next : (at + 1) + k ≡ at + suc k = omega arith in
-    let P : ℕ → Type 0 = λ n. without_place n (open_places (at + 1) starts) ≡ open_places (at + 1) (slice_set starts k new) in
-    let other : eqb at (at + suc k) ≡ false = omega arith in
-    by_test t.is_open other (subst P next (places_less (at + 1) starts k s new there was now))
+-- no place is earlier than the first
+none_earlier : (at p : ℕ) (starts : List StartState) → p < at → without_place p (open_places at starts) ≡ open_places at starts
+none_earlier at p [] lt = refl
+none_earlier at p (t ∷ starts) lt =
+    let other : eqb at p ≡ false = ne_eqb at p (λ e. omega (arith, e, lt)) in
+    by_test t.is_open other (none_earlier (at + 1) p starts (omega (arith, lt)))
   where
-    by_test : (b : Bool) → eqb at (at + suc k) ≡ false → without_place (at + suc k) (open_places (at + 1) starts) ≡ open_places (at + 1) (slice_set starts k new)
-        → without_place (at + suc k) (cond b (at ∷ open_places (at + 1) starts) (open_places (at + 1) starts)) ≡ cond b (at ∷ open_places (at + 1) (slice_set starts k new)) (open_places (at + 1) (slice_set starts k new))
+    by_test : (b : Bool) → eqb at p ≡ false → without_place p (open_places (at + 1) starts) ≡ open_places (at + 1) starts
+        → without_place p (cond b (at ∷ open_places (at + 1) starts) (open_places (at + 1) starts)) ≡ cond b (at ∷ open_places (at + 1) starts) (open_places (at + 1) starts)
+    by_test true other later = rw other (ap (λ l. at ∷ l) later)
+    by_test false other later = later
+
+-- a start that is cut
+pub places_less : (at : ℕ) (starts : List StartState) (k p : ℕ) (s new : StartState) → p ≡ at + k → slice_get starts k ≡ Some s → s.is_open ≡ true → new.is_open ≡ false
+    → without_place p (open_places at starts) ≡ open_places at (slice_set starts k new)
+places_less at [] k p s new is there was now = absurd cc
+places_less at (t ∷ starts) zero p s new is there was now =
+    let here : t.is_open ≡ true = ap (λ (x : StartState). x.is_open) (same_inside t s there) ∙ was in
+    let first : eqb at p ≡ true = eq-eqb at p (omega (arith, is)) in
+    rw (here, first, now) (none_earlier (at + 1) p starts (omega (arith, is)))
+places_less at (t ∷ starts) (suc k) p s new is there was now =
+    let other : eqb at p ≡ false = ne_eqb at p (λ e. omega (arith, e, is)) in
+    by_test t.is_open other (places_less (at + 1) starts k p s new (omega (arith, is)) there was now)
+  where
+    by_test : (b : Bool) → eqb at p ≡ false → without_place p (open_places (at + 1) starts) ≡ open_places (at + 1) (slice_set starts k new)
+        → without_place p (cond b (at ∷ open_places (at + 1) starts) (open_places (at + 1) starts)) ≡ cond b (at ∷ open_places (at + 1) (slice_set starts k new)) (open_places (at + 1) (slice_set starts k new))
     by_test true other later = rw other (ap (λ l. at ∷ l) later)
     by_test false other later = later

@@ -1,8 +1,9 @@
 -- What a world shows of its parts, and what is true of them between events. No promise is told here but by `start_state`
 -- and `shown`, which say how the parts are seen.
-use Rattle.std.specs.Prelude.{◌≡◌, ◌<◌, ◌≤◌, ◌^◌, ℕ, ◌+◌, ◌==◌, Bool, true, false, List, [], ◌∷◌, ◌++◌, length, map, take, Option, Some, None, slice_get, slice_set, remove, if◌then◌else◌}
+use Rattle.std.specs.Prelude.{◌≡◌, ◌<◌, ◌≤◌, ◌^◌, ℕ, ◌+◌, ◌==◌, Bool, true, false, List, [], ◌∷◌, ◌++◌, length, map, take, filter, not, Option, Some, None, slice_get, slice_set, remove, if◌then◌else◌}
 use Rattle.std.specs.Str.{bytes_eq}
 use Rattle.std.specs.List.{AllByRecursion}
+use Rattle.tables.specs.declared.table.Table.{Table}
 use Rattle.txlog.specs.declared.record.TheConstants.{FIRST_POSITION}
 use Rattle.txlog.specs.declared.record.Record.{Record}
 use Rattle.txlog.specs.Log.{IsWellFormedLog, end_of}
@@ -128,10 +129,8 @@ abbrev pub place_among : List ℕ → List StartState → List ℕ → Option �
 place_among connection starts [] = None
 place_among connection starts (p ∷ places) = if is_for connection (slice_get starts p) then Some p else place_among connection starts places
 
--- these places without the first that is this one
 abbrev pub without_place : ℕ → List ℕ → List ℕ
-without_place place [] = []
-without_place place (p ∷ places) = if p == place then places else p ∷ without_place place places
+without_place place places = filter (λ p. not (p == place)) places
 
 -- where the open start of the connection stands, counted from a number on
 abbrev pub start_place : ℕ → List ℕ → List StartState → Option ℕ
@@ -169,4 +168,4 @@ shown m = record { publication = m.publications; publisher = m.publisher; transa
 pub record IsMachine (m : Machine) : Type 0 where
   pub good : IsWellFormedLog m.publisher.log
   pub served : AllByRecursion (IsServed m.publisher.log) m.starts.items
-  pub found : m.«open».items ≡ open_places 0 (map start_state m.starts.items)
+  pub found : m.opened.items ≡ open_places 0 (map start_state m.starts.items)

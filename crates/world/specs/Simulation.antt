@@ -15,3 +15,8 @@ is_bad_schedule faults.NotUtf8 = true
 is_bad_schedule (faults.Line line) = is_bad_event line.fault
 is_bad_schedule (faults.Event event) = true
 is_bad_schedule fault = false
+
+-- the report was being written
+abbrev pub is_writing : SimFault → Bool
+is_writing (faults.Write e) = true
+is_writing fault = false

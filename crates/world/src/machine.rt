@@ -29,7 +29,7 @@ pub(crate) struct Machine {
     pub(crate) publisher: Publisher,
     pub(crate) sessions: Vec<Session>,
     pub(crate) starts: Vec<Start>,
-    pub(crate) open: Vec<usize>,
+    pub(crate) opened: Vec<usize>,
 }
 
 impl Drop for Machine {
@@ -39,7 +39,7 @@ impl Drop for Machine {
             publisher,
             sessions,
             starts: _,
-            open: _,
+            opened: _,
         } = self;
         leave_all(&publisher, sessions);
     }
@@ -63,7 +63,7 @@ impl Machine {
                     publisher,
                     sessions: Vec::new(alloc),
                     starts: Vec::new(alloc),
-                    open: Vec::new(alloc),
+                    opened: Vec::new(alloc),
                 });
             }
             Err(_) => return Err(WorldFault::Memory),
@@ -134,14 +134,15 @@ impl Machine {
             return Ok(Answer::Slot(SlotFault::Missing));
         }
         self.starts.reserve(1)?;
-        self.open.reserve(1)?;
+        self.opened.reserve(1)?;
         let name = name.copy(alloc)?;
         let selection = match self.publications.select(alloc, names) {
             Ok(selection) => selection,
             Err(fault) => return Ok(Answer::Publication(fault)),
         };
         let start = Start::new(alloc, &self.publisher, name, selection, position);
-        self.open.push(self.starts.len()).unwrap();
+        let place = self.starts.as_slice().len();
+        self.opened.push(place).unwrap();
         self.starts.push(start).unwrap();
         Ok(Answer::Done)
     }
@@ -154,13 +155,13 @@ impl Machine {
         ensures err { OnErr result (shown self.new ≡ shown self.old) }
         ensures machine { IsMachine self.new }
     {
-        let found = place_among(self.starts.as_slice(), self.open.as_slice(), name);
+        let found = place_among(self.starts.as_slice(), self.opened.as_slice(), name);
         let Some(place) = found else {
             return Err(WorldFault::BadEvent);
         };
         let answer = act_at(&mut self.starts, place, alloc, &self.publisher, action)?;
         match action {
-            Action::Cut => close(&mut self.open, place),
+            Action::Cut => close(&mut self.opened, place),
             _ => {}
         }
         Ok(answer)
@@ -170,7 +171,7 @@ impl Machine {
         requires machine { IsMachine self.now }
         ensures { result ≡ is_some (open_start name.now (shown self.now).starts) }
     {
-        place_among(self.starts.as_slice(), self.open.as_slice(), name).is_some()
+        place_among(self.starts.as_slice(), self.opened.as_slice(), name).is_some()
     }
 }
 

@@ -1,16 +1,16 @@
 //! Which starts are open. A connection's line finds its start among these, however many there ever were.
 
-ghost use Rattle.std.specs.Prelude.{◌≡◌, ◌∷◌, drop, map, slice_get, take, ◌++◌};
+ghost use Rattle.std.specs.Prelude.{◌≡◌, map, slice_get};
 ghost use Rattle.world.specs.Machine.{is_for, place_among, start_state, without_place};
 
 use crate::start::Start;
 use frames::Text;
 
 /// The place of the open start of the connection, among the places of the open starts.
-pub(crate) fn place_among(starts: &[Start], open: &[usize], connection: &Text) -> Option<usize>
-    ensures { result ≡ place_among connection.now (map start_state starts.now) open.now }
+pub(crate) fn place_among(starts: &[Start], opened: &[usize], connection: &Text) -> Option<usize>
+    ensures { result ≡ place_among connection.now (map start_state starts.now) opened.now }
 {
-    for place in open {
+    for place in opened {
         if is_at(starts, *place, connection) {
             return Some(*place);
         }
@@ -28,13 +28,8 @@ fn is_at(starts: &[Start], place: usize, connection: &Text) -> bool
 }
 
 /// Takes a place out of those of the open starts.
-pub(crate) fn close(open: &mut Vec<usize>, place: usize)
-    ensures { open.new.items ≡ without_place place open.old.items }
+pub(crate) fn close(opened: &mut Vec<usize>, place: usize)
+    ensures { opened.new.items ≡ without_place place opened.old.items }
 {
-    for at in 0..open.len() {
-        if open[at] == place {
-            open.remove(at);
-            return;
-        }
-    }
+    opened.retain(|at| *at != place);
 }

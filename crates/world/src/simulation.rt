@@ -1,8 +1,8 @@
 //! A run of a schedule from its text to its report.
 
-ghost use Rattle.std.specs.Prelude.{◌≡◌, Err, true, OnOk};
+ghost use Rattle.std.specs.Prelude.{◌≡◌, Err, false};
 ghost use Rattle.world.specs.declared.simulation.SimFault.{SimFault};
-ghost use Rattle.world.specs.Simulation.{is_bad_schedule};
+ghost use Rattle.world.specs.Simulation.{is_bad_schedule, is_writing};
 
 use crate::config::Config;
 use crate::world::{RunFault, World};
@@ -44,14 +44,14 @@ impl SimFault {
 }
 
 /// Reads the whole schedule, runs its events and writes the report: a line for each refused event, then one for each start
-/// of a sender. Nothing is written of a schedule that is refused, or for which memory ran out while it was run.
+/// of a sender. Where that fails, nothing was written, unless the writing itself failed.
 pub fn simulate<R: Read, W: Write>(
     alloc: Global,
     config: Config,
     input: &mut R,
     output: &mut W,
 ) -> Result<(), SimFault>
-    ensures refused { (fault : SimFault) → result ≡ Err fault → is_bad_schedule fault ≡ true → output.new ≡ output.old }
+    ensures silent { (fault : SimFault) → result ≡ Err fault → is_writing fault ≡ false → output.new ≡ output.old }
 {
     let text = read_schedule(alloc, input)?;
     let schedule = Schedule::parse(alloc, text.as_str()).map_err(SimFault::Line)?;

@@ -100,7 +100,7 @@ impl Start {
         ensures served { IsServed publisher.now.log self.new }
     {
         match action {
-            Action::Read(max, clock) => return self.read(publisher, max, clock),
+            Action::Read(max, clock) => return self.read(alloc, publisher, max, clock),
             Action::Keepalive(clock) => return Ok(self.keepalive(publisher, clock)),
             Action::Drain(max) => return self.drain(publisher, max),
             Action::Cut => return Ok(self.cut(alloc, publisher)),
@@ -109,6 +109,7 @@ impl Start {
 
     fn read(
         &mut self,
+        alloc: Global,
         publisher: &Publisher,
         max: u32,
         clock: i64,
@@ -125,7 +126,7 @@ impl Start {
             unreachable!();
         };
         let section = records.as_slice();
-        match sender.feed(section, clock) {
+        match sender.feed(alloc, section, clock) {
             Ok(()) => {
                 self.place += section.len();
                 return Ok(Answer::Done);

@@ -1,6 +1,6 @@
 //! A run of events over the whole publisher.
 
-ghost use Rattle.std.specs.Prelude.{◌≡◌, ◌↔◌, ◌++◌, ◌∷◌, [], true, map, Err, IfOk, IfErr, OnErr};
+ghost use Rattle.std.specs.Prelude.{◌≡◌, ◌↔◌, ◌++◌, ◌∷◌, [], ℕ, true, map, Err, IfOk, IfErr, OnErr};
 ghost use Rattle.world.specs.State.{new_world};
 ghost use Rattle.world.specs.Law.{Headline};
 ghost use Rattle.world.specs.Steps.{IsRun, IsStep, StopsAt, is_bad};

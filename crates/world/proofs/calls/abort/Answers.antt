@@ -1,5 +1,5 @@
 use Rattle.txlog.specs.Publishing.{after_abort, end_refusal}
-use Rattle.world.proofs.Desks.{ended, given_back}
+use Rattle.world.proofs.Asking.{ended, given_back}
 use Rattle.world.proofs.calls.abort.Goals as goal
 
 pub returns-in-Ok-clause-calls : goal.returns-in-Ok-clause-calls

@@ -1,7 +1,7 @@
 use Rattle.std.specs.Int.{w64}
 use Rattle.std.proofs.lemmas.Int.{to_z-of_z}
 use Rattle.txlog.specs.Publishing.{after_commit, end_refusal}
-use Rattle.world.proofs.Desks.{ended, given_back}
+use Rattle.world.proofs.Asking.{ended, given_back}
 use Rattle.world.proofs.calls.commit.Goals as goal
 
 pub returns-in-Ok-clause-calls : goal.returns-in-Ok-clause-calls

@@ -1,6 +1,6 @@
 use Rattle.tables.specs.Tables.{table_named}
-use Rattle.world.specs.Events.{insert_refused, inserted_in}
-use Rattle.world.proofs.Desks.{asked}
+use Rattle.world.specs.SessionLines.{insert_refused, inserted_in}
+use Rattle.world.proofs.Asking.{asked}
 use Rattle.world.proofs.calls.insert.Goals as goal
 
 pub returns-clause-calls : goal.returns-clause-calls

@@ -1,5 +1,5 @@
 use Rattle.txlog.specs.Publishing.{release_refusal, released}
-use Rattle.world.proofs.Desks.{asked}
+use Rattle.world.proofs.Asking.{asked}
 use Rattle.world.proofs.calls.release.Goals as goal
 
 pub returns-clause-calls : goal.returns-clause-calls

@@ -1,5 +1,5 @@
 use Rattle.txlog.specs.Publishing.{rollback_refusal, rolled_back}
-use Rattle.world.proofs.Desks.{asked}
+use Rattle.world.proofs.Asking.{asked}
 use Rattle.world.proofs.calls.rollback.Goals as goal
 
 pub returns-clause-calls : goal.returns-clause-calls

@@ -1,5 +1,5 @@
 use Rattle.txlog.specs.Publishing.{savepoint_refusal, saved}
-use Rattle.world.proofs.Desks.{asked}
+use Rattle.world.proofs.Asking.{asked}
 use Rattle.world.proofs.calls.savepoint.Goals as goal
 
 pub returns-clause-calls : goal.returns-clause-calls

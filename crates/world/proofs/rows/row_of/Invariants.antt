@@ -1,5 +1,5 @@
 use Rattle.std.proofs.Common.{◌≡◌, ◌++◌, drop}
-use Rattle.world.specs.Sessions.{row_in}
+use Rattle.world.specs.Rows.{row_in}
 use Rattle.world.proofs.rows.row_of.Given as goal
 
 abbrev pub invariant-loop-literal : goal.invariant-loop-literal

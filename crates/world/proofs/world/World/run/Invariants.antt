@@ -1,8 +1,8 @@
 use Rattle.std.proofs.Common.{take}
-use Rattle.world.specs.State.{at_start}
+use Rattle.world.specs.State.{new_world}
 use Rattle.world.specs.Law.{Headline}
-use Rattle.world.specs.Events.{Run}
+use Rattle.world.specs.Steps.{IsRun}
 use Rattle.world.proofs.world.World.run.Given as goal
 
-abbrev pub invariant-loop-event : goal.invariant-loop-event
-invariant-loop-event l = Run (at_start l.fn.config) (take l.event-index l.events) l.world.answers l.world.state × Headline l.world.state
+abbrev pub invariant-loop-done : goal.invariant-loop-done
+invariant-loop-done l = IsRun (new_world l.fn.config) (take l.done l.events) l.world.answers l.world.state × Headline l.world.state
