@@ -26,7 +26,7 @@ fn read(alloc: Global, log: Vec<(u64, u64, Body)>) -> Result<Vec<(u64, i32)>, Fa
     let mut seen = Vec::new(alloc);
     for (start, end, body) in log {
         let next = Arc::new(alloc, Record { start, end, body })?;
-        match reorder.take(alloc, &next)? {
+        match reorder.take(&next)? {
             Step::Quiet => {}
             Step::Ready(ready) => {
                 let added = add_ready(&mut seen, &reorder, &ready);
