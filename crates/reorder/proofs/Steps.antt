@@ -7,7 +7,7 @@ use Rattle.tables.specs.declared.change.Change.{Change}
 use Rattle.txlog.specs.declared.record.Record.{Record}
 use Rattle.txlog.specs.declared.record.Body.{Body}
 use Rattle.txlog.specs.declared.record.Body.TheVariants.{Assign, Change as Changed, AbortSub, Abort, Commit}
-use Rattle.txlog.specs.Log.{Entry, IsOpen, names, is_named, is_assigned, has_ended, last_of, top_of, kept}
+use Rattle.txlog.specs.Log.{Entry, names, is_named, has_ended, last_of, top_of, kept}
 use Rattle.txlog.proofs.LiveList.{eqb_comm}
 use Rattle.txlog.proofs.Laws.{chain-unassigned, is_named-one}
 use Rattle.reorder.specs.Kept.{kept_entry}

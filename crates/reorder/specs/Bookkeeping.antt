@@ -1,6 +1,6 @@
 -- NOT NEEDED BY A READER OF THE PROMISE. How a regrouping stands for the records that it has taken, xid by xid, so that it can
 -- take the next one: `HasTaken` has it as its last field, the proofs alone look inside.
-use Rattle.std.specs.Prelude.{◌≡◌, ◌==◌, ℕ, Bool, true, false, List, [], ◌∷◌, filter, Option, Some, None, IsSome}
+use Rattle.std.specs.Prelude.{◌≡◌, ◌==◌, ℕ, true, false, List, [], ◌∷◌, filter, Some, None, IsSome}
 use Rattle.std.specs.List.{AllByRecursion}
 use Rattle.txlog.specs.declared.record.Record.{Record}
 use Rattle.txlog.specs.Log.{Entry, is_named, is_undone, has_ended, chain, last_of, top_of, entries}
