@@ -49,7 +49,7 @@ pub not_undone : (log : List Record) (x : ℕ) → is_named log x ≡ false → 
 not_undone log x none = unnamed undoes x (undoes_named x) log none
 
 -- a chain begins with its xid
-none_first : (p : ℕ → Bool) (older : List Record) (x : ℕ) → list_any p (chain_back older x) ≡ false → p x ≡ false
+pub none_first : (p : ℕ → Bool) (older : List Record) (x : ℕ) → list_any p (chain_back older x) ≡ false → p x ≡ false
 none_first p [] x none = or_left (p x) false none
 none_first p (r ∷ older) x none = by_body r.body (none_first p older x) none
   where
