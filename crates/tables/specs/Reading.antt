@@ -18,11 +18,10 @@ use Rattle.tables.specs.Spelling.{spell_body}
 -- WHAT HAS A BODY
 
 abbrev pub IsCodedValue : Value → Type 0
-IsCodedValue values.Null = Unit {0}
-IsCodedValue (values.Bool b) = Unit {0}
 IsCodedValue (values.Int4 n) = FitsSigned w32 n
 IsCodedValue (values.Int8 n) = FitsSigned w64 n
 IsCodedValue (values.Text text) = (length text < 2 ^ 32) × (is_utf8 text ≡ true)
+IsCodedValue value = Unit {0}
 
 abbrev pub IsCodedRow : List Value → Type 0
 IsCodedRow row = (length row < 2 ^ 16) × AllByRecursion IsCodedValue row
@@ -79,12 +78,8 @@ body_at bytes = change_at bytes >>= λ change. if length change.1 == 0 then Ok c
 -- WHAT A READER ANSWERS
 
 abbrev pub Fails : {Y : Type 0} → BodyFault → Result Y BodyFault → Type 0
-Fails Short read = read ≡ Err Short
-Fails UnknownTag read = read ≡ Err UnknownTag
-Fails BadBool read = read ≡ Err BadBool
-Fails BadText read = read ≡ Err BadText
-Fails Trailing read = read ≡ Err Trailing
 Fails Memory read = Unit {0}
+Fails fault read = read ≡ Err fault
 
 -- the value and what is left behind it, or the fault; memory may be refused at any time
 abbrev pub Gives : {X : Type 0} → Result X BodyFault → List ℕ → Result (X × List ℕ) BodyFault → Type 0

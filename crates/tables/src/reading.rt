@@ -1,3 +1,5 @@
+//! How a change is read from its body.
+
 ghost use Rattle.std.specs.Prelude.{◌≡◌, [], IfOk, Ok};
 ghost use Rattle.std.specs.Int.{w32, w64};
 ghost use Rattle.frames.specs.Steps.{letter_at, signed_at, repeat_at};
