@@ -14,6 +14,14 @@ use tables::Change;
 use txlog::{Body, Record};
 
 /// The changes of the transactions in progress, by the xids that made them.
+///
+/// Records go in one by one and in log order, each by `take`. `Step::Quiet` means that nothing is to be published yet.
+/// `Step::Ready` comes with a commit: `entry` lends its changes one by one, and `finish` takes the `Ready` back.
+///
+/// The first record may be any record of a log. Of a transaction that was in progress there, the changes from this record on
+/// are known; a subtransaction of it that began earlier counts as a transaction of its own, which never commits.
+///
+/// An error is the end: Q2 is want of memory, and every `take` after it is Q3.
 #[derive(Debug, Drop)]
 pub struct Reorder {
     strands: Strands,
@@ -29,6 +37,7 @@ impl Model for Reorder {
 }
 
 impl Reorder {
+    /// A regrouping that has taken no record.
     pub fn new(alloc: Global) -> Self
         ensures untaken { HasTaken result [] }
         ensures running { result.failed ≡ false }
@@ -39,7 +48,7 @@ impl Reorder {
         }
     }
 
-    /// Takes the next record of a log. Refused for memory (Q2), or after that (Q3), it is failed for good.
+    /// Takes the next record of a log, and answers what it makes ready.
     pub fn take(&mut self, next: &Arc<Record>) -> Result<Step, ReorderFault>
         ensures ok { IfOk result (λ step. Takes self.old self.new next.now.value (readied step)) }
         ensures running { OnOk result ((self.old.failed ≡ false) × (self.new.failed ≡ false)) }

@@ -3,12 +3,13 @@ use std::alloc::Global;
 use std::sync::Arc;
 use std::test::Fail;
 use tables::{Change, Row, Value};
-use txlog::{Body, Record};
+use txlog::{Body, LoggedChange, Record};
 
 /// An insert by this xid.
 fn insert(alloc: Global, xid: u32, id: i32) -> Result<Body, Fail> {
     let row = Row::new(vec![in alloc; Value::Int4(id)]?);
-    Ok(Body::Change(xid, Change::Insert(16384, row)))
+    let change = LoggedChange::new(Change::Insert(16384, row)).ok_or("a short row")?;
+    Ok(Body::Change(xid, change))
 }
 
 /// The id of an inserted row.

@@ -1,4 +1,4 @@
-//! What is on its way out: the bytes that are held, and the tables that they named.
+//! What is on its way out: the bytes that are held, and the tables whose Relation was sent.
 
 ghost use Rattle.std.specs.Prelude.{◌≡◌, ◌≤◌, ◌++◌, ◌∷◌, [], OnErr, OnOk, reverse, IsSome, min, take, drop, length};
 ghost use Rattle.std.specs.List.{AllByRecursion};
@@ -10,7 +10,7 @@ ghost use Rattle.publication.specs.Projection.{MessageFits};
 ghost use Rattle.stream.specs.Words.{frames_of, word_bytes};
 ghost use Rattle.stream.specs.Items.{IsShortMessage, begin_message, commit_message, is_relation_sent, due, relations_sent_by, relations_sent_by_all, xlogdata_word, relation_words, change_words, changes_words, block_words, keepalive_word};
 
-use crate::word::{put_keepalive, put_said};
+use crate::word::{put_keepalive, put_xlogdata};
 use bytes::{BufMut, BytesMut};
 use pgoutput::{Begin, Commit, Logical};
 use publication::Selection;
@@ -23,7 +23,7 @@ pub(crate) struct Outgoing {
     pub(crate) held: BytesMut,
     /// One message, before its frame is made.
     pub(crate) scratch: BytesMut,
-    /// The tables that were named so far, the oldest first.
+    /// The tables whose Relation was sent, the oldest first.
     pub(crate) relations_sent: Vec<u32>,
 }
 
@@ -113,18 +113,18 @@ impl Outgoing {
     }
 
     /// Adds a message at a position.
-    fn say(&mut self, position: u64, clock: i64, message: &Logical) -> Result<(), AllocError>
+    fn add_message(&mut self, position: u64, clock: i64, message: &Logical) -> Result<(), AllocError>
         requires counts { IsShort message.now }
         requires fits { IsShortMessage message.now }
         ensures held { Puts result self.old.held.items self.new.held.items (word_bytes (xlogdata_word position clock message.now)) }
         ensures relations_sent { self.new.relations_sent ≡ self.old.relations_sent }
     {
-        put_said(&mut self.held, &mut self.scratch, position, clock, message)
+        put_xlogdata(&mut self.held, &mut self.scratch, position, clock, message)
     }
 
-    /// Adds the Relation of a table, unless it was named before.
+    /// Adds the Relation of a table, unless it was sent before.
     #[tactic(auto, using(frames::proofs::Putting::extends_itself, frames::proofs::Putting::extends_more, frames::proofs::Putting::extends_back))]
-    fn introduce(
+    fn add_relation(
         &mut self,
         selection: &Selection,
         position: u64,
@@ -137,13 +137,13 @@ impl Outgoing {
         ensures relations_sent { OnOk result (reverse self.new.relations_sent.items
             ≡ reverse (due (reverse self.old.relations_sent.items) (oid ∷ [])) ++ reverse self.old.relations_sent.items) }
     {
-        if is_known(self.relations_sent.as_slice(), oid) {
+        if is_sent(self.relations_sent.as_slice(), oid) {
             return Ok(());
         }
-        let Some(message) = selection.relation(self.allocator(), oid)? else {
+        let Some(message) = selection.relation(oid)? else {
             unreachable!();
         };
-        self.say(position, clock, &message)?;
+        self.add_message(position, clock, &message)?;
         self.relations_sent.push(oid)?;
         Ok(())
     }
@@ -161,9 +161,9 @@ impl Outgoing {
         ensures relations_sent { OnOk result (reverse self.new.relations_sent.items ≡ relations_sent_by (reverse self.old.relations_sent.items) change.now) }
     {
         if let Logical::Insert(insert) = &change.message {
-            self.introduce(selection, change.position, clock, insert.oid)?;
+            self.add_relation(selection, change.position, clock, insert.oid)?;
         }
-        self.say(change.position, clock, &change.message)?;
+        self.add_message(change.position, clock, &change.message)?;
         Ok(())
     }
 
@@ -199,10 +199,10 @@ impl Outgoing {
         ensures relations_sent { OnOk result (reverse self.new.relations_sent.items ≡ relations_sent_by_all (reverse self.old.relations_sent.items) transaction.now.changes) }
     {
         let begin = begin_of(transaction);
-        self.say(transaction.start, clock, &begin)?;
+        self.add_message(transaction.start, clock, &begin)?;
         self.changes(selection, clock, transaction.changes.as_slice())?;
         let commit = commit_of(transaction);
-        self.say(transaction.end, clock, &commit)?;
+        self.add_message(transaction.end, clock, &commit)?;
         Ok(())
     }
 }
@@ -228,7 +228,7 @@ fn commit_of(transaction: &Published) -> Logical
 }
 
 #[tactic(auto, using(crate::proofs::Lists::any_reverse))]
-fn is_known(relations_sent: &[u32], oid: u32) -> bool
+fn is_sent(relations_sent: &[u32], oid: u32) -> bool
     ensures { result ≡ is_relation_sent (reverse relations_sent.now) oid }
 {
     relations_sent.contains(&oid)

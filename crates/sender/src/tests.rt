@@ -8,7 +8,7 @@ use std::process::Abort;
 use std::sync::Arc;
 use std::test::Fail;
 use tables::{Change, Row, Value};
-use txlog::{Body, Record};
+use txlog::{Body, LoggedChange, Record};
 
 /// Where the log begins, and the transaction of one insert commits.
 const FIRST: u64 = 0x100_0000;
@@ -29,7 +29,8 @@ fn insert(
 ) -> Result<Body, Fail> {
     let name = Value::Text(Text::copy_of(alloc, name)?);
     let row = Row::new(vec![in alloc; Value::Int4(id), name, Value::Int8(qty)]?);
-    Ok(Body::Change(xid, Change::Insert(oid, row)))
+    let change = LoggedChange::new(Change::Insert(oid, row)).ok_or("a short row")?;
+    Ok(Body::Change(xid, change))
 }
 
 /// The log of one transaction with one insert.
@@ -58,7 +59,7 @@ fn interleaved(alloc: Global) -> Result<Vec<Arc<Record>>, Fail> {
 fn sender(alloc: Global, start: u64) -> Result<Sender, Fail> {
     let publications = Publications::builtin(alloc)?;
     let names = [Text::copy_of(alloc, "p")?];
-    let selection = publications.select(alloc, &names)?;
+    let selection = publications.select(&names)?;
     Ok(Sender::start(alloc, selection, start, FIRST)?)
 }
 

@@ -23,7 +23,7 @@ const KEEPALIVE_SIZE: u32 = 18;
 /// Adds the frame of a message at a position. The message is spelled into `scratch` first, since the frame begins with its
 /// length.
 #[tactic(auto, using(frames::proofs::Putting::extends_itself, frames::proofs::Putting::extends_more, frames::proofs::Putting::extends_back))]
-pub(crate) fn put_said(
+pub(crate) fn put_xlogdata(
     out: &mut BytesMut,
     scratch: &mut BytesMut,
     position: u64,
