@@ -1,4 +1,4 @@
-//! What all regular frames have in common: a type byte, a length and a body.
+//! What all regular frames have in common (PostgreSQL 15, 55.1.1): a type byte, a length that counts itself, and a body.
 
 ghost use Rattle.std.specs.Prelude.{◌≡◌, ◌≢◌, ◌+◌, ◌^◌, ◌<◌, ◌∷◌, ◌++◌, option_map, Result, Ok, Err};
 ghost use Rattle.frames.specs.Fields.{int32};

@@ -1,4 +1,4 @@
-//! The frames that a client sends.
+//! The frames that a client sends: the enum over them, its reader and its writer.
 
 ghost use Rattle.std.specs.Prelude.{◌≡◌, ◌<◌, ◌≤◌, ◌++◌, List, ℕ, length, take, Ok, Err, Some, None, IfOk, IfErr, IfSome, OnOk, OnErr};
 ghost use Rattle.frames.specs.Frame.{FitsLength, frame, Gives, StandsAt, IsWhole, raw_at};
@@ -12,7 +12,10 @@ use crate::frame::{FRAME_LIMIT, body_of, put_head};
 use bytes::BytesMut;
 use std::alloc::{AllocError, Global};
 
-/// A frame that a client sends.
+/// A frame that a client sends (PostgreSQL 15, 55.7).
+///
+/// `read_front` on the bytes that have come: `None` is to wait for more, `Some` is a frame and the count of bytes to drop
+/// from the front, and a fault is the connection's end. `write_front` is its converse.
 #[derive(Debug, Drop, PartialEq)]
 pub enum Front {
     CopyData(CopyData),
