@@ -89,7 +89,7 @@ pub fn write_back(message: &Back, out: &mut BytesMut) -> Result<(), AllocError>
     written
 }
 
-#[tactic(auto, using(crate::proofs::Putting::extends_itself, crate::proofs::Putting::extends_more, crate::proofs::Putting::extends_back))]
+#[tactic(auto, using(crate::proofs::Putting::in_place))]
 fn put_back(out: &mut BytesMut, message: &Back) -> Result<(), AllocError>
     requires { FitsLength (back_body message.now) }
     ensures { Puts result out.old.items out.new.items (frame (back_kind message.now) (back_body message.now)) }

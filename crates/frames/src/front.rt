@@ -89,7 +89,7 @@ pub fn write_front(message: &Front, out: &mut BytesMut) -> Result<(), AllocError
     written
 }
 
-#[tactic(auto, using(crate::proofs::Putting::extends_itself, crate::proofs::Putting::extends_more, crate::proofs::Putting::extends_back))]
+#[tactic(auto, using(crate::proofs::Putting::in_place))]
 fn put_front(out: &mut BytesMut, message: &Front) -> Result<(), AllocError>
     requires { FitsLength (front_body message.now) }
     ensures { Puts result out.old.items out.new.items (frame (front_kind message.now) (front_body message.now)) }
