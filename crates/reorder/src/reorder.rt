@@ -18,8 +18,8 @@ use txlog::{Body, Record};
 /// Records go in one by one and in log order, each by `take`. `Step::Quiet` means that nothing is to be published yet.
 /// `Step::Ready` comes with a commit: `entry` lends its changes one by one, and `finish` takes the `Ready` back.
 ///
-/// The first record may be any record of a log. Of a transaction that was in progress there, the changes from this record on
-/// are known; a subtransaction of it that began earlier counts as a transaction of its own, which never commits.
+/// The first record may be any record of a log. Of a transaction in progress there only the changes from this record on are
+/// known. A subtransaction of it that began earlier counts as a transaction of its own, which never commits.
 ///
 /// An error is the end: Q2 is want of memory, and every `take` after it is Q3.
 #[derive(Debug, Drop)]

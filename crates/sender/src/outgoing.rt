@@ -1,4 +1,5 @@
 //! What is on its way out: the bytes that are held, and the tables whose Relation was sent.
+#![tactic(auto, using(frames::proofs::Putting::in_place))]
 
 ghost use Rattle.std.specs.Prelude.{◌≡◌, ◌≤◌, ◌++◌, ◌∷◌, [], OnErr, OnOk, reverse, IsSome, min, take, drop, length};
 ghost use Rattle.std.specs.List.{AllByRecursion};
@@ -8,7 +9,7 @@ ghost use Rattle.tables.specs.Tables.{table_of};
 ghost use Rattle.publication.specs.Selection.{relation};
 ghost use Rattle.publication.specs.Projection.{MessageFits};
 ghost use Rattle.stream.specs.Words.{frames_of, word_bytes};
-ghost use Rattle.stream.specs.Items.{IsShortMessage, begin_message, commit_message, is_relation_sent, due, relations_sent_by, relations_sent_by_all, xlogdata_word, relation_words, change_words, changes_words, block_words, keepalive_word};
+ghost use Rattle.stream.specs.Items.{IsShortMessage, begin_message, commit_message, is_relation_sent, relations_due, relations_sent_by, relations_sent_by_all, xlogdata_word, relation_words, change_words, changes_words, block_words, keepalive_word};
 
 use crate::word::{put_keepalive, put_xlogdata};
 use bytes::{BufMut, BytesMut};
@@ -123,7 +124,6 @@ impl Outgoing {
     }
 
     /// Adds the Relation of a table, unless it was sent before.
-    #[tactic(auto, using(frames::proofs::Putting::extends_itself, frames::proofs::Putting::extends_more, frames::proofs::Putting::extends_back))]
     fn add_relation(
         &mut self,
         selection: &Selection,
@@ -133,9 +133,9 @@ impl Outgoing {
     ) -> Result<(), AllocError>
         requires { IsSome (table_of oid selection.now) }
         ensures held { Puts result self.old.held.items self.new.held.items
-            (frames_of (relation_words (relation selection.now) position clock (due (reverse self.old.relations_sent.items) (oid ∷ [])))) }
+            (frames_of (relation_words (relation selection.now) position clock (relations_due (reverse self.old.relations_sent.items) (oid ∷ [])))) }
         ensures relations_sent { OnOk result (reverse self.new.relations_sent.items
-            ≡ reverse (due (reverse self.old.relations_sent.items) (oid ∷ [])) ++ reverse self.old.relations_sent.items) }
+            ≡ reverse (relations_due (reverse self.old.relations_sent.items) (oid ∷ [])) ++ reverse self.old.relations_sent.items) }
     {
         if is_sent(self.relations_sent.as_slice(), oid) {
             return Ok(());
@@ -167,7 +167,6 @@ impl Outgoing {
         Ok(())
     }
 
-    #[tactic(auto, using(frames::proofs::Putting::extends_itself, frames::proofs::Putting::extends_more, frames::proofs::Putting::extends_back))]
     fn changes(
         &mut self,
         selection: &Selection,
@@ -186,7 +185,7 @@ impl Outgoing {
     }
 
     /// Adds the block of a transaction.
-    #[tactic(auto, using(frames::proofs::Putting::extends_itself, frames::proofs::Putting::extends_more, frames::proofs::Putting::extends_back, crate::proofs::Framing::block_is))]
+    #[tactic(auto, using(frames::proofs::Putting::in_place, crate::proofs::Framing::block_is))]
     fn block(
         &mut self,
         selection: &Selection,
