@@ -1,3 +1,5 @@
+//! Why publications are not selected.
+
 ghost use Rattle.std.specs.Prelude.{◌≡◌};
 ghost use Rattle.publication.specs.declared.fault.PubFault.TheVariants.{Memory};
 

@@ -14,8 +14,12 @@ use std::marker::Model;
 use tables::{Catalog, Table};
 
 /// The publications of a publisher: for now one, of whole tables.
+///
+/// `builtin` makes them, and `select` may be called any number of times. Its P1 says that a name is no publication's, and P7
+/// is want of memory; neither changes anything.
 #[derive(Debug, Drop)]
 pub struct Publications {
+    alloc: Global,
     name: Text,
     tables: Items<Table>,
 }
@@ -39,13 +43,14 @@ impl Publications {
     {
         let catalog = Catalog::builtin(alloc)?;
         Ok(Publications {
+            alloc,
             name: Text::copy_of(alloc, "p")?,
             tables: copies(alloc, catalog.tables())?,
         })
     }
 
     /// The tables of the publications of these names. A name that no publication has is P1.
-    pub fn select(&self, alloc: Global, names: &[Text]) -> Result<Selection, PubFault>
+    pub fn select(&self, names: &[Text]) -> Result<Selection, PubFault>
         ensures ok { IfOk result (λ s. s ≡ selected self.now names.now) }
         ensures known { IfOk result (λ s. is_unknown self.now names.now ≡ false) }
         ensures unknown { result ≡ Err PubFault.Unknown → is_unknown self.now names.now ≡ true }
@@ -55,10 +60,10 @@ impl Publications {
             return Err(PubFault::Unknown);
         }
         if !is_named(names, self.name.as_str()) {
-            return Ok(Selection::new(Items::new(Vec::new(alloc))));
+            return Ok(Selection::new(self.alloc, Items::new(Vec::new(self.alloc))));
         }
-        let tables = copies(alloc, self.tables.as_slice())?;
-        Ok(Selection::new(tables))
+        let tables = copies(self.alloc, self.tables.as_slice())?;
+        Ok(Selection::new(self.alloc, tables))
     }
 }
 

@@ -20,8 +20,13 @@ use std::marker::Model;
 use tables::{Change, Row, Table};
 
 /// The tables that a sender publishes, each whole. Contracts see the list of them.
+///
+/// `Publications::select` makes it. For each change of a commit `project` answers its message, or `Projected::Nothing` where it
+/// isn't published; `relation` answers the Relation that goes before the first message of a table. Neither changes anything,
+/// and their only error is want of memory.
 #[derive(Debug, Drop)]
 pub struct Selection {
+    alloc: Global,
     tables: Items<Table>,
 }
 
@@ -40,11 +45,11 @@ impl Model for Selection {
 
 impl Selection {
     /// The selection of these tables, each of which a Relation can tell.
-    pub fn new(tables: Items<Table>) -> Self
+    pub fn new(alloc: Global, tables: Items<Table>) -> Self
         requires { AllByRecursion FitsTable tables }
         ensures { result ≡ tables }
     {
-        Selection { tables }
+        Selection { alloc, tables }
     }
 
     fn table(&self, oid: u32) -> Option<&Table>
@@ -54,17 +59,17 @@ impl Selection {
         found(self.tables.as_slice(), oid)
     }
 
-    /// The message of a change.
-    pub fn project(&self, alloc: Global, change: &Change) -> Result<Projected, AllocError>
+    /// The message of a change, if it has one.
+    pub fn project(&self, change: &Change) -> Result<Projected, AllocError>
         ensures value { IfOk result (λ p. p ≡ projected (message self.now change.now)) }
         ensures fits { IfOk result (FitsProjected self.now) }
     {
         match change {
-            Change::Insert(oid, row) => self.inserted(alloc, *oid, row),
+            Change::Insert(oid, row) => self.inserted(*oid, row),
         }
     }
 
-    fn inserted(&self, alloc: Global, oid: u32, row: &Row) -> Result<Projected, AllocError>
+    fn inserted(&self, oid: u32, row: &Row) -> Result<Projected, AllocError>
         ensures value { IfOk result (λ p. p ≡ projected (inserted_in (table_of oid self.now) row.now)) }
         ensures fits { IfOk result (FitsProjected self.now) }
     {
@@ -74,20 +79,21 @@ impl Selection {
         if !stands(table, row) {
             return Ok(Projected::Nothing);
         }
-        let new = tuple_of(alloc, row.values())?;
+        let new = tuple_of(self.alloc, row.values())?;
         let oid = table.oid;
         Ok(Projected::Message(Logical::Insert(Insert { oid, new })))
     }
 
     /// The Relation of a table; None for one outside the selection.
-    pub fn relation(&self, alloc: Global, oid: u32) -> Result<Option<Logical>, AllocError>
+    pub fn relation(&self, oid: u32) -> Result<Option<Logical>, AllocError>
         ensures value { IfOk result (λ o. o ≡ option_map (λ table. logical.Relation (relation_of table)) (table_of oid self.now)) }
         ensures fits { IfOk result (λ o. IfSome o (λ m. FitsLogical m × IsShortMessage m)) }
     {
         let Some(table) = self.table(oid) else {
             return Ok(None);
         };
-        Ok(Some(Logical::Relation(relation_message(alloc, table)?)))
+        let relation = relation_message(self.alloc, table)?;
+        Ok(Some(Logical::Relation(relation)))
     }
 }
 

@@ -16,7 +16,7 @@ fn text(alloc: Global, text: &str) -> Result<Cell, AllocError> {
 fn selection(alloc: Global) -> Result<Selection, Fail> {
     let publications = Publications::builtin(alloc)?;
     let names = [Text::copy_of(alloc, "p")?];
-    Ok(publications.select(alloc, &names)?)
+    Ok(publications.select(&names)?)
 }
 
 fn insert(alloc: Global, oid: u32, values: [Value; 3]) -> Result<Change, AllocError> {
@@ -35,7 +35,7 @@ fn projects(
         oid: 16384,
         new: Items::new(Vec::from_array(alloc, cells)?),
     });
-    let projected = selection(alloc)?.project(alloc, &change)?;
+    let projected = selection(alloc)?.project(&change)?;
     assert_eq!(rt; projected, Projected::Message(message));
     Ok(())
 }
@@ -95,7 +95,7 @@ fn projects_nothing(rt: HostRuntime) -> Result<(), Fail> {
         Change::Insert(16384, Row::new(Vec::from_array(alloc, [Value::Int4(1)])?)),
     ]?;
     for change in &changes {
-        assert_eq!(rt; selection.project(alloc, change)?, Projected::Nothing);
+        assert_eq!(rt; selection.project(change)?, Projected::Nothing);
     }
     Ok(())
 }
@@ -115,7 +115,7 @@ fn unknown_names(rt: HostRuntime) -> Result<(), Fail> {
     let publications = Publications::builtin(alloc)?;
     for name in ["q", "P", "pp", ""] {
         let names = vec![in alloc; Text::copy_of(alloc, "p")?, Text::copy_of(alloc, name)?]?;
-        let fault = publications.select(alloc, &names).err();
+        let fault = publications.select(&names).err();
         assert_eq!(rt; fault, Some(PubFault::Unknown), "{name}");
     }
     Ok(())
@@ -156,9 +156,9 @@ fn relation_of_item(rt: HostRuntime) -> Result<(), Fail> {
         told_column(alloc, false, "qty", 20)?,
     ]?;
     let want = told_relation(alloc, 16384, "item", Identity::Default, columns)?;
-    let relation = selection.relation(alloc, 16384)?;
+    let relation = selection.relation(16384)?;
     assert_eq!(rt; relation, Some(Logical::Relation(want)));
-    assert_eq!(rt; selection.relation(alloc, 16385)?, None);
+    assert_eq!(rt; selection.relation(16385)?, None);
     Ok(())
 }
 

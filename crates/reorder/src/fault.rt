@@ -1,3 +1,5 @@
+//! Why a regrouping refuses a record.
+
 ghost use Rattle.std.specs.Prelude.{◌≡◌};
 ghost use Rattle.reorder.specs.declared.fault.ReorderFault.TheVariants.{Memory};
 

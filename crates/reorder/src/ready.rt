@@ -1,4 +1,4 @@
-//! What a commit makes ready.
+//! What a commit makes ready, and the changes that are kept until then.
 
 ghost use Rattle.std.specs.Prelude.{◌≡◌, ◌<◌, length, true, IfOk};
 ghost use Rattle.reorder.specs.Kept.{IsEntryAt, is_changed, kept_entry};
@@ -60,13 +60,14 @@ impl Kept {
         ensures change { result.1.now ≡ self.now.change }
     {
         match &self.record.body {
-            Body::Change(_, change) => (self.record.start, change),
+            Body::Change(_, change) => (self.record.start, change.change()),
             _ => unreachable!(),
         }
     }
 }
 
-/// The changes that a committed transaction keeps, in log order. It goes back by `Reorder::finish`.
+/// The changes that a committed transaction keeps, in log order, those of rolled-back subtransactions left out. There are
+/// `count()` of them, maybe none; `Reorder::entry` lends each by its place, and `Reorder::finish` takes them back.
 #[derive(Debug)]
 pub struct Ready {
     changes: Vec<Kept>,
@@ -113,8 +114,8 @@ impl Ready {
 /// What a record brings.
 #[derive(Debug)]
 pub enum Step {
-    /// Nothing to publish yet.
+    /// Nothing to publish yet: the record is no Commit.
     Quiet,
-    /// A transaction committed.
+    /// A transaction committed, with these changes.
     Ready(Ready),
 }

@@ -14,6 +14,14 @@ use tables::Change;
 use txlog::{Body, Record};
 
 /// The changes of the transactions in progress, by the xids that made them.
+///
+/// Records go in one by one and in log order, each by `take`. `Step::Quiet` means that nothing is to be published yet.
+/// `Step::Ready` comes with a commit: `entry` lends its changes one by one, and `finish` takes the `Ready` back.
+///
+/// The first record may be any record of a log. Of a transaction in progress there only the changes from this record on are
+/// known. A subtransaction of it that began earlier counts as a transaction of its own, which never commits.
+///
+/// An error is the end: Q2 is want of memory, and every `take` after it is Q3.
 #[derive(Debug, Drop)]
 pub struct Reorder {
     strands: Strands,
@@ -29,6 +37,7 @@ impl Model for Reorder {
 }
 
 impl Reorder {
+    /// A regrouping that has taken no record.
     pub fn new(alloc: Global) -> Self
         ensures untaken { HasTaken result [] }
         ensures running { result.failed ≡ false }
@@ -39,8 +48,8 @@ impl Reorder {
         }
     }
 
-    /// Takes the next record of a log. Refused for memory (Q2), or after that (Q3), it is failed for good.
-    pub fn take(&mut self, alloc: Global, next: &Arc<Record>) -> Result<Step, ReorderFault>
+    /// Takes the next record of a log, and answers what it makes ready.
+    pub fn take(&mut self, next: &Arc<Record>) -> Result<Step, ReorderFault>
         ensures ok { IfOk result (λ step. Takes self.old self.new next.now.value (readied step)) }
         ensures running { OnOk result ((self.old.failed ≡ false) × (self.new.failed ≡ false)) }
         ensures fails { OnErr result (self.new.failed ≡ true) }
@@ -51,30 +60,30 @@ impl Reorder {
             return Err(ReorderFault::Failed);
         }
         self.failed = true;
-        let step = self.regroup(alloc, next)?;
+        let step = self.regroup(next)?;
         self.failed = false;
         Ok(step)
     }
 
     /// What the record does to the strands, and what it makes ready of them.
-    fn regroup(&mut self, alloc: Global, next: &Arc<Record>) -> Result<Step, AllocError>
+    fn regroup(&mut self, next: &Arc<Record>) -> Result<Step, AllocError>
         ensures takes { IfOk result (λ step. Takes self.old self.new next.now.value (readied step)) }
         ensures failed { self.new.failed ≡ self.old.failed }
     {
         match &next.body {
             Body::Assign(sub, parent) => {
-                self.strands.open(alloc, *parent)?;
-                self.strands.assign(alloc, *sub, *parent)?;
+                self.strands.open(*parent)?;
+                self.strands.assign(*sub, *parent)?;
             }
             Body::Change(xid, _) => {
-                self.strands.open(alloc, *xid)?;
+                self.strands.open(*xid)?;
                 let kept = Kept::of(next)?;
                 self.strands.push(*xid, kept)?;
             }
-            Body::AbortSub(xid) => self.strands.undo(alloc, *xid),
+            Body::AbortSub(xid) => self.strands.undo(*xid),
             Body::Abort(top) => self.strands.end(*top),
             Body::Commit(top, _) => {
-                let changes = self.strands.kept(alloc, *top)?;
+                let changes = self.strands.kept(*top)?;
                 self.strands.end(*top);
                 return Ok(Step::Ready(Ready::new(changes)));
             }

@@ -3,12 +3,13 @@ use std::alloc::Global;
 use std::sync::Arc;
 use std::test::Fail;
 use tables::{Change, Row, Value};
-use txlog::{Body, Record};
+use txlog::{Body, LoggedChange, Record};
 
 /// An insert by this xid.
 fn insert(alloc: Global, xid: u32, id: i32) -> Result<Body, Fail> {
     let row = Row::new(vec![in alloc; Value::Int4(id)]?);
-    Ok(Body::Change(xid, Change::Insert(16384, row)))
+    let change = LoggedChange::new(Change::Insert(16384, row)).ok_or("a short row")?;
+    Ok(Body::Change(xid, change))
 }
 
 /// The id of an inserted row.
@@ -26,7 +27,7 @@ fn read(alloc: Global, log: Vec<(u64, u64, Body)>) -> Result<Vec<(u64, i32)>, Fa
     let mut seen = Vec::new(alloc);
     for (start, end, body) in log {
         let next = Arc::new(alloc, Record { start, end, body })?;
-        match reorder.take(alloc, &next)? {
+        match reorder.take(&next)? {
             Step::Quiet => {}
             Step::Ready(ready) => {
                 let added = add_ready(&mut seen, &reorder, &ready);

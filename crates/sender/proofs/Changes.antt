@@ -1,7 +1,6 @@
 -- The changes of a transaction one by one, as a loop over them goes.
 use Rattle.std.proofs.Common.{◌≡◌, ◌<◌, ◌+◌, ℕ, zero, suc, List, [], ◌∷◌, ◌++◌, length, drop, Some, refl, sym, ap, ◌∙◌, append_assoc, arith}
 use Rattle.std.specs.Prelude.{slice_get}
-use Rattle.std.specs.List.{AllByRecursion}
 use Rattle.tables.specs.declared.table.Table.{Table}
 use Rattle.tables.specs.declared.change.Change.{Change}
 use Rattle.txlog.specs.Log.{Entry}
@@ -34,7 +33,3 @@ goes_on selection entries k position change items more lt is grown so_far =
     let one : published_changes selection (drop k entries) ≡ here ++ behind =
     ap (published_changes selection) t.parts ∙ ap (λ p. published_at p (message selection t.entry.change) ++ behind) (sym same.0) ∙ ap (λ c. published_at position (message selection c) ++ behind) (sym same.1) in
     ap (λ l. l ++ behind) grown ∙ append_assoc items here behind ∙ sym (ap (λ l. items ++ l) one) ∙ so_far
-
-pub all_of_both : {A : Type 0} (P : A → Type 0) (xs ys : List A) → AllByRecursion P xs → AllByRecursion P ys → AllByRecursion P (xs ++ ys)
-all_of_both P [] ys all_x all_y = all_y
-all_of_both P (x ∷ xs) ys all_x all_y = (all_x.0, all_of_both P xs ys all_x.1 all_y)

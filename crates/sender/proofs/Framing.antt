@@ -1,5 +1,5 @@
 -- The frames of words, as they are written: a head with the body's length, and the body.
-use Rattle.std.proofs.Common.{◌≡◌, ℕ, ℤ, ◌+◌, List, [], ◌∷◌, ◌++◌, length, refl, sym, ap, ◌∙◌, append_assoc, arith}
+use Rattle.std.proofs.Common.{◌≡◌, ℕ, ℤ, ◌+◌, List, [], ◌∷◌, ◌++◌, length, sym, ap, ◌∙◌, append_assoc, arith}
 use Rattle.std.specs.Prelude.{Bool}
 use Rattle.std.specs.Int.{w64, cast_unsigned}
 use Rattle.std.proofs.lemmas.List.{length-append, append-nil}
@@ -41,15 +41,15 @@ behind_head : (old headed whole body : List ℕ) (n : ℕ) → n ≡ length body
 behind_head old headed whole body n len head tail =
     tail ∙ ap (λ (l : List ℕ). l ++ body) head ∙ append_assoc old (COPY_DATA ∷ int32 (4 + n)) body ∙ ap (λ (k : ℕ). old ++ (COPY_DATA ∷ (int32 (4 + k) ++ body))) len
 
-pub said_whole : (old headed whole scratch : List ℕ) (position : ℕ) (clock : ℤ) (m : Logical) → scratch ≡ spell_logical m → headed ≡ old ++ (COPY_DATA ∷ int32 (4 + (25 + length scratch)))
+pub xlogdata_whole : (old headed whole scratch : List ℕ) (position : ℕ) (clock : ℤ) (m : Logical) → scratch ≡ spell_logical m → headed ≡ old ++ (COPY_DATA ∷ int32 (4 + (25 + length scratch)))
     → whole ≡ headed ++ xlogdata position position clock scratch → whole ≡ old ++ word_bytes (xlogdata_word position clock m)
-said_whole old headed whole scratch position clock m spelled head tail =
+xlogdata_whole old headed whole scratch position clock m spelled head tail =
     let body : xlogdata position position clock scratch ≡ xlogdata position position clock (spell_logical m) = ap (xlogdata position position clock) spelled in
     behind_head old headed whole (xlogdata position position clock (spell_logical m)) (25 + length scratch)
     (sym (length-xlogdata position position clock scratch) ∙ ap length body) head (tail ∙ ap (λ (l : List ℕ). headed ++ l) body)
 
-pub alive_whole : (old headed whole : List ℕ) (position : ℕ) (clock : ℤ) (ask : Bool) → headed ≡ old ++ (COPY_DATA ∷ int32 (4 + 18)) → whole ≡ headed ++ keepalive position clock ask → whole ≡ old ++ word_bytes (keepalive_word position clock ask)
-alive_whole old headed whole position clock ask head tail = behind_head old headed whole (keepalive position clock ask) 18 (sym (length-keepalive position clock ask)) head tail
+pub keepalive_whole : (old headed whole : List ℕ) (position : ℕ) (clock : ℤ) (ask : Bool) → headed ≡ old ++ (COPY_DATA ∷ int32 (4 + 18)) → whole ≡ headed ++ keepalive position clock ask → whole ≡ old ++ word_bytes (keepalive_word position clock ask)
+keepalive_whole old headed whole position clock ask head tail = behind_head old headed whole (keepalive position clock ask) 18 (sym (length-keepalive position clock ask)) head tail
 
 -- ---- blocks
 

@@ -1,3 +1,5 @@
+//! Why a sender refuses a call.
+
 ghost use Rattle.std.specs.Prelude.{◌≡◌};
 ghost use Rattle.sender.specs.declared.fault.SendFault.TheVariants.{Memory};
 

@@ -1,4 +1,5 @@
-//! What is on its way out: the bytes that are held, and the tables that they named.
+//! What is on its way out: the bytes that are held, and the tables whose Relation was sent.
+#![tactic(auto, using(frames::proofs::Putting::in_place))]
 
 ghost use Rattle.std.specs.Prelude.{◌≡◌, ◌≤◌, ◌++◌, ◌∷◌, [], OnErr, OnOk, reverse, IsSome, min, take, drop, length};
 ghost use Rattle.std.specs.List.{AllByRecursion};
@@ -8,9 +9,9 @@ ghost use Rattle.tables.specs.Tables.{table_of};
 ghost use Rattle.publication.specs.Selection.{relation};
 ghost use Rattle.publication.specs.Projection.{MessageFits};
 ghost use Rattle.stream.specs.Words.{frames_of, word_bytes};
-ghost use Rattle.stream.specs.Items.{IsShortMessage, begin_message, commit_message, is_relation_sent, due, relations_sent_by, relations_sent_by_all, xlogdata_word, relation_words, change_words, changes_words, block_words, keepalive_word};
+ghost use Rattle.stream.specs.Items.{IsShortMessage, begin_message, commit_message, is_relation_sent, relations_due, relations_sent_by, relations_sent_by_all, xlogdata_word, relation_words, change_words, changes_words, block_words, keepalive_word};
 
-use crate::word::{put_keepalive, put_said};
+use crate::word::{put_keepalive, put_xlogdata};
 use bytes::{BufMut, BytesMut};
 use pgoutput::{Begin, Commit, Logical};
 use publication::Selection;
@@ -23,7 +24,7 @@ pub(crate) struct Outgoing {
     pub(crate) held: BytesMut,
     /// One message, before its frame is made.
     pub(crate) scratch: BytesMut,
-    /// The tables that were named so far, the oldest first.
+    /// The tables whose Relation was sent, the oldest first.
     pub(crate) relations_sent: Vec<u32>,
 }
 
@@ -37,6 +38,11 @@ impl Outgoing {
             scratch: BytesMut::new(alloc),
             relations_sent: Vec::new(alloc),
         }
+    }
+
+    /// The allocator of what is held.
+    pub(crate) fn allocator(&self) -> Global {
+        *self.relations_sent.allocator()
     }
 
     /// Adds a keepalive, or, where memory is refused, nothing.
@@ -89,7 +95,6 @@ impl Outgoing {
     /// Adds the block of a transaction, or, where memory is refused, nothing.
     pub(crate) fn commit(
         &mut self,
-        alloc: Global,
         selection: &Selection,
         clock: i64,
         transaction: &Published,
@@ -101,7 +106,7 @@ impl Outgoing {
         ensures err { OnErr result (self.new.held.items ≡ self.old.held.items) }
     {
         let length = self.held.len();
-        let written = self.block(alloc, selection, clock, transaction);
+        let written = self.block(selection, clock, transaction);
         if written.is_err() {
             self.held.truncate(length);
         }
@@ -109,20 +114,18 @@ impl Outgoing {
     }
 
     /// Adds a message at a position.
-    fn say(&mut self, position: u64, clock: i64, message: &Logical) -> Result<(), AllocError>
+    fn add_message(&mut self, position: u64, clock: i64, message: &Logical) -> Result<(), AllocError>
         requires counts { IsShort message.now }
         requires fits { IsShortMessage message.now }
         ensures held { Puts result self.old.held.items self.new.held.items (word_bytes (xlogdata_word position clock message.now)) }
         ensures relations_sent { self.new.relations_sent ≡ self.old.relations_sent }
     {
-        put_said(&mut self.held, &mut self.scratch, position, clock, message)
+        put_xlogdata(&mut self.held, &mut self.scratch, position, clock, message)
     }
 
-    /// Adds the Relation of a table, unless it was named before.
-    #[tactic(auto, using(frames::proofs::Putting::extends_itself, frames::proofs::Putting::extends_more, frames::proofs::Putting::extends_back))]
-    fn introduce(
+    /// Adds the Relation of a table, unless it was sent before.
+    fn add_relation(
         &mut self,
-        alloc: Global,
         selection: &Selection,
         position: u64,
         clock: i64,
@@ -130,17 +133,17 @@ impl Outgoing {
     ) -> Result<(), AllocError>
         requires { IsSome (table_of oid selection.now) }
         ensures held { Puts result self.old.held.items self.new.held.items
-            (frames_of (relation_words (relation selection.now) position clock (due (reverse self.old.relations_sent.items) (oid ∷ [])))) }
+            (frames_of (relation_words (relation selection.now) position clock (relations_due (reverse self.old.relations_sent.items) (oid ∷ [])))) }
         ensures relations_sent { OnOk result (reverse self.new.relations_sent.items
-            ≡ reverse (due (reverse self.old.relations_sent.items) (oid ∷ [])) ++ reverse self.old.relations_sent.items) }
+            ≡ reverse (relations_due (reverse self.old.relations_sent.items) (oid ∷ [])) ++ reverse self.old.relations_sent.items) }
     {
-        if is_known(self.relations_sent.as_slice(), oid) {
+        if is_sent(self.relations_sent.as_slice(), oid) {
             return Ok(());
         }
-        let Some(message) = selection.relation(alloc, oid)? else {
+        let Some(message) = selection.relation(oid)? else {
             unreachable!();
         };
-        self.say(position, clock, &message)?;
+        self.add_message(position, clock, &message)?;
         self.relations_sent.push(oid)?;
         Ok(())
     }
@@ -148,7 +151,6 @@ impl Outgoing {
     /// Adds a change: the Relations that are due, and its message.
     fn change(
         &mut self,
-        alloc: Global,
         selection: &Selection,
         clock: i64,
         change: &PublishedChange,
@@ -159,16 +161,14 @@ impl Outgoing {
         ensures relations_sent { OnOk result (reverse self.new.relations_sent.items ≡ relations_sent_by (reverse self.old.relations_sent.items) change.now) }
     {
         if let Logical::Insert(insert) = &change.message {
-            self.introduce(alloc, selection, change.position, clock, insert.oid)?;
+            self.add_relation(selection, change.position, clock, insert.oid)?;
         }
-        self.say(change.position, clock, &change.message)?;
+        self.add_message(change.position, clock, &change.message)?;
         Ok(())
     }
 
-    #[tactic(auto, using(frames::proofs::Putting::extends_itself, frames::proofs::Putting::extends_more, frames::proofs::Putting::extends_back))]
     fn changes(
         &mut self,
-        alloc: Global,
         selection: &Selection,
         clock: i64,
         changes: &[PublishedChange],
@@ -179,16 +179,15 @@ impl Outgoing {
         ensures relations_sent { OnOk result (reverse self.new.relations_sent.items ≡ relations_sent_by_all (reverse self.old.relations_sent.items) changes.now) }
     {
         for change in changes {
-            self.change(alloc, selection, clock, change)?;
+            self.change(selection, clock, change)?;
         }
         Ok(())
     }
 
     /// Adds the block of a transaction.
-    #[tactic(auto, using(frames::proofs::Putting::extends_itself, frames::proofs::Putting::extends_more, frames::proofs::Putting::extends_back, crate::proofs::Framing::block_is))]
+    #[tactic(auto, using(frames::proofs::Putting::in_place, crate::proofs::Framing::block_is))]
     fn block(
         &mut self,
-        alloc: Global,
         selection: &Selection,
         clock: i64,
         transaction: &Published,
@@ -199,10 +198,10 @@ impl Outgoing {
         ensures relations_sent { OnOk result (reverse self.new.relations_sent.items ≡ relations_sent_by_all (reverse self.old.relations_sent.items) transaction.now.changes) }
     {
         let begin = begin_of(transaction);
-        self.say(transaction.start, clock, &begin)?;
-        self.changes(alloc, selection, clock, transaction.changes.as_slice())?;
+        self.add_message(transaction.start, clock, &begin)?;
+        self.changes(selection, clock, transaction.changes.as_slice())?;
         let commit = commit_of(transaction);
-        self.say(transaction.end, clock, &commit)?;
+        self.add_message(transaction.end, clock, &commit)?;
         Ok(())
     }
 }
@@ -228,7 +227,7 @@ fn commit_of(transaction: &Published) -> Logical
 }
 
 #[tactic(auto, using(crate::proofs::Lists::any_reverse))]
-fn is_known(relations_sent: &[u32], oid: u32) -> bool
+fn is_sent(relations_sent: &[u32], oid: u32) -> bool
     ensures { result ≡ is_relation_sent (reverse relations_sent.now) oid }
 {
     relations_sent.contains(&oid)

@@ -4,7 +4,7 @@ ghost use Rattle.std.specs.Prelude.{◌≡◌, ◌+◌, ◌<◌, ◌++◌, [], I
 ghost use Rattle.std.specs.List.{AllByRecursion};
 ghost use Rattle.publication.specs.Projection.{MessageFits, message};
 ghost use Rattle.sender.specs.Published.{published_at, published_changes};
-ghost use Rattle.sender.specs.Sending.{released};
+ghost use Rattle.sender.specs.Sending.{published_by_commit};
 
 use frames::Items;
 use publication::{Projected, Selection};
@@ -24,7 +24,7 @@ pub(crate) fn transaction_of(
     reorder: &Reorder,
     ready: &Ready,
 ) -> Result<Option<Published>, AllocError>
-    ensures value { IfOk result (λ o. option_to_list o ≡ released selection.now start next.now (Some ready.now)) }
+    ensures value { IfOk result (λ o. option_to_list o ≡ published_by_commit selection.now start next.now (Some ready.now)) }
     ensures fits { IfOk result (λ o. IfSome o (λ t. AllByRecursion (λ c. MessageFits selection.now c.message) t.changes)) }
 {
     let Body::Commit(xid, time) = next.body else {
@@ -58,7 +58,7 @@ fn changes_of(
     let mut changes = Vec::new(alloc);
     for k in 0..ready.count() {
         let (position, change) = reorder.entry(ready, k);
-        add_published(&mut changes, alloc, selection, position, change)?;
+        add_published(&mut changes, selection, position, change)?;
     }
     Ok(changes)
 }
@@ -66,7 +66,6 @@ fn changes_of(
 /// Adds a change at its position, if it has a message.
 fn add_published(
     changes: &mut Vec<PublishedChange>,
-    alloc: Global,
     selection: &Selection,
     position: u64,
     change: &Change,
@@ -74,7 +73,7 @@ fn add_published(
     ensures value { OnOk result (changes.new.items ≡ changes.old.items ++ published_at position (message selection.now change.now)) }
     ensures fits { OnOk result (AllByRecursion (λ c. MessageFits selection.now c.message) (published_at position (message selection.now change.now))) }
 {
-    match selection.project(alloc, change)? {
+    match selection.project(change)? {
         Projected::Nothing => return Ok(()),
         Projected::Message(message) => changes.push(PublishedChange { position, message })?,
     }

@@ -5,7 +5,7 @@ ghost use Rattle.txlog.specs.Log.{follows};
 ghost use Rattle.txlog.specs.Publishing.{shared};
 ghost use Rattle.stream.specs.Words.{word_bytes};
 ghost use Rattle.stream.specs.Items.{keepalive_word};
-ghost use Rattle.sender.specs.Sending.{HasRead, Fed, FedSome};
+ghost use Rattle.sender.specs.Sending.{HasRead, ReadAll, RanOutOfMemory};
 
 use crate::ended::Ended;
 use crate::fault::SendFault;
@@ -20,6 +20,14 @@ use std::sync::Arc;
 use txlog::Record;
 
 /// Reads records of the log, and holds the bytes of the stream that they make until they are drained.
+///
+/// `start` makes a sender. Then, in any order and any number of times: `feed` reads the next records, `keepalive` adds a
+/// keepalive, `drain` and `drain_into` move held bytes out. `into_selection` ends it.
+///
+/// Of `feed`, Ok means that all records were read. G4 means that they don't stand at `position()`, one behind the other: none
+/// was read, and the right ones may come next. G2 is want of memory: the records up to `position()` were read, and the sender
+/// has failed. A failed sender can still be drained; its `feed` and its `keepalive` are G3. A `keepalive` that is G2 has added
+/// nothing, and may be called again.
 #[derive(Debug, Drop)]
 pub struct Sender {
     pub(crate) selection: Selection,
@@ -49,7 +57,11 @@ impl Model for Sender {
 
 impl Sender {
     /// A sender of what the selection publishes of transactions that commit at `start` or later. `first` is the position of
-    /// the first record that it will be fed.
+    /// the first record that it will be fed: of the whole log, where that begins.
+    ///
+    /// A later `first` drops what stands before it. Of a transaction in progress there, only the changes from `first` on are
+    /// sent when it commits, and none of a subtransaction that began before. So take for `first` a position at or before the
+    /// first record of every transaction that is to be sent whole.
     pub fn start(
         alloc: Global,
         selection: Selection,
@@ -74,18 +86,12 @@ impl Sender {
         })
     }
 
-    /// Reads records. What they publish is held from then on, under this clock. G3, then G4 where they don't follow
-    /// `position()` or each other, then G2, after which the sender has failed.
-    pub fn feed(
-        &mut self,
-        alloc: Global,
-        records: &[Arc<Record>],
-        clock: i64,
-    ) -> Result<(), SendFault>
-        ensures ok { OnOk result (Fed clock self.old self.new (shared records.now)) }
+    /// Reads records. What they publish is held from then on, under this clock. Judged in this order: G3, G4, G2.
+    pub fn feed(&mut self, records: &[Arc<Record>], clock: i64) -> Result<(), SendFault>
+        ensures ok { OnOk result (ReadAll clock self.old self.new (shared records.now)) }
         ensures running { OnOk result (self.new.failed ≡ false) }
         ensures follow { OnOk result (follows self.old.position (shared records.now) ≡ true) }
-        ensures memory { result ≡ Err SendFault.Memory → FedSome clock self.old self.new (shared records.now) }
+        ensures memory { result ≡ Err SendFault.Memory → RanOutOfMemory clock self.old self.new (shared records.now) }
         ensures failed { (result ≡ Err SendFault.Failed) ↔ (self.old.failed ≡ true) }
         ensures gap { (result ≡ Err SendFault.Gap) ↔ ((self.old.failed ≡ false) × (follows self.old.position (shared records.now) ≡ false)) }
         ensures unchanged { self.old.failed ≡ true → self.new ≡ self.old }
@@ -97,7 +103,7 @@ impl Sender {
         if !do_follow(self.position, records) {
             return Err(SendFault::Gap);
         }
-        self.take_all(alloc, records, clock)
+        self.take_all(records, clock)
     }
 
     /// Holds a keepalive with the sender's position behind all that is held.
@@ -134,7 +140,7 @@ impl Sender {
     }
 
     /// Whether any bytes are held.
-    pub fn held(&self) -> bool
+    pub fn holds_bytes(&self) -> bool
         ensures { result ≡ not (length self.now.held == 0) }
     {
         !self.outgoing.held.is_empty()

@@ -8,7 +8,7 @@ use std::process::Abort;
 use std::sync::Arc;
 use std::test::Fail;
 use tables::{Change, Row, Value};
-use txlog::{Body, Record};
+use txlog::{Body, LoggedChange, Record};
 
 /// Where the log begins, and the transaction of one insert commits.
 const FIRST: u64 = 0x100_0000;
@@ -29,7 +29,8 @@ fn insert(
 ) -> Result<Body, Fail> {
     let name = Value::Text(Text::copy_of(alloc, name)?);
     let row = Row::new(vec![in alloc; Value::Int4(id), name, Value::Int8(qty)]?);
-    Ok(Body::Change(xid, Change::Insert(oid, row)))
+    let change = LoggedChange::new(Change::Insert(oid, row)).ok_or("a short row")?;
+    Ok(Body::Change(xid, change))
 }
 
 /// The log of one transaction with one insert.
@@ -58,17 +59,17 @@ fn interleaved(alloc: Global) -> Result<Vec<Arc<Record>>, Fail> {
 fn sender(alloc: Global, start: u64) -> Result<Sender, Fail> {
     let publications = Publications::builtin(alloc)?;
     let names = [Text::copy_of(alloc, "p")?];
-    let selection = publications.select(alloc, &names)?;
+    let selection = publications.select(&names)?;
     Ok(Sender::start(alloc, selection, start, FIRST)?)
 }
 
 /// Exactly these bytes are held.
 fn gives(rt: &impl Abort, sender: &mut Sender, bytes: &[u8]) {
     let mut out = [0; 600];
-    assert_eq!(rt; sender.held(), !bytes.is_empty());
+    assert_eq!(rt; sender.holds_bytes(), !bytes.is_empty());
     let count = sender.drain(&mut out);
     assert_eq!(rt; out.get(..count), Some(bytes));
-    assert!(rt; !sender.held());
+    assert!(rt; !sender.holds_bytes());
     assert_eq!(rt; sender.drain(&mut out), 0);
 }
 
@@ -78,7 +79,7 @@ fn sends_the_row(rt: HostRuntime) -> Result<(), Fail> {
     let mut sender = sender(alloc, 0)?;
     assert_eq!(rt; sender.position(), FIRST);
     gives(&rt, &mut sender, &[]);
-    sender.feed(alloc, &one_insert(alloc, 16384)?, 9)?;
+    sender.feed(&one_insert(alloc, 16384)?, 9)?;
     assert_eq!(rt; sender.position(), 0x100_0050);
     gives(&rt, &mut sender, &ONE_INSERT);
     Ok(())
@@ -88,7 +89,7 @@ fn sends_the_row(rt: HostRuntime) -> Result<(), Fail> {
 fn drained_into_a_buffer(rt: HostRuntime) -> Result<(), Fail> {
     let alloc = rt.alloc();
     let mut sender = sender(alloc, 0)?;
-    sender.feed(alloc, &one_insert(alloc, 16384)?, 9)?;
+    sender.feed(&one_insert(alloc, 16384)?, 9)?;
     let mut out = BytesMut::new(alloc);
     sender.drain_into(100, &mut out)?;
     assert_eq!(rt; out.as_slice(), &ONE_INSERT[..100]);
@@ -102,7 +103,7 @@ fn drained_into_a_buffer(rt: HostRuntime) -> Result<(), Fail> {
 fn drained_one_byte_at_a_time(rt: HostRuntime) -> Result<(), Fail> {
     let alloc = rt.alloc();
     let mut sender = sender(alloc, 0)?;
-    sender.feed(alloc, &one_insert(alloc, 16384)?, 9)?;
+    sender.feed(&one_insert(alloc, 16384)?, 9)?;
     for (place, byte) in ONE_INSERT.iter().enumerate() {
         let mut out = [0];
         assert_eq!(rt; sender.drain(&mut []), 0);
@@ -120,11 +121,11 @@ fn read_one_by_one(rt: HostRuntime) -> Result<(), Fail> {
     let mut sender = sender(alloc, 0)?;
     let records = one_insert(alloc, 16384)?;
     let (change, commit) = records.split_at_checked(1).ok_or("two records")?;
-    sender.feed(alloc, change, 8)?;
+    sender.feed(change, 8)?;
     assert_eq!(rt; sender.position(), COMMIT);
     gives(&rt, &mut sender, &[]);
-    sender.feed(alloc, &[], 8)?;
-    sender.feed(alloc, commit, 9)?;
+    sender.feed(&[], 8)?;
+    sender.feed(commit, 9)?;
     gives(&rt, &mut sender, &ONE_INSERT);
     Ok(())
 }
@@ -144,7 +145,7 @@ fn keepalive(rt: HostRuntime) -> Result<(), Fail> {
 fn keepalive_behind_a_transaction(rt: HostRuntime) -> Result<(), Fail> {
     let alloc = rt.alloc();
     let mut sender = sender(alloc, 0)?;
-    sender.feed(alloc, &one_insert(alloc, 16384)?, 9)?;
+    sender.feed(&one_insert(alloc, 16384)?, 9)?;
     sender.keepalive(9, true)?;
     let mut row = [0; 253];
     assert_eq!(rt; sender.drain(&mut row), 253);
@@ -162,11 +163,11 @@ fn a_gap(rt: HostRuntime) -> Result<(), Fail> {
     let mut sender = sender(alloc, 0)?;
     let records = one_insert(alloc, 16384)?;
     let (change, commit) = records.split_at_checked(1).ok_or("two records")?;
-    assert_eq!(rt; sender.feed(alloc, commit, 9), Err(SendFault::Gap));
+    assert_eq!(rt; sender.feed(commit, 9), Err(SendFault::Gap));
     let twice = vec![in alloc; change[0].clone()?, change[0].clone()?]?;
-    assert_eq!(rt; sender.feed(alloc, &twice, 9), Err(SendFault::Gap));
+    assert_eq!(rt; sender.feed(&twice, 9), Err(SendFault::Gap));
     assert_eq!(rt; sender.position(), FIRST);
-    sender.feed(alloc, &records, 9)?;
+    sender.feed(&records, 9)?;
     gives(&rt, &mut sender, &ONE_INSERT);
     Ok(())
 }
@@ -177,10 +178,10 @@ fn start_positions(rt: HostRuntime) -> Result<(), Fail> {
     let alloc = rt.alloc();
     let records = one_insert(alloc, 16384)?;
     let mut at_the_commit = sender(alloc, COMMIT)?;
-    at_the_commit.feed(alloc, &records, 9)?;
+    at_the_commit.feed(&records, 9)?;
     gives(&rt, &mut at_the_commit, &ONE_INSERT);
     let mut behind = sender(alloc, COMMIT + 1)?;
-    behind.feed(alloc, &records, 9)?;
+    behind.feed(&records, 9)?;
     assert_eq!(rt; behind.position(), 0x100_0050);
     gives(&rt, &mut behind, &[]);
     Ok(())
@@ -190,7 +191,7 @@ fn start_positions(rt: HostRuntime) -> Result<(), Fail> {
 fn nothing_published(rt: HostRuntime) -> Result<(), Fail> {
     let alloc = rt.alloc();
     let mut sender = sender(alloc, 0)?;
-    sender.feed(alloc, &one_insert(alloc, 16385)?, 9)?;
+    sender.feed(&one_insert(alloc, 16385)?, 9)?;
     assert_eq!(rt; sender.position(), 0x100_0050);
     gives(&rt, &mut sender, &[]);
     Ok(())
@@ -201,7 +202,7 @@ fn nothing_published(rt: HostRuntime) -> Result<(), Fail> {
 fn two_take_turns(rt: HostRuntime) -> Result<(), Fail> {
     let alloc = rt.alloc();
     let mut sender = sender(alloc, 0)?;
-    sender.feed(alloc, &interleaved(alloc)?, 9)?;
+    sender.feed(&interleaved(alloc)?, 9)?;
     gives(&rt, &mut sender, &INTERLEAVED);
     Ok(())
 }

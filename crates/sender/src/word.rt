@@ -1,4 +1,5 @@
-//! Words of the stream as frames.
+//! Words of the stream as frames: a CopyData of an XLogData with a message, or of a keepalive (PostgreSQL 15, 55.4).
+#![tactic(auto, using(frames::proofs::Putting::in_place))]
 
 ghost use Rattle.std.specs.Prelude.{◌≡◌, ◌+◌, ◌<◌, ◌≤◌, ◌^◌, ◌∷◌, ◌++◌, OnOk, OnErr, length};
 ghost use Rattle.frames.specs.Fields.{int32};
@@ -22,8 +23,7 @@ const KEEPALIVE_SIZE: u32 = 18;
 
 /// Adds the frame of a message at a position. The message is spelled into `scratch` first, since the frame begins with its
 /// length.
-#[tactic(auto, using(frames::proofs::Putting::extends_itself, frames::proofs::Putting::extends_more, frames::proofs::Putting::extends_back))]
-pub(crate) fn put_said(
+pub(crate) fn put_xlogdata(
     out: &mut BytesMut,
     scratch: &mut BytesMut,
     position: u64,
@@ -42,7 +42,6 @@ pub(crate) fn put_said(
 }
 
 /// Adds the frame of a keepalive.
-#[tactic(auto, using(frames::proofs::Putting::extends_itself, frames::proofs::Putting::extends_more, frames::proofs::Putting::extends_back))]
 pub(crate) fn put_keepalive(
     out: &mut BytesMut,
     position: u64,
@@ -57,7 +56,6 @@ pub(crate) fn put_keepalive(
 }
 
 /// Adds the type byte and the length of a CopyData with a body of this many bytes.
-#[tactic(auto, using(frames::proofs::Putting::extends_itself, frames::proofs::Putting::extends_more, frames::proofs::Putting::extends_back))]
 fn put_head(out: &mut BytesMut, body_len: u32) -> Result<(), AllocError>
     requires { 4 + body_len < 2 ^ 32 }
     ensures { Puts result out.old.items out.new.items (COPY_DATA ∷ int32 (4 + body_len)) }

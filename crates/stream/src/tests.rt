@@ -26,7 +26,7 @@ const ROW: [u8; 253] = [
 ];
 
 fn sent(position: u64, message: Logical) -> Word {
-    Word::Sent(Sent {
+    Word::XLogData(XLogData {
         start: position,
         end: position,
         clock: 9,
@@ -93,7 +93,7 @@ fn word_of(alloc: Global, frame: &Back) -> Result<Word, Fail> {
     if cursor.u8() != Some(b'w') {
         return Err("no XLogData".into());
     }
-    Ok(Word::Sent(Sent {
+    Ok(Word::XLogData(XLogData {
         start: cursor.u64().ok_or("a start")?,
         end: cursor.u64().ok_or("an end")?,
         clock: cursor.u64().ok_or("a clock")?.cast_signed(),

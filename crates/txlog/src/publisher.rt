@@ -1,3 +1,5 @@
+//! The publisher: what sessions call to write the log.
+
 ghost use Rattle.std.specs.Prelude.{◌≡◌, ◌+◌, ◌-◌, ◌≤◌, ◌<◌, IfErr, IfOk, Ok, OnErr, OnOk, Some, None, drop, length, slice_index, take, true};
 ghost use Rattle.tables.specs.Tables.{FitsChange};
 ghost use Rattle.txlog.specs.Invariants.{IsPublisher};
@@ -7,6 +9,7 @@ use crate::fault::SessionFault;
 use crate::limits::{MAX_DEPTH, MAX_LIVE, MAX_RECORDS};
 use crate::live::Live;
 use crate::log::Log;
+use crate::logged::LoggedChange;
 use crate::receipt::Receipt;
 use crate::record::{Body, FIRST_XID, Record};
 use crate::tx::Tx;
@@ -16,12 +19,19 @@ use std::sync::Arc;
 use tables::{Catalog, Change, Row};
 
 /// The log, and the transactions that write it. A place in the log is kept in reserve for the end of each of them.
+///
+/// A session calls `begin` and gets a `Tx`. With it, in any order, it calls `insert`, `savepoint`, `rollback_to` and
+/// `release`, and last `commit`, `abort` or `leave`, which take the `Tx`. Sessions may take turns, call by call.
+///
+/// Ok means that the one record of the call stands at the log's end; `begin`, `release` and `leave` write none. An error
+/// means that nothing has changed, so the call may be made again: S11 is want of memory, S7 a full log, S14 a `Tx` that is not
+/// live in this log, and the others say what is wrong with the call. `end` and `tail` may be called at any time.
 #[derive(Debug, Drop)]
 pub struct Publisher {
     catalog: Catalog,
     capacity: usize,
     log: Log,
-    next: u32,
+    next_xid: u32,
     live: Live,
 }
 
@@ -31,9 +41,9 @@ impl Model for Publisher {
 
     ghost Value = { PublisherState };
 
-    ghost view = { λ p. record { tables = p.catalog; capacity = p.capacity; log = p.log; next = p.next; live = p.live } };
+    ghost view = { λ p. record { tables = p.catalog; capacity = p.capacity; log = p.log; next_xid = p.next_xid; live = p.live } };
 
-    ghost invariant = { λ p. IsPublisher (record { tables = p.catalog; capacity = p.capacity; log = p.log; next = p.next; live = p.live }) };
+    ghost invariant = { λ p. IsPublisher (record { tables = p.catalog; capacity = p.capacity; log = p.log; next_xid = p.next_xid; live = p.live }) };
 }
 
 impl Publisher {
@@ -48,7 +58,7 @@ impl Publisher {
             catalog,
             capacity: records,
             log: Log::new(alloc),
-            next: FIRST_XID,
+            next_xid: FIRST_XID,
             live: Live::new(alloc),
         })
     }
@@ -84,7 +94,7 @@ impl Publisher {
 
     /// A new transaction. S10 where 256 are live, then S7 without room, then S11.
     pub fn begin(&mut self) -> Result<Tx, SessionFault>
-        ensures ok { IfOk result (λ tx. (tx ≡ self.old.next) × (self.new ≡ begun self.old)) }
+        ensures ok { IfOk result (λ tx. (tx ≡ self.old.next_xid) × (self.new ≡ begun self.old)) }
         ensures err { OnErr result (self.new ≡ self.old) }
         ensures refused { RefusedOrMemory (begin_refusal self.old) result }
         ensures publisher { IsPublisher self.new }
@@ -95,9 +105,9 @@ impl Publisher {
         if self.room() == 0 {
             return Err(SessionFault::LogFull);
         }
-        let xid = self.next;
+        let xid = self.next_xid;
         self.live.push(xid)?;
-        self.next = xid + 1;
+        self.next_xid = xid + 1;
         Ok(Tx::new(xid))
     }
 
@@ -112,8 +122,8 @@ impl Publisher {
         let xid = tx.xid();
         self.test_insert(xid, oid, &row)?;
         let innermost = self.live.innermost(xid);
-        self.log
-            .push(Body::Change(innermost, Change::Insert(oid, row)))?;
+        let change = LoggedChange::of(Change::Insert(oid, row));
+        self.log.push(Body::Change(innermost, change))?;
         Ok(())
     }
 
@@ -200,7 +210,7 @@ impl Publisher {
         let xid = tx.xid();
         let depth = self.test_savepoint(xid)?;
         let parent = self.live.innermost(xid);
-        let savepoint = self.next;
+        let savepoint = self.next_xid;
         self.live.push_savepoint(xid, savepoint)?;
         match self.log.push(Body::Assign(savepoint, parent)) {
             Ok(()) => {}
@@ -209,7 +219,7 @@ impl Publisher {
                 return Err(SessionFault::Memory);
             }
         }
-        self.next = savepoint + 1;
+        self.next_xid = savepoint + 1;
         Ok(depth as u32 + 1)
     }
 

@@ -1,9 +1,9 @@
-use Rattle.std.proofs.Common.{ℕ, ◌<◌, length, arith}
-use Rattle.std.specs.List.{AllByRecursion}
+use Rattle.std.proofs.Common.{◌<◌, length, arith}
 use Rattle.publication.specs.Projection.{MessageFits, message}
 use Rattle.stream.specs.declared.published.PublishedChange.{PublishedChange}
 use Rattle.sender.specs.Published.{published_at}
-use Rattle.sender.proofs.Changes.{goes_on, all_of_both}
+use Rattle.stream.proofs.Lists.{all_of_both}
+use Rattle.sender.proofs.Changes.{goes_on}
 use Rattle.sender.proofs.publishing.changes_of.Goals as goal
 
 pub loop-k-preserved : goal.loop-k-preserved

@@ -2,4 +2,4 @@ use Rattle.publication.proofs.Fitting.{relation_answer_fits}
 use Rattle.publication.proofs.selection.Selection.relation.Goals as goal
 
 pub returns-clause-fits : goal.returns-clause-fits
-returns-clause-fits c = rw c.in_ok-relation_message.ensures (relation_answer_fits c.in-Some.table.now c.in-Some.ensures.fits)
+returns-clause-fits c = rw c.in_ok-relation.ensures (relation_answer_fits c.in-Some.table.now c.in-Some.ensures.fits)
