@@ -10,8 +10,3 @@ mod word;
 
 pub use fault::SendFault;
 pub use sender::Sender;
-
-#[cfg(test)]
-mod rows;
-#[cfg(test)]
-mod tests;

@@ -17,6 +17,3 @@ pub use publisher::Publisher;
 pub use receipt::Receipt;
 pub use record::{Body, FIRST_XID, FIRST_POSITION, Record};
 pub use tx::Tx;
-
-#[cfg(test)]
-mod tests;

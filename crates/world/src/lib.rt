@@ -28,12 +28,3 @@ pub use fault::WorldFault;
 pub use schedule::{LineFault, Schedule};
 pub use simulation::{SimFault, simulate};
 pub use world::World;
-
-#[cfg(test)]
-mod edge_tests;
-#[cfg(test)]
-mod row_tests;
-#[cfg(test)]
-mod script_tests;
-#[cfg(test)]
-mod wanted;
