@@ -1,4 +1,4 @@
-//! Primary keepalive: the server's position, between pieces of the stream.
+//! Primary keepalive, the server's position between pieces of the stream: its writer.
 
 ghost use Rattle.std.specs.Prelude.{◌≡◌, ◌++◌, OnOk, OnErr};
 ghost use Rattle.frames.specs.Putting.{Puts};
@@ -16,7 +16,11 @@ pub const ASKS: u8 = 1;
 
 pub const SILENT: u8 = 0;
 
-/// Adds the body of a primary keepalive at the end of `out`; refused, adds nothing.
+/// Adds the body of a primary keepalive (PostgreSQL 15, 55.4) at the end of `out`; refused, adds nothing.
+///
+/// ```text
+/// Byte1('k') | Int64 end of the log at the server | Int64 clock | Byte1 1: answer at once, 0: no need
+/// ```
 ///
 /// `end` is a position of the log, `clock` is in microseconds since 2000-01-01; `ask` asks the client for a status at
 /// once.
@@ -37,7 +41,6 @@ pub fn write_keepalive(
     written
 }
 
-#[tactic(auto, using(frames::proofs::Putting::extends_itself, frames::proofs::Putting::extends_more, frames::proofs::Putting::extends_back))]
 fn put_keepalive(end: u64, clock: i64, ask: bool, out: &mut BytesMut) -> Result<(), AllocError>
     ensures { Puts result out.old.items out.new.items (keepalive end clock ask) }
 {

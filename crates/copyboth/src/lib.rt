@@ -1,5 +1,5 @@
-//! The bodies of the streaming replication protocol that stand inside CopyData in the copy-both state.
-#![tactic(auto)]
+//! The bodies of the streaming replication protocol that stand inside CopyData in the copy-both state: their writers.
+#![tactic(auto, using(frames::proofs::Putting::in_place))]
 
 mod keepalive;
 mod xlogdata;

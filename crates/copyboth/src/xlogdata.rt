@@ -1,4 +1,4 @@
-//! XLogData: a piece of the stream of changes.
+//! XLogData, a piece of the stream of changes: its writer.
 
 ghost use Rattle.std.specs.Prelude.{◌≡◌, ◌++◌, OnOk, OnErr};
 ghost use Rattle.frames.specs.Putting.{Puts};
@@ -11,7 +11,11 @@ use std::alloc::AllocError;
 /// The kind byte of XLogData.
 pub const XLOGDATA: u8 = b'w';
 
-/// Adds the body of an XLogData at the end of `out`; refused, adds nothing.
+/// Adds the body of an XLogData (PostgreSQL 15, 55.4) at the end of `out`; refused, adds nothing.
+///
+/// ```text
+/// Byte1('w') | Int64 start of the data | Int64 end of the log at the server | Int64 clock | Byten data
+/// ```
 ///
 /// `start` and `end` are positions of the log, `clock` is in microseconds since 2000-01-01.
 pub fn write_xlogdata(
@@ -32,7 +36,6 @@ pub fn write_xlogdata(
     written
 }
 
-#[tactic(auto, using(frames::proofs::Putting::extends_itself, frames::proofs::Putting::extends_more, frames::proofs::Putting::extends_back))]
 fn put_xlogdata(
     start: u64,
     end: u64,

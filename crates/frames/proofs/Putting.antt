@@ -13,3 +13,6 @@ pub extends_back : (old more new : List ℕ) → Extends (old ++ more) new → E
 extends_back old more new e =
     let short : length old ≤ length (old ++ more) = omega (arith, length-append old more) in
     sym (take-take (length old) (length (old ++ more)) new short) ∙ ap (take (length old)) e ∙ extends_more old more
+
+-- what a writer in place needs of each of its steps
+pub ruleset in_place = (extends_itself, extends_more, extends_back)

@@ -6,7 +6,7 @@ use Rattle.std.specs.Int.{w32}
 use Rattle.frames.specs.Fields.{int32, bytes_at, number_at}
 use Rattle.frames.specs.Steps.{◌>>=◌}
 use Rattle.frames.specs.declared.fault.FrameFault.{FrameFault}
-use Rattle.frames.specs.declared.fault.FrameFault.TheVariants.{BadLength, BadVersion, UnknownType, BadBody, NotUtf8, TooLong, Memory}
+use Rattle.frames.specs.declared.fault.FrameFault.TheVariants.{BadLength, UnknownType, TooLong, Memory}
 
 abbrev pub frame : ℕ → List ℕ → List ℕ
 frame kind body = kind ∷ (int32 (4 + length body) ++ body)
@@ -27,13 +27,8 @@ IsShort limit kind_of body_of f = IsSomeAnd (limit (kind_of f)) (λ most. 4 + le
 
 -- A call that answers what reading gives, unless memory ran out.
 abbrev pub Fails : {Y : Type 0} → FrameFault → Result Y FrameFault → Type 0
-Fails BadLength read = read ≡ Err BadLength
-Fails BadVersion read = read ≡ Err BadVersion
-Fails UnknownType read = read ≡ Err UnknownType
-Fails BadBody read = read ≡ Err BadBody
-Fails NotUtf8 read = read ≡ Err NotUtf8
-Fails TooLong read = read ≡ Err TooLong
 Fails Memory read = Unit {0}
+Fails e read = read ≡ Err e
 
 abbrev pub Gives : {X : Type 0} → Result X FrameFault → Result X FrameFault → Type 0
 Gives (Ok x) read = read ≡ Ok x
@@ -93,6 +88,4 @@ StandsAt limit UnknownType bytes = (kind : ℕ) × (rest : List ℕ) × (bytes �
 StandsAt limit BadLength bytes = BeginsWith limit bytes (λ most n. n < 4)
 StandsAt limit TooLong bytes = BeginsWith limit bytes (λ most n. most < n)
 StandsAt limit Memory bytes = HoldsFrame limit bytes
-StandsAt limit BadVersion bytes = ⊥
-StandsAt limit BadBody bytes = ⊥
-StandsAt limit NotUtf8 bytes = ⊥
+StandsAt limit _ bytes = ⊥

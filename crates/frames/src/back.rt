@@ -1,4 +1,4 @@
-//! The frames that the server sends.
+//! The frames that the server sends: the enum over them, its reader and its writer.
 
 ghost use Rattle.std.specs.Prelude.{◌≡◌, ◌<◌, ◌≤◌, ◌++◌, List, ℕ, length, take, Ok, Err, Some, None, IfOk, IfErr, IfSome, OnOk, OnErr};
 ghost use Rattle.frames.specs.Frame.{FitsLength, frame, Gives, StandsAt, IsWhole, raw_at};
@@ -12,7 +12,10 @@ use crate::frame::{FRAME_LIMIT, body_of, put_head};
 use bytes::BytesMut;
 use std::alloc::{AllocError, Global};
 
-/// A frame that the server sends.
+/// A frame that the server sends (PostgreSQL 15, 55.7).
+///
+/// `write_back` adds it to the bytes to be sent. `read_back` is its converse, for those who read a server: `None` is to
+/// wait for more bytes, and `Some` is a frame and the count of bytes to drop from the front.
 #[derive(Debug, Drop, PartialEq)]
 pub enum Back {
     CopyData(CopyData),
@@ -86,7 +89,7 @@ pub fn write_back(message: &Back, out: &mut BytesMut) -> Result<(), AllocError>
     written
 }
 
-#[tactic(auto, using(crate::proofs::Putting::extends_itself, crate::proofs::Putting::extends_more, crate::proofs::Putting::extends_back))]
+#[tactic(auto, using(crate::proofs::Putting::in_place))]
 fn put_back(out: &mut BytesMut, message: &Back) -> Result<(), AllocError>
     requires { FitsLength (back_body message.now) }
     ensures { Puts result out.old.items out.new.items (frame (back_kind message.now) (back_body message.now)) }

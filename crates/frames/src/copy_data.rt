@@ -1,4 +1,4 @@
-//! CopyData: a piece of the stream in copy mode, either way.
+//! CopyData, a piece of the stream in copy mode, as both sides send it: its type, its reader and its writer.
 
 ghost use Rattle.std.specs.Prelude.{◌≡◌, length};
 ghost use Rattle.frames.specs.Frame.{Gives};
@@ -14,7 +14,13 @@ use std::alloc::{AllocError, Global};
 /// The type byte of CopyData.
 pub const COPY_DATA: u8 = b'd';
 
-/// CopyData. What its bytes mean is told by the replication protocol, not by the frame.
+/// CopyData (PostgreSQL 15, 55.7).
+///
+/// ```text
+/// Byte1('d') | Int32 length, itself counted | Byten data
+/// ```
+///
+/// What the data mean is told by the replication protocol, not by the frame.
 #[derive(Debug, Drop, PartialEq)]
 pub struct CopyData {
     pub bytes: Items<u8>,

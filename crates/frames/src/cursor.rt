@@ -1,3 +1,5 @@
+//! Reading the fields of a message one after the other, from its front.
+
 ghost use Rattle.std.specs.Prelude.{◌≡◌, ◌==◌, ◌<◌, length, position, IfSome, MatchOption, false, true};
 ghost use Rattle.std.specs.Int.{w16, w32, w64};
 ghost use Rattle.std.specs.Str.{is_utf8};
@@ -6,8 +8,11 @@ ghost use Rattle.frames.specs.Fields.{Moves, byte_at, bytes_at, number_at, strin
 use std::marker::Model;
 use std::str;
 
-/// Reads fields from the front of a message. Contracts see the bytes that are left. A call answers the next field and
-/// moves past it, or, where it isn't there whole, None, and moves nothing. Nothing is copied.
+/// Reads fields from the front of a message, and copies nothing. Contracts see the bytes that are left.
+///
+/// `new` on the message's bytes; then one call a field, in the order of the message: `Some` is the field, and the cursor
+/// stands behind it; `None` is that it isn't there whole, and the cursor stands where it stood. At last `rest`, which is
+/// empty where nothing follows the message.
 #[derive(Debug, Drop)]
 pub struct Cursor<'a> {
     bytes: &'a [u8],
@@ -71,6 +76,7 @@ impl<'a> Cursor<'a> {
         Some(front)
     }
 
+    /// The next `n` bytes.
     pub fn take(&mut self, n: usize) -> Option<&'a [u8]>
         ensures { Moves (λ s. s.now) result self.old self.new (bytes_at n self.old) }
     {

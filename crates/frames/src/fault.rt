@@ -1,3 +1,5 @@
+//! The faults of frames, F1 to F7.
+
 ghost use Rattle.std.specs.Prelude.{◌≡◌};
 ghost use Rattle.frames.specs.declared.fault.FrameFault.TheVariants.{Memory};
 

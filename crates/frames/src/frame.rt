@@ -1,4 +1,4 @@
-//! What all regular frames have in common: a type byte, a length and a body.
+//! What all regular frames have in common (PostgreSQL 15, 55.1.1): a type byte, a length that counts itself, and a body.
 
 ghost use Rattle.std.specs.Prelude.{◌≡◌, ◌≢◌, ◌+◌, ◌^◌, ◌<◌, ◌∷◌, ◌++◌, option_map, Result, Ok, Err};
 ghost use Rattle.frames.specs.Fields.{int32};
@@ -41,7 +41,7 @@ pub(crate) fn body_of<'a>(
 }
 
 /// The type byte and the length of a frame with a body of this many bytes.
-#[tactic(auto, using(crate::proofs::Putting::extends_itself, crate::proofs::Putting::extends_more, crate::proofs::Putting::extends_back))]
+#[tactic(auto, using(crate::proofs::Putting::in_place))]
 pub(crate) fn put_head(out: &mut BytesMut, kind: u8, body_len: usize) -> Result<(), AllocError>
     requires { 4 + body_len < 2 ^ 32 }
     ensures { Puts result out.old.items out.new.items (kind ∷ int32 (4 + body_len)) }

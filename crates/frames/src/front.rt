@@ -1,4 +1,4 @@
-//! The frames that a client sends.
+//! The frames that a client sends: the enum over them, its reader and its writer.
 
 ghost use Rattle.std.specs.Prelude.{◌≡◌, ◌<◌, ◌≤◌, ◌++◌, List, ℕ, length, take, Ok, Err, Some, None, IfOk, IfErr, IfSome, OnOk, OnErr};
 ghost use Rattle.frames.specs.Frame.{FitsLength, frame, Gives, StandsAt, IsWhole, raw_at};
@@ -12,7 +12,10 @@ use crate::frame::{FRAME_LIMIT, body_of, put_head};
 use bytes::BytesMut;
 use std::alloc::{AllocError, Global};
 
-/// A frame that a client sends.
+/// A frame that a client sends (PostgreSQL 15, 55.7).
+///
+/// `read_front` on the bytes that have come: `None` is to wait for more, `Some` is a frame and the count of bytes to drop
+/// from the front, and a fault is the connection's end. `write_front` is its converse.
 #[derive(Debug, Drop, PartialEq)]
 pub enum Front {
     CopyData(CopyData),
@@ -86,7 +89,7 @@ pub fn write_front(message: &Front, out: &mut BytesMut) -> Result<(), AllocError
     written
 }
 
-#[tactic(auto, using(crate::proofs::Putting::extends_itself, crate::proofs::Putting::extends_more, crate::proofs::Putting::extends_back))]
+#[tactic(auto, using(crate::proofs::Putting::in_place))]
 fn put_front(out: &mut BytesMut, message: &Front) -> Result<(), AllocError>
     requires { FitsLength (front_body message.now) }
     ensures { Puts result out.old.items out.new.items (frame (front_kind message.now) (front_body message.now)) }

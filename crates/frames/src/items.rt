@@ -1,9 +1,12 @@
+//! The lists in messages: a `Vec` that contracts see as a list.
+
 ghost use Rattle.std.specs.Prelude.{◌≡◌, ◌==◌, length};
 
 use std::cmp::PartialEq;
 use std::marker::Model;
 
-/// A list that a message owns. Contracts see its elements in order.
+/// A list that a message owns. Contracts see its elements in order. It is made of a `Vec` by `new` and gives it back by
+/// `into_vec`, both without taking memory.
 #[derive(Debug, Drop)]
 pub struct Items<T> {
     vec: Vec<T>,

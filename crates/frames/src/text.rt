@@ -1,3 +1,5 @@
+//! The texts in messages: a `String` that contracts see as its bytes.
+
 ghost use Rattle.std.specs.Prelude.{◌≡◌, IfOk, string_bytes};
 ghost use Rattle.std.specs.Str.{IsUtf8};
 
@@ -5,7 +7,8 @@ use std::alloc::{AllocError, Global};
 use std::cmp::PartialEq;
 use std::marker::Model;
 
-/// A text that a message owns. Contracts see its bytes.
+/// A text that a message owns. Contracts see its bytes. It is made of a `String` by `new` and gives it back by
+/// `into_string`, both without taking memory; `copy_of` takes memory for a copy.
 #[derive(Debug, Drop)]
 pub struct Text {
     string: String,
