@@ -1,14 +1,15 @@
 -- What is read from a body was spelled so, and what was spelled is read again.
-use Rattle.std.proofs.Common.{◌≡◌, ℕ, ◌-◌, ◌^◌, ◌<◌, Bool, true, false, cond, eqb, List, [], ◌∷◌, ◌++◌, length, Some, None, Result, Ok, Err, refl, sym, subst, ◌∙◌}
-use Rattle.std.specs.Prelude.{IfOk}
+use Rattle.std.proofs.Common.{◌≡◌, ℕ, zero, suc, ◌-◌, ◌^◌, ◌<◌, ap, arith, Option, Bool, true, false, cond, eqb, List, [], ◌∷◌, ◌++◌, length, Some, None, Result, Ok, Err, refl, sym, subst, ◌∙◌}
+use Rattle.std.specs.Prelude.{IfOk, IsSomeAnd, IsOk}
+use Rattle.std.specs.Int.{w16, w32}
 use Rattle.std.specs.List.{flat_map, AllByRecursion}
 use Rattle.std.specs.Option.{ok_or}
 use Rattle.std.specs.Str.{is_utf8}
 use Rattle.std.proofs.lemmas.Bool.{eqb-true}
 use Rattle.std.proofs.lemmas.List.{append-nil, nil_from_length}
-use Rattle.frames.specs.Fields.{byte_at, bytes_at, int32}
+use Rattle.frames.specs.Fields.{byte_at, bytes_at, number_at, int16, int32}
 use Rattle.frames.specs.Steps.{◌>>=◌, letter_at, repeat_at}
-use Rattle.frames.proofs.Codec.{IsBytes, bind_ok, passed, Codec, field, last_field, codec_of, with_range, tested, counted, repeated, Chooses, no_choice, choice, choice_codec}
+use Rattle.frames.proofs.Codec.{IsBytes, IsBytes-rest, bind_ok, passed, Codec, field, last_field, codec_of, with_range, tested, counted, repeated, Chooses, no_choice, choice, choice_codec}
 use Rattle.frames.proofs.Loop.{with_front, ends}
 use Rattle.frames.proofs.Numbers.{number16, number32, bytes_codec, nothing_codec, letter_codec, signed32, signed64}
 use Rattle.tables.specs.declared.body.TheConstants.{NULL_TAG, BOOL_TAG, INT4_TAG, INT8_TAG, TEXT_TAG, INSERT_TAG}
@@ -19,7 +20,7 @@ use Rattle.tables.specs.declared.value.Value.TheVariants as values
 use Rattle.tables.specs.declared.change.Change.{Change}
 use Rattle.tables.specs.declared.change.Change.TheVariants as changes
 use Rattle.tables.specs.Spelling.{spell_value, spell_row, spell_body}
-use Rattle.tables.specs.Reading.{IsCodedValue, IsCodedRow, IsCoded, SpellsBody, bool_of, sized_at, text_at, tagged_at, value_at, row_at, insert_at, change_at, body_at, Fails, Gives}
+use Rattle.tables.specs.Reading.{IsCodedValue, IsCodedRow, IsCoded, SpellsBody, bool_of, sized_at, text_at, tagged_at, value_at, row_at, insert_at, change_at, body_at, RowHasValue, ChangeHasValue, HoldsValue, Fails, Gives}
 
 sized_codec : Codec sized_at (λ text. int32 (length text) ++ text) (λ text. length text < 2 ^ 32)
 sized_codec = with_range (λ text. length text < 2 ^ 32) (counted (number32 Short) length (λ n bytes. ok_or (bytes_at n bytes) Short) (λ text. text) (λ _. Unit {0})
@@ -128,3 +129,39 @@ fails_on BadBool f front count i bytes total lt e so_far = ends BadBool f front 
 fails_on BadText f front count i bytes total lt e so_far = ends BadText f front count i bytes total lt e so_far
 fails_on Trailing f front count i bytes total lt e so_far = ends Trailing f front count i bytes total lt e so_far
 fails_on Memory f front count i bytes total lt e so_far = tt
+
+-- the first value is read at the first turn
+pub first_read : (i : ℕ) (now initial : List ℕ) → (i ≡ 0 → now ≡ initial) → (0 < i → IsOk (value_at initial)) → IsOk (value_at now) → IsOk (value_at initial)
+first_read zero now initial first later read = subst (λ (bytes : List ℕ). IsOk (value_at bytes)) (first refl) read
+first_read (suc i) now initial first later read = later (omega arith)
+
+-- WHERE MEMORY IS WANTED
+
+is_read : {X E : Type 0} (r : Result X E) → IsOk r → (x : X) × (r ≡ Ok x)
+is_read (Ok x) is = (x, refl)
+is_read (Err e) is = absurd cc
+
+is_there : {X : Type 0} (o : Option X) (P : X → Type 0) → IsSomeAnd o P → (x : X) × (o ≡ Some x) × P x
+is_there (Some x) P is = (x, refl, is)
+is_there None P is = absurd is
+
+pub is_held : (bytes : List ℕ) → IsBytes bytes → ChangeHasValue bytes → HoldsValue bytes
+is_held [] fits h = absurd h
+is_held (tag ∷ bytes) fits h =
+    let oid = is_there (number_at w32 bytes) (λ m. RowHasValue m.1) h.1 in
+    let oid_is = (number32 Short).takes bytes oid.0.0 oid.0.1 (IsBytes-rest tag bytes fits) (ap (λ (o : Option (ℕ × List ℕ)). ok_or o Short) oid.1) in
+    let count = is_there (number_at w16 oid.0.1) (λ n. (0 < n.0) × IsOk (value_at n.1)) oid.2 in
+    let count_is = (number16 Short).takes oid.0.1 count.0.0 count.0.1 oid_is.0.rest_fits (ap (λ (o : Option (ℕ × List ℕ)). ok_or o Short) count.1) in
+    let value = is_read (value_at count.0.1) count.2.1 in
+    let value_is = value_codec.takes count.0.1 value.0.0 value.0.1 count_is.0.rest_fits value.1 in
+    record {
+      oid = oid.0.0;
+      count = count.0.0;
+      value = value.0.0;
+      rest = value.0.1;
+      some = count.2.0;
+      few = count_is.1;
+      in_range = value_is.1;
+      text = ap (λ (t : ℕ). t ∷ bytes) h.0 ∙ ap (λ (bs : List ℕ). INSERT_TAG ∷ bs) (oid_is.0.parts
+          ∙ ap (λ (bs : List ℕ). int32 oid.0.0 ++ bs) (count_is.0.parts ∙ ap (λ (bs : List ℕ). int16 count.0.0 ++ bs) value_is.0.parts));
+    }

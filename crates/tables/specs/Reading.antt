@@ -1,10 +1,10 @@
 -- How a change is read from its body: one field after the other, up to the first fault.
-use Rattle.std.specs.Prelude.{◌≡◌, ℕ, ◌^◌, ◌<◌, ◌==◌, Bool, true, false, List, length, FitsSigned, Option, Some, None, Result, Ok, Err, if◌then◌else◌}
+use Rattle.std.specs.Prelude.{◌≡◌, ℕ, ◌^◌, ◌<◌, ◌==◌, Bool, true, false, List, ◌∷◌, ◌++◌, length, FitsSigned, Option, Some, None, IsSomeAnd, Result, Ok, Err, IsOk, if◌then◌else◌}
 use Rattle.std.specs.List.{AllByRecursion}
 use Rattle.std.specs.Option.{ok_or}
 use Rattle.std.specs.Int.{w16, w32, w64}
 use Rattle.std.specs.Str.{is_utf8}
-use Rattle.frames.specs.Fields.{byte_at, bytes_at, number_at}
+use Rattle.frames.specs.Fields.{byte_at, bytes_at, number_at, int16, int32}
 use Rattle.frames.specs.Steps.{◌>>=◌, letter_at, signed_at, repeat_at}
 use Rattle.tables.specs.declared.body.TheConstants.{NULL_TAG, BOOL_TAG, INT4_TAG, INT8_TAG, TEXT_TAG, INSERT_TAG}
 use Rattle.tables.specs.declared.fault.BodyFault.{BodyFault}
@@ -13,16 +13,15 @@ use Rattle.tables.specs.declared.value.Value.{Value}
 use Rattle.tables.specs.declared.value.Value.TheVariants as values
 use Rattle.tables.specs.declared.change.Change.{Change}
 use Rattle.tables.specs.declared.change.Change.TheVariants as changes
-use Rattle.tables.specs.Spelling.{spell_body}
+use Rattle.tables.specs.Spelling.{spell_value, spell_body}
 
 -- WHAT HAS A BODY
 
 abbrev pub IsCodedValue : Value → Type 0
-IsCodedValue values.Null = Unit {0}
-IsCodedValue (values.Bool b) = Unit {0}
 IsCodedValue (values.Int4 n) = FitsSigned w32 n
 IsCodedValue (values.Int8 n) = FitsSigned w64 n
 IsCodedValue (values.Text text) = (length text < 2 ^ 32) × (is_utf8 text ≡ true)
+IsCodedValue value = Unit {0}
 
 abbrev pub IsCodedRow : List Value → Type 0
 IsCodedRow row = (length row < 2 ^ 16) × AllByRecursion IsCodedValue row
@@ -76,17 +75,36 @@ change_at bytes = short (byte_at bytes) >>= λ tag.
 unfoldable pub body_at : List ℕ → Result (Change × List ℕ) BodyFault
 body_at bytes = change_at bytes >>= λ change. if length change.1 == 0 then Ok change else Err Trailing
 
+-- WHERE MEMORY IS WANTED
+
+-- There is something to keep: behind an insert's tag and OID a count of at least one and the first value, spelled right.
+pub record HoldsValue (bytes : List ℕ) : Type 0 where
+  pub oid : ℕ
+  pub count : ℕ
+  pub value : Value
+  pub rest : List ℕ
+  pub some : 0 < count
+  pub few : count < 2 ^ 16
+  pub in_range : IsCodedValue value
+  pub text : bytes ≡ INSERT_TAG ∷ (int32 oid ++ (int16 count ++ (spell_value value ++ rest)))
+
+-- the same said of the reader: a row, an insert, a body of which the first value is read
+abbrev pub RowHasValue : List ℕ → Type 0
+RowHasValue bytes = IsSomeAnd (number_at w16 bytes) (λ n. (0 < n.0) × IsOk (value_at n.1))
+
+abbrev pub InsertHasValue : List ℕ → Type 0
+InsertHasValue bytes = IsSomeAnd (number_at w32 bytes) (λ oid. RowHasValue oid.1)
+
+abbrev pub ChangeHasValue : List ℕ → Type 0
+ChangeHasValue bytes = IsSomeAnd (byte_at bytes) (λ tag. (tag.0 ≡ INSERT_TAG) × InsertHasValue tag.1)
+
 -- WHAT A READER ANSWERS
 
 abbrev pub Fails : {Y : Type 0} → BodyFault → Result Y BodyFault → Type 0
-Fails Short read = read ≡ Err Short
-Fails UnknownTag read = read ≡ Err UnknownTag
-Fails BadBool read = read ≡ Err BadBool
-Fails BadText read = read ≡ Err BadText
-Fails Trailing read = read ≡ Err Trailing
 Fails Memory read = Unit {0}
+Fails fault read = read ≡ Err fault
 
--- the value and what is left behind it, or the fault; memory may be refused at any time
+-- the value and what is left behind it, or the fault, unless memory was refused
 abbrev pub Gives : {X : Type 0} → Result X BodyFault → List ℕ → Result (X × List ℕ) BodyFault → Type 0
 Gives (Ok x) rest read = read ≡ Ok (x, rest)
 Gives (Err fault) rest read = Fails fault read

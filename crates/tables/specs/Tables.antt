@@ -63,11 +63,10 @@ fits_table table row = (length table.columns == length row) && list_all (λ p. f
 
 -- what a value of Rust is: an integer of its width, and a text in UTF-8
 abbrev pub IsValue : Value → Type 0
-IsValue values.Null = Unit {0}
-IsValue (values.Bool b) = Unit {0}
 IsValue (values.Int4 n) = FitsSigned w32 n
 IsValue (values.Int8 n) = FitsSigned w64 n
 IsValue (values.Text text) = is_utf8 text ≡ true
+IsValue value = Unit {0}
 
 -- a row that may stand in the log for this table
 pub record FitsRow (tables : List Table) (oid : ℕ) (row : List Value) : Type 0 where

@@ -1,3 +1,6 @@
+//! How a change is written into the log: the lengths and bytes of its body.
+#![tactic(auto, using(frames::proofs::Putting::extends_itself, frames::proofs::Putting::extends_more, frames::proofs::Putting::extends_back))]
+
 ghost use Rattle.std.specs.Prelude.{◌≡◌, ◌++◌, ◌∷◌, [], ◌<◌, ◌≤◌, ◌^◌, OnErr, OnOk, length, if◌then◌else◌};
 ghost use Rattle.std.specs.List.{flat_map};
 ghost use Rattle.frames.specs.Fields.{int16, int32, int64};
@@ -66,7 +69,6 @@ pub fn write_body(change: &Change, out: &mut BytesMut) -> Result<(), AllocError>
     written
 }
 
-#[tactic(auto, using(frames::proofs::Putting::extends_itself, frames::proofs::Putting::extends_more, frames::proofs::Putting::extends_back))]
 fn put_body(change: &Change, out: &mut BytesMut) -> Result<(), AllocError>
     requires { IsShort change.now }
     ensures { Puts result out.old.items out.new.items (spell_body change.now) }
@@ -80,7 +82,6 @@ fn put_body(change: &Change, out: &mut BytesMut) -> Result<(), AllocError>
     }
 }
 
-#[tactic(auto, using(frames::proofs::Putting::extends_itself, frames::proofs::Putting::extends_more, frames::proofs::Putting::extends_back))]
 fn put_row(row: &Row, out: &mut BytesMut) -> Result<(), AllocError>
     requires { row_length row.now ≤ MAX_ROW_LENGTH }
     ensures { Puts result out.old.items out.new.items (spell_row row.now) }
@@ -93,7 +94,6 @@ fn put_row(row: &Row, out: &mut BytesMut) -> Result<(), AllocError>
     Ok(())
 }
 
-#[tactic(auto, using(frames::proofs::Putting::extends_itself, frames::proofs::Putting::extends_more, frames::proofs::Putting::extends_back))]
 fn put_value(value: &Value, out: &mut BytesMut) -> Result<(), AllocError>
     requires { length (spell_value value.now) ≤ MAX_ROW_LENGTH }
     ensures { Puts result out.old.items out.new.items (spell_value value.now) }

@@ -1,3 +1,5 @@
+//! The tables that a publisher knows, found by OID or by name.
+
 ghost use Rattle.std.specs.Prelude.{◌≡◌, IfOk};
 ghost use Rattle.std.specs.Option.{option_copied};
 ghost use Rattle.tables.specs.Tables.{builtin_tables, table_named, table_of};

@@ -1,3 +1,5 @@
+//! A column of a table, and the values that it takes.
+
 ghost use Rattle.std.specs.Prelude.{◌≡◌, IfOk};
 ghost use Rattle.tables.specs.Tables.{fits_column};
 

@@ -1,3 +1,5 @@
+//! Why a body is not read as a change.
+
 ghost use Rattle.std.specs.Prelude.{◌≡◌};
 ghost use Rattle.tables.specs.declared.fault.BodyFault.TheVariants.{Memory};
 

@@ -1,3 +1,5 @@
+//! The replica identity of a table.
+
 /// The replica identity of a table: which columns of an old row a subscriber is sent.
 #[derive(Clone, Copy, Debug, PartialEq, Eq)]
 pub enum Identity {

@@ -1,3 +1,5 @@
+//! The types of columns, and the values of each.
+
 ghost use Rattle.std.specs.Prelude.{◌≡◌};
 ghost use Rattle.tables.specs.Tables.{has_no_zero, is_of_kind};
 

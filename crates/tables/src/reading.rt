@@ -1,8 +1,10 @@
-ghost use Rattle.std.specs.Prelude.{◌≡◌, [], IfOk, Ok};
+//! How a change is read from its body.
+
+ghost use Rattle.std.specs.Prelude.{◌≡◌, ◌≢◌, ◌<◌, [], IfOk, IsOk, Ok, Err};
 ghost use Rattle.std.specs.Int.{w32, w64};
 ghost use Rattle.frames.specs.Steps.{letter_at, signed_at, repeat_at};
-ghost use Rattle.tables.specs.Reading.{Gives, SpellsBody, body_at, bool_of, change_at, row_at, text_at, value_at};
-ghost use Rattle.tables.specs.declared.fault.BodyFault.TheVariants.{Short, BadBool};
+ghost use Rattle.tables.specs.Reading.{Gives, SpellsBody, RowHasValue, ChangeHasValue, HoldsValue, body_at, bool_of, change_at, row_at, text_at, value_at};
+ghost use Rattle.tables.specs.declared.fault.BodyFault.TheVariants.{Short, BadBool, Memory};
 
 use crate::body::{BOOL_TAG, INSERT_TAG, INT4_TAG, INT8_TAG, NULL_TAG, TEXT_TAG};
 use crate::change::Change;
@@ -17,13 +19,16 @@ pub fn read_body(alloc: Global, bytes: &[u8]) -> Result<Change, BodyFault>
     ensures found { IfOk result (λ c. SpellsBody bytes.now c) }
     ensures only { (c : Change) → SpellsBody bytes.now c → Gives result [] (Ok (c, [])) }
     ensures exact { Gives result [] (body_at bytes.now) }
+    // Memory is wanted for values alone, so once the first of them is read.
+    ensures memory { result ≡ Err Memory → HoldsValue bytes.now }
 {
     whole(alloc, bytes)
 }
 
 #[tactic(auto, unfolding(crate::specs::Reading::body_at))]
 fn whole(alloc: Global, bytes: &[u8]) -> Result<Change, BodyFault>
-    ensures { Gives result [] (body_at bytes.now) }
+    ensures exact { Gives result [] (body_at bytes.now) }
+    ensures memory { result ≡ Err Memory → ChangeHasValue bytes.now }
 {
     let mut cursor = Cursor::new(bytes);
     let change = change_of(alloc, &mut cursor)?;
@@ -36,7 +41,8 @@ fn whole(alloc: Global, bytes: &[u8]) -> Result<Change, BodyFault>
 
 #[tactic(auto, unfolding(crate::specs::Reading::change_at, crate::specs::Reading::insert_at))]
 fn change_of(alloc: Global, cursor: &mut Cursor<'_>) -> Result<Change, BodyFault>
-    ensures { Gives result cursor.new (change_at cursor.old) }
+    ensures exact { Gives result cursor.new (change_at cursor.old) }
+    ensures memory { result ≡ Err Memory → ChangeHasValue cursor.old }
 {
     match cursor.u8().ok_or(BodyFault::Short)? {
         INSERT_TAG => {
@@ -50,7 +56,8 @@ fn change_of(alloc: Global, cursor: &mut Cursor<'_>) -> Result<Change, BodyFault
 
 #[tactic(auto, unfolding(crate::specs::Reading::row_at))]
 fn row_of(alloc: Global, cursor: &mut Cursor<'_>) -> Result<Row, BodyFault>
-    ensures { Gives result cursor.new (row_at cursor.old) }
+    ensures exact { Gives result cursor.new (row_at cursor.old) }
+    ensures memory { result ≡ Err Memory → RowHasValue cursor.old }
 {
     let count = cursor.u16().ok_or(BodyFault::Short)?;
     let values = values_of(alloc, cursor, count)?;
@@ -58,7 +65,8 @@ fn row_of(alloc: Global, cursor: &mut Cursor<'_>) -> Result<Row, BodyFault>
 }
 
 fn values_of(alloc: Global, cursor: &mut Cursor<'_>, count: u16) -> Result<Items<Value>, BodyFault>
-    ensures { Gives result cursor.new (repeat_at value_at count cursor.old) }
+    ensures exact { Gives result cursor.new (repeat_at value_at count cursor.old) }
+    ensures memory { result ≡ Err Memory → (0 < count) × IsOk (value_at cursor.old) }
 {
     let mut values = Vec::new(alloc);
     for _ in 0..count {
@@ -70,7 +78,8 @@ fn values_of(alloc: Global, cursor: &mut Cursor<'_>, count: u16) -> Result<Items
 
 #[tactic(auto, unfolding(crate::specs::Reading::value_at))]
 fn value_of(alloc: Global, cursor: &mut Cursor<'_>) -> Result<Value, BodyFault>
-    ensures { Gives result cursor.new (value_at cursor.old) }
+    ensures exact { Gives result cursor.new (value_at cursor.old) }
+    ensures memory { result ≡ Err Memory → IsOk (value_at cursor.old) }
 {
     match cursor.u8().ok_or(BodyFault::Short)? {
         NULL_TAG => Ok(Value::Null),
@@ -83,7 +92,8 @@ fn value_of(alloc: Global, cursor: &mut Cursor<'_>) -> Result<Value, BodyFault>
 }
 
 fn bool_in(cursor: &mut Cursor<'_>) -> Result<bool, BodyFault>
-    ensures { Gives result cursor.new (letter_at Short BadBool bool_of cursor.old) }
+    ensures exact { Gives result cursor.new (letter_at Short BadBool bool_of cursor.old) }
+    ensures no_memory { result ≢ Err Memory }
 {
     match cursor.u8().ok_or(BodyFault::Short)? {
         0 => Ok(false),
@@ -93,14 +103,16 @@ fn bool_in(cursor: &mut Cursor<'_>) -> Result<bool, BodyFault>
 }
 
 fn i32_in(cursor: &mut Cursor<'_>) -> Result<i32, BodyFault>
-    ensures { Gives result cursor.new (signed_at Short w32 cursor.old) }
+    ensures exact { Gives result cursor.new (signed_at Short w32 cursor.old) }
+    ensures no_memory { result ≢ Err Memory }
 {
     let n = cursor.u32().ok_or(BodyFault::Short)?;
     Ok(n.cast_signed())
 }
 
 fn i64_in(cursor: &mut Cursor<'_>) -> Result<i64, BodyFault>
-    ensures { Gives result cursor.new (signed_at Short w64 cursor.old) }
+    ensures exact { Gives result cursor.new (signed_at Short w64 cursor.old) }
+    ensures no_memory { result ≢ Err Memory }
 {
     let n = cursor.u64().ok_or(BodyFault::Short)?;
     Ok(n.cast_signed())
@@ -108,7 +120,8 @@ fn i64_in(cursor: &mut Cursor<'_>) -> Result<i64, BodyFault>
 
 #[tactic(auto, unfolding(crate::specs::Reading::text_at))]
 fn text_of(alloc: Global, cursor: &mut Cursor<'_>) -> Result<Text, BodyFault>
-    ensures { Gives result cursor.new (text_at cursor.old) }
+    ensures exact { Gives result cursor.new (text_at cursor.old) }
+    ensures memory { result ≡ Err Memory → IsOk (text_at cursor.old) }
 {
     let len = cursor.u32().ok_or(BodyFault::Short)?;
     let bytes = cursor.take(len as usize).ok_or(BodyFault::Short)?;

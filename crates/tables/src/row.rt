@@ -1,3 +1,5 @@
+//! A row: its values in table order, and how long its coding is.
+
 ghost use Rattle.std.specs.Prelude.{◌≡◌, ◌+◌, ◌<◌, ◌≤◌, ◌^◌, MatchOption, OnSome, length};
 ghost use Rattle.std.specs.List.{AllByRecursion};
 ghost use Rattle.tables.specs.Spelling.{row_length, spell_value};

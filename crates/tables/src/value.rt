@@ -1,3 +1,5 @@
+//! The values of rows.
+
 use frames::Text;
 
 /// What a row holds in one column.

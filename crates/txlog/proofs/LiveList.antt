@@ -6,7 +6,7 @@ use Rattle.std.proofs.lemmas.List.Quantifiers.{position-Some}
 use Rattle.std.proofs.Math.Seq.{take-append_seam}
 use Rattle.std.proofs.lemmas.Bool.{eqb-true, eqb-false, ne_eqb}
 use Rattle.txlog.specs.Log.{last_of}
-use Rattle.txlog.specs.Publishing.{Open, is_live, savepoints_of, with_savepoints, without}
+use Rattle.txlog.specs.Publishing.{LiveTransaction, is_live, savepoints_of, with_savepoints, without}
 use Rattle.txlog.specs.Invariants.{IsRising}
 
 pub eqb_comm : (a b : ℕ) → (a == b) ≡ (b == a)
@@ -21,7 +21,7 @@ all_append P [] ys front back = back
 all_append P (x ∷ xs) ys front back = (front.0, all_append P xs ys front.1 back)
 
 -- what holds of each transaction holds of the one of this xid
-pub found : (P : Open → Type 0) (xid : ℕ) (live : List Open) → is_live xid live ≡ true → AllByRecursion P live →
+pub found : (P : LiveTransaction → Type 0) (xid : ℕ) (live : List LiveTransaction) → is_live xid live ≡ true → AllByRecursion P live →
     P (record { xid = xid; savepoints = savepoints_of xid live })
 found P xid [] is all = let never : false ≡ true = is in cc
 found P xid (o ∷ live) is all =
@@ -37,7 +37,7 @@ found P xid (o ∷ live) is all =
 
 -- OTHER SAVEPOINTS
 
-pub length-with_savepoints : (xid : ℕ) (xs : List ℕ) (live : List Open) → length (with_savepoints xid xs live) ≡ length live
+pub length-with_savepoints : (xid : ℕ) (xs : List ℕ) (live : List LiveTransaction) → length (with_savepoints xid xs live) ≡ length live
 length-with_savepoints xid xs [] = refl
 length-with_savepoints xid xs (o ∷ live) = by_test (o.xid == xid) (length-with_savepoints xid xs live)
   where
@@ -47,7 +47,7 @@ length-with_savepoints xid xs (o ∷ live) = by_test (o.xid == xid) (length-with
     by_test false e = ap (λ n. suc n) e
 
 -- what speaks of xids alone stays
-all_with_savepoints : (P : ℕ → Type 0) (xid : ℕ) (xs : List ℕ) (live : List Open) → AllByRecursion (λ o. P o.xid) live → AllByRecursion (λ o. P o.xid) (with_savepoints xid xs live)
+all_with_savepoints : (P : ℕ → Type 0) (xid : ℕ) (xs : List ℕ) (live : List LiveTransaction) → AllByRecursion (λ o. P o.xid) live → AllByRecursion (λ o. P o.xid) (with_savepoints xid xs live)
 all_with_savepoints P xid xs [] all = tt
 all_with_savepoints P xid xs (o ∷ live) all = by_test (o.xid == xid) (all_with_savepoints P xid xs live all.1)
   where
@@ -56,7 +56,7 @@ all_with_savepoints P xid xs (o ∷ live) all = by_test (o.xid == xid) (all_with
     by_test true rest = (all.0, all.1)
     by_test false rest = (all.0, rest)
 
-pub rising-with_savepoints : (xid : ℕ) (xs : List ℕ) (live : List Open) → IsRising live → IsRising (with_savepoints xid xs live)
+pub rising-with_savepoints : (xid : ℕ) (xs : List ℕ) (live : List LiveTransaction) → IsRising live → IsRising (with_savepoints xid xs live)
 rising-with_savepoints xid xs [] h = tt
 rising-with_savepoints xid xs (o ∷ live) h =
     by_test (o.xid == xid) (all_with_savepoints (λ n. o.xid < n) xid xs live h.0) (rising-with_savepoints xid xs live h.1)
@@ -67,15 +67,15 @@ rising-with_savepoints xid xs (o ∷ live) h =
     by_test false above rest = (above, rest)
 
 -- above an xid no transaction has it
-apart_above : (Q : Open → Type 0) (xid : ℕ) (P : Open → Type 0) (live : List Open) → AllByRecursion (λ p. xid < p.xid) live → AllByRecursion P live →
-    ((p : Open) → P p → (p.xid == xid) ≡ false → Q p) → AllByRecursion Q live
+apart_above : (Q : LiveTransaction → Type 0) (xid : ℕ) (P : LiveTransaction → Type 0) (live : List LiveTransaction) → AllByRecursion (λ p. xid < p.xid) live → AllByRecursion P live →
+    ((p : LiveTransaction) → P p → (p.xid == xid) ≡ false → Q p) → AllByRecursion Q live
 apart_above Q xid P [] above all keep = tt
 apart_above Q xid P (p ∷ live) above all keep =
     (keep p all.0 (ne_eqb p.xid xid (λ is. let lt : xid < p.xid = above.0 in absurd (omega (arith, is)))), apart_above Q xid P live above.1 all.1 keep)
 
 -- the one changed transaction has Q, and so have all others
-pub all_changed : (P Q : Open → Type 0) (xid : ℕ) (xs : List ℕ) (live : List Open) → IsRising live → AllByRecursion P live →
-    ((p : Open) → P p → (p.xid == xid) ≡ false → Q p) → Q (record { xid = xid; savepoints = xs }) → AllByRecursion Q (with_savepoints xid xs live)
+pub all_changed : (P Q : LiveTransaction → Type 0) (xid : ℕ) (xs : List ℕ) (live : List LiveTransaction) → IsRising live → AllByRecursion P live →
+    ((p : LiveTransaction) → P p → (p.xid == xid) ≡ false → Q p) → Q (record { xid = xid; savepoints = xs }) → AllByRecursion Q (with_savepoints xid xs live)
 all_changed P Q xid xs [] rising all keep here = tt
 all_changed P Q xid xs (o ∷ live) rising all keep here =
     by_test (o.xid == xid) refl (all_changed P Q xid xs live rising.1 all.1 keep here)
@@ -91,8 +91,8 @@ all_changed P Q xid xs (o ∷ live) rising all keep here =
 
 -- ONE TAKEN OUT
 
-pub all_without : (P Q : Open → Type 0) (xid : ℕ) (live : List Open) → AllByRecursion P live →
-    ((p : Open) → P p → (p.xid == xid) ≡ false → Q p) → AllByRecursion Q (without xid live)
+pub all_without : (P Q : LiveTransaction → Type 0) (xid : ℕ) (live : List LiveTransaction) → AllByRecursion P live →
+    ((p : LiveTransaction) → P p → (p.xid == xid) ≡ false → Q p) → AllByRecursion Q (without xid live)
 all_without P Q xid [] all keep = tt
 all_without P Q xid (o ∷ live) all keep = by_test (o.xid == xid) refl (all_without P Q xid live all.1 keep)
   where
@@ -101,7 +101,7 @@ all_without P Q xid (o ∷ live) all keep = by_test (o.xid == xid) refl (all_wit
     by_test true is rest = rest
     by_test false is rest = (keep o all.0 is, rest)
 
-pub rising-without : (xid : ℕ) (live : List Open) → IsRising live → IsRising (without xid live)
+pub rising-without : (xid : ℕ) (live : List LiveTransaction) → IsRising live → IsRising (without xid live)
 rising-without xid [] h = tt
 rising-without xid (o ∷ live) h =
     by_test (o.xid == xid) (all_without (λ p. o.xid < p.xid) (λ p. o.xid < p.xid) xid live h.0 (λ p lt other. lt)) (rising-without xid live h.1)
@@ -111,14 +111,14 @@ rising-without xid (o ∷ live) h =
     by_test true above rest = rest
     by_test false above rest = (above, rest)
 
-without_above : (xid : ℕ) (live : List Open) → AllByRecursion (λ p. xid < p.xid) live → without xid live ≡ live
+without_above : (xid : ℕ) (live : List LiveTransaction) → AllByRecursion (λ p. xid < p.xid) live → without xid live ≡ live
 without_above xid [] above = refl
 without_above xid (p ∷ live) above =
     let other : (p.xid == xid) ≡ false = ne_eqb p.xid xid (λ is. let lt : xid < p.xid = above.0 in absurd (omega (arith, is))) in
     rw (other, without_above xid live above.1) refl
 
 -- exactly one is taken out
-pub length-without : (xid : ℕ) (live : List Open) → IsRising live → is_live xid live ≡ true → length (without xid live) + 1 ≡ length live
+pub length-without : (xid : ℕ) (live : List LiveTransaction) → IsRising live → is_live xid live ≡ true → length (without xid live) + 1 ≡ length live
 length-without xid [] rising is = let never : false ≡ true = is in cc
 length-without xid (o ∷ live) rising is = by_test (o.xid == xid) refl is (length-without xid live rising.1)
   where
@@ -130,13 +130,13 @@ length-without xid (o ∷ live) rising is = by_test (o.xid == xid) refl is (leng
         rw same (omega arith)
     by_test false is any rest = omega (arith, rest any)
 
-pub rising-push : (live : List Open) (o : Open) → AllByRecursion (λ p. p.xid < o.xid) live → IsRising live → IsRising (live ++ o ∷ [])
+pub rising-push : (live : List LiveTransaction) (o : LiveTransaction) → AllByRecursion (λ p. p.xid < o.xid) live → IsRising live → IsRising (live ++ o ∷ [])
 rising-push [] o below h = (tt, tt)
 rising-push (p ∷ live) o below h = (all_append _ live (o ∷ []) h.0 (below.0, tt), rising-push live o below.1 h.1)
 
 -- AT A PLACE
 
-changed_first : (f : List ℕ → List ℕ) (xid : ℕ) (live : List Open) (place : ℕ) (d : Open) → place < length live →
+changed_first : (f : List ℕ → List ℕ) (xid : ℕ) (live : List LiveTransaction) (place : ℕ) (d : LiveTransaction) → place < length live →
     ((get_or live place d).xid == xid) ≡ true → ((k : ℕ) → k < place → ((get_or live k d).xid == xid) ≡ false) →
     set live place (record { xid = (get_or live place d).xid; savepoints = f (get_or live place d).savepoints }) ≡ with_savepoints xid (f (savepoints_of xid live)) live
 changed_first f xid [] place d lt is before = absurd (omega arith)
@@ -149,17 +149,17 @@ changed_first f xid (o ∷ live) (suc n) d lt is before =
     ∙ kept (f (savepoints_of xid live)) ∙ ap (λ (xs : List ℕ). with_savepoints xid (f xs) (o ∷ live)) later
 
 -- a transaction changed at its place is changed by its xid
-pub changed_at : (f : List ℕ → List ℕ) (xid : ℕ) (items live : List Open) (place : ℕ) (old new : Open) → items ≡ live →
+pub changed_at : (f : List ℕ → List ℕ) (xid : ℕ) (items live : List LiveTransaction) (place : ℕ) (old new : LiveTransaction) → items ≡ live →
     old ≡ get_or items place old → new ≡ record { xid = old.xid; savepoints = f old.savepoints } → Some place ≡ position (λ o. o.xid == xid) live →
     set items place new ≡ with_savepoints xid (f (savepoints_of xid live)) live
 changed_at f xid items live place old new same at is found_at =
     let first = position-Some (λ o. o.xid == xid) live place old (sym found_at) in
     let here : old ≡ get_or live place old = at ∙ ap (λ xs. get_or xs place old) same in
     ap (λ xs. set xs place new) same
-    ∙ ap (set live place) (is ∙ ap (λ (o : Open). record { xid = o.xid; savepoints = f o.savepoints }) here)
+    ∙ ap (set live place) (is ∙ ap (λ (o : LiveTransaction). record { xid = o.xid; savepoints = f o.savepoints }) here)
     ∙ changed_first f xid live place old first.0 first.1 first.2
 
-absent_from : (xid : ℕ) (xs : List ℕ) (i : ℕ) (live : List Open) → position_from (λ o. o.xid == xid) i live ≡ None → with_savepoints xid xs live ≡ live
+absent_from : (xid : ℕ) (xs : List ℕ) (i : ℕ) (live : List LiveTransaction) → position_from (λ o. o.xid == xid) i live ≡ None → with_savepoints xid xs live ≡ live
 absent_from xid xs i [] none = refl
 absent_from xid xs i (o ∷ live) none = by_test (o.xid == xid) none (absent_from xid xs (i + 1) live)
   where
@@ -169,7 +169,7 @@ absent_from xid xs i (o ∷ live) none = by_test (o.xid == xid) none (absent_fro
     by_test true none rest = cc
     by_test false none rest = ap (λ ls. o ∷ ls) (rest none)
 
-pub absent : (xid : ℕ) (xs : List ℕ) (live : List Open) → position (λ o. o.xid == xid) live ≡ None → with_savepoints xid xs live ≡ live
+pub absent : (xid : ℕ) (xs : List ℕ) (live : List LiveTransaction) → position (λ o. o.xid == xid) live ≡ None → with_savepoints xid xs live ≡ live
 absent xid xs live none = absent_from xid xs 0 live (sym (position_from-zero (λ o. o.xid == xid) live) ∙ none)
 
 pub last_at : (y : ℕ) (xs : List ℕ) → 0 < length xs → get_or xs (length xs - 1) 0 ≡ last_of y xs
@@ -181,19 +181,19 @@ last_at y (x ∷ z ∷ xs) lt =
 
 -- PUSHED AND TAKEN OFF
 
-with-here : (xid : ℕ) (xs : List ℕ) (o : Open) (live : List Open) → (o.xid == xid) ≡ true → with_savepoints xid xs (o ∷ live) ≡ record { xid = o.xid; savepoints = xs } ∷ live
+with-here : (xid : ℕ) (xs : List ℕ) (o : LiveTransaction) (live : List LiveTransaction) → (o.xid == xid) ≡ true → with_savepoints xid xs (o ∷ live) ≡ record { xid = o.xid; savepoints = xs } ∷ live
 with-here xid xs o live is = rw is refl
 
-with-later : (xid : ℕ) (xs : List ℕ) (o : Open) (live : List Open) → (o.xid == xid) ≡ false → with_savepoints xid xs (o ∷ live) ≡ o ∷ with_savepoints xid xs live
+with-later : (xid : ℕ) (xs : List ℕ) (o : LiveTransaction) (live : List LiveTransaction) → (o.xid == xid) ≡ false → with_savepoints xid xs (o ∷ live) ≡ o ∷ with_savepoints xid xs live
 with-later xid xs o live is = rw is refl
 
-of-here : (xid : ℕ) (o : Open) (live : List Open) → (o.xid == xid) ≡ true → savepoints_of xid (o ∷ live) ≡ o.savepoints
+of-here : (xid : ℕ) (o : LiveTransaction) (live : List LiveTransaction) → (o.xid == xid) ≡ true → savepoints_of xid (o ∷ live) ≡ o.savepoints
 of-here xid o live is = rw is refl
 
-of-later : (xid : ℕ) (o : Open) (live : List Open) → (o.xid == xid) ≡ false → savepoints_of xid (o ∷ live) ≡ savepoints_of xid live
+of-later : (xid : ℕ) (o : LiveTransaction) (live : List LiveTransaction) → (o.xid == xid) ≡ false → savepoints_of xid (o ∷ live) ≡ savepoints_of xid live
 of-later xid o live is = rw is refl
 
-with-again : (xid : ℕ) (xs ys : List ℕ) (live : List Open) → with_savepoints xid ys (with_savepoints xid xs live) ≡ with_savepoints xid ys live
+with-again : (xid : ℕ) (xs ys : List ℕ) (live : List LiveTransaction) → with_savepoints xid ys (with_savepoints xid xs live) ≡ with_savepoints xid ys live
 with-again xid xs ys [] = refl
 with-again xid xs ys (o ∷ live) = by_test (o.xid == xid) refl (with-again xid xs ys live)
   where
@@ -202,7 +202,7 @@ with-again xid xs ys (o ∷ live) = by_test (o.xid == xid) refl (with-again xid 
     by_test true is rest = ap (with_savepoints xid ys) (with-here xid xs o live is) ∙ with-here xid ys (record { xid = o.xid; savepoints = xs }) live is ∙ sym (with-here xid ys o live is)
     by_test false is rest = ap (with_savepoints xid ys) (with-later xid xs o live is) ∙ with-later xid ys o (with_savepoints xid xs live) is ∙ ap (λ ls. o ∷ ls) rest ∙ sym (with-later xid ys o live is)
 
-of-with : (xid : ℕ) (xs : List ℕ) (live : List Open) → is_live xid live ≡ true → savepoints_of xid (with_savepoints xid xs live) ≡ xs
+of-with : (xid : ℕ) (xs : List ℕ) (live : List LiveTransaction) → is_live xid live ≡ true → savepoints_of xid (with_savepoints xid xs live) ≡ xs
 of-with xid xs [] is = let never : false ≡ true = is in cc
 of-with xid xs (o ∷ live) is = by_test (o.xid == xid) refl is (of-with xid xs live)
   where
@@ -211,7 +211,7 @@ of-with xid xs (o ∷ live) is = by_test (o.xid == xid) refl is (of-with xid xs 
     by_test true is any rest = ap (savepoints_of xid) (with-here xid xs o live is) ∙ of-here xid (record { xid = o.xid; savepoints = xs }) live is
     by_test false is any rest = ap (savepoints_of xid) (with-later xid xs o live is) ∙ of-later xid o (with_savepoints xid xs live) is ∙ rest any
 
-with-own : (xid : ℕ) (live : List Open) → with_savepoints xid (savepoints_of xid live) live ≡ live
+with-own : (xid : ℕ) (live : List LiveTransaction) → with_savepoints xid (savepoints_of xid live) live ≡ live
 with-own xid [] = refl
 with-own xid (o ∷ live) = by_test (o.xid == xid) refl (with-own xid live)
   where
@@ -221,7 +221,7 @@ with-own xid (o ∷ live) = by_test (o.xid == xid) refl (with-own xid live)
     by_test false is rest = ap (λ xs. with_savepoints xid xs (o ∷ live)) (of-later xid o live is) ∙ with-later xid (savepoints_of xid live) o live is ∙ ap (λ ls. o ∷ ls) rest
 
 -- a savepoint that was pushed is taken off again
-pub restored : (xid y n : ℕ) (live more less : List Open) → is_live xid live ≡ true → n ≡ length (savepoints_of xid live) →
+pub restored : (xid y n : ℕ) (live more less : List LiveTransaction) → is_live xid live ≡ true → n ≡ length (savepoints_of xid live) →
     more ≡ with_savepoints xid (savepoints_of xid live ++ y ∷ []) live → less ≡ with_savepoints xid (take n (savepoints_of xid more)) more → less ≡ live
 restored xid y n live more less is at pushed cut =
     let xs : List ℕ = savepoints_of xid live ++ y ∷ [] in

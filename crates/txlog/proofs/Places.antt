@@ -1,15 +1,16 @@
 -- In a well-formed log, what a record keeps by the records before it is what it keeps by the whole log and its place.
-use Rattle.std.proofs.Common.{◌≡◌, ℕ, ◌+◌, ◌==◌, Bool, true, false, cond, ◌&&◌, ◌||◌, not, List, [], ◌∷◌, ◌++◌, length, refl, sym, ap, ◌∙◌, append_assoc, eq-eqb, length-append}
+use Rattle.std.proofs.Common.{◌≡◌, ℕ, ◌+◌, ◌==◌, Bool, true, false, cond, ◌&&◌, ◌||◌, not, List, [], ◌∷◌, ◌++◌, length, refl, sym, ap, subst, ◌∙◌, append_assoc, eq-eqb, length-append, ◌⊎◌, inl, inr}
 use Rattle.std.specs.List.{list_any, AllByRecursion}
 use Rattle.std.specs.Prelude.{nat_le}
-use Rattle.std.proofs.lemmas.Bool.{ne_eqb}
+use Rattle.std.proofs.lemmas.Bool.{ne_eqb, eqb-true}
 use Rattle.std.proofs.lemmas.List.{append-nil}
 use Rattle.std.proofs.lemmas.List.Folds.{list_any-append}
 use Rattle.std.proofs.Math.Seq.{take-append_seam}
 use Rattle.txlog.specs.declared.record.Record.{Record}
 use Rattle.txlog.specs.declared.record.Body.{Body}
 use Rattle.txlog.specs.declared.record.Body.TheVariants.{Assign, Change as Changed, AbortSub, Abort, Commit}
-use Rattle.txlog.specs.Log.{names, is_named, assigns, chain, top_of, is_undone, Entry, entry_at, entries, is_kept, kept, committed_at, committed_by, committed_from, committed, IsNext, WellFormedAfter, IsWellFormedLog, kept_at, placed_at, placed_from, committed_by_places, chain_step, is_assign, is_parent, IsChain}
+use Rattle.txlog.specs.Log.{names, is_named, assigns, chain, top_of, is_assigned, is_undone, Entry, entry_at, entries, is_kept, kept, committed_at, committed_by, committed_from, committed, IsNext, WellFormedAfter, IsWellFormedLog, chain_step}
+use Rattle.txlog.specs.Places.{puts_under, is_parent, IsChain, kept_at, placed_at, placed_from, committed_by_places}
 use Rattle.txlog.proofs.Lists.{or_false, filter_agrees}
 use Rattle.txlog.proofs.Laws.{is_named-one, is_assigned-one, chain-append, all_when}
 use Rattle.txlog.proofs.LiveList.{eqb_comm}
@@ -87,11 +88,11 @@ or_right : (a b : Bool) → b ≡ true → (a || b) ≡ true
 or_right true b e = refl
 or_right false b e = e
 
-is_parent-one : (log : List Record) (r : Record) (x y : ℕ) → is_parent (log ++ r ∷ []) x y ≡ (is_parent log x y || is_assign x y r.body)
-is_parent-one log r x y = list_any-append (λ r. is_assign x y r.body) log (r ∷ []) ∙ ap (λ b. is_parent log x y || b) (or_false (is_assign x y r.body))
+is_parent-one : (log : List Record) (r : Record) (x y : ℕ) → is_parent (log ++ r ∷ []) x y ≡ (is_parent log x y || puts_under x y r.body)
+is_parent-one log r x y = list_any-append (λ r. puts_under x y r.body) log (r ∷ []) ∙ ap (λ b. is_parent log x y || b) (or_false (puts_under x y r.body))
 
 -- a parent is named
-parent-body : (body : Body) (x y : ℕ) → is_assign x y body ≡ true → names y body ≡ true
+parent-body : (body : Body) (x y : ℕ) → puts_under x y body ≡ true → names y body ≡ true
 parent-body (Assign sub parent) x y is = by_test (sub == x) (parent == y) refl is
   where
     by_test : (a b : Bool) → (parent == y) ≡ b → (a && b) ≡ true → ((y == sub) || (y == parent)) ≡ true
@@ -105,9 +106,9 @@ parent-body (Commit xid time) x y is = absurd cc
 
 parent-named : (log : List Record) (x y : ℕ) → is_parent log x y ≡ true → is_named log y ≡ true
 parent-named [] x y is = absurd cc
-parent-named (r ∷ log) x y is = by_test (is_assign x y r.body) refl is (parent-named log x y)
+parent-named (r ∷ log) x y is = by_test (puts_under x y r.body) refl is (parent-named log x y)
   where
-    by_test : (b : Bool) → is_assign x y r.body ≡ b → (b || is_parent log x y) ≡ true → (is_parent log x y ≡ true → is_named log y ≡ true) → (names y r.body || is_named log y) ≡ true
+    by_test : (b : Bool) → puts_under x y r.body ≡ b → (b || is_parent log x y) ≡ true → (is_parent log x y ≡ true → is_named log y ≡ true) → (names y r.body || is_named log y) ≡ true
     by_test true same is rest = or_left (names y r.body) (is_named log y) (parent-body r.body x y same)
     by_test false same is rest = or_right (names y r.body) (is_named log y) (rest is)
 
@@ -145,3 +146,100 @@ chain-all before (r ∷ rest) h each x =
 
 pub chain-IsChain : (log : List Record) (x : ℕ) → IsWellFormedLog log → IsChain log x (chain log x)
 chain-IsChain log x h = chain-all [] log h.order (λ y. (refl, refl)) x
+
+-- ONE CHAIN
+
+or_of : (a b : Bool) → (a || b) ≡ true → (a ≡ true) ⊎ (b ≡ true)
+or_of true b e = inl refl
+or_of false b e = inr e
+
+under_assigns : (body : Body) (x y : ℕ) → puts_under x y body ≡ true → assigns x body ≡ true
+under_assigns (Assign sub parent) x y is = by_test (sub == x) is
+  where
+    by_test : (a : Bool) → (a && (parent == y)) ≡ true → a ≡ true
+    by_test true is = refl
+    by_test false is = absurd cc
+under_assigns (Changed xid change) x y is = absurd cc
+under_assigns (AbortSub xid) x y is = absurd cc
+under_assigns (Abort xid) x y is = absurd cc
+under_assigns (Commit xid time) x y is = absurd cc
+
+-- an xid with a parent is assigned
+parent-assigned : (log : List Record) (x y : ℕ) → is_parent log x y ≡ true → is_assigned log x ≡ true
+parent-assigned [] x y is = absurd cc
+parent-assigned (r ∷ log) x y is =
+    elim (or_of (puts_under x y r.body) (is_parent log x y) is) [
+      | inl here ↦ or_left (assigns x r.body) (is_assigned log x) (under_assigns r.body x y here)
+      | inr there ↦ or_right (assigns x r.body) (is_assigned log x) (parent-assigned log x y there)
+    ]
+
+assigned-body : (body : Body) (x : ℕ) → assigns x body ≡ true → names x body ≡ true
+assigned-body (Assign sub parent) x is = or_left (x == sub) (x == parent) (eqb_comm x sub ∙ is)
+assigned-body (Changed xid change) x is = absurd cc
+assigned-body (AbortSub xid) x is = absurd cc
+assigned-body (Abort xid) x is = absurd cc
+assigned-body (Commit xid time) x is = absurd cc
+
+assigned-named : (log : List Record) (x : ℕ) → is_assigned log x ≡ true → is_named log x ≡ true
+assigned-named [] x is = absurd cc
+assigned-named (r ∷ log) x is =
+    elim (or_of (assigns x r.body) (is_assigned log x) is) [
+      | inl here ↦ or_left (names x r.body) (is_named log x) (assigned-body r.body x here)
+      | inr there ↦ or_right (names x r.body) (is_named log x) (assigned-named log x there)
+    ]
+
+-- each xid has one parent at most
+abbrev HasOneParent : List Record → Type 0
+HasOneParent log = (x y z : ℕ) → is_parent log x y ≡ true → is_parent log x z ≡ true → y ≡ z
+
+-- a body that puts x under something comes when nothing does yet
+first-parent : (log : List Record) (body : Body) (x y z : ℕ) → IsNext log body → puts_under x y body ≡ true → is_parent log x z ≡ true → ⊥
+first-parent log body x y z next here there =
+    let named : is_named log x ≡ true = assigned-named log x (parent-assigned log x z there) in
+    let both : true ≡ false = sym (under_assigns body x y here) ∙ next-assigns log body x named next in cc
+
+same_parent : (body : Body) (x y z : ℕ) → puts_under x y body ≡ true → puts_under x z body ≡ true → y ≡ z
+same_parent (Assign sub parent) x y z a b = sym (eqb-true parent y (right (sub == x) (parent == y) a)) ∙ eqb-true parent z (right (sub == x) (parent == z) b)
+  where
+    right : (a b : Bool) → (a && b) ≡ true → b ≡ true
+    right true b e = e
+    right false b e = absurd cc
+same_parent (Changed xid change) x y z a b = absurd cc
+same_parent (AbortSub xid) x y z a b = absurd cc
+same_parent (Abort xid) x y z a b = absurd cc
+same_parent (Commit xid time) x y z a b = absurd cc
+
+one_parent-next : (log : List Record) (r : Record) → IsNext log r.body → HasOneParent log → HasOneParent (log ++ r ∷ [])
+one_parent-next log r next one x y z a b =
+    elim (or_of (is_parent log x y) (puts_under x y r.body) (sym (is_parent-one log r x y) ∙ a)) [
+      | inl before ↦ elim (or_of (is_parent log x z) (puts_under x z r.body) (sym (is_parent-one log r x z) ∙ b)) [
+        | inl before2 ↦ one x y z before before2
+        | inr here ↦ absurd (first-parent log r.body x z y next here before)
+      ]
+      | inr here ↦ elim (or_of (is_parent log x z) (puts_under x z r.body) (sym (is_parent-one log r x z) ∙ b)) [
+        | inl before ↦ absurd (first-parent log r.body x y z next here before)
+        | inr here2 ↦ same_parent r.body x y z here here2
+      ]
+    ]
+
+one_parent-all : (before rest : List Record) → WellFormedAfter before rest → HasOneParent before → HasOneParent (before ++ rest)
+one_parent-all before [] h one = rw (append-nil before) one
+one_parent-all before (r ∷ rest) h one = rw (← append_assoc before (r ∷ []) rest) (one_parent-all (before ++ r ∷ []) rest h.1 (one_parent-next before r h.0 one))
+
+no_parent : (log : List Record) (x y : ℕ) → is_assigned log x ≡ false → is_parent log x y ≡ true → ⊥
+no_parent log x y top under = let both : true ≡ false = sym (parent-assigned log x y under) ∙ top in cc
+
+one_way : (log : List Record) → HasOneParent log → (xs ys : List ℕ) (x : ℕ) → IsChain log x xs → IsChain log x ys → xs ≡ ys
+one_way log one [] ys x h k = absurd h
+one_way log one (a ∷ xs) [] x h k = absurd k
+one_way log one (a ∷ []) (b ∷ []) x h k = ap (λ (n : ℕ). n ∷ []) (h.0 ∙ sym k.0)
+one_way log one (a ∷ []) (b ∷ z ∷ zs) x h k = absurd (no_parent log x z h.1 k.1)
+one_way log one (a ∷ y ∷ xs) (b ∷ []) x h k = absurd (no_parent log x y k.1 h.1)
+one_way log one (a ∷ y ∷ xs) (b ∷ z ∷ zs) x h k =
+    let same : y ≡ z = one x y z h.1 k.1 in
+    let above : (y ∷ xs) ≡ (z ∷ zs) = one_way log one (y ∷ xs) (z ∷ zs) y h.2 (subst (λ (n : ℕ). IsChain log n (z ∷ zs)) (sym same) k.2) in
+    ap (λ (n : ℕ). n ∷ y ∷ xs) (h.0 ∙ sym k.0) ∙ ap (λ (ns : List ℕ). b ∷ ns) above
+
+-- and `chain` is it
+pub chain-only : (log : List Record) (x : ℕ) (xs : List ℕ) → IsWellFormedLog log → IsChain log x xs → xs ≡ chain log x
+chain-only log x xs h is = one_way log (one_parent-all [] log h.order (λ x y z a b. absurd cc)) xs (chain log x) x is (chain-IsChain log x h)

@@ -7,7 +7,7 @@ use Rattle.txlog.specs.declared.record.Record.{Record}
 use Rattle.txlog.specs.declared.record.Body.{Body}
 use Rattle.txlog.specs.declared.record.Body.TheVariants.{Assign, Change as Changed, AbortSub, Abort, Commit}
 use Rattle.txlog.specs.Log.{assigns, is_assigned, chain_step, chain, last_of, top_of, undoes, is_undone, ends, IsOpen}
-use Rattle.txlog.specs.Publishing.{Open}
+use Rattle.txlog.specs.Publishing.{LiveTransaction}
 use Rattle.txlog.specs.Invariants.{IsNested, IsInProgress, xids_of}
 use Rattle.txlog.proofs.LiveList.{all_append}
 use Rattle.txlog.proofs.Laws.{has_ended-one, is_assigned-one, is_undone-one, chain-append, chain-unassigned}
@@ -34,7 +34,7 @@ any-onto p [] [] none more = refl
 any-onto p (y ∷ below) [] none more = rw none.0 (any-onto p below [] none.1 tt)
 any-onto p below (x ∷ xs) none more = any-onto p (x ∷ below) xs (more.0, none) more.1
 
-pub IsOpen-innermost : (log : List Record) (next : ℕ) (o : Open) → IsInProgress log next o → IsOpen log (last_of o.xid o.savepoints)
+pub IsOpen-innermost : (log : List Record) (next : ℕ) (o : LiveTransaction) → IsInProgress log next o → IsOpen log (last_of o.xid o.savepoints)
 IsOpen-innermost log next o h =
     let whole : chain log (last_of o.xid o.savepoints) ≡ onto (o.xid ∷ []) o.savepoints =
     chain-innermost log o.xid [] o.savepoints (chain-unassigned log o.xid h.top) h.nested in
@@ -48,7 +48,7 @@ nested-tops log t y below [] is nested = tt
 nested-tops log t y below (x ∷ xs) is nested = (rw nested.0 is, nested-tops log t x (y ∷ below) xs is nested.2)
 
 -- the xids of a transaction have it as their top
-pub numbers-top : (log : List Record) (next : ℕ) (o : Open) → IsInProgress log next o → AllByRecursion (λ x. top_of log x ≡ o.xid) (xids_of o)
+pub numbers-top : (log : List Record) (next : ℕ) (o : LiveTransaction) → IsInProgress log next o → AllByRecursion (λ x. top_of log x ≡ o.xid) (xids_of o)
 numbers-top log next o h = (rw (chain-unassigned log o.xid h.top) refl, nested-tops log o.xid o.xid [] o.savepoints refl h.nested)
 
 -- CUT AT A DEPTH
@@ -63,7 +63,7 @@ nested_take log zero below xs h = tt
 nested_take log (suc n) below [] h = tt
 nested_take log (suc n) below (x ∷ xs) h = (h.0, h.1, nested_take log n (x ∷ below) xs h.2)
 
-pub in_progress_cut : (log : List Record) (next n : ℕ) (o : Open) → IsInProgress log next o → IsInProgress log next (record { xid = o.xid; savepoints = take n o.savepoints })
+pub in_progress_cut : (log : List Record) (next n : ℕ) (o : LiveTransaction) → IsInProgress log next o → IsInProgress log next (record { xid = o.xid; savepoints = take n o.savepoints })
 in_progress_cut log next n o h = record {
   below = (h.below.0, all_take _ n o.savepoints h.below.1);
   top = h.top;
@@ -108,7 +108,7 @@ below-more : (next more : ℕ) (xs : List ℕ) → next ≤ more → AllByRecurs
 below-more next more [] le all = tt
 below-more next more (x ∷ xs) le all = (omega (arith, all.0), below-more next more xs le all.1)
 
-pub in_progress_quiet : (log : List Record) (r : Record) (next more : ℕ) (o : Open) → next ≤ more → AllByRecursion (IsQuiet r.body) (xids_of o) →
+pub in_progress_quiet : (log : List Record) (r : Record) (next more : ℕ) (o : LiveTransaction) → next ≤ more → AllByRecursion (IsQuiet r.body) (xids_of o) →
     IsInProgress log next o → IsInProgress (log ++ r ∷ []) more o
 in_progress_quiet log r next more o le quiet h = record {
   below = below-more next more (xids_of o) le h.below;
@@ -140,7 +140,7 @@ nested_push : (log : List Record) (x : ℕ) (below xs : List ℕ) → IsNested l
 nested_push log x below [] h is low = (is, low, tt)
 nested_push log x below (y ∷ xs) h is low = (h.0, h.1, nested_push log x (y ∷ below) xs h.2 is low)
 
-pub in_progress_push : (log : List Record) (next x : ℕ) (o : Open) → IsInProgress log next o → x < next → is_assigned log x ≡ true → is_undone log x ≡ false →
+pub in_progress_push : (log : List Record) (next x : ℕ) (o : LiveTransaction) → IsInProgress log next o → x < next → is_assigned log x ≡ true → is_undone log x ≡ false →
     chain log x ≡ x ∷ onto (o.xid ∷ []) o.savepoints → AllByRecursion (λ y. y < x) (xids_of o) → length o.savepoints < MAX_DEPTH →
     IsInProgress log next (record { xid = o.xid; savepoints = o.savepoints ++ x ∷ [] })
 in_progress_push log next x o h lt sub undropped is low shallow = record {
@@ -165,7 +165,7 @@ nested_at log zero below (x ∷ xs) lt h = h.1
 nested_at log (suc n) below (x ∷ xs) lt h = nested_at log n (x ∷ below) xs (omega arith) h.2
 
 -- the savepoint at a place is above all xids before it
-pub above_numbers : (log : List Record) (next n : ℕ) (o : Open) → IsInProgress log next o → n < length o.savepoints →
+pub above_numbers : (log : List Record) (next n : ℕ) (o : LiveTransaction) → IsInProgress log next o → n < length o.savepoints →
     AllByRecursion (λ y. y < get_or o.savepoints n 0) (o.xid ∷ take n o.savepoints)
 above_numbers log next n o h lt =
     let both = all_from_onto (λ y. y < get_or o.savepoints n 0) (o.xid ∷ []) (take n o.savepoints) (nested_at log n (o.xid ∷ []) o.savepoints lt h.nested) in

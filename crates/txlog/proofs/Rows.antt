@@ -8,7 +8,8 @@ use Rattle.tables.specs.declared.change.Change.TheVariants as changes
 use Rattle.txlog.specs.declared.record.Record.{Record}
 use Rattle.txlog.specs.declared.record.Body.{Body}
 use Rattle.txlog.specs.declared.record.Body.TheVariants.{Assign, Change as Changed, AbortSub, Commit}
-use Rattle.txlog.specs.Log.{Entry, Transaction, IsWellFormedLog, committed, live}
+use Rattle.txlog.specs.Log.{Entry, Transaction, IsWellFormedLog, committed}
+use Rattle.txlog.proofs.LiveChanges.{live_changes}
 
 -- inserts into public.item of a row with this id, name and quantity
 abbrev insert : ℕ → List ℕ → ℕ → Change
@@ -124,5 +125,5 @@ released = at 0x1000000 0x1000030 (Changed 700 first)
 released-committed : committed released 0 ≡ record { start = 0x10000A8; end = 0x10000C8; time = pos 1; xid = 700; changes = entry 0x1000000 700 first ∷ entry 0x1000048 701 second ∷ entry 0x1000078 700 third ∷ [] } ∷ []
 released-committed = refl
 
-released-live : live released ≡ []
+released-live : live_changes released ≡ []
 released-live = refl

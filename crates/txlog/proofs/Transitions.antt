@@ -13,7 +13,7 @@ use Rattle.txlog.specs.declared.record.Record.{Record}
 use Rattle.txlog.specs.declared.record.Body.{Body}
 use Rattle.txlog.specs.declared.record.Body.TheVariants.{Assign, Change as Changed, AbortSub, Abort, Commit}
 use Rattle.txlog.specs.Log.{IsSized, IsOpen, IsNext, FitsBody, FitsRecord, size_of, end_of, names, is_named, assigns, is_assigned, chain, last_of, top_of, undoes, is_undone, ends}
-use Rattle.txlog.specs.Publishing.{Open, PublisherState, record_after, room, is_live, savepoints_of, innermost, with_savepoints, without, begun, changed, saved, released, rolled_back, ended, after_commit, after_abort}
+use Rattle.txlog.specs.Publishing.{LiveTransaction, PublisherState, record_after, room, is_live, savepoints_of, innermost, with_savepoints, without, begun, changed, saved, released, rolled_back, ended, after_commit, after_abort}
 use Rattle.txlog.specs.Invariants.{IsLog, IsInProgress, IsPublisher, xids_of}
 use Rattle.txlog.proofs.Laws.{end_of-append, follows-append, WellFormedAfter-append, is_named-one, is_assigned-one, is_undone-one, chain-append, chain-unassigned, all_when}
 use Rattle.txlog.proofs.LiveList.{eqb_comm, all_append, found, length-with_savepoints, rising-with_savepoints, all_changed, all_without, rising-without, length-without, rising-push}
@@ -79,7 +79,7 @@ unnamed-undoes x (Commit xid time) none = refl
 
 -- CALLS THAT WRITE NO RECORD
 
-pub new_publisher-IsPublisher : (tables : List Table) (records : ℕ) → records ≤ MAX_RECORDS → IsPublisher (record { tables = tables; capacity = records; log = []; next = FIRST_XID; live = [] })
+pub new_publisher-IsPublisher : (tables : List Table) (records : ℕ) → records ≤ MAX_RECORDS → IsPublisher (record { tables = tables; capacity = records; log = []; next_xid = FIRST_XID; live = [] })
 new_publisher-IsPublisher tables records le = record {
   log = record { good = record { follows = refl; sizes = tt; order = tt }; in_range = tt; near = omega arith };
   limit = le;
@@ -91,7 +91,7 @@ new_publisher-IsPublisher tables records le = record {
   live = tt;
 }
 
-in_progress_later : (log : List Record) (next more : ℕ) → next ≤ more → (o : Open) → IsInProgress log next o → IsInProgress log more o
+in_progress_later : (log : List Record) (next more : ℕ) → next ≤ more → (o : LiveTransaction) → IsInProgress log next o → IsInProgress log more o
 in_progress_later log next more le o h = record {
   below = all_when _ _ (λ (x : ℕ) (lt : x < next). omega (arith, lt, le)) (xids_of o) h.below;
   top = h.top;
@@ -104,8 +104,8 @@ in_progress_later log next more le o h = record {
 
 pub begun-IsPublisher : (s : PublisherState) → IsPublisher s → length s.live < MAX_LIVE → 0 < room s → IsPublisher (begun s)
 begun-IsPublisher s h few free =
-    let o : Open = record { xid = s.next; savepoints = [] } in
-    let longer : length (s.live ++ record { xid = s.next; savepoints = [] } ∷ []) ≡ length s.live + 1 = length-append s.live (record { xid = s.next; savepoints = [] } ∷ []) in
+    let o : LiveTransaction = record { xid = s.next_xid; savepoints = [] } in
+    let longer : length (s.live ++ record { xid = s.next_xid; savepoints = [] } ∷ []) ≡ length s.live + 1 = length-append s.live (record { xid = s.next_xid; savepoints = [] } ∷ []) in
     record {
       log = h.log;
       limit = h.limit;
@@ -113,14 +113,14 @@ begun-IsPublisher s h few free =
       xids = omega (arith, longer, h.xids);
       few = omega (arith, longer, few);
       fresh = λ x above. h.fresh x (omega arith);
-      rising = rising-push s.live (record { xid = s.next; savepoints = [] }) (all_when _ _ (λ (p : Open) (running : IsInProgress s.log s.next p). running.below.0) s.live h.live) h.rising;
-      live = all_append _ s.live (record { xid = s.next; savepoints = [] } ∷ []) (all_when _ _ (in_progress_later s.log s.next (s.next + 1) (omega arith)) s.live h.live) (
+      rising = rising-push s.live (record { xid = s.next_xid; savepoints = [] }) (all_when _ _ (λ (p : LiveTransaction) (running : IsInProgress s.log s.next_xid p). running.below.0) s.live h.live) h.rising;
+      live = all_append _ s.live (record { xid = s.next_xid; savepoints = [] } ∷ []) (all_when _ _ (in_progress_later s.log s.next_xid (s.next_xid + 1) (omega arith)) s.live h.live) (
         record {
           below = (omega arith, tt);
-          top = unnamed assigns s.next (unnamed-assigns s.next) s.log (h.fresh s.next (omega arith));
-          running = unnamed ends s.next (unnamed-ends s.next) s.log (h.fresh s.next (omega arith));
+          top = unnamed assigns s.next_xid (unnamed-assigns s.next_xid) s.log (h.fresh s.next_xid (omega arith));
+          running = unnamed ends s.next_xid (unnamed-ends s.next_xid) s.log (h.fresh s.next_xid (omega arith));
           subs = tt;
-          undropped = (unnamed undoes s.next (unnamed-undoes s.next) s.log (h.fresh s.next (omega arith)), tt);
+          undropped = (unnamed undoes s.next_xid (unnamed-undoes s.next_xid) s.log (h.fresh s.next_xid (omega arith)), tt);
           nested = tt;
           deep = omega arith;
         },
@@ -132,7 +132,7 @@ pub released-IsPublisher : (s : PublisherState) (xid depth : ℕ) → IsPublishe
 released-IsPublisher s xid depth h is =
     let xs : List ℕ = take (depth - 1) (savepoints_of xid s.live) in
     let same : length (with_savepoints xid (take (depth - 1) (savepoints_of xid s.live)) s.live) ≡ length s.live = length-with_savepoints xid xs s.live in
-    let o : IsInProgress s.log s.next (record { xid = xid; savepoints = savepoints_of xid s.live }) = found _ xid s.live is h.live in
+    let o : IsInProgress s.log s.next_xid (record { xid = xid; savepoints = savepoints_of xid s.live }) = found _ xid s.live is h.live in
     record {
       log = h.log;
       limit = h.limit;
@@ -141,8 +141,8 @@ released-IsPublisher s xid depth h is =
       few = omega (arith, same, h.few);
       fresh = h.fresh;
       rising = rising-with_savepoints xid xs s.live h.rising;
-      live = all_changed (IsInProgress s.log s.next) (IsInProgress s.log s.next) xid xs s.live h.rising h.live (λ p running other. running)
-          (in_progress_cut s.log s.next (depth - 1) (record { xid = xid; savepoints = savepoints_of xid s.live }) o);
+      live = all_changed (IsInProgress s.log s.next_xid) (IsInProgress s.log s.next_xid) xid xs s.live h.rising h.live (λ p running other. running)
+          (in_progress_cut s.log s.next_xid (depth - 1) (record { xid = xid; savepoints = savepoints_of xid s.live }) o);
     }
 
 -- CALLS THAT WRITE A RECORD
@@ -152,38 +152,38 @@ all_innermost P y [] all = all.0
 all_innermost P y (x ∷ xs) all = all_innermost P x xs all.1
 
 open_at : (s : PublisherState) (xid : ℕ) → IsPublisher s → is_live xid s.live ≡ true →
-    IsInProgress s.log s.next (record { xid = xid; savepoints = savepoints_of xid s.live })
-open_at s xid h is = found (IsInProgress s.log s.next) xid s.live is h.live
+    IsInProgress s.log s.next_xid (record { xid = xid; savepoints = savepoints_of xid s.live })
+open_at s xid h is = found (IsInProgress s.log s.next_xid) xid s.live is h.live
 
 all_quiet : (body : Body) → ((x : ℕ) → IsQuiet body x) → (xs : List ℕ) → AllByRecursion (IsQuiet body) xs
 all_quiet body quiet [] = tt
 all_quiet body quiet (x ∷ xs) = (quiet x, all_quiet body quiet xs)
 
-innermost_below : (s : PublisherState) (xid : ℕ) → IsPublisher s → is_live xid s.live ≡ true → innermost xid s.live < s.next
-innermost_below s xid h is = all_innermost (λ x. x < s.next) xid (savepoints_of xid s.live) (open_at s xid h is).below
+innermost_below : (s : PublisherState) (xid : ℕ) → IsPublisher s → is_live xid s.live ≡ true → innermost xid s.live < s.next_xid
+innermost_below s xid h is = all_innermost (λ x. x < s.next_xid) xid (savepoints_of xid s.live) (open_at s xid h is).below
 
 pub changed-IsPublisher : (s : PublisherState) (xid : ℕ) (change : Change) → IsPublisher s → is_live xid s.live ≡ true → 0 < room s →
     FitsChange s.tables change → size_of (Changed (innermost xid s.live) change) ≤ 2 ^ 14 → IsPublisher (changed xid change s)
 changed-IsPublisher s xid change h is free fits small =
     let body : Body = Changed (innermost xid s.live) change in
     let r : Record = record_after s.log (Changed (innermost xid s.live) change) in
-    let below : innermost xid s.live < s.next = innermost_below s xid h is in
+    let below : innermost xid s.live < s.next_xid = innermost_below s xid h is in
     let longer : length (s.log ++ record_after s.log (Changed (innermost xid s.live) change) ∷ []) ≡ length s.log + 1 = length-append s.log (r ∷ []) in
     record {
-      log = log_grown s.tables s.log body h.log (IsOpen-innermost s.log s.next (record { xid = xid; savepoints = savepoints_of xid s.live }) (open_at s xid h is))
+      log = log_grown s.tables s.log body h.log (IsOpen-innermost s.log s.next_xid (record { xid = xid; savepoints = savepoints_of xid s.live }) (open_at s xid h is))
           (omega (arith, h.limit, h.xids, h.reserve), fits) small (omega (arith, h.limit));
       limit = h.limit;
       reserve = omega (arith, longer, free);
       xids = omega (arith, longer, h.xids);
       few = h.few;
-      fresh = fresh_grown s.log r s.next s.next (omega arith) h.fresh (λ x above. later_than (innermost xid s.live) s.next x below above);
+      fresh = fresh_grown s.log r s.next_xid s.next_xid (omega arith) h.fresh (λ x above. later_than (innermost xid s.live) s.next_xid x below above);
       rising = h.rising;
-      live = all_when _ _ (λ (p : Open) (running : IsInProgress s.log s.next p).
-          in_progress_quiet s.log r s.next s.next p (omega arith) (all_quiet body (λ x. record { assigned = refl; ended = refl; undone = refl }) (xids_of p)) running) s.live h.live;
+      live = all_when _ _ (λ (p : LiveTransaction) (running : IsInProgress s.log s.next_xid p).
+          in_progress_quiet s.log r s.next_xid s.next_xid p (omega arith) (all_quiet body (λ x. record { assigned = refl; ended = refl; undone = refl }) (xids_of p)) running) s.live h.live;
     }
 
 -- the end of another transaction does nothing to the xids of this one
-quiet_by_top : (log : List Record) (next y t : ℕ) (body : Body) (p : Open) → IsInProgress log next p → top_of log y ≡ t → (p.xid == t) ≡ false →
+quiet_by_top : (log : List Record) (next y t : ℕ) (body : Body) (p : LiveTransaction) → IsInProgress log next p → top_of log y ≡ t → (p.xid == t) ≡ false →
     ((x : ℕ) → (y == x) ≡ false → IsQuiet body x) → AllByRecursion (IsQuiet body) (xids_of p)
 quiet_by_top log next y t body p running top other quiet =
     all_when _ _ (λ (x : ℕ) (x_top : top_of log x ≡ p.xid). quiet x (tops_apart log y x t p.xid top x_top (eqb_comm t p.xid ∙ other))) (xids_of p) (numbers-top log next p running)
@@ -192,11 +192,11 @@ ended-IsPublisher : (s : PublisherState) (xid : ℕ) (body : Body) → IsPublish
     (is_assigned s.log xid ≡ false → IsOpen s.log xid → IsNext s.log body) → (xid < 2 ^ 32 → FitsBody s.tables body) → size_of body ≤ 2 ^ 14 →
     ((x : ℕ) → names x body ≡ (x == xid)) → ((x : ℕ) → (xid == x) ≡ false → IsQuiet body x) → IsPublisher (ended xid body s)
 ended-IsPublisher s xid body h is next fits small naming quiet =
-    let o : IsInProgress s.log s.next (record { xid = xid; savepoints = savepoints_of xid s.live }) = open_at s xid h is in
-    let alone : IsOpen s.log xid = IsOpen-innermost s.log s.next (record { xid = xid; savepoints = [] })
-    (in_progress_cut s.log s.next 0 (record { xid = xid; savepoints = savepoints_of xid s.live }) o) in
+    let o : IsInProgress s.log s.next_xid (record { xid = xid; savepoints = savepoints_of xid s.live }) = open_at s xid h is in
+    let alone : IsOpen s.log xid = IsOpen-innermost s.log s.next_xid (record { xid = xid; savepoints = [] })
+    (in_progress_cut s.log s.next_xid 0 (record { xid = xid; savepoints = savepoints_of xid s.live }) o) in
     let r : Record = record_after s.log body in
-    let below : xid < s.next = o.below.0 in
+    let below : xid < s.next_xid = o.below.0 in
     let top : top_of s.log xid ≡ xid = rw (chain-unassigned s.log xid o.top) refl in
     let longer : length (s.log ++ record_after s.log body ∷ []) ≡ length s.log + 1 = length-append s.log (r ∷ []) in
     let fewer : length (without xid s.live) + 1 ≡ length s.live = length-without xid s.live h.rising is in
@@ -206,10 +206,10 @@ ended-IsPublisher s xid body h is next fits small naming quiet =
       reserve = omega (arith, longer, fewer, h.reserve);
       xids = omega (arith, longer, fewer, h.xids);
       few = omega (arith, fewer, h.few);
-      fresh = fresh_grown s.log r s.next s.next (omega arith) h.fresh (λ x above. naming x ∙ later_than xid s.next x below above);
+      fresh = fresh_grown s.log r s.next_xid s.next_xid (omega arith) h.fresh (λ x above. naming x ∙ later_than xid s.next_xid x below above);
       rising = rising-without xid s.live h.rising;
-      live = all_without (IsInProgress s.log s.next) (IsInProgress (s.log ++ r ∷ []) s.next) xid s.live h.live
-          (λ p running other. in_progress_quiet s.log r s.next s.next p (omega arith) (quiet_by_top s.log s.next xid xid body p running top other quiet) running);
+      live = all_without (IsInProgress s.log s.next_xid) (IsInProgress (s.log ++ r ∷ []) s.next_xid) xid s.live h.live
+          (λ p running other. in_progress_quiet s.log r s.next_xid s.next_xid p (omega arith) (quiet_by_top s.log s.next_xid xid xid body p running top other quiet) running);
     }
 
 pub after_commit-IsPublisher : (s : PublisherState) (xid : ℕ) (time : ℤ) → IsPublisher s → is_live xid s.live ≡ true → FitsSigned w64 time → IsPublisher (after_commit xid time s)
@@ -226,35 +226,35 @@ pub saved-IsPublisher : (s : PublisherState) (xid : ℕ) → IsPublisher s → i
 saved-IsPublisher s xid h is shallow free =
     let xs : List ℕ = savepoints_of xid s.live in
     let parent : ℕ = innermost xid s.live in
-    let body : Body = Assign s.next parent in
+    let body : Body = Assign s.next_xid parent in
     let r : Record = record_after s.log body in
-    let o : Open = record { xid = xid; savepoints = xs } in
-    let running : IsInProgress s.log s.next o = open_at s xid h is in
-    let below : parent < s.next = innermost_below s xid h is in
+    let o : LiveTransaction = record { xid = xid; savepoints = xs } in
+    let running : IsInProgress s.log s.next_xid o = open_at s xid h is in
+    let below : parent < s.next_xid = innermost_below s xid h is in
     let longer : length (s.log ++ r ∷ []) ≡ length s.log + 1 = length-append s.log (r ∷ []) in
-    let same : length (with_savepoints xid (xs ++ s.next ∷ []) s.live) ≡ length s.live = length-with_savepoints xid (xs ++ s.next ∷ []) s.live in
-    let unheard : is_named s.log s.next ≡ false = h.fresh s.next (omega arith) in
-    let quiet : (p : Open) → IsInProgress s.log s.next p → AllByRecursion (IsQuiet body) (xids_of p) =
-    λ p progress. all_when _ _ (λ (x : ℕ) (lt : x < s.next). record { assigned = ne_eqb s.next x (λ e. absurd (omega (arith, lt, e))); ended = refl; undone = refl }) (xids_of p) progress.below in
-    let chained : chain (s.log ++ r ∷ []) s.next ≡ s.next ∷ onto (xid ∷ []) xs =
-    chain-append s.log r s.next ∙ rw (eq-eqb s.next s.next refl) (ap (λ ys. s.next ∷ ys) (chain-innermost s.log xid [] xs (chain-unassigned s.log xid running.top) running.nested)) in
-    let assigned : is_assigned (s.log ++ r ∷ []) s.next ≡ true =
-    is_assigned-one s.log r s.next ∙ rw (unnamed assigns s.next (unnamed-assigns s.next) s.log unheard, eq-eqb s.next s.next refl) refl in
-    let undropped : is_undone (s.log ++ r ∷ []) s.next ≡ false =
-    is_undone-one s.log r s.next ∙ rw (unnamed undoes s.next (unnamed-undoes s.next) s.log unheard) refl in
+    let same : length (with_savepoints xid (xs ++ s.next_xid ∷ []) s.live) ≡ length s.live = length-with_savepoints xid (xs ++ s.next_xid ∷ []) s.live in
+    let unheard : is_named s.log s.next_xid ≡ false = h.fresh s.next_xid (omega arith) in
+    let quiet : (p : LiveTransaction) → IsInProgress s.log s.next_xid p → AllByRecursion (IsQuiet body) (xids_of p) =
+    λ p progress. all_when _ _ (λ (x : ℕ) (lt : x < s.next_xid). record { assigned = ne_eqb s.next_xid x (λ e. absurd (omega (arith, lt, e))); ended = refl; undone = refl }) (xids_of p) progress.below in
+    let chained : chain (s.log ++ r ∷ []) s.next_xid ≡ s.next_xid ∷ onto (xid ∷ []) xs =
+    chain-append s.log r s.next_xid ∙ rw (eq-eqb s.next_xid s.next_xid refl) (ap (λ ys. s.next_xid ∷ ys) (chain-innermost s.log xid [] xs (chain-unassigned s.log xid running.top) running.nested)) in
+    let assigned : is_assigned (s.log ++ r ∷ []) s.next_xid ≡ true =
+    is_assigned-one s.log r s.next_xid ∙ rw (unnamed assigns s.next_xid (unnamed-assigns s.next_xid) s.log unheard, eq-eqb s.next_xid s.next_xid refl) refl in
+    let undropped : is_undone (s.log ++ r ∷ []) s.next_xid ≡ false =
+    is_undone-one s.log r s.next_xid ∙ rw (unnamed undoes s.next_xid (unnamed-undoes s.next_xid) s.log unheard) refl in
     record {
-      log = log_grown s.tables s.log body h.log (unheard, ne_eqb s.next parent (λ e. absurd (omega (arith, below, e))), IsOpen-innermost s.log s.next o running)
+      log = log_grown s.tables s.log body h.log (unheard, ne_eqb s.next_xid parent (λ e. absurd (omega (arith, below, e))), IsOpen-innermost s.log s.next_xid o running)
           (omega (arith, h.limit, h.xids, h.reserve, free), omega (arith, below, h.limit, h.xids, h.reserve)) (omega arith) (omega (arith, h.limit, free));
       limit = h.limit;
       reserve = omega (arith, longer, same, free);
       xids = omega (arith, longer, same, h.xids);
       few = omega (arith, same, h.few);
-      fresh = fresh_grown s.log r s.next (s.next + 1) (omega arith) h.fresh
-          (λ x above. rw (later_than s.next (s.next + 1) x (omega arith) above, later_than parent (s.next + 1) x (omega (arith, below)) above) refl);
-      rising = rising-with_savepoints xid (xs ++ s.next ∷ []) s.live h.rising;
-      live = all_changed (IsInProgress s.log s.next) (IsInProgress (s.log ++ r ∷ []) (s.next + 1)) xid (xs ++ s.next ∷ []) s.live h.rising h.live
-          (λ p progress other. in_progress_quiet s.log r s.next (s.next + 1) p (omega arith) (quiet p progress) progress)
-          (in_progress_push (s.log ++ r ∷ []) (s.next + 1) s.next o (in_progress_quiet s.log r s.next (s.next + 1) o (omega arith) (quiet o running) running)
+      fresh = fresh_grown s.log r s.next_xid (s.next_xid + 1) (omega arith) h.fresh
+          (λ x above. rw (later_than s.next_xid (s.next_xid + 1) x (omega arith) above, later_than parent (s.next_xid + 1) x (omega (arith, below)) above) refl);
+      rising = rising-with_savepoints xid (xs ++ s.next_xid ∷ []) s.live h.rising;
+      live = all_changed (IsInProgress s.log s.next_xid) (IsInProgress (s.log ++ r ∷ []) (s.next_xid + 1)) xid (xs ++ s.next_xid ∷ []) s.live h.rising h.live
+          (λ p progress other. in_progress_quiet s.log r s.next_xid (s.next_xid + 1) p (omega arith) (quiet p progress) progress)
+          (in_progress_push (s.log ++ r ∷ []) (s.next_xid + 1) s.next_xid o (in_progress_quiet s.log r s.next_xid (s.next_xid + 1) o (omega arith) (quiet o running) running)
           (omega arith) assigned undropped chained running.below shallow);
     }
 
@@ -266,18 +266,18 @@ rolled_back-IsPublisher s xid depth h is some within free =
     let lt : n < length xs = omega (arith, some, within) in
     let body : Body = AbortSub sub in
     let r : Record = record_after s.log body in
-    let o : Open = record { xid = xid; savepoints = xs } in
-    let running : IsInProgress s.log s.next o = open_at s xid h is in
-    let cut : IsInProgress s.log s.next (record { xid = xid; savepoints = take n xs }) = in_progress_cut s.log s.next n o running in
-    let below : sub < s.next = all_at (λ x. x < s.next) n xs lt running.below.1 in
+    let o : LiveTransaction = record { xid = xid; savepoints = xs } in
+    let running : IsInProgress s.log s.next_xid o = open_at s xid h is in
+    let cut : IsInProgress s.log s.next_xid (record { xid = xid; savepoints = take n xs }) = in_progress_cut s.log s.next_xid n o running in
+    let below : sub < s.next_xid = all_at (λ x. x < s.next_xid) n xs lt running.below.1 in
     let longer : length (s.log ++ r ∷ []) ≡ length s.log + 1 = length-append s.log (r ∷ []) in
     let same : length (with_savepoints xid (take n xs) s.live) ≡ length s.live = length-with_savepoints xid (take n xs) s.live in
     let last : last_of xid (take (n + 1) xs) ≡ sub = last_of-take xid n xs lt in
-    let alive : IsOpen s.log sub = subst (λ (x : ℕ). IsOpen s.log x) last (IsOpen-innermost s.log s.next (record { xid = xid; savepoints = take (n + 1) xs }) (in_progress_cut s.log s.next (n + 1) o running)) in
-    let top : top_of s.log sub ≡ xid = all_at (λ x. top_of s.log x ≡ xid) n xs lt (numbers-top s.log s.next o running).1 in
+    let alive : IsOpen s.log sub = subst (λ (x : ℕ). IsOpen s.log x) last (IsOpen-innermost s.log s.next_xid (record { xid = xid; savepoints = take (n + 1) xs }) (in_progress_cut s.log s.next_xid (n + 1) o running)) in
+    let top : top_of s.log sub ≡ xid = all_at (λ x. top_of s.log x ≡ xid) n xs lt (numbers-top s.log s.next_xid o running).1 in
     let quiet : (x : ℕ) → (sub == x) ≡ false → IsQuiet body x = λ x other. record { assigned = refl; ended = refl; undone = other } in
     let kept : AllByRecursion (IsQuiet body) (xid ∷ take n xs) =
-    all_when _ _ (λ (x : ℕ) (low : x < sub). quiet x (ne_eqb sub x (λ e. absurd (omega (arith, low, e))))) (xid ∷ take n xs) (above_numbers s.log s.next n o running lt) in
+    all_when _ _ (λ (x : ℕ) (low : x < sub). quiet x (ne_eqb sub x (λ e. absurd (omega (arith, low, e))))) (xid ∷ take n xs) (above_numbers s.log s.next_xid n o running lt) in
     record {
       log = log_grown s.tables s.log body h.log (all_at (λ x. is_assigned s.log x ≡ true) n xs lt running.subs, alive)
           (omega (arith, below, h.limit, h.xids, h.reserve)) (omega arith) (omega (arith, h.limit, free));
@@ -285,9 +285,9 @@ rolled_back-IsPublisher s xid depth h is some within free =
       reserve = omega (arith, longer, same, free);
       xids = omega (arith, longer, same, h.xids);
       few = omega (arith, same, h.few);
-      fresh = fresh_grown s.log r s.next s.next (omega arith) h.fresh (λ x above. later_than sub s.next x below above);
+      fresh = fresh_grown s.log r s.next_xid s.next_xid (omega arith) h.fresh (λ x above. later_than sub s.next_xid x below above);
       rising = rising-with_savepoints xid (take n xs) s.live h.rising;
-      live = all_changed (IsInProgress s.log s.next) (IsInProgress (s.log ++ r ∷ []) s.next) xid (take n xs) s.live h.rising h.live
-          (λ p progress other. in_progress_quiet s.log r s.next s.next p (omega arith) (quiet_by_top s.log s.next sub xid body p progress top other quiet) progress)
-          (in_progress_quiet s.log r s.next s.next (record { xid = xid; savepoints = take n xs }) (omega arith) kept cut);
+      live = all_changed (IsInProgress s.log s.next_xid) (IsInProgress (s.log ++ r ∷ []) s.next_xid) xid (take n xs) s.live h.rising h.live
+          (λ p progress other. in_progress_quiet s.log r s.next_xid s.next_xid p (omega arith) (quiet_by_top s.log s.next_xid sub xid body p progress top other quiet) progress)
+          (in_progress_quiet s.log r s.next_xid s.next_xid (record { xid = xid; savepoints = take n xs }) (omega arith) kept cut);
     }

@@ -6,7 +6,7 @@ use Rattle.txlog.specs.declared.limits.TheConstants.{MAX_LIVE, MAX_DEPTH, MAX_RE
 use Rattle.txlog.specs.declared.record.TheConstants.{FIRST_POSITION, FIRST_XID}
 use Rattle.txlog.specs.declared.record.Record.{Record}
 use Rattle.txlog.specs.Log.{IsWellFormedLog, IsLogInRange, end_of, chain, is_named, is_assigned, is_undone, has_ended}
-use Rattle.txlog.specs.Publishing.{Open, PublisherState}
+use Rattle.txlog.specs.Publishing.{LiveTransaction, PublisherState}
 
 -- the log is one, in range, and so short that its positions are far from their limit
 pub record IsLog (tables : List Table) (log : List Record) : Type 0 where
@@ -19,12 +19,12 @@ abbrev pub IsNested : List Record → List ℕ → List ℕ → Type 0
 IsNested log below [] = Unit {0}
 IsNested log below (x ∷ above) = (chain log x ≡ x ∷ below) × AllByRecursion (λ y. y < x) below × IsNested log (x ∷ below) above
 
-abbrev pub xids_of : Open → List ℕ
+abbrev pub xids_of : LiveTransaction → List ℕ
 xids_of o = o.xid ∷ o.savepoints
 
 -- a transaction that has not ended, and its savepoints, none of which is rolled back
-pub record IsInProgress (log : List Record) (next : ℕ) (o : Open) : Type 0 where
-  pub below : AllByRecursion (λ x. x < next) (xids_of o)
+pub record IsInProgress (log : List Record) (next_xid : ℕ) (o : LiveTransaction) : Type 0 where
+  pub below : AllByRecursion (λ x. x < next_xid) (xids_of o)
   pub top : is_assigned log o.xid ≡ false
   pub running : has_ended log o.xid ≡ false
   pub subs : AllByRecursion (λ x. is_assigned log x ≡ true) o.savepoints
@@ -33,7 +33,7 @@ pub record IsInProgress (log : List Record) (next : ℕ) (o : Open) : Type 0 whe
   pub deep : length o.savepoints ≤ MAX_DEPTH
 
 -- the xids rise
-abbrev pub IsRising : List Open → Type 0
+abbrev pub IsRising : List LiveTransaction → Type 0
 IsRising [] = Unit {0}
 IsRising (o ∷ live) = AllByRecursion (λ p. o.xid < p.xid) live × IsRising live
 
@@ -42,8 +42,8 @@ pub record IsPublisher (s : PublisherState) : Type 0 where
   pub log : IsLog s.tables s.log
   pub limit : s.capacity ≤ MAX_RECORDS
   pub reserve : length s.log + length s.live ≤ s.capacity
-  pub xids : s.next ≤ FIRST_XID + (length s.log + length s.live)
+  pub xids : s.next_xid ≤ FIRST_XID + (length s.log + length s.live)
   pub few : length s.live ≤ MAX_LIVE
-  pub fresh : (x : ℕ) → s.next ≤ x → is_named s.log x ≡ false
+  pub fresh : (x : ℕ) → s.next_xid ≤ x → is_named s.log x ≡ false
   pub rising : IsRising s.live
-  pub live : AllByRecursion (IsInProgress s.log s.next) s.live
+  pub live : AllByRecursion (IsInProgress s.log s.next_xid) s.live

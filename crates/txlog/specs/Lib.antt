@@ -1,5 +1,6 @@
 pub mod Invariants
 pub mod Log
+pub mod Places
 pub mod Publishing
 pub use Rattle.tables.specs.Spelling
 pub use Rattle.tables.specs.Tables

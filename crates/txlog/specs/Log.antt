@@ -1,7 +1,8 @@
--- The log in words: which lists of records are one, what each transaction of it holds, and which of them committed.
--- Each definition speaks of the whole log up to some place. Where a definition judges a record by the records before it,
--- those are an argument, so that a longer log is judged record by record as a shorter one was.
-use Rattle.std.specs.Prelude.{take, ◌≡◌, ℕ, ◌+◌, ◌*◌, ◌/◌, ◌^◌, ◌<◌, ◌==◌, ℤ, Bool, true, false, ◌&&◌, ◌||◌, not, List, [], ◌∷◌, ◌++◌, reverse, filter, nat_le, FitsSigned, if◌then◌else◌}
+-- The log record by record: which lists of records are a log, what each transaction of it keeps, and which of them
+-- committed. Places.antt says the last two of the whole log, and is read first.
+-- Where a definition judges a record by the records before it, those are an argument, so that a longer log is judged
+-- record by record as a shorter one was.
+use Rattle.std.specs.Prelude.{◌≡◌, ℕ, ◌+◌, ◌*◌, ◌/◌, ◌^◌, ◌<◌, ◌==◌, ℤ, Bool, true, false, ◌&&◌, ◌||◌, not, List, [], ◌∷◌, ◌++◌, reverse, filter, nat_le, FitsSigned, if◌then◌else◌}
 use Rattle.std.specs.List.{list_any, flat_map, AllByRecursion}
 use Rattle.std.specs.Int.{w64}
 use Rattle.tables.specs.declared.table.Table.{Table}
@@ -61,23 +62,17 @@ is_named log x = list_any (λ r. names x r.body) log
 -- whether the record makes the xid a subtransaction
 abbrev pub assigns : ℕ → Body → Bool
 assigns x (Assign sub parent) = sub == x
-assigns x (Changed xid change) = false
-assigns x (AbortSub xid) = false
-assigns x (Abort xid) = false
-assigns x (Commit xid time) = false
+assigns x body = false
 
 abbrev pub is_assigned : List Record → ℕ → Bool
 is_assigned log x = list_any (λ r. assigns x r.body) log
 
--- The chain of an xid: the xid, then the parent that its Assign names, and so on to an xid without an Assign. It
--- is found from the newest record back: in a well-formed log the Assign of a parent stands before that of its child, so
--- going back from the Assign of an xid meets the Assigns of all that are above it.
+-- The chain of an xid leads from it up to its transaction (`IsChain` in Places.antt). It is found from the newest record
+-- back: in a well-formed log the Assign of a parent stands before that of its child, so going back from the Assign of an
+-- xid meets the Assigns of all that are above it.
 abbrev pub chain_step : (ℕ → List ℕ) → Body → ℕ → List ℕ
 chain_step above (Assign sub parent) x = if sub == x then x ∷ above parent else above x
-chain_step above (Changed xid change) x = above x
-chain_step above (AbortSub xid) x = above x
-chain_step above (Abort xid) x = above x
-chain_step above (Commit xid time) x = above x
+chain_step above body x = above x
 
 abbrev pub chain_back : List Record → ℕ → List ℕ
 chain_back [] x = x ∷ []
@@ -95,11 +90,8 @@ abbrev pub top_of : List Record → ℕ → ℕ
 top_of log x = last_of x (chain log x)
 
 abbrev pub undoes : ℕ → Body → Bool
-undoes x (Assign sub parent) = false
-undoes x (Changed xid change) = false
 undoes x (AbortSub xid) = xid == x
-undoes x (Abort xid) = false
-undoes x (Commit xid time) = false
+undoes x body = false
 
 -- an AbortSub names the xid
 abbrev pub is_undone : List Record → ℕ → Bool
@@ -110,11 +102,9 @@ abbrev pub is_dropped : List Record → ℕ → Bool
 is_dropped log x = list_any (is_undone log) (chain log x)
 
 abbrev pub ends : ℕ → Body → Bool
-ends x (Assign sub parent) = false
-ends x (Changed xid change) = false
-ends x (AbortSub xid) = false
 ends x (Abort xid) = xid == x
 ends x (Commit xid time) = xid == x
+ends x body = false
 
 -- a Commit or an Abort names the xid
 abbrev pub has_ended : List Record → ℕ → Bool
@@ -129,11 +119,8 @@ pub record Entry : Type 0 where
   pub change : Change
 
 abbrev pub entry_at : ℕ → Body → List Entry
-entry_at start (Assign sub parent) = []
 entry_at start (Changed xid change) = record { position = start; xid = xid; change = change } ∷ []
-entry_at start (AbortSub xid) = []
-entry_at start (Abort xid) = []
-entry_at start (Commit xid time) = []
+entry_at start body = []
 
 -- the changes of a log, in order
 abbrev pub entries : List Record → List Entry
@@ -148,14 +135,6 @@ is_kept log top e = (top_of log e.xid == top) && not (is_dropped log e.xid)
 abbrev pub kept : List Record → ℕ → List Entry
 kept log top = filter (is_kept log top) (entries log)
 
--- whether a change is not dropped and its transaction has not ended
-abbrev pub is_live : List Record → Entry → Bool
-is_live log e = not (has_ended log (top_of log e.xid)) && not (is_dropped log e.xid)
-
--- the changes of the transactions in progress, in order
-abbrev pub live : List Record → List Entry
-live log = filter (is_live log) (entries log)
-
 -- COMMITTED TRANSACTIONS
 
 -- a transaction: where its Commit record starts and ends, its time and xid, and the changes that it keeps
@@ -168,12 +147,9 @@ pub record Transaction : Type 0 where
 
 -- what a record commits, if it is a Commit that starts at the start position s or later
 abbrev pub committed_at : ℕ → List Record → ℕ → ℕ → Body → List Transaction
-committed_at s before start end (Assign sub parent) = []
-committed_at s before start end (Changed xid change) = []
-committed_at s before start end (AbortSub xid) = []
-committed_at s before start end (Abort xid) = []
 committed_at s before start end (Commit xid time) =
     if nat_le s start then record { start = start; end = end; time = time; xid = xid; changes = kept before xid } ∷ [] else []
+committed_at s before start end body = []
 
 abbrev pub committed_by : ℕ → List Record → Record → List Transaction
 committed_by s before r = committed_at s before r.start r.end r.body
@@ -187,52 +163,6 @@ committed_from s before (r ∷ rs) = committed_by s before r ++ committed_from s
 abbrev pub committed : List Record → ℕ → List Transaction
 committed log s = committed_from s [] log
 
--- THE SAME BY PLACES
-
--- Whether an AbortSub before place n names a member of the xid's chain, which is that of the whole log.
-abbrev pub is_dropped_at : List Record → ℕ → ℕ → Bool
-is_dropped_at log n x = list_any (is_undone (take n log)) (chain log x)
-
--- The changes before place n whose top in the whole log is this transaction and which are not dropped before n.
-abbrev pub kept_at : List Record → ℕ → ℕ → List Entry
-kept_at log top n = filter (λ e. (top_of log e.xid == top) && not (is_dropped_at log n e.xid)) (entries (take n log))
-
-abbrev pub placed_at : ℕ → List Record → ℕ → ℕ → ℕ → Body → List Transaction
-placed_at s log n start end (Assign sub parent) = []
-placed_at s log n start end (Changed xid change) = []
-placed_at s log n start end (AbortSub xid) = []
-placed_at s log n start end (Abort xid) = []
-placed_at s log n start end (Commit xid time) =
-    if nat_le s start then record { start = start; end = end; time = time; xid = xid; changes = kept_at log xid n } ∷ [] else []
-
--- the transactions that the records from place n on commit
-abbrev pub placed_from : ℕ → List Record → ℕ → List Record → List Transaction
-placed_from s log n [] = []
-placed_from s log n (r ∷ rs) = placed_at s log n r.start r.end r.body ++ placed_from s log (n + 1) rs
-
--- For each Commit of the log that starts at s or later: itself, and what its transaction keeps at its place. In a
--- well-formed log this is `committed log s`.
-abbrev pub committed_by_places : List Record → ℕ → List Transaction
-committed_by_places log s = placed_from s log 0 log
-
--- whether a record makes this xid a subtransaction of that one
-abbrev pub is_assign : ℕ → ℕ → Body → Bool
-is_assign x y (Assign sub parent) = (sub == x) && (parent == y)
-is_assign x y (Changed xid change) = false
-is_assign x y (AbortSub xid) = false
-is_assign x y (Abort xid) = false
-is_assign x y (Commit xid time) = false
-
-abbrev pub is_parent : List Record → ℕ → ℕ → Bool
-is_parent log x y = list_any (λ r. is_assign x y r.body) log
-
--- The xid alone where no record assigns it, else the xid and the chain of the parent that its Assign names. In a
--- well-formed log `chain log x` is one for each xid.
-abbrev pub IsChain : List Record → ℕ → List ℕ → Type 0
-IsChain log x [] = ⊥
-IsChain log x (y ∷ []) = (y ≡ x) × (is_assigned log x ≡ false)
-IsChain log x (y ∷ z ∷ above) = (y ≡ x) × (is_parent log x z ≡ true) × IsChain log z (z ∷ above)
-
 -- WELL-FORMED LOGS
 
 -- an xid may still be named: its transaction has not ended, and no member of its chain has an AbortSub
@@ -240,8 +170,9 @@ pub record IsOpen (before : List Record) (x : ℕ) : Type 0 where
   pub running : has_ended before (top_of before x) ≡ false
   pub undropped : is_dropped before x ≡ false
 
--- What may follow these records. The subtransaction of an Assign is named in no earlier record and is not its own parent.
--- Commit and Abort name an xid without an Assign, AbortSub one with an Assign. An xid named earlier is still open.
+-- What may come next after these records. A savepoint begins with an Assign: its xid stands in no record yet, and it goes
+-- under another one, which is open. Changes are made under an open xid. Only savepoints are rolled back by an AbortSub,
+-- only whole transactions end, by Abort or Commit, and all of them were open until then.
 abbrev pub IsNext : List Record → Body → Type 0
 IsNext before (Assign sub parent) = (is_named before sub ≡ false) × ((sub == parent) ≡ false) × IsOpen before parent
 IsNext before (Changed xid change) = IsOpen before xid
@@ -264,7 +195,7 @@ pub record IsWellFormedLog (log : List Record) : Type 0 where
 
 -- RANGES
 
--- xids are of 32 bits, times are signed xids of 64 bits, changes fit the tables
+-- xids are of 32 bits, times are signed and of 64 bits, changes fit the tables
 abbrev pub FitsBody : List Table → Body → Type 0
 FitsBody tables (Assign sub parent) = (sub < 2 ^ 32) × (parent < 2 ^ 32)
 FitsBody tables (Changed xid change) = (xid < 2 ^ 32) × FitsChange tables change

@@ -7,7 +7,8 @@ use Rattle.tables.specs.declared.row.TheConstants.{MAX_ROW_LENGTH}
 use Rattle.tables.specs.declared.value.Value.{Value}
 use Rattle.tables.specs.declared.table.Table.{Table}
 use Rattle.tables.specs.declared.change.Change.{Change}
-use Rattle.tables.specs.Spelling.{row_length, IsShort}
+use Rattle.tables.specs.declared.change.Change.TheVariants as changes
+use Rattle.tables.specs.Spelling.{row_length}
 use Rattle.tables.specs.Tables.{table_of, fits_table}
 use Rattle.txlog.specs.declared.limits.TheConstants.{MAX_LIVE, MAX_DEPTH}
 use Rattle.txlog.specs.declared.record.TheConstants.{FIRST_POSITION, FIRST_XID}
@@ -22,20 +23,21 @@ use Rattle.txlog.specs.Log.{end_of, last_of, size_of}
 -- THE STATE
 
 -- a live transaction: its xid, and the xids of its open savepoints, the outermost first
-pub record Open : Type 0 where
+pub record LiveTransaction : Type 0 where
   pub xid : ℕ
   pub savepoints : List ℕ
 
--- tables, the greatest number of records, the log, the next number, and the live transactions in the order of their numbers
+-- the tables, the greatest number of records, the log, the xid that comes next, and the live transactions in the order of
+-- their xids
 pub record PublisherState : Type 0 where
   pub tables : List Table
   pub capacity : ℕ
   pub log : List Record
-  pub next : ℕ
-  pub live : List Open
+  pub next_xid : ℕ
+  pub live : List LiveTransaction
 
 abbrev pub new_publisher : List Table → ℕ → PublisherState
-new_publisher tables records = record { tables = tables; capacity = records; log = []; next = FIRST_XID; live = [] }
+new_publisher tables records = record { tables = tables; capacity = records; log = []; next_xid = FIRST_XID; live = [] }
 
 abbrev pub log_end : PublisherState → ℕ
 log_end s = end_of FIRST_POSITION s.log
@@ -44,24 +46,24 @@ log_end s = end_of FIRST_POSITION s.log
 abbrev pub room : PublisherState → ℕ
 room s = s.capacity - (length s.log + length s.live)
 
-abbrev pub is_live : ℕ → List Open → Bool
+abbrev pub is_live : ℕ → List LiveTransaction → Bool
 is_live xid live = list_any (λ o. o.xid == xid) live
 
-abbrev pub savepoints_of : ℕ → List Open → List ℕ
+abbrev pub savepoints_of : ℕ → List LiveTransaction → List ℕ
 savepoints_of xid [] = []
 savepoints_of xid (o ∷ live) = if o.xid == xid then o.savepoints else savepoints_of xid live
 
 -- the innermost open subtransaction, or the transaction
-abbrev pub innermost : ℕ → List Open → ℕ
+abbrev pub innermost : ℕ → List LiveTransaction → ℕ
 innermost xid live = last_of xid (savepoints_of xid live)
 
 -- the live transactions, one of them with other savepoints
-abbrev pub with_savepoints : ℕ → List ℕ → List Open → List Open
+abbrev pub with_savepoints : ℕ → List ℕ → List LiveTransaction → List LiveTransaction
 with_savepoints xid savepoints [] = []
 with_savepoints xid savepoints (o ∷ live) =
     if o.xid == xid then record { xid = o.xid; savepoints = savepoints } ∷ live else o ∷ with_savepoints xid savepoints live
 
-abbrev pub without : ℕ → List Open → List Open
+abbrev pub without : ℕ → List LiveTransaction → List LiveTransaction
 without xid live = filter (λ o. not (o.xid == xid)) live
 
 -- CALLS
@@ -75,7 +77,7 @@ with_record body s = record s { log = s.log ++ record_after s.log body ∷ [] }
 
 -- a transaction begins: it takes the next xid, and no record is written
 abbrev pub begun : PublisherState → PublisherState
-begun s = record s { next = s.next + 1; live = s.live ++ record { xid = s.next; savepoints = [] } ∷ [] }
+begun s = record s { next_xid = s.next_xid + 1; live = s.live ++ record { xid = s.next_xid; savepoints = [] } ∷ [] }
 
 -- a change carries the xid of the innermost open subtransaction
 abbrev pub changed : ℕ → Change → PublisherState → PublisherState
@@ -83,9 +85,9 @@ changed xid change s = with_record (Changed (innermost xid s.live) change) s
 
 -- a savepoint takes the next xid, under the innermost open one
 abbrev pub saved : ℕ → PublisherState → PublisherState
-saved xid s = record (with_record (Assign s.next (innermost xid s.live)) s) {
-  next = s.next + 1;
-  live = with_savepoints xid (savepoints_of xid s.live ++ s.next ∷ []) s.live;
+saved xid s = record (with_record (Assign s.next_xid (innermost xid s.live)) s) {
+  next_xid = s.next_xid + 1;
+  live = with_savepoints xid (savepoints_of xid s.live ++ s.next_xid ∷ []) s.live;
 }
 
 -- the savepoints of this depth and above are closed, and no record is written
@@ -127,6 +129,10 @@ begin_refusal s = if nat_le MAX_LIVE (length s.live) then Some faults.TooManyLiv
 -- every call on a transaction asks first whether its xid is live
 abbrev pub live_refusal : ℕ → PublisherState → Option SessionFault → Option SessionFault
 live_refusal xid s other = if is_live xid s.live then other else Some faults.NoTransaction
+
+-- whether a record can hold the change: each row is of at most 8,000 bytes
+abbrev pub fits_record : Change → Bool
+fits_record (changes.Insert oid row) = nat_le (row_length row) MAX_ROW_LENGTH
 
 abbrev pub row_refusal : Option Table → List Value → Option SessionFault → Option SessionFault
 row_refusal None row other = Some faults.UnknownTable
@@ -195,11 +201,3 @@ code_of faults.NoTransaction = codes "S14"
 -- the records of a list of shares
 abbrev pub shared : {A : Type 0} → List (Arc Record A) → List Record
 shared records = map (λ r. r.value) records
-
--- the change of a record that is written has a body of at most its limit
-abbrev pub IsShortBody : Body → Type 0
-IsShortBody (Assign sub parent) = Unit {0}
-IsShortBody (Changed xid change) = IsShort change
-IsShortBody (AbortSub xid) = Unit {0}
-IsShortBody (Abort xid) = Unit {0}
-IsShortBody (Commit xid time) = Unit {0}

@@ -1,3 +1,5 @@
+//! Why a session's call is refused.
+
 ghost use Rattle.std.specs.Prelude.{◌≡◌};
 ghost use Rattle.txlog.specs.declared.fault.SessionFault.TheVariants.{Memory};
 ghost use Rattle.txlog.specs.Publishing.{code_of};

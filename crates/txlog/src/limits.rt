@@ -1,3 +1,5 @@
+//! The limits of a log and of its transactions.
+
 /// The greatest number of records that a log may be made for.
 pub const MAX_RECORDS: usize = 1_048_576;
 

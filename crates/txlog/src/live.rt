@@ -1,3 +1,5 @@
+//! The transactions that are live.
+
 ghost use Rattle.std.specs.Prelude.{◌≡◌, ◌==◌, ◌∷◌, ◌++◌, [], ◌<◌, IfSome, OnErr, OnOk, length, position, slice_index, take};
 ghost use Rattle.txlog.specs.Log.{last_of};
 ghost use Rattle.txlog.specs.Publishing.{is_live, savepoints_of, innermost, with_savepoints, without};
@@ -14,9 +16,9 @@ pub(crate) struct Live {
 
 impl Model for Live {
     ghost use Rattle.std.specs.Prelude.{List};
-    ghost use Rattle.txlog.specs.Publishing.{Open};
+    ghost use Rattle.txlog.specs.Publishing.{LiveTransaction};
 
-    ghost Value = { List Open };
+    ghost Value = { List LiveTransaction };
 
     ghost view = { λ l. l.running.items };
 }
@@ -39,9 +41,7 @@ impl Live {
     pub(crate) fn contains(&self, xid: u32) -> bool
         ensures { result ≡ is_live xid self.now }
     {
-        self.running
-            .iter()
-            .any(|running| running.xid() == xid)
+        self.running.iter().any(|running| running.xid() == xid)
     }
 
     pub(crate) fn savepoints(&self, xid: u32) -> &[u32]

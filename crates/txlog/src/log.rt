@@ -1,6 +1,8 @@
+//! The records as they are kept: shared, in order, with the position where they end.
+
 ghost use Rattle.std.specs.Prelude.{◌≡◌, ◌+◌, [], ◌∷◌, ◌++◌, ◌<◌, ◌^◌, IfOk, OnErr, OnOk, drop, length, take};
 ghost use Rattle.txlog.specs.Log.{end_of, size_of};
-ghost use Rattle.txlog.specs.Publishing.{IsShortBody, record_after, shared};
+ghost use Rattle.txlog.specs.Publishing.{record_after, shared};
 ghost use Rattle.txlog.specs.declared.record.TheConstants.{FIRST_POSITION};
 
 use crate::record::{Body, FIRST_POSITION, Record};
@@ -54,7 +56,6 @@ impl Log {
     /// Adds a record at the end, or, where memory is refused, nothing.
     #[tactic(auto, using(crate::proofs::Growing::shared_push, crate::proofs::Growing::end_of_push))]
     pub(crate) fn push(&mut self, body: Body) -> Result<(), AllocError>
-        requires short { IsShortBody body }
         requires fits { end_of FIRST_POSITION self.old + size_of body < 2 ^ 64 }
         ensures ok { OnOk result (self.new ≡ self.old ++ record_after self.old body ∷ []) }
         ensures err { OnErr result (self.new ≡ self.old) }

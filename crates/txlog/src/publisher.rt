@@ -1,3 +1,5 @@
+//! The publisher: what sessions call to write the log.
+
 ghost use Rattle.std.specs.Prelude.{◌≡◌, ◌+◌, ◌-◌, ◌≤◌, ◌<◌, IfErr, IfOk, Ok, OnErr, OnOk, Some, None, drop, length, slice_index, take, true};
 ghost use Rattle.tables.specs.Tables.{FitsChange};
 ghost use Rattle.txlog.specs.Invariants.{IsPublisher};
@@ -7,6 +9,7 @@ use crate::fault::SessionFault;
 use crate::limits::{MAX_DEPTH, MAX_LIVE, MAX_RECORDS};
 use crate::live::Live;
 use crate::log::Log;
+use crate::logged::LoggedChange;
 use crate::receipt::Receipt;
 use crate::record::{Body, FIRST_XID, Record};
 use crate::tx::Tx;
@@ -21,7 +24,7 @@ pub struct Publisher {
     catalog: Catalog,
     capacity: usize,
     log: Log,
-    next: u32,
+    next_xid: u32,
     live: Live,
 }
 
@@ -31,9 +34,9 @@ impl Model for Publisher {
 
     ghost Value = { PublisherState };
 
-    ghost view = { λ p. record { tables = p.catalog; capacity = p.capacity; log = p.log; next = p.next; live = p.live } };
+    ghost view = { λ p. record { tables = p.catalog; capacity = p.capacity; log = p.log; next_xid = p.next_xid; live = p.live } };
 
-    ghost invariant = { λ p. IsPublisher (record { tables = p.catalog; capacity = p.capacity; log = p.log; next = p.next; live = p.live }) };
+    ghost invariant = { λ p. IsPublisher (record { tables = p.catalog; capacity = p.capacity; log = p.log; next_xid = p.next_xid; live = p.live }) };
 }
 
 impl Publisher {
@@ -48,7 +51,7 @@ impl Publisher {
             catalog,
             capacity: records,
             log: Log::new(alloc),
-            next: FIRST_XID,
+            next_xid: FIRST_XID,
             live: Live::new(alloc),
         })
     }
@@ -84,7 +87,7 @@ impl Publisher {
 
     /// A new transaction. S10 where 256 are live, then S7 without room, then S11.
     pub fn begin(&mut self) -> Result<Tx, SessionFault>
-        ensures ok { IfOk result (λ tx. (tx ≡ self.old.next) × (self.new ≡ begun self.old)) }
+        ensures ok { IfOk result (λ tx. (tx ≡ self.old.next_xid) × (self.new ≡ begun self.old)) }
         ensures err { OnErr result (self.new ≡ self.old) }
         ensures refused { RefusedOrMemory (begin_refusal self.old) result }
         ensures publisher { IsPublisher self.new }
@@ -95,9 +98,9 @@ impl Publisher {
         if self.room() == 0 {
             return Err(SessionFault::LogFull);
         }
-        let xid = self.next;
+        let xid = self.next_xid;
         self.live.push(xid)?;
-        self.next = xid + 1;
+        self.next_xid = xid + 1;
         Ok(Tx::new(xid))
     }
 
@@ -112,8 +115,8 @@ impl Publisher {
         let xid = tx.xid();
         self.test_insert(xid, oid, &row)?;
         let innermost = self.live.innermost(xid);
-        self.log
-            .push(Body::Change(innermost, Change::Insert(oid, row)))?;
+        let change = LoggedChange::of(Change::Insert(oid, row));
+        self.log.push(Body::Change(innermost, change))?;
         Ok(())
     }
 
@@ -200,7 +203,7 @@ impl Publisher {
         let xid = tx.xid();
         let depth = self.test_savepoint(xid)?;
         let parent = self.live.innermost(xid);
-        let savepoint = self.next;
+        let savepoint = self.next_xid;
         self.live.push_savepoint(xid, savepoint)?;
         match self.log.push(Body::Assign(savepoint, parent)) {
             Ok(()) => {}
@@ -209,7 +212,7 @@ impl Publisher {
                 return Err(SessionFault::Memory);
             }
         }
-        self.next = savepoint + 1;
+        self.next_xid = savepoint + 1;
         Ok(depth as u32 + 1)
     }
 

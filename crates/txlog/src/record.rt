@@ -1,9 +1,10 @@
-ghost use Rattle.std.specs.Prelude.{◌≡◌, ◌+◌, ◌≤◌, ◌^◌};
-ghost use Rattle.txlog.specs.Log.{payload_length, size_of};
-ghost use Rattle.tables.specs.declared.body.TheConstants.{MAX_BODY_LENGTH};
-ghost use Rattle.txlog.specs.Publishing.{IsShortBody};
+//! The records of the log.
 
-use tables::{Change, body_len};
+ghost use Rattle.std.specs.Prelude.{◌≡◌, ◌+◌, ◌≤◌, ◌^◌};
+ghost use Rattle.tables.specs.declared.body.TheConstants.{MAX_BODY_LENGTH};
+ghost use Rattle.txlog.specs.Log.{payload_length, size_of};
+
+use crate::logged::LoggedChange;
 
 /// The position at which the first record starts, 0/1000000.
 pub const FIRST_POSITION: u64 = 0x100_0000;
@@ -11,7 +12,8 @@ pub const FIRST_POSITION: u64 = 0x100_0000;
 /// The xid of the first transaction.
 pub const FIRST_XID: u32 = 700;
 
-/// A record of the log. It starts where the one before it ends; both are byte positions of the log.
+/// A record of the log. It starts where the one before it ends; both are byte positions of the log. Its size is 16, and its
+/// payload rounded up to a multiple of 8. In a payload an xid has 4 bytes and a time 8.
 #[derive(Debug, Drop, PartialEq)]
 pub struct Record {
     pub start: u64,
@@ -19,12 +21,13 @@ pub struct Record {
     pub body: Body,
 }
 
+/// What happened, and under which xid.
 #[derive(Debug, Drop, PartialEq)]
 pub enum Body {
     /// A subtransaction and its parent.
     Assign(u32, u32),
     /// The innermost open subtransaction, or the transaction, and what it changed.
-    Change(u32, Change),
+    Change(u32, LoggedChange),
     /// A subtransaction that is rolled back, with all subtransactions under it.
     AbortSub(u32),
     /// A transaction that is rolled back.
@@ -34,9 +37,8 @@ pub enum Body {
 }
 
 impl Body {
-    /// The size of a record with this body in bytes: 16, and its payload rounded up to a multiple of 8.
+    /// The size of a record with this body in bytes.
     pub fn size(&self) -> u64
-        requires { IsShortBody self.now }
         ensures value { result ≡ size_of self.now }
         ensures bounded { result ≤ 2 ^ 14 }
     {
@@ -44,13 +46,12 @@ impl Body {
     }
 
     fn payload_len(&self) -> u64
-        requires { IsShortBody self.now }
         ensures value { result ≡ payload_length self.now }
         ensures bounded { result ≤ 4 + MAX_BODY_LENGTH }
     {
         match self {
             Body::Assign(_, _) => 8,
-            Body::Change(_, change) => 4 + body_len(change) as u64,
+            Body::Change(_, change) => 4 + change.body_len() as u64,
             Body::AbortSub(_) | Body::Abort(_) => 4,
             Body::Commit(_, _) => 12,
         }

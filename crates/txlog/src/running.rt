@@ -1,3 +1,5 @@
+//! One live transaction.
+
 ghost use Rattle.std.specs.Prelude.{◌≡◌, ◌∷◌, ◌++◌, [], OnErr, OnOk, length, take};
 
 use std::alloc::{AllocError, Global};
@@ -11,9 +13,9 @@ pub(crate) struct Running {
 }
 
 impl Model for Running {
-    ghost use Rattle.txlog.specs.Publishing.{Open};
+    ghost use Rattle.txlog.specs.Publishing.{LiveTransaction};
 
-    ghost Value = { Open };
+    ghost Value = { LiveTransaction };
 
     ghost view = { λ r. record { xid = r.xid; savepoints = r.savepoints.items } };
 }

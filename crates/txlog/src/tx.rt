@@ -1,3 +1,5 @@
+//! A session's hold on its transaction.
+
 ghost use Rattle.std.specs.Prelude.{◌≡◌};
 
 use std::marker::Model;

@@ -6,13 +6,13 @@ use Rattle.txlog.proofs.publisher.Publisher.commit.Goals as goal
 
 pub invariant_of-self-2 : goal.invariant_of-self-2
 invariant_of-self-2 c =
-    let s : PublisherState = record { tables = c.self.inside.catalog; capacity = c.self.inside.capacity; log = c.self.inside.log; next = c.self.inside.next; live = c.self.inside.live } in
+    let s : PublisherState = record { tables = c.self.inside.catalog; capacity = c.self.inside.capacity; log = c.self.inside.log; next_xid = c.self.inside.next_xid; live = c.self.inside.live } in
     committed_kept s c.xid-xid.result c.args.time _ c.push.new.self c.remove.new.self c.self.invariant c.if-not-contains.ensures (record { sfits = c.ranges.time.sfits })
     (to_z-of_z w64 c.args.time (record { sfits = c.ranges.time.sfits })) c.in-Ok.ensures.ok c.remove.ensures
 
 pub returns-clause-ok : goal.returns-clause-ok
 returns-clause-ok c =
-    let s : PublisherState = record { tables = c.self.inside.catalog; capacity = c.self.inside.capacity; log = c.self.inside.log; next = c.self.inside.next; live = c.self.inside.live } in
+    let s : PublisherState = record { tables = c.self.inside.catalog; capacity = c.self.inside.capacity; log = c.self.inside.log; next_xid = c.self.inside.next_xid; live = c.self.inside.live } in
     committed_is s c.args.self.now c.args.tx c.xid-xid.result c.len-place.result c.end-start.result c.end.result c.args.time _ c.push.new.self c.remove.new.self
     c.self.view_is c.xid-xid.ensures (to_z-of_z w64 c.args.time (record { sfits = c.ranges.time.sfits })) c.len-place.ensures c.end-start.ensures c.in-Ok.ensures.ok c.end.ensures c.remove.ensures
 

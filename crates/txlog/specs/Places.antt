@@ -1,0 +1,53 @@
+-- What a log says, told of the whole of it. Read this first. A place is an index into the log, from 0.
+-- Log.antt says the same record by record, each judged by those before it, as the code reads them. Of a well-formed log
+-- both say the same: that is the law `a_log_has_one_reading` of src/reading.rt.
+use Rattle.std.specs.Prelude.{◌≡◌, ℕ, ◌+◌, ◌==◌, Bool, true, false, ◌&&◌, not, List, [], ◌∷◌, ◌++◌, filter, take, nat_le, if◌then◌else◌}
+use Rattle.std.specs.List.{list_any}
+use Rattle.txlog.specs.declared.record.Record.{Record}
+use Rattle.txlog.specs.declared.record.Body.{Body}
+use Rattle.txlog.specs.declared.record.Body.TheVariants.{Assign, Commit}
+use Rattle.txlog.specs.Log.{Entry, Transaction, entries, is_assigned, is_undone, chain, top_of}
+
+-- CHAINS
+
+-- whether a record makes x a subtransaction of y
+abbrev pub puts_under : ℕ → ℕ → Body → Bool
+puts_under x y (Assign sub parent) = (sub == x) && (parent == y)
+puts_under x y body = false
+
+abbrev pub is_parent : List Record → ℕ → ℕ → Bool
+is_parent log x y = list_any (λ r. puts_under x y r.body) log
+
+-- The way up from x: x, its parent, the parent of that one, up to an xid that has none. By the law there is one way up from
+-- each xid, `chain log x`.
+abbrev pub IsChain : List Record → ℕ → List ℕ → Type 0
+IsChain log x [] = ⊥
+IsChain log x (y ∷ []) = (y ≡ x) × (is_assigned log x ≡ false)
+IsChain log x (y ∷ z ∷ above) = (y ≡ x) × (is_parent log x z ≡ true) × IsChain log z (z ∷ above)
+
+-- CHANGES
+
+-- whether x, or what it is under, was rolled back to a savepoint before place n
+abbrev pub is_dropped_at : List Record → ℕ → ℕ → Bool
+is_dropped_at log n x = list_any (is_undone (take n log)) (chain log x)
+
+-- what a transaction has changed up to place n and not rolled back there
+abbrev pub kept_at : List Record → ℕ → ℕ → List Entry
+kept_at log top n = filter (λ e. (top_of log e.xid == top) && not (is_dropped_at log n e.xid)) (entries (take n log))
+
+-- COMMITTED TRANSACTIONS
+
+-- what the record at place n commits, if it is a Commit that starts at s or later
+abbrev pub placed_at : ℕ → List Record → ℕ → ℕ → ℕ → Body → List Transaction
+placed_at s log n start end (Commit xid time) =
+    if nat_le s start then record { start = start; end = end; time = time; xid = xid; changes = kept_at log xid n } ∷ [] else []
+placed_at s log n start end body = []
+
+-- what the records from place n on commit
+abbrev pub placed_from : ℕ → List Record → ℕ → List Record → List Transaction
+placed_from s log n [] = []
+placed_from s log n (r ∷ rs) = placed_at s log n r.start r.end r.body ++ placed_from s log (n + 1) rs
+
+-- the transactions of the log that commit at s or later, in the order of their Commits
+abbrev pub committed_by_places : List Record → ℕ → List Transaction
+committed_by_places log s = placed_from s log 0 log

@@ -1,0 +1,17 @@
+//! The law of logs: read record by record, a log says what the whole of it says by places.
+
+ghost use Rattle.std.specs.Prelude.{◌≡◌, ℕ, List};
+ghost use Rattle.txlog.specs.declared.record.Record.{Record};
+ghost use Rattle.txlog.specs.Log.{IsWellFormedLog, chain, committed};
+ghost use Rattle.txlog.specs.Places.{IsChain, committed_by_places};
+
+/// Of a well-formed log, `committed` and `chain`, which judge each record by those before it, are what `specs/Places.antt`
+/// says of the log as a whole.
+pub fn a_log_has_one_reading()
+    // What transactions commit, and what each of them keeps.
+    ensures committed { (log : List Record) (s : ℕ) → IsWellFormedLog log → committed log s ≡ committed_by_places log s }
+    // There is a way up from each xid,
+    ensures chain { (log : List Record) (x : ℕ) → IsWellFormedLog log → IsChain log x (chain log x) }
+    // and there is no other.
+    ensures one_chain { (log : List Record) (x : ℕ) (xs : List ℕ) → IsWellFormedLog log → IsChain log x xs → xs ≡ chain log x }
+{}
