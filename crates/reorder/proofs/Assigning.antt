@@ -11,7 +11,7 @@ use Rattle.txlog.proofs.LiveList.{eqb_comm}
 use Rattle.txlog.proofs.Laws.{all_when, chain-append, is_named-one, is_undone-one, has_ended-one}
 use Rattle.reorder.specs.Rising.{IsRising}
 use Rattle.reorder.specs.Strands.{StrandState, ByXid, put, fresh, is_in, assigned, AreDistinct}
-use Rattle.reorder.specs.Taking.{IsStrand, IsTransaction, IsKept, changes_of}
+use Rattle.reorder.specs.Bookkeeping.{IsStrand, IsTransaction, AreStrandsOf, changes_of}
 use Rattle.reorder.proofs.Named.{or_left, or_right, not_undone, no_changes}
 use Rattle.reorder.proofs.Opening.{put_cases, put_here, no_some}
 use Rattle.reorder.proofs.Keeping.{entries_push, changes_push}
@@ -46,8 +46,8 @@ placed sub parent p xs l = record {
   members = put (last_of parent p.above) (Some (xs ++ sub ∷ [])) l.members;
 }
 
-placed_kept : (l : ByXid) (rs : List Record) (r : Record) (sub parent : ℕ) (p : StrandState) → IsKept l rs → (o : IsStrand l rs parent p) → IsSome (l.strand parent) → l.strand sub ≡ None →
-    is_named rs sub ≡ false → r.body ≡ Assign sub parent → IsKept (placed sub parent p o.members l) (rs ++ r ∷ [])
+placed_kept : (l : ByXid) (rs : List Record) (r : Record) (sub parent : ℕ) (p : StrandState) → AreStrandsOf l rs → (o : IsStrand l rs parent p) → IsSome (l.strand parent) → l.strand sub ≡ None →
+    is_named rs sub ≡ false → r.body ≡ Assign sub parent → AreStrandsOf (placed sub parent p o.members l) (rs ++ r ∷ [])
 placed_kept l rs r sub parent p h o some none unheard body =
     record {
       strands = λ q s. put_cases (λ w. w ≡ Some s → IsStrand (placed sub parent p o.members l) (rs ++ r ∷ []) q s) sub q (Some (fresh (parent ∷ p.above))) l.strand
@@ -60,8 +60,8 @@ placed_kept l rs r sub parent p h o some none unheard body =
           subst (λ (v : List ℕ). IsTransaction (placed sub parent p o.members l) (rs ++ r ∷ []) t v) e
           (subst (λ (y : ℕ). IsTransaction (placed sub parent p o.members l) (rs ++ r ∷ []) y (o.members ++ sub ∷ [])) same new_transaction))
           (λ other is. old_transaction t ys (h.transactions t ys is));
-      complete = λ q named running. put_cases IsSome sub q (Some (fresh (parent ∷ p.above))) l.strand (λ same. refl)
-          (λ other. named_before q other (q == parent) refl (sym (named_is q other) ∙ named) (sym (ended_same (top_of (rs ++ r ∷ []) q) ∙ ap (has_ended rs) (top_same q other)) ∙ running));
+      complete = λ q named kept running. put_cases IsSome sub q (Some (fresh (parent ∷ p.above))) l.strand (λ same. refl)
+          (λ other. named_before q other (q == parent) refl (sym (named_is q other) ∙ named) (sym (undone_same q) ∙ kept) (sym (ended_same (top_of (rs ++ r ∷ []) q) ∙ ap (has_ended rs) (top_same q other)) ∙ running));
       rising = subst (λ (es : List Entry). IsRising es) (sym (entries_push rs r ∙ rw body (append-nil (entries rs)))) h.rising;
     }
   where
@@ -86,9 +86,9 @@ placed_kept l rs r sub parent p h o some none unheard body =
     named_is : (q : ℕ) → (sub == q) ≡ false → is_named (rs ++ r ∷ []) q ≡ (is_named rs q || (q == parent))
     named_is q other = is_named-one rs r q ∙ rw (body, eqb_comm q sub, other) refl
 
-    named_before : (q : ℕ) → (sub == q) ≡ false → (b : Bool) → (q == parent) ≡ b → (is_named rs q || (q == parent)) ≡ true → has_ended rs (top_of rs q) ≡ false → IsSome (l.strand q)
-    named_before q other true is named running = subst (λ (y : ℕ). IsSome (l.strand y)) (sym (eqb-true q parent is)) some
-    named_before q other false is named running = h.complete q (sym (or_false (is_named rs q)) ∙ ap (λ b. is_named rs q || b) (sym is) ∙ named) running
+    named_before : (q : ℕ) → (sub == q) ≡ false → (b : Bool) → (q == parent) ≡ b → (is_named rs q || (q == parent)) ≡ true → is_undone rs q ≡ false → has_ended rs (top_of rs q) ≡ false → IsSome (l.strand q)
+    named_before q other true is named kept running = subst (λ (y : ℕ). IsSome (l.strand y)) (sym (eqb-true q parent is)) some
+    named_before q other false is named kept running = h.complete q (sym (or_false (is_named rs q)) ∙ ap (λ b. is_named rs q || b) (sym is) ∙ named) kept running
 
     not_sub : (q : ℕ) → IsSome (l.strand q) → (sub == q) ≡ false
     not_sub q has = ne_eqb sub q (λ is. no_some (l.strand q) (ap l.strand (sym is) ∙ none) has)
@@ -169,13 +169,13 @@ placed_kept l rs r sub parent p h o some none unheard body =
       tops = λ q inn. top_same q (not_sub q (w.strands q inn)) ∙ w.tops q inn;
     }
 
-pub assign_kept : (l : ByXid) (rs : List Record) (r : Record) (sub parent : ℕ) → IsKept l rs → IsSome (l.strand parent) → l.strand sub ≡ None → is_named rs sub ≡ false →
-    r.body ≡ Assign sub parent → IsKept (assigned sub parent l) (rs ++ r ∷ [])
+pub assign_kept : (l : ByXid) (rs : List Record) (r : Record) (sub parent : ℕ) → AreStrandsOf l rs → IsSome (l.strand parent) → l.strand sub ≡ None → is_named rs sub ≡ false →
+    r.body ≡ Assign sub parent → AreStrandsOf (assigned sub parent l) (rs ++ r ∷ [])
 assign_kept l rs r sub parent h some none unheard body = by_option (l.strand parent) refl some
   where
-    by_option : (w : Option StrandState) → l.strand parent ≡ w → IsSome w → IsKept (assigned sub parent l) (rs ++ r ∷ [])
+    by_option : (w : Option StrandState) → l.strand parent ≡ w → IsSome w → AreStrandsOf (assigned sub parent l) (rs ++ r ∷ [])
     by_option None is has = let never : false ≡ true = has in cc
     by_option (Some p) is has =
         let o : IsStrand l rs parent p = h.strands parent p is in
         let same : assigned sub parent l ≡ placed sub parent p o.members l = rw (is, o.members_are) refl in
-        subst (λ (a : ByXid). IsKept a (rs ++ r ∷ [])) (sym same) (placed_kept l rs r sub parent p h o some none unheard body)
+        subst (λ (a : ByXid). AreStrandsOf a (rs ++ r ∷ [])) (sym same) (placed_kept l rs r sub parent p h o some none unheard body)

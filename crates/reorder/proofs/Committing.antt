@@ -2,7 +2,7 @@
 use Rattle.std.proofs.Common.{◌≡◌, ℕ, ◌<◌, ◌==◌, Bool, true, false, cond, ◌&&◌, ◌||◌, not, List, [], ◌∷◌, Option, Some, None, refl, sym, ap, subst, ◌∙◌, eq-eqb, nat_cmp}
 use Rattle.std.specs.Prelude.{IsSome}
 use Rattle.std.specs.List.{filter, flat_map, list_any, AllByRecursion}
-use Rattle.std.specs.List.Sorted.{IsNonDecreasingBy, IsStableByKey}
+use Rattle.std.specs.List.Sorted.{IsNonDecreasingBy, IsStableByKey, IsPermutation}
 use Rattle.std.proofs.lemmas.Bool.{eqb-true}
 use Rattle.txlog.specs.declared.record.Record.{Record}
 use Rattle.txlog.specs.Log.{Entry, is_named, is_undone, is_dropped, is_kept, has_ended, last_of, top_of, entries, kept}
@@ -10,10 +10,10 @@ use Rattle.txlog.proofs.Lists.{filter_agrees, all_agree, filter_twice}
 use Rattle.txlog.proofs.Laws.{all_when}
 use Rattle.reorder.specs.Rising.{IsRising}
 use Rattle.reorder.specs.Strands.{StrandState, ByXid, is_in, all_in, undone_in, kept_in, joined, AreDistinct}
-use Rattle.reorder.specs.Taking.{IsStrand, IsTransaction, IsKept}
-use Rattle.reorder.proofs.Named.{or_left, entries_named}
+use Rattle.reorder.specs.Bookkeeping.{IsStrand, IsTransaction, AreStrandsOf}
+use Rattle.reorder.proofs.Named.{or_left, undropped, entries_named}
 use Rattle.reorder.proofs.Keeping.{top_of_member}
-use Rattle.reorder.proofs.Merging.{merged}
+use Rattle.reorder.proofs.Merging.{merged, permuted}
 
 -- a member's strand is what the records say
 pub record Held (l : ByXid) (rs : List Record) (x : ℕ) : Type 0 where
@@ -21,7 +21,7 @@ pub record Held (l : ByXid) (rs : List Record) (x : ℕ) : Type 0 where
   pub strand_is : l.strand x ≡ Some strand
   pub is : IsStrand l rs x strand
 
-held : (l : ByXid) (rs : List Record) (x : ℕ) → IsKept l rs → IsSome (l.strand x) → Held l rs x
+held : (l : ByXid) (rs : List Record) (x : ℕ) → AreStrandsOf l rs → IsSome (l.strand x) → Held l rs x
 held l rs x h some = by_option (l.strand x) refl some
   where
     by_option : (o : Option StrandState) → l.strand x ≡ o → IsSome o → Held l rs x
@@ -29,7 +29,7 @@ held l rs x h some = by_option (l.strand x) refl some
     by_option (Some s) at has = record { strand = s; strand_is = at; is = h.strands x s at }
 
 -- rolled back by the strands, or by the records
-same_undone : (l : ByXid) (rs : List Record) (t : ℕ) (xs : List ℕ) → IsKept l rs → IsTransaction l rs t xs → (ys : List ℕ) → AllByRecursion (λ y. is_in y xs ≡ true) ys →
+same_undone : (l : ByXid) (rs : List Record) (t : ℕ) (xs : List ℕ) → AreStrandsOf l rs → IsTransaction l rs t xs → (ys : List ℕ) → AllByRecursion (λ y. is_in y xs ≡ true) ys →
     list_any (λ y. undone_in (l.strand y)) ys ≡ list_any (is_undone rs) ys
 same_undone l rs t xs h w [] all = refl
 same_undone l rs t xs h w (y ∷ ys) all =
@@ -37,7 +37,7 @@ same_undone l rs t xs h w (y ∷ ys) all =
     let here : undone_in (l.strand y) ≡ is_undone rs y = ap undone_in m.strand_is ∙ m.is.undone in
     rw (here, same_undone l rs t xs h w ys all.1) refl
 
-same_dropped : (l : ByXid) (rs : List Record) (x : ℕ) (s : StrandState) → IsKept l rs → IsStrand l rs x s →
+same_dropped : (l : ByXid) (rs : List Record) (x : ℕ) (s : StrandState) → AreStrandsOf l rs → IsStrand l rs x s →
     (s.undone || list_any (λ y. undone_in (l.strand y)) s.above) ≡ is_dropped rs x
 same_dropped l rs x s h o =
     let w : IsTransaction l rs (last_of x s.above) o.members = h.transactions (last_of x s.above) o.members o.members_are in
@@ -50,9 +50,9 @@ none_in [] = refl
 none_in (e ∷ es) = none_in es
 
 -- of one xid
-kept_number : (l : ByXid) (rs : List Record) (x : ℕ) → IsKept l rs → IsSome (l.strand x) →
+kept_xid : (l : ByXid) (rs : List Record) (x : ℕ) → AreStrandsOf l rs → IsSome (l.strand x) →
     kept_in l.strand (l.strand x) ≡ filter (λ e. e.xid == x) (filter (λ e. not (is_dropped rs e.xid)) (entries rs))
-kept_number l rs x h some =
+kept_xid l rs x h some =
     ap (kept_in l.strand) m.strand_is ∙ by_test (is_dropped rs x) refl ∙ sym (filter_twice (λ e. e.xid == x) (λ e. not (is_dropped rs e.xid)) (entries rs))
   where
     m : Held l rs x
@@ -82,10 +82,10 @@ kept_number l rs x h some =
         (m.is.changes live ∙ filter_agrees _ _ (entries rs) (all_agree _ _ (λ (e : Entry). by_xid e false is (e.xid == x) refl) (entries rs)))
 
 -- of all xids of a transaction
-kept_numbers : (l : ByXid) (rs : List Record) → IsKept l rs → (ys : List ℕ) → AllByRecursion (λ y. IsSome (l.strand y)) ys →
+kept_xids : (l : ByXid) (rs : List Record) → AreStrandsOf l rs → (ys : List ℕ) → AllByRecursion (λ y. IsSome (l.strand y)) ys →
     flat_map (λ x. kept_in l.strand (l.strand x)) ys ≡ flat_map (λ x. filter (λ e. e.xid == x) (filter (λ e. not (is_dropped rs e.xid)) (entries rs))) ys
-kept_numbers l rs h [] all = refl
-kept_numbers l rs h (y ∷ ys) all = rw (kept_number l rs y h all.0, kept_numbers l rs h ys all.1) refl
+kept_xids l rs h [] all = refl
+kept_xids l rs h (y ∷ ys) all = rw (kept_xid l rs y h all.0, kept_xids l rs h ys all.1) refl
 
 each_in : (P : ℕ → Type 0) (xs : List ℕ) → ((x : ℕ) → is_in x xs ≡ true → P x) → AllByRecursion P xs
 each_in P [] all = tt
@@ -111,13 +111,13 @@ rising_kept p (e ∷ es) up = by_test (p e) (some_all es up.0) (rising_kept p es
     by_test true all rest = (all, rest)
     by_test false all rest = rest
 
--- an xid that is named is of a transaction in progress exactly if it is among its xids
-member_is : (l : ByXid) (rs : List Record) (t x : ℕ) → IsKept l rs → has_ended rs t ≡ false → is_named rs x ≡ true → (top_of rs x == t) ≡ is_in x (all_in (l.members t))
-member_is l rs t x h running named = by_tests (top_of rs x == t) (is_in x (all_in (l.members t))) refl refl
+-- an xid that is named and not rolled back is of a transaction in progress exactly if it is among its xids
+member_is : (l : ByXid) (rs : List Record) (t x : ℕ) → AreStrandsOf l rs → has_ended rs t ≡ false → is_named rs x ≡ true → is_undone rs x ≡ false → (top_of rs x == t) ≡ is_in x (all_in (l.members t))
+member_is l rs t x h running named live = by_tests (top_of rs x == t) (is_in x (all_in (l.members t))) refl refl
   where
     inside : top_of rs x ≡ t → is_in x (all_in (l.members t)) ≡ true
     inside same =
-        let m : Held l rs x = held l rs x h (h.complete x named (ap (has_ended rs) same ∙ running)) in
+        let m : Held l rs x = held l rs x h (h.complete x named live (ap (has_ended rs) same ∙ running)) in
         let top : last_of x m.strand.above ≡ t = ap (last_of x) (sym m.is.chain) ∙ same in
         ap (λ y. is_in x (all_in (l.members y))) (sym top) ∙ ap (λ o. is_in x (all_in o)) m.is.members_are ∙ m.is.within.0
 
@@ -126,33 +126,62 @@ member_is l rs t x h running named = by_tests (top_of rs x == t) (is_in x (all_i
     by_tests false true other inn = sym other ∙ eq-eqb (top_of rs x) t (top_of_member l rs t x h inn)
     by_tests false false other out = refl
 
-pub kept_merged : (l : ByXid) (rs : List Record) (t : ℕ) (sorted : List Entry) → IsKept l rs → has_ended rs t ≡ false →
-    IsNonDecreasingBy (λ (e : Entry). e.position) sorted → IsStableByKey (λ (e : Entry). e.position) nat_cmp (joined l t) sorted → sorted ≡ kept rs t
-kept_merged l rs t sorted h running up stable = by_option (l.members t) refl
+-- the undropped changes of a transaction's xids are what it keeps
+kept_members : (l : ByXid) (rs : List Record) (t : ℕ) → AreStrandsOf l rs → has_ended rs t ≡ false →
+    filter (λ e. is_in e.xid (all_in (l.members t))) (filter (λ e. not (is_dropped rs e.xid)) (entries rs)) ≡ kept rs t
+kept_members l rs t h running =
+    filter_twice (λ e. is_in e.xid (all_in (l.members t))) (λ e. not (is_dropped rs e.xid)) (entries rs)
+    ∙ filter_agrees _ _ (entries rs) (all_when _ _ (λ (e : Entry) (named : is_named rs e.xid ≡ true). swapped e named (is_dropped rs e.xid) refl) (entries rs) (entries_named rs))
   where
-    by_named : filter (λ e. is_in e.xid (all_in (l.members t))) (filter (λ e. not (is_dropped rs e.xid)) (entries rs)) ≡ kept rs t
-    by_named =
-        filter_twice (λ e. is_in e.xid (all_in (l.members t))) (λ e. not (is_dropped rs e.xid)) (entries rs)
-        ∙ filter_agrees _ _ (entries rs) (all_when _ _ (λ (e : Entry) (named : is_named rs e.xid ≡ true). swapped e named) (entries rs) (entries_named rs))
-      where
-        and_comm : (a b : Bool) → (a && b) ≡ (b && a)
-        and_comm true true = refl
-        and_comm true false = refl
-        and_comm false true = refl
-        and_comm false false = refl
+    and_false : (a : Bool) → false ≡ (a && false)
+    and_false true = refl
+    and_false false = refl
 
-        swapped : (e : Entry) → is_named rs e.xid ≡ true → (not (is_dropped rs e.xid) && is_in e.xid (all_in (l.members t))) ≡ is_kept rs t e
-        swapped e named = ap (λ b. not (is_dropped rs e.xid) && b) (sym (member_is l rs t e.xid h running named)) ∙ and_comm (not (is_dropped rs e.xid)) (top_of rs e.xid == t)
+    and_true : (a : Bool) → a ≡ (a && true)
+    and_true true = refl
+    and_true false = refl
 
-    of_members : (xs : List ℕ) → AreDistinct xs → AllByRecursion (λ x. IsSome (l.strand x)) xs → all_in (l.members t) ≡ xs → sorted ≡ kept rs t
-    of_members xs distinct some is =
-        let stable' : IsStableByKey (λ (e : Entry). e.position) nat_cmp (flat_map (λ x. filter (λ e. e.xid == x) (filter (λ e. not (is_dropped rs e.xid)) (entries rs))) xs) sorted =
-        subst (λ (es : List Entry). IsStableByKey (λ (e : Entry). e.position) nat_cmp es sorted) (ap (flat_map (λ x. kept_in l.strand (l.strand x))) is ∙ kept_numbers l rs h xs some) stable in
-        merged (filter (λ e. not (is_dropped rs e.xid)) (entries rs)) (rising_kept _ (entries rs) h.rising) xs distinct sorted up stable'
-        ∙ ap (λ ys. filter (λ e. is_in e.xid ys) (filter (λ e. not (is_dropped rs e.xid)) (entries rs))) (sym is) ∙ by_named
+    swapped : (e : Entry) → is_named rs e.xid ≡ true → (d : Bool) → is_dropped rs e.xid ≡ d → (not (is_dropped rs e.xid) && is_in e.xid (all_in (l.members t))) ≡ is_kept rs t e
+    swapped e named true is = rw is (and_false (top_of rs e.xid == t))
+    swapped e named false is = rw is (sym (member_is l rs t e.xid h running named (undropped rs e.xid is)) ∙ and_true (top_of rs e.xid == t))
 
-    by_option : (o : Option (List ℕ)) → l.members t ≡ o → sorted ≡ kept rs t
-    by_option None is = of_members [] tt tt (ap all_in is)
+-- what holds of the strands of a transaction's xids, joined
+of_members : (l : ByXid) (rs : List Record) (t : ℕ) (P : List Entry → Type 0) → AreStrandsOf l rs →
+    ((xs : List ℕ) → AreDistinct xs → all_in (l.members t) ≡ xs → P (flat_map (λ x. filter (λ e. e.xid == x) (filter (λ e. not (is_dropped rs e.xid)) (entries rs))) xs)) → P (joined l t)
+of_members l rs t P h each = by_option (l.members t) refl
+  where
+    of_these : (xs : List ℕ) → AreDistinct xs → AllByRecursion (λ x. IsSome (l.strand x)) xs → all_in (l.members t) ≡ xs → P (joined l t)
+    of_these xs distinct some is = subst P (sym (ap (flat_map (λ x. kept_in l.strand (l.strand x))) is ∙ kept_xids l rs h xs some)) (each xs distinct is)
+
+    by_option : (o : Option (List ℕ)) → l.members t ≡ o → P (joined l t)
+    by_option None is = of_these [] tt tt (ap all_in is)
     by_option (Some xs) is =
         let w : IsTransaction l rs t xs = h.transactions t xs is in
-        of_members xs w.distinct (each_in (λ x. IsSome (l.strand x)) xs w.strands) (ap all_in is)
+        of_these xs w.distinct (each_in (λ x. IsSome (l.strand x)) xs w.strands) (ap all_in is)
+
+-- sorted by position they are what the transaction keeps
+pub kept_merged : (l : ByXid) (rs : List Record) (t : ℕ) (sorted : List Entry) → AreStrandsOf l rs → has_ended rs t ≡ false →
+    IsNonDecreasingBy (λ (e : Entry). e.position) sorted → IsStableByKey (λ (e : Entry). e.position) nat_cmp (joined l t) sorted → sorted ≡ kept rs t
+kept_merged l rs t sorted h running up stable =
+    of_members l rs t (λ (es : List Entry). IsStableByKey (λ (e : Entry). e.position) nat_cmp es sorted → sorted ≡ kept rs t) h
+    (λ xs distinct is stable'.
+    merged (filter (λ e. not (is_dropped rs e.xid)) (entries rs)) (rising_kept _ (entries rs) h.rising) xs distinct sorted up stable'
+    ∙ ap (λ ys. filter (λ e. is_in e.xid ys) (filter (λ e. not (is_dropped rs e.xid)) (entries rs))) (sym is) ∙ kept_members l rs t h running)
+    stable
+
+-- in some order they are what it keeps
+pub kept_permuted : (l : ByXid) (rs : List Record) (t : ℕ) → AreStrandsOf l rs → has_ended rs t ≡ false → IsPermutation (joined l t) (kept rs t)
+kept_permuted l rs t h running =
+    of_members l rs t (λ (es : List Entry). IsPermutation es (kept rs t)) h
+    (λ xs distinct is.
+    subst (λ (es : List Entry). IsPermutation (flat_map (λ x. filter (λ e. e.xid == x) (filter (λ e. not (is_dropped rs e.xid)) (entries rs))) xs) es)
+    (ap (λ ys. filter (λ e. is_in e.xid ys) (filter (λ e. not (is_dropped rs e.xid)) (entries rs))) (sym is) ∙ kept_members l rs t h running)
+    (permuted (filter (λ e. not (is_dropped rs e.xid)) (entries rs)) xs distinct))
+
+-- nothing is kept of a transaction that has ended
+pub none_kept : (l : ByXid) (rs : List Record) (t : ℕ) → AreStrandsOf l rs → has_ended rs t ≡ true → joined l t ≡ []
+none_kept l rs t h over = by_option (l.members t) refl
+  where
+    by_option : (o : Option (List ℕ)) → l.members t ≡ o → joined l t ≡ []
+    by_option None is = rw is refl
+    by_option (Some xs) is = let w : IsTransaction l rs t xs = h.transactions t xs is in let never : true ≡ false = sym over ∙ w.running in cc

@@ -13,7 +13,8 @@ use Rattle.txlog.proofs.LiveList.{eqb_comm, all_append}
 use Rattle.txlog.proofs.Laws.{chain-append, chain-unassigned, is_named-one, is_undone-one, has_ended-one, entries-append, KeepsChains}
 use Rattle.reorder.specs.Rising.{IsRising}
 use Rattle.reorder.specs.Strands.{StrandState, ByXid, all_in, is_in, with_change, without_changes, pushed, undone, ended}
-use Rattle.reorder.specs.Taking.{IsStrand, IsTransaction, IsKept, StartsBehind, changes_of}
+use Rattle.reorder.specs.Bookkeeping.{IsStrand, IsTransaction, AreStrandsOf, changes_of}
+use Rattle.reorder.specs.Taking.{StartsBehind}
 use Rattle.reorder.proofs.Named.{or_left, or_right, or_true, entries_before}
 use Rattle.reorder.proofs.Opening.{put_cases}
 
@@ -67,9 +68,9 @@ strands_changed l a rs r keeps ending stay t xs o = record {
 
 -- A CHANGE
 
-pub push_kept : (l : ByXid) (rs : List Record) (r : Record) (x : ℕ) (e : Entry) → IsKept l rs → IsOpen rs x → IsSome (l.strand x) → StartsBehind rs r →
+pub push_kept : (l : ByXid) (rs : List Record) (r : Record) (x : ℕ) (e : Entry) → AreStrandsOf l rs → IsOpen rs x → IsSome (l.strand x) → StartsBehind rs r →
     KeepsChains r.body → ((y : ℕ) → undoes y r.body ≡ false) → ((y : ℕ) → ends y r.body ≡ false) → ((y : ℕ) → names y r.body ≡ (y == x)) →
-    entry_at r.start r.body ≡ e ∷ [] → e.xid ≡ x → e.position ≡ r.start → IsKept (pushed x e l) (rs ++ r ∷ [])
+    entry_at r.start r.body ≡ e ∷ [] → e.xid ≡ x → e.position ≡ r.start → AreStrandsOf (pushed x e l) (rs ++ r ∷ [])
 push_kept l rs r x e h alive has behind keeps undoing ending naming made xid position =
     record {
       strands = λ q s. put_cases (λ o. o ≡ Some s → IsStrand (pushed x e l) (rs ++ r ∷ []) q s) x q (option_map (with_change e) (l.strand x)) l.strand
@@ -80,8 +81,8 @@ push_kept l rs r x e h alive has behind keeps undoing ending naming made xid pos
       transactions = λ t xs is. strands_changed l (pushed x e l) rs r keeps ending
           (λ q some. put_cases IsSome x q (option_map (with_change e) (l.strand x)) l.strand (λ same. some_of (with_change e) (l.strand x) has) (λ other. some))
           t xs (h.transactions t xs is);
-      complete = λ q named running. put_cases IsSome x q (option_map (with_change e) (l.strand x)) l.strand (λ same. some_of (with_change e) (l.strand x) has)
-          (λ other. h.complete q (was_named rs r x q (naming q) other named) (sym (ended_same rs r keeps ending q) ∙ running));
+      complete = λ q named kept running. put_cases IsSome x q (option_map (with_change e) (l.strand x)) l.strand (λ same. some_of (with_change e) (l.strand x) has)
+          (λ other. h.complete q (was_named rs r x q (naming q) other named) (sym (undone_same q) ∙ kept) (sym (ended_same rs r keeps ending q) ∙ running));
       rising = subst (λ (es : List Entry). IsRising es) (sym (entries_push rs r ∙ ap (λ es. entries rs ++ es) made))
           (rising_push (entries rs) e h.rising (subst (λ (n : ℕ). AllByRecursion (λ f. f.position < n) (entries rs)) (sym position) (entries_before rs r behind)));
     }
@@ -119,10 +120,10 @@ push_kept l rs r x e h alive has behind keeps undoing ending naming made xid pos
 
 -- A ROLLBACK
 
-pub undo_kept : (l : ByXid) (rs : List Record) (r : Record) (x : ℕ) → IsKept l rs → IsSome (l.strand x) →
+pub undo_kept : (l : ByXid) (rs : List Record) (r : Record) (x : ℕ) → AreStrandsOf l rs →
     KeepsChains r.body → ((y : ℕ) → undoes y r.body ≡ (x == y)) → ((y : ℕ) → ends y r.body ≡ false) → ((y : ℕ) → names y r.body ≡ (y == x)) →
-    entry_at r.start r.body ≡ [] → IsKept (undone x l) (rs ++ r ∷ [])
-undo_kept l rs r x h has keeps undoing ending naming none =
+    entry_at r.start r.body ≡ [] → AreStrandsOf (undone x l) (rs ++ r ∷ [])
+undo_kept l rs r x h keeps undoing ending naming none =
     record {
       strands = λ q s. put_cases (λ o. o ≡ Some s → IsStrand (undone x l) (rs ++ r ∷ []) q s) x q (option_map without_changes (l.strand x)) l.strand
           (λ same is. let m : Mapped without_changes (l.strand x) s = mapped without_changes (l.strand x) s is in
@@ -130,20 +131,27 @@ undo_kept l rs r x h has keeps undoing ending naming none =
           (subst (λ (y : ℕ). IsStrand (undone x l) (rs ++ r ∷ []) y (without_changes m.was)) same (dropped m.was (h.strands x m.was m.was_is))))
           (λ other is. as_it_was q s other (h.strands q s is));
       transactions = λ t xs is. strands_changed l (undone x l) rs r keeps ending
-          (λ q some. put_cases IsSome x q (option_map without_changes (l.strand x)) l.strand (λ same. some_of without_changes (l.strand x) has) (λ other. some))
+          (λ q some. put_cases IsSome x q (option_map without_changes (l.strand x)) l.strand (λ same. some_of without_changes (l.strand x) (subst (λ (y : ℕ). IsSome (l.strand y)) (sym same) some)) (λ other. some))
           t xs (h.transactions t xs is);
-      complete = λ q named running. put_cases IsSome x q (option_map without_changes (l.strand x)) l.strand (λ same. some_of without_changes (l.strand x) has)
-          (λ other. h.complete q (was_named rs r x q (naming q) other named) (sym (ended_same rs r keeps ending q) ∙ running));
+      complete = λ q named kept running. put_cases IsSome x q (option_map without_changes (l.strand x)) l.strand
+          (λ same. let never : true ≡ false = sym (undone_here q same) ∙ kept in cc)
+          (λ other. h.complete q (was_named rs r x q (naming q) other named) (sym (undone_apart q other) ∙ kept) (sym (ended_same rs r keeps ending q) ∙ running));
       rising = subst (λ (es : List Entry). IsRising es) (sym (entries_push rs r ∙ ap (λ es. entries rs ++ es) none ∙ append-nil (entries rs))) h.rising;
     }
   where
     chain_same : (q : ℕ) → chain (rs ++ r ∷ []) q ≡ chain rs q
     chain_same q = chain-append rs r q ∙ keeps (chain rs) q
 
+    undone_here : (q : ℕ) → x ≡ q → is_undone (rs ++ r ∷ []) q ≡ true
+    undone_here q same = is_undone-one rs r q ∙ ap (λ b. is_undone rs q || b) (undoing q ∙ eq-eqb x q same) ∙ or_true (is_undone rs q) true refl
+
+    undone_apart : (q : ℕ) → (x == q) ≡ false → is_undone (rs ++ r ∷ []) q ≡ is_undone rs q
+    undone_apart q other = is_undone-one rs r q ∙ ap (λ b. is_undone rs q || b) (undoing q ∙ other) ∙ or_false (is_undone rs q)
+
     dropped : (s : StrandState) → IsStrand l rs x s → IsStrand (undone x l) (rs ++ r ∷ []) x (without_changes s)
     dropped s o = record {
       chain = chain_same x ∙ o.chain;
-      undone = sym (is_undone-one rs r x ∙ ap (λ b. is_undone rs x || b) (undoing x ∙ eq-eqb x x refl) ∙ or_true (is_undone rs x) true refl);
+      undone = sym (undone_here x refl);
       changes = λ live. let never : true ≡ false = live in cc;
       freed = λ undone. refl;
       members = o.members;
@@ -154,7 +162,7 @@ undo_kept l rs r x h has keeps undoing ending naming none =
     as_it_was : (q : ℕ) (s : StrandState) → (x == q) ≡ false → IsStrand l rs q s → IsStrand (undone x l) (rs ++ r ∷ []) q s
     as_it_was q s other o = record {
       chain = chain_same q ∙ o.chain;
-      undone = o.undone ∙ sym (is_undone-one rs r q ∙ ap (λ b. is_undone rs q || b) (undoing q ∙ other) ∙ or_false (is_undone rs q));
+      undone = o.undone ∙ sym (undone_apart q other);
       freed = o.freed;
       changes = λ live. o.changes live ∙ sym (changes_push rs r q ∙ ap (λ es. changes_of rs q ++ filter (λ f. f.xid == q) es) none ∙ append-nil (changes_of rs q));
       members = o.members;
@@ -164,36 +172,39 @@ undo_kept l rs r x h has keeps undoing ending naming none =
 
 -- AN END
 
-pub top_of_member : (l : ByXid) (rs : List Record) (t q : ℕ) → IsKept l rs → is_in q (all_in (l.members t)) ≡ true → top_of rs q ≡ t
+pub top_of_member : (l : ByXid) (rs : List Record) (t q : ℕ) → AreStrandsOf l rs → is_in q (all_in (l.members t)) ≡ true → top_of rs q ≡ t
 top_of_member l rs t q h inn = by_option (l.members t) refl inn
   where
     by_option : (o : Option (List ℕ)) → l.members t ≡ o → is_in q (all_in o) ≡ true → top_of rs q ≡ t
     by_option None is inn' = let never : false ≡ true = inn' in cc
     by_option (Some xs) is inn' = let o : IsTransaction l rs t xs = h.transactions t xs is in o.tops q inn'
 
-not_member : (l : ByXid) (rs : List Record) (t q : ℕ) → IsKept l rs → (t == top_of rs q) ≡ false → is_in q (all_in (l.members t)) ≡ false
+not_member : (l : ByXid) (rs : List Record) (t q : ℕ) → AreStrandsOf l rs → (t == top_of rs q) ≡ false → is_in q (all_in (l.members t)) ≡ false
 not_member l rs t q h other = by_test (is_in q (all_in (l.members t))) refl
   where
     by_test : (b : Bool) → is_in q (all_in (l.members t)) ≡ b → b ≡ false
     by_test true inn = let never : true ≡ false = sym (eq-eqb t (top_of rs q) (sym (top_of_member l rs t q h inn))) ∙ other in cc
     by_test false out = refl
 
-pub end_kept : (l : ByXid) (rs : List Record) (r : Record) (t : ℕ) → IsKept l rs → is_assigned rs t ≡ false →
+pub end_kept : (l : ByXid) (rs : List Record) (r : Record) (t : ℕ) → AreStrandsOf l rs → is_assigned rs t ≡ false →
     KeepsChains r.body → ((y : ℕ) → undoes y r.body ≡ false) → ((y : ℕ) → ends y r.body ≡ (t == y)) → ((y : ℕ) → names y r.body ≡ (y == t)) →
-    entry_at r.start r.body ≡ [] → IsKept (ended t l) (rs ++ r ∷ [])
+    entry_at r.start r.body ≡ [] → AreStrandsOf (ended t l) (rs ++ r ∷ [])
 end_kept l rs r t h alone keeps undoing ending naming none =
     record {
       strands = λ q s is. strand q s (is_in q (all_in (l.members t))) refl is;
       transactions = λ t' xs. put_cases (λ o. o ≡ Some xs → IsTransaction (ended t l) (rs ++ r ∷ []) t' xs) t t' None l.members
           (λ same is. let never : None ≡ Some xs = is in cc) (λ other is. transaction t' xs other (h.transactions t' xs is));
-      complete = λ q named running.
+      complete = λ q named kept running.
           let both : (has_ended rs (top_of rs q) || (t == top_of rs q)) ≡ false = sym (ap (has_ended (rs ++ r ∷ [])) (top_same rs r keeps q) ∙ has_ended-one rs r (top_of rs q)
           ∙ ap (λ b. has_ended rs (top_of rs q) || b) (ending (top_of rs q))) ∙ running in
           let apart : (t == top_of rs q) ≡ false = or_right (has_ended rs (top_of rs q)) (t == top_of rs q) both in
-          stays q (not_member l rs t q h apart) (h.complete q (was_named rs r t q (naming q) (not_top q apart) named) (or_left (has_ended rs (top_of rs q)) (t == top_of rs q) both));
+          stays q (not_member l rs t q h apart) (h.complete q (was_named rs r t q (naming q) (not_top q apart) named) (sym (undone_same q) ∙ kept) (or_left (has_ended rs (top_of rs q)) (t == top_of rs q) both));
       rising = subst (λ (es : List Entry). IsRising es) (sym (entries_push rs r ∙ ap (λ es. entries rs ++ es) none ∙ append-nil (entries rs))) h.rising;
     }
   where
+    undone_same : (q : ℕ) → is_undone (rs ++ r ∷ []) q ≡ is_undone rs q
+    undone_same q = is_undone-one rs r q ∙ ap (λ b. is_undone rs q || b) (undoing q) ∙ or_false (is_undone rs q)
+
     stays : (q : ℕ) → is_in q (all_in (l.members t)) ≡ false → IsSome (l.strand q) → IsSome ((ended t l).strand q)
     stays q out some = rw out some
 
@@ -206,7 +217,7 @@ end_kept l rs r t h alone keeps undoing ending naming none =
         let o : IsStrand l rs q s = h.strands q s is in
         record {
           chain = chain-append rs r q ∙ keeps (chain rs) q ∙ o.chain;
-          undone = o.undone ∙ sym (is_undone-one rs r q ∙ ap (λ b. is_undone rs q || b) (undoing q) ∙ or_false (is_undone rs q));
+          undone = o.undone ∙ sym (undone_same q);
           freed = o.freed;
           changes = λ live. o.changes live ∙ sym (changes_push rs r q ∙ ap (λ es. changes_of rs q ++ filter (λ f. f.xid == q) es) none ∙ append-nil (changes_of rs q));
           members = o.members;

@@ -2,12 +2,13 @@
 use Rattle.std.proofs.Common.{◌≡◌, ℕ, suc, ◌<◌, ◌≤◌, ◌==◌, Bool, true, false, cond, ◌&&◌, ◌||◌, not, List, [], ◌∷◌, ◌++◌, length, refl, sym, ap, subst, ◌∙◌, arith, eq-eqb, nat_cmp, is_lt}
 use Rattle.std.specs.Prelude.{slice_index_or}
 use Rattle.std.specs.List.{filter, flat_map, AllByRecursion}
-use Rattle.std.specs.List.Sorted.{IsNonDecreasingBy, IsStableByKey, ties}
+use Rattle.std.specs.List.Sorted.{IsNonDecreasingBy, IsStableByKey, IsPermutation, ties}
 use Rattle.std.proofs.lemmas.Bool.{eqb-true, eqb-false, ne_eqb}
 use Rattle.std.proofs.lemmas.Bool.Decides.{nat_tests}
 use Rattle.std.proofs.lemmas.List.Elements.{filter-append}
+use Rattle.std.proofs.lemmas.List.Sorted.{IsPermutation-refl, IsPermutation-sym, IsPermutation-trans, IsPermutation-append_right, IsPermutation-filter_both}
 use Rattle.txlog.specs.Log.{Entry}
-use Rattle.txlog.proofs.Lists.{filter_agrees, all_agree}
+use Rattle.txlog.proofs.Lists.{filter_agrees, all_agree, filter_twice}
 use Rattle.txlog.proofs.Laws.{all_when}
 use Rattle.reorder.specs.Rising.{IsRising}
 use Rattle.reorder.specs.Strands.{is_in, AreDistinct}
@@ -51,18 +52,51 @@ either_at p q r apart (e ∷ es) rising = by_tests (p == e.position) (q e) (r e)
     by_tests false false true h is other again = rw h again
     by_tests here false false h is other again = again
 
+none_in : (es : List Entry) → filter (λ e. false) es ≡ []
+none_in [] = refl
+none_in (e ∷ es) = none_in es
+
 -- strands of different xids, joined, have at each position what stands there
 joined_at : (p : ℕ) (es : List Entry) → IsRising es → (xs : List ℕ) → AreDistinct xs →
     filter (at_position p) (flat_map (λ x. filter (λ e. e.xid == x) es) xs) ≡ filter (at_position p) (filter (λ e. is_in e.xid xs) es)
 joined_at p es rising [] distinct = rw (none_in es) refl
-  where
-    none_in : (fs : List Entry) → filter (λ e. false) fs ≡ []
-    none_in [] = refl
-    none_in (f ∷ fs) = none_in fs
 joined_at p es rising (x ∷ xs) distinct =
     filter-append (at_position p) (filter (λ e. e.xid == x) es) (flat_map (λ y. filter (λ e. e.xid == y) es) xs)
     ∙ ap (λ rest. filter (at_position p) (filter (λ e. e.xid == x) es) ++ rest) (joined_at p es rising xs distinct.1)
     ∙ either_at p (λ e. e.xid == x) (λ e. is_in e.xid xs) (λ e is. rw (eqb-true e.xid x is) distinct.0) es rising
+
+-- IN ANY ORDER
+
+-- strands of different xids, joined, are the changes of these xids in some order
+pub permuted : (es : List Entry) (xs : List ℕ) → AreDistinct xs → IsPermutation (flat_map (λ x. filter (λ e. e.xid == x) es) xs) (filter (λ e. is_in e.xid xs) es)
+permuted es [] distinct = subst (λ (fs : List Entry). IsPermutation [] fs) (sym (none_in es)) (IsPermutation-refl [])
+permuted es (x ∷ xs) distinct =
+    IsPermutation-trans _ _ _
+    (IsPermutation-append_right (filter (λ e. e.xid == x) es) _ _ (permuted es xs distinct.1))
+    (IsPermutation-sym _ _ (subst (λ (fs : List Entry). IsPermutation (filter either es) fs) both (IsPermutation-filter_both (λ e. e.xid == x) (λ e. not (e.xid == x)) (λ e. refl) (filter either es))))
+  where
+    either : Entry → Bool
+    either e = (e.xid == x) || is_in e.xid xs
+
+    here : (a b : Bool) → ((a || b) && a) ≡ a
+    here true b = refl
+    here false true = refl
+    here false false = refl
+
+    other : (e : Entry) → (b : Bool) → (e.xid == x) ≡ b → ((b || is_in e.xid xs) && not b) ≡ is_in e.xid xs
+    other e true same = sym (ap (λ y. is_in y xs) (eqb-true e.xid x same) ∙ distinct.0)
+    other e false apart = and_true (is_in e.xid xs)
+      where
+        and_true : (a : Bool) → (a && true) ≡ a
+        and_true true = refl
+        and_true false = refl
+
+    both : filter (λ e. e.xid == x) (filter either es) ++ filter (λ e. not (e.xid == x)) (filter either es) ≡ filter (λ e. e.xid == x) es ++ filter (λ e. is_in e.xid xs) es
+    both =
+        ap (λ fs. fs ++ filter (λ e. not (e.xid == x)) (filter either es))
+        (filter_twice (λ e. e.xid == x) either es ∙ filter_agrees _ _ es (all_agree _ _ (λ (e : Entry). here (e.xid == x) (is_in e.xid xs)) es))
+        ∙ ap (λ fs. filter (λ e. e.xid == x) es ++ fs)
+        (filter_twice (λ e. not (e.xid == x)) either es ∙ filter_agrees _ _ es (all_agree _ _ (λ (e : Entry). other e (e.xid == x) refl) es))
 
 -- IN ORDER
 

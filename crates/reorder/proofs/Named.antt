@@ -1,14 +1,15 @@
--- Numbers that are named, and the changes of a log with their positions.
-use Rattle.std.proofs.Common.{◌≡◌, ℕ, ◌<◌, ◌==◌, Bool, true, false, ◌||◌, List, [], ◌∷◌, refl, sym, ap, ◌∙◌, eq-eqb}
+-- Xids that are named, and the changes of a log with their positions.
+use Rattle.std.proofs.Common.{◌≡◌, ℕ, ◌<◌, ◌==◌, Bool, true, false, cond, ◌||◌, List, [], ◌∷◌, reverse, refl, sym, ap, ◌∙◌, eq-eqb}
 use Rattle.std.specs.List.{filter, list_any, AllByRecursion}
 use Rattle.std.proofs.lemmas.Bool.{eqb-true}
 use Rattle.txlog.specs.declared.record.Record.{Record}
 use Rattle.txlog.specs.declared.record.Body.{Body}
 use Rattle.txlog.specs.declared.record.Body.TheVariants.{Assign, Change as Changed, AbortSub, Abort, Commit}
-use Rattle.txlog.specs.Log.{Entry, names, is_named, assigns, is_assigned, undoes, is_undone, entry_at, entries}
+use Rattle.txlog.specs.Log.{Entry, names, is_named, assigns, is_assigned, chain_step, chain_back, undoes, is_undone, is_dropped, entry_at, entries}
 use Rattle.txlog.proofs.LiveList.{eqb_comm, all_append}
 use Rattle.txlog.proofs.Laws.{all_when}
-use Rattle.reorder.specs.Taking.{StartsBehind, changes_of}
+use Rattle.reorder.specs.Bookkeeping.{changes_of}
+use Rattle.reorder.specs.Taking.{StartsBehind}
 
 pub or_left : (a b : Bool) → (a || b) ≡ false → a ≡ false
 or_left true b is = cc
@@ -46,6 +47,26 @@ unassigned log x none = unnamed assigns x (assigns_named x) log none
 
 pub not_undone : (log : List Record) (x : ℕ) → is_named log x ≡ false → is_undone log x ≡ false
 not_undone log x none = unnamed undoes x (undoes_named x) log none
+
+-- a chain begins with its xid
+pub none_first : (p : ℕ → Bool) (older : List Record) (x : ℕ) → list_any p (chain_back older x) ≡ false → p x ≡ false
+none_first p [] x none = or_left (p x) false none
+none_first p (r ∷ older) x none = by_body r.body (none_first p older x) none
+  where
+    by_body : (body : Body) → (list_any p (chain_back older x) ≡ false → p x ≡ false) → list_any p (chain_step (chain_back older) body x) ≡ false → p x ≡ false
+    by_body (Assign sub parent) earlier none' = by_test (sub == x) none'
+      where
+        by_test : (b : Bool) → list_any p (cond b (x ∷ chain_back older parent) (chain_back older x)) ≡ false → p x ≡ false
+        by_test true is = or_left (p x) (list_any p (chain_back older parent)) is
+        by_test false is = earlier is
+    by_body (Changed xid change) earlier none' = earlier none'
+    by_body (AbortSub xid) earlier none' = earlier none'
+    by_body (Abort xid) earlier none' = earlier none'
+    by_body (Commit xid time) earlier none' = earlier none'
+
+-- what is not dropped is not undone
+pub undropped : (log : List Record) (x : ℕ) → is_dropped log x ≡ false → is_undone log x ≡ false
+undropped log x none = none_first (is_undone log) (reverse log) x none
 
 -- the changes of a log are of xids that are named
 pub entries_named : (log : List Record) → AllByRecursion (λ e. is_named log e.xid ≡ true) (entries log)

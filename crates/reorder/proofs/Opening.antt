@@ -6,8 +6,8 @@ use Rattle.txlog.specs.declared.record.Record.{Record}
 use Rattle.txlog.specs.Log.{IsOpen, is_named, has_ended, chain, last_of, top_of}
 use Rattle.txlog.proofs.Laws.{chain-unassigned}
 use Rattle.reorder.specs.Strands.{StrandState, StrandsState, ByXid, by_xid, IsSame, put, fresh, is_in, started}
-use Rattle.reorder.specs.Taking.{IsStrand, IsTransaction, IsKept}
-use Rattle.reorder.proofs.Named.{unassigned, not_undone, no_changes}
+use Rattle.reorder.specs.Bookkeeping.{IsStrand, IsTransaction, AreStrandsOf}
+use Rattle.reorder.proofs.Named.{unassigned, not_undone, undropped, no_changes}
 
 pub put_cases : {A : Type 0} (P : Option A → Type 0) (k x : ℕ) (w : Option A) (f : ℕ → Option A) → (k ≡ x → P w) → ((k == x) ≡ false → P (f x)) → P (put k w f x)
 put_cases P k x w f here other = by_test (k == x) refl
@@ -33,21 +33,21 @@ pub one_in : (x : ℕ) (xs : List ℕ) → is_in x (x ∷ xs) ≡ true
 one_in x xs = rw (eq-eqb x x refl) refl
 
 -- an xid without a strand that is open is named nowhere
-pub strandless : (l : ByXid) (rs : List Record) (x : ℕ) → IsKept l rs → IsOpen rs x → l.strand x ≡ None → is_named rs x ≡ false
+pub strandless : (l : ByXid) (rs : List Record) (x : ℕ) → AreStrandsOf l rs → IsOpen rs x → l.strand x ≡ None → is_named rs x ≡ false
 strandless l rs x h alive none = by_test (is_named rs x) refl
   where
     by_test : (b : Bool) → is_named rs x ≡ b → b ≡ false
-    by_test true named = absurd (no_some (l.strand x) none (h.complete x named alive.running))
+    by_test true named = absurd (no_some (l.strand x) none (h.complete x named (undropped rs x alive.undropped) alive.running))
     by_test false named = refl
 
-no_members : (l : ByXid) (rs : List Record) (x : ℕ) → IsKept l rs → l.strand x ≡ None → l.members x ≡ None
+no_members : (l : ByXid) (rs : List Record) (x : ℕ) → AreStrandsOf l rs → l.strand x ≡ None → l.members x ≡ None
 no_members l rs x h none = by_option (l.members x) refl
   where
     by_option : (o : Option (List ℕ)) → l.members x ≡ o → o ≡ None
     by_option None is = refl
     by_option (Some xs) is = let t : IsTransaction l rs x xs = h.transactions x xs is in absurd (no_some (l.strand x) none (t.strands x t.own))
 
-start_kept : (l : ByXid) (rs : List Record) (x : ℕ) → IsKept l rs → IsOpen rs x → l.strand x ≡ None → IsKept (started x l) rs
+start_kept : (l : ByXid) (rs : List Record) (x : ℕ) → AreStrandsOf l rs → IsOpen rs x → l.strand x ≡ None → AreStrandsOf (started x l) rs
 start_kept l rs x h alive none =
     record {
       strands = λ q s. put_cases (λ o. o ≡ Some s → IsStrand (started x l) rs q s) x q (Some (fresh [])) l.strand
@@ -56,7 +56,7 @@ start_kept l rs x h alive none =
       transactions = λ t xs. put_cases (λ o. o ≡ Some xs → IsTransaction (started x l) rs t xs) x t (Some (x ∷ [])) l.members
           (λ same is. let e : x ∷ [] ≡ xs = cc in subst (λ (v : List ℕ). IsTransaction (started x l) rs t v) e (subst (λ (y : ℕ). IsTransaction (started x l) rs y (x ∷ [])) same new_transaction))
           (λ other is. old_transaction t xs (h.transactions t xs is));
-      complete = λ q named running. put_cases IsSome x q (Some (fresh [])) l.strand (λ same. refl) (λ other. h.complete q named running);
+      complete = λ q named kept running. put_cases IsSome x q (Some (fresh [])) l.strand (λ same. refl) (λ other. h.complete q named kept running);
       rising = h.rising;
     }
   where
@@ -107,24 +107,24 @@ start_kept l rs x h alive none =
       tops = o.tops;
     }
 
-pub same_kept : (a b : ByXid) (rs : List Record) → IsSame a b → IsKept b rs → IsKept a rs
+pub same_kept : (a b : ByXid) (rs : List Record) → IsSame a b → AreStrandsOf b rs → AreStrandsOf a rs
 same_kept a b rs same h =
     record {
       strands = λ q s is. let o : IsStrand b rs q s = h.strands q s (sym (same.strand q) ∙ is) in
           record { chain = o.chain; undone = o.undone; changes = o.changes; freed = o.freed; members = o.members; members_are = same.members (last_of q s.above) ∙ o.members_are; within = o.within };
       transactions = λ t xs is. let o : IsTransaction b rs t xs = h.transactions t xs (sym (same.members t) ∙ is) in
           record { running = o.running; own = o.own; distinct = o.distinct; strands = λ q inn. ap is_some (same.strand q) ∙ o.strands q inn; tops = o.tops };
-      complete = λ q named running. ap is_some (same.strand q) ∙ h.complete q named running;
+      complete = λ q named kept running. ap is_some (same.strand q) ∙ h.complete q named kept running;
       rising = h.rising;
     }
 
 -- after `open` the xid has a strand, the rest is as it was, and what is kept is what these records say
 pub record Opened (a l : ByXid) (rs : List Record) (x : ℕ) : Type 0 where
-  pub kept : IsKept a rs
+  pub kept : AreStrandsOf a rs
   pub some : IsSome (a.strand x)
   pub others : (q : ℕ) → (x == q) ≡ false → a.strand q ≡ l.strand q
 
-pub opened : (s now : StrandsState) (rs : List Record) (x : ℕ) → IsKept (by_xid s) rs → IsOpen rs x → (IsSome ((by_xid s).strand x) → now ≡ s) →
+pub opened : (s now : StrandsState) (rs : List Record) (x : ℕ) → AreStrandsOf (by_xid s) rs → IsOpen rs x → (IsSome ((by_xid s).strand x) → now ≡ s) →
     ((by_xid s).strand x ≡ None → IsSame (by_xid now) (started x (by_xid s))) → Opened (by_xid now) (by_xid s) rs x
 opened s now rs x h alive known new = by_option ((by_xid s).strand x) refl
   where

@@ -7,26 +7,49 @@ use Rattle.tables.specs.declared.change.Change.{Change}
 use Rattle.txlog.specs.declared.record.Record.{Record}
 use Rattle.txlog.specs.declared.record.Body.{Body}
 use Rattle.txlog.specs.declared.record.Body.TheVariants.{Assign, Change as Changed, AbortSub, Abort, Commit}
-use Rattle.txlog.specs.Log.{Entry, IsNext, names, is_named, has_ended, last_of, top_of, kept}
+use Rattle.txlog.specs.Log.{Entry, names, is_named, has_ended, last_of, top_of, kept}
 use Rattle.txlog.proofs.LiveList.{eqb_comm}
 use Rattle.txlog.proofs.Laws.{chain-unassigned, is_named-one}
 use Rattle.reorder.specs.Kept.{kept_entry}
 use Rattle.reorder.specs.Strands.{StrandsState, ByXid, IsSame, by_xid, put, fresh, above_of, is_in, all_in, with_change, without_changes, started, assigned, pushed, undone, ended, joined}
-use Rattle.reorder.specs.Taking.{ReorderState, HasTaken, StartsBehind, Takes, promised}
-use Rattle.reorder.proofs.Named.{or_left, or_right, unassigned}
+use Rattle.reorder.specs.Bookkeeping.{IsBookkeeping}
+use Rattle.reorder.specs.Taking.{ReorderState, HasTaken, MayCome, StartsBehind, Takes, promised}
+use Rattle.reorder.proofs.Named.{or_left, or_right}
 use Rattle.reorder.proofs.Opening.{Opened, opened, same_kept}
 use Rattle.reorder.proofs.Assigning.{assign_kept}
 use Rattle.reorder.proofs.Keeping.{push_kept, undo_kept, end_kept}
-use Rattle.reorder.proofs.Committing.{kept_merged}
+use Rattle.reorder.proofs.Committing.{kept_merged, kept_permuted, none_kept}
 
 abbrev pub state : StrandsState → Bool → ReorderState
 state s failed = record { strands = s; failed = failed }
 
-next_of : (before : List Record) (r : Record) (body : Body) → r.body ≡ body → IsNext before r.body → IsNext before body
-next_of before r body is next = subst (λ (b : Body). IsNext before b) is next
+pub has_taken : (s : StrandsState) (failed : Bool) (rs : List Record) → IsBookkeeping (by_xid s) rs → HasTaken (state s failed) rs
+has_taken s failed rs h = record {
+  running = λ t running. kept_permuted (by_xid s) rs t h.strands running;
+  ended = λ t over. none_kept (by_xid s) rs t h.strands over;
+  ready = h;
+}
 
-quiet : (before : List Record) (r : Record) (body : Body) → r.body ≡ body → None ≡ promised before body → None ≡ promised before r.body
-quiet before r body is none = none ∙ ap (promised before) (sym is)
+pub nothing_taken : (failed : Bool) → HasTaken (state (record { strands = []; members = [] }) failed) []
+nothing_taken failed = has_taken (record { strands = []; members = [] }) failed [] (record {
+  strands = record {
+    strands = λ x s is. let never : None ≡ Some s = is in cc;
+    transactions = λ t xs is. let never : None ≡ Some xs = is in cc;
+    complete = λ x named kept running. let never : false ≡ true = named in cc;
+    rising = tt;
+  };
+  unnamed = λ x unnamed. refl;
+})
+
+-- what the bookkeeping does with a record of this body that may come next is what `Takes` asks
+takes : (s now : StrandsState) (b d : Bool) (r : Record) (body : Body) (ready : Option (List Entry)) → r.body ≡ body →
+    ((before : List Record) → IsBookkeeping (by_xid s) before → MayCome before body → StartsBehind before r → IsBookkeeping (by_xid now) (before ++ r ∷ []) × (ready ≡ promised before body)) →
+    Takes (state s b) (state now d) r ready
+takes s now b d r body ready is each = record {
+  after = λ before h next behind.
+      let both = each before h.ready (subst (λ (c : Body). MayCome before c) is next) behind in
+      (has_taken now d (before ++ r ∷ []) both.0, both.1 ∙ ap (promised before) (sym is));
+}
 
 -- an xid that is not named with the record is not named without it, nor by it
 before_too : (before : List Record) (r : Record) (q : ℕ) → is_named (before ++ r ∷ []) q ≡ false → is_named before q ≡ false
@@ -41,63 +64,47 @@ put_apart k q w f apart = rw (eqb_comm k q, apart) refl
 pub taken_assign : (s mid now : StrandsState) (b d : Bool) (r : Record) (sub parent : ℕ) → r.body ≡ Assign sub parent →
     (IsSome ((by_xid s).strand parent) → mid ≡ s) → ((by_xid s).strand parent ≡ None → IsSame (by_xid mid) (started parent (by_xid s))) →
     IsSame (by_xid now) (assigned sub parent (by_xid mid)) → Takes (state s b) (state now d) r None
-taken_assign s mid now b d r sub parent body known new same =
-    record {
-      reads = λ before h next behind. after before h (next_of before r (Assign sub parent) body next);
-      gives = λ before h next behind. quiet before r (Assign sub parent) body refl;
-    }
+taken_assign s mid now b d r sub parent body known new same = takes s now b d r (Assign sub parent) None body (λ before h next behind. (after before h next, refl))
   where
-    after : (before : List Record) → HasTaken (state s b) before → IsNext before (Assign sub parent) → HasTaken (state now d) (before ++ r ∷ [])
+    after : (before : List Record) → IsBookkeeping (by_xid s) before → MayCome before (Assign sub parent) → IsBookkeeping (by_xid now) (before ++ r ∷ [])
     after before h next =
-        let o : Opened (by_xid mid) (by_xid s) before parent = opened s mid before parent h.kept next.2 known new in
-        let none : (by_xid mid).strand sub ≡ None = o.others sub (eqb_comm parent sub ∙ next.1) ∙ h.named sub next.0 in
+        let o : Opened (by_xid mid) (by_xid s) before parent = opened s mid before parent h.strands next.2 known new in
+        let none : (by_xid mid).strand sub ≡ None = o.others sub (eqb_comm parent sub ∙ next.1) ∙ h.unnamed sub next.0 in
         record {
-          kept = same_kept (by_xid now) (assigned sub parent (by_xid mid)) (before ++ r ∷ []) same (assign_kept (by_xid mid) before r sub parent o.kept o.some none next.0 body);
-          named = λ q unheard.
+          strands = same_kept (by_xid now) (assigned sub parent (by_xid mid)) (before ++ r ∷ []) same (assign_kept (by_xid mid) before r sub parent o.kept o.some none next.0 body);
+          unnamed = λ q unheard.
               let here : ((q == sub) || (q == parent)) ≡ false = not_here before r (Assign sub parent) q body unheard in
               same.strand q ∙ put_apart sub q (Some (fresh (parent ∷ above_of (by_xid mid) parent))) (by_xid mid).strand (or_left (q == sub) (q == parent) here)
-              ∙ o.others q (eqb_comm parent q ∙ or_right (q == sub) (q == parent) here) ∙ h.named q (before_too before r q unheard);
+              ∙ o.others q (eqb_comm parent q ∙ or_right (q == sub) (q == parent) here) ∙ h.unnamed q (before_too before r q unheard);
         }
 
 pub taken_change : (s mid now : StrandsState) (b d : Bool) (r : Record) (x : ℕ) (c : Change) → r.body ≡ Changed x c →
     (IsSome ((by_xid s).strand x) → mid ≡ s) → ((by_xid s).strand x ≡ None → IsSame (by_xid mid) (started x (by_xid s))) →
     IsSame (by_xid now) (pushed x (kept_entry r) (by_xid mid)) → Takes (state s b) (state now d) r None
-taken_change s mid now b d r x c body known new same =
-    record {
-      reads = λ before h next behind. after before h (next_of before r (Changed x c) body next) behind;
-      gives = λ before h next behind. quiet before r (Changed x c) body refl;
-    }
+taken_change s mid now b d r x c body known new same = takes s now b d r (Changed x c) None body (λ before h next behind. (after before h next behind, refl))
   where
-    after : (before : List Record) → HasTaken (state s b) before → IsNext before (Changed x c) → StartsBehind before r → HasTaken (state now d) (before ++ r ∷ [])
+    after : (before : List Record) → IsBookkeeping (by_xid s) before → MayCome before (Changed x c) → StartsBehind before r → IsBookkeeping (by_xid now) (before ++ r ∷ [])
     after before h next behind =
-        let o : Opened (by_xid mid) (by_xid s) before x = opened s mid before x h.kept next known new in
+        let o : Opened (by_xid mid) (by_xid s) before x = opened s mid before x h.strands next known new in
         record {
-          kept = same_kept (by_xid now) (pushed x (kept_entry r) (by_xid mid)) (before ++ r ∷ []) same
+          strands = same_kept (by_xid now) (pushed x (kept_entry r) (by_xid mid)) (before ++ r ∷ []) same
               (push_kept (by_xid mid) before r x (kept_entry r) o.kept next o.some behind (rw body (λ above y. refl)) (rw body (λ y. refl)) (rw body (λ y. refl)) (rw body (λ y. refl)) (rw body refl) (rw body refl) refl);
-          named = λ q unheard.
+          unnamed = λ q unheard.
               let here : (q == x) ≡ false = not_here before r (Changed x c) q body unheard in
               same.strand q ∙ put_apart x q (option_map (with_change (kept_entry r)) ((by_xid mid).strand x)) (by_xid mid).strand here
-              ∙ o.others q (eqb_comm x q ∙ here) ∙ h.named q (before_too before r q unheard);
+              ∙ o.others q (eqb_comm x q ∙ here) ∙ h.unnamed q (before_too before r q unheard);
         }
 
 pub taken_rollback : (s now : StrandsState) (b d : Bool) (r : Record) (x : ℕ) → r.body ≡ AbortSub x → IsSame (by_xid now) (undone x (by_xid s)) → Takes (state s b) (state now d) r None
-taken_rollback s now b d r x body same =
-    record {
-      reads = λ before h next behind. after before h (next_of before r (AbortSub x) body next);
-      gives = λ before h next behind. quiet before r (AbortSub x) body refl;
-    }
+taken_rollback s now b d r x body same = takes s now b d r (AbortSub x) None body (λ before h next behind. (after before h, refl))
   where
-    has : (before : List Record) → HasTaken (state s b) before → IsNext before (AbortSub x) → (n : Bool) → is_named before x ≡ n → IsSome ((by_xid s).strand x)
-    has before h next true named = h.kept.complete x named next.1.running
-    has before h next false unheard = let never : true ≡ false = sym next.0 ∙ unassigned before x unheard in cc
-
-    after : (before : List Record) → HasTaken (state s b) before → IsNext before (AbortSub x) → HasTaken (state now d) (before ++ r ∷ [])
-    after before h next =
+    after : (before : List Record) → IsBookkeeping (by_xid s) before → IsBookkeeping (by_xid now) (before ++ r ∷ [])
+    after before h =
         record {
-          kept = same_kept (by_xid now) (undone x (by_xid s)) (before ++ r ∷ []) same
-              (undo_kept (by_xid s) before r x h.kept (has before h next (is_named before x) refl) (rw body (λ above y. refl)) (rw body (λ y. refl)) (rw body (λ y. refl)) (rw body (λ y. refl)) (rw body refl));
-          named = λ q unheard.
-              same.strand q ∙ put_apart x q (option_map without_changes ((by_xid s).strand x)) (by_xid s).strand (not_here before r (AbortSub x) q body unheard) ∙ h.named q (before_too before r q unheard);
+          strands = same_kept (by_xid now) (undone x (by_xid s)) (before ++ r ∷ []) same
+              (undo_kept (by_xid s) before r x h.strands (rw body (λ above y. refl)) (rw body (λ y. refl)) (rw body (λ y. refl)) (rw body (λ y. refl)) (rw body refl));
+          unnamed = λ q unheard.
+              same.strand q ∙ put_apart x q (option_map without_changes ((by_xid s).strand x)) (by_xid s).strand (not_here before r (AbortSub x) q body unheard) ∙ h.unnamed q (before_too before r q unheard);
         }
 
 -- an xid that has no strand has none after an end either
@@ -109,38 +116,31 @@ gone l t q none = by_test (is_in q (all_in (l.members t)))
     by_test false = none
 
 pub taken_abort : (s now : StrandsState) (b d : Bool) (r : Record) (t : ℕ) → r.body ≡ Abort t → IsSame (by_xid now) (ended t (by_xid s)) → Takes (state s b) (state now d) r None
-taken_abort s now b d r t body same =
-    record {
-      reads = λ before h next behind. after before h (next_of before r (Abort t) body next);
-      gives = λ before h next behind. quiet before r (Abort t) body refl;
-    }
+taken_abort s now b d r t body same = takes s now b d r (Abort t) None body (λ before h next behind. (after before h next, refl))
   where
-    after : (before : List Record) → HasTaken (state s b) before → IsNext before (Abort t) → HasTaken (state now d) (before ++ r ∷ [])
+    after : (before : List Record) → IsBookkeeping (by_xid s) before → MayCome before (Abort t) → IsBookkeeping (by_xid now) (before ++ r ∷ [])
     after before h next =
         record {
-          kept = same_kept (by_xid now) (ended t (by_xid s)) (before ++ r ∷ []) same
-              (end_kept (by_xid s) before r t h.kept next.0 (rw body (λ above y. refl)) (rw body (λ y. refl)) (rw body (λ y. refl)) (rw body (λ y. refl)) (rw body refl));
-          named = λ q unheard. same.strand q ∙ gone (by_xid s) t q (h.named q (before_too before r q unheard));
+          strands = same_kept (by_xid now) (ended t (by_xid s)) (before ++ r ∷ []) same
+              (end_kept (by_xid s) before r t h.strands next.0 (rw body (λ above y. refl)) (rw body (λ y. refl)) (rw body (λ y. refl)) (rw body (λ y. refl)) (rw body refl));
+          unnamed = λ q unheard. same.strand q ∙ gone (by_xid s) t q (h.unnamed q (before_too before r q unheard));
         }
 
 pub taken_commit : (s now : StrandsState) (b d : Bool) (r : Record) (t : ℕ) (time : ℤ) (sorted : List Entry) → r.body ≡ Commit t time →
     IsNonDecreasingBy (λ (e : Entry). e.position) sorted → IsStableByKey (λ (e : Entry). e.position) nat_cmp (joined (by_xid s) t) sorted →
     IsSame (by_xid now) (ended t (by_xid s)) → Takes (state s b) (state now d) r (Some sorted)
 taken_commit s now b d r t time sorted body up stable same =
-    record {
-      reads = λ before h next behind. after before h (next_of before r (Commit t time) body next);
-      gives = λ before h next behind. brings before h (next_of before r (Commit t time) body next) ∙ ap (promised before) (sym body);
-    }
+    takes s now b d r (Commit t time) (Some sorted) body (λ before h next behind. (after before h next, brings before h next))
   where
-    after : (before : List Record) → HasTaken (state s b) before → IsNext before (Commit t time) → HasTaken (state now d) (before ++ r ∷ [])
+    after : (before : List Record) → IsBookkeeping (by_xid s) before → MayCome before (Commit t time) → IsBookkeeping (by_xid now) (before ++ r ∷ [])
     after before h next =
         record {
-          kept = same_kept (by_xid now) (ended t (by_xid s)) (before ++ r ∷ []) same
-              (end_kept (by_xid s) before r t h.kept next.0 (rw body (λ above y. refl)) (rw body (λ y. refl)) (rw body (λ y. refl)) (rw body (λ y. refl)) (rw body refl));
-          named = λ q unheard. same.strand q ∙ gone (by_xid s) t q (h.named q (before_too before r q unheard));
+          strands = same_kept (by_xid now) (ended t (by_xid s)) (before ++ r ∷ []) same
+              (end_kept (by_xid s) before r t h.strands next.0 (rw body (λ above y. refl)) (rw body (λ y. refl)) (rw body (λ y. refl)) (rw body (λ y. refl)) (rw body refl));
+          unnamed = λ q unheard. same.strand q ∙ gone (by_xid s) t q (h.unnamed q (before_too before r q unheard));
         }
 
-    brings : (before : List Record) → HasTaken (state s b) before → IsNext before (Commit t time) → Some sorted ≡ Some (kept before t)
+    brings : (before : List Record) → IsBookkeeping (by_xid s) before → MayCome before (Commit t time) → Some sorted ≡ Some (kept before t)
     brings before h next =
         let top : top_of before t ≡ t = ap (last_of t) (chain-unassigned before t next.0) in
-        ap Some (kept_merged (by_xid s) before t sorted h.kept (ap (has_ended before) (sym top) ∙ next.1.running) up stable)
+        ap Some (kept_merged (by_xid s) before t sorted h.strands (ap (has_ended before) (sym top) ∙ next.1.running) up stable)

@@ -40,7 +40,7 @@ impl Reorder {
     }
 
     /// Takes the next record of a log. Refused for memory (Q2), or after that (Q3), it is failed for good.
-    pub fn take(&mut self, alloc: Global, next: &Arc<Record>) -> Result<Step, ReorderFault>
+    pub fn take(&mut self, next: &Arc<Record>) -> Result<Step, ReorderFault>
         ensures ok { IfOk result (λ step. Takes self.old self.new next.now.value (readied step)) }
         ensures running { OnOk result ((self.old.failed ≡ false) × (self.new.failed ≡ false)) }
         ensures fails { OnErr result (self.new.failed ≡ true) }
@@ -51,30 +51,30 @@ impl Reorder {
             return Err(ReorderFault::Failed);
         }
         self.failed = true;
-        let step = self.regroup(alloc, next)?;
+        let step = self.regroup(next)?;
         self.failed = false;
         Ok(step)
     }
 
     /// What the record does to the strands, and what it makes ready of them.
-    fn regroup(&mut self, alloc: Global, next: &Arc<Record>) -> Result<Step, AllocError>
+    fn regroup(&mut self, next: &Arc<Record>) -> Result<Step, AllocError>
         ensures takes { IfOk result (λ step. Takes self.old self.new next.now.value (readied step)) }
         ensures failed { self.new.failed ≡ self.old.failed }
     {
         match &next.body {
             Body::Assign(sub, parent) => {
-                self.strands.open(alloc, *parent)?;
-                self.strands.assign(alloc, *sub, *parent)?;
+                self.strands.open(*parent)?;
+                self.strands.assign(*sub, *parent)?;
             }
             Body::Change(xid, _) => {
-                self.strands.open(alloc, *xid)?;
+                self.strands.open(*xid)?;
                 let kept = Kept::of(next)?;
                 self.strands.push(*xid, kept)?;
             }
-            Body::AbortSub(xid) => self.strands.undo(alloc, *xid),
+            Body::AbortSub(xid) => self.strands.undo(*xid),
             Body::Abort(top) => self.strands.end(*top),
             Body::Commit(top, _) => {
-                let changes = self.strands.kept(alloc, *top)?;
+                let changes = self.strands.kept(*top)?;
                 self.strands.end(*top);
                 return Ok(Step::Ready(Ready::new(changes)));
             }

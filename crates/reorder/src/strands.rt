@@ -22,6 +22,7 @@ use std::marker::Model;
 /// The strands of all xids of the transactions in progress.
 #[derive(Debug, Drop)]
 pub(crate) struct Strands {
+    alloc: Global,
     strands: HashMap<u32, Strand>,
     members: HashMap<u32, Members>,
 }
@@ -39,29 +40,30 @@ impl Strands {
         ensures { result ≡ record { strands = []; members = [] } }
     {
         Strands {
+            alloc,
             strands: HashMap::new(alloc),
             members: HashMap::new(alloc),
         }
     }
 
     /// Makes the xid a transaction, unless it has a strand.
-    pub(crate) fn open(&mut self, alloc: Global, xid: u32) -> Result<(), AllocError>
+    pub(crate) fn open(&mut self, xid: u32) -> Result<(), AllocError>
         ensures known { OnOk result (IsSome ((by_xid self.old).strand xid) → self.new ≡ self.old) }
         ensures fresh { OnOk result ((by_xid self.old).strand xid ≡ None → IsSame (by_xid self.new) (started xid (by_xid self.old))) }
     {
         if self.strands.contains_key(&xid) {
             return Ok(());
         }
-        self.start(alloc, xid)
+        self.start(xid)
     }
 
     /// Makes an xid without a strand a transaction.
-    fn start(&mut self, alloc: Global, xid: u32) -> Result<(), AllocError>
+    fn start(&mut self, xid: u32) -> Result<(), AllocError>
         ensures { OnOk result (IsSame (by_xid self.new) (started xid (by_xid self.old))) }
     {
-        let members = Members::of(alloc, xid)?;
+        let members = Members::of(self.alloc, xid)?;
         self.members.insert(xid, members)?;
-        let strand = Strand::under(alloc, Vec::new(alloc));
+        let strand = Strand::under(self.alloc, Vec::new(self.alloc));
         self.strands.insert(xid, strand)?;
         Ok(())
     }
@@ -77,29 +79,29 @@ impl Strands {
     }
 
     /// Rolls back an xid that has a strand.
-    pub(crate) fn undo(&mut self, alloc: Global, xid: u32)
+    pub(crate) fn undo(&mut self, xid: u32)
         ensures { IsSame (by_xid self.new) (undone xid (by_xid self.old)) }
     {
-        undo_at(&mut self.strands, alloc, xid);
+        undo_at(&mut self.strands, self.alloc, xid);
     }
 
     /// Puts an xid without a strand under another that has one.
-    pub(crate) fn assign(&mut self, alloc: Global, sub: u32, parent: u32) -> Result<(), AllocError>
+    pub(crate) fn assign(&mut self, sub: u32, parent: u32) -> Result<(), AllocError>
         ensures { OnOk result (IsSame (by_xid self.new) (assigned sub parent (by_xid self.old))) }
     {
-        let above = self.chain(alloc, parent)?;
+        let above = self.chain(parent)?;
         let top = last_or(parent, above.as_slice());
         add_member(&mut self.members, top, sub)?;
-        let strand = Strand::under(alloc, above);
+        let strand = Strand::under(self.alloc, above);
         self.strands.insert(sub, strand)?;
         Ok(())
     }
 
     /// The xid, and those above it up to its transaction.
-    fn chain(&self, alloc: Global, xid: u32) -> Result<Vec<u32>, AllocError>
+    fn chain(&self, xid: u32) -> Result<Vec<u32>, AllocError>
         ensures { IfOk result (λ v. v.items ≡ xid ∷ above_of (by_xid self.now) xid) }
     {
-        let mut chain = Vec::new(alloc);
+        let mut chain = Vec::new(self.alloc);
         chain.push(xid)?;
         if let Some(strand) = self.strands.get(&xid) {
             chain.extend_from_slice(strand.above())?;
@@ -117,25 +119,25 @@ impl Strands {
     }
 
     /// The changes that a transaction keeps, in the order of their positions.
-    pub(crate) fn kept(&self, alloc: Global, top: u32) -> Result<Vec<Kept>, AllocError>
+    pub(crate) fn kept(&self, top: u32) -> Result<Vec<Kept>, AllocError>
         ensures rising { IfOk result (λ v. IsNonDecreasingBy (λ e. e.position) v.items) }
         ensures same { IfOk result (λ v. IsStableByKey (λ e. e.position) nat_cmp (joined (by_xid self.now) top) v.items) }
     {
-        let mut changes = self.joined(alloc, top)?;
+        let mut changes = self.joined(top)?;
         changes.sort_by_key(|kept| kept.position())?;
         Ok(changes)
     }
 
     /// The changes that a transaction keeps, xid after xid.
-    fn joined(&self, alloc: Global, top: u32) -> Result<Vec<Kept>, AllocError>
+    fn joined(&self, top: u32) -> Result<Vec<Kept>, AllocError>
         ensures { IfOk result (λ v. v.items ≡ joined (by_xid self.now) top) }
     {
         match self.members.get(&top) {
             Some(members) => {
-                let joined = joined_changes(alloc, &self.strands, members.as_slice())?;
+                let joined = joined_changes(self.alloc, &self.strands, members.as_slice())?;
                 Ok(joined)
             }
-            None => Ok(Vec::new(alloc)),
+            None => Ok(Vec::new(self.alloc)),
         }
     }
 }

@@ -139,6 +139,14 @@ impl Sender {
         !self.outgoing.held.is_empty()
     }
 
+    /// Ends the sender: what it held is lost, and its selection is given back.
+    pub fn into_selection(self) -> Selection
+        ensures { result ≡ self.selection }
+    {
+        let Sender { selection, .. } = self;
+        selection
+    }
+
     /// The end of the last record read, at first where the sender began.
     pub fn position(&self) -> u64
         ensures { result ≡ self.now.position }
