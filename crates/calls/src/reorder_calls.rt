@@ -5,11 +5,13 @@ use std::alloc::Global;
 use std::sync::Arc;
 use std::test::Fail;
 use tables::{Change, Row};
-use txlog::{Body, Record};
+use txlog::{Body, LoggedChange, Record};
 
 /// An insert of a row of no values by this xid.
-fn insert(alloc: Global, xid: u32) -> Body {
-    Body::Change(xid, Change::Insert(16384, Row::new(Vec::new(alloc))))
+fn insert(alloc: Global, xid: u32) -> Result<Body, Fail> {
+    let change = Change::Insert(16384, Row::new(Vec::new(alloc)));
+    let change = LoggedChange::new(change).ok_or("a short change")?;
+    Ok(Body::Change(xid, change))
 }
 
 /// The positions of the changes that these records make ready; a zero closes each commit.
@@ -26,7 +28,7 @@ fn ready(alloc: Global, bodies: Vec<Body>) -> Result<Vec<u64>, Fail> {
                 body,
             },
         )?;
-        match reorder.take(alloc, &next)? {
+        match reorder.take(&next)? {
             Step::Quiet => {}
             Step::Ready(ready) => {
                 let added = add_ready(&mut seen, &reorder, &ready);
@@ -51,9 +53,9 @@ fn the_second_commits_first(rt: HostRuntime) -> Result<(), Fail> {
     let alloc = rt.alloc();
     let log = vec![in alloc;
         Body::Abort(699),
-        insert(alloc, 700),
-        insert(alloc, 701),
-        insert(alloc, 700),
+        insert(alloc, 700)?,
+        insert(alloc, 701)?,
+        insert(alloc, 700)?,
         Body::Commit(701, 1),
         Body::Commit(700, 2),
     ]?;
@@ -70,7 +72,7 @@ fn a_log_without_its_front(rt: HostRuntime) -> Result<(), Fail> {
     let alloc = rt.alloc();
     let log = vec![in alloc;
         Body::AbortSub(702),
-        insert(alloc, 701),
+        insert(alloc, 701)?,
         Body::Commit(700, 1),
         Body::Commit(701, 2),
     ]?;
