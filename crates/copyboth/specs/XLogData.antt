@@ -1,6 +1,6 @@
 -- XLogData (PostgreSQL 15, 55.4): w, the position at which the data starts, the end of the log at the server, the
 -- server's clock, and the data.
-use Rattle.std.specs.Prelude.{ℕ, ℤ, List, [], ◌∷◌, ◌++◌}
+use Rattle.std.specs.Prelude.{ℕ, ℤ, List, ◌∷◌, ◌++◌}
 use Rattle.std.specs.Int.{w64, cast_unsigned}
 use Rattle.frames.specs.Fields.{int64}
 use Rattle.copyboth.specs.declared.xlogdata.TheConstants.{XLOGDATA}

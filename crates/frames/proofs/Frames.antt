@@ -1,17 +1,17 @@
 -- The laws of regular frames, over any set of them: what reading a type byte, a length and a body finds, that it finds
 -- what was spelled, what it waits for, and where its faults stand.
-use Rattle.std.proofs.Common.{◌≡◌, ℕ, suc, ◌+◌, ◌-◌, ◌^◌, ◌<◌, ◌≤◌, Bool, true, false, cond, ltb, eqb, List, [], ◌∷◌, ◌++◌, length, take, drop, Option, Some, None, Result, Ok, Err, refl, sym, ap, subst, ◌∙◌, append_assoc, arith, inl, inr}
+use Rattle.std.proofs.Common.{◌≡◌, ℕ, ◌+◌, ◌-◌, ◌^◌, ◌<◌, ◌≤◌, Bool, true, false, cond, ltb, List, [], ◌∷◌, ◌++◌, length, take, drop, Option, Some, None, Result, Ok, Err, refl, sym, ap, subst, ◌∙◌, append_assoc, arith, inl, inr}
 use Rattle.std.specs.Prelude.{◌⊎◌, option_map, IfOk, IfErr, IfSome, IsSomeAnd}
 use Rattle.std.specs.Option.{ok_or}
 use Rattle.std.specs.Int.{w32}
 use Rattle.std.proofs.lemmas.Bool.{ltb-true, ltb-false, le-ltb, lt-ltb, cases_lt}
-use Rattle.std.proofs.lemmas.List.{take_at, drop_at, take-append-drop, take-append-le, length-append, length-take, length-drop}
+use Rattle.std.proofs.lemmas.List.{take_at, drop_at, take-append-drop, take-append-le, length-append, length-drop}
 use Rattle.frames.specs.Fields.{int32, bytes_at, number_at}
 use Rattle.frames.specs.Steps.{◌>>=◌}
 use Rattle.frames.specs.declared.fault.FrameFault.{FrameFault}
 use Rattle.frames.specs.declared.fault.FrameFault.TheVariants.{BadLength, BadVersion, UnknownType, BadBody, NotUtf8, TooLong, Memory}
-use Rattle.frames.specs.Frame.{frame, FitsLength, with_size, with_kind, SpellsFrame, IsShort, Fails, Gives, sized_at, body_at, raw_at, whole_of, framed_at, IsWhole, BeginsWith, HoldsFrame, StandsAt}
-use Rattle.frames.proofs.Codec.{IsBytes, IsBytes-take, IsBytes-rest, bind_ok, found_some, some_is, done, ok_is, Takes, Codec}
+use Rattle.frames.specs.Frame.{frame, FitsLength, with_size, with_kind, SpellsFrame, IsShort, Fails, Gives, sized_at, body_at, raw_at, whole_of, framed_at, IsWhole, HoldsFrame, StandsAt}
+use Rattle.frames.proofs.Codec.{IsBytes, IsBytes-take, IsBytes-rest, bind_ok, found_some, some_is, done, ok_is}
 use Rattle.frames.proofs.Numbers.{number32, bytes_codec, length-int32}
 
 -- ---- steps

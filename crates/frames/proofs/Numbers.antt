@@ -1,5 +1,5 @@
 -- The codecs of the plain fields: numbers, counts, bytes, strings and letters.
-use Rattle.std.proofs.Common.{◌≡◌, ℕ, ℤ, zero, suc, ◌+◌, ◌^◌, ◌<◌, ◌≤◌, Bool, true, false, cond, ltb, eqb, List, [], ◌∷◌, ◌++◌, length, get_or, take, drop, Option, Some, None, Result, Ok, Err, refl, sym, ap, subst, ◌∙◌, append_assoc, arith}
+use Rattle.std.proofs.Common.{◌≡◌, ℕ, suc, ◌+◌, ◌^◌, ◌<◌, ◌≤◌, Bool, true, false, cond, ltb, eqb, List, [], ◌∷◌, ◌++◌, length, take, drop, Option, Some, None, Result, Ok, Err, refl, sym, ap, subst, ◌∙◌, append_assoc, arith}
 use Rattle.std.specs.Prelude.{option_map, ◌||◌, FitsSigned}
 use Rattle.std.specs.Option.{ok_or}
 use Rattle.std.specs.List.{position_or_len}
@@ -11,8 +11,8 @@ use Rattle.std.proofs.lemmas.List.{take_at, drop_at, take-append-drop, length-ap
 use Rattle.std.proofs.lemmas.List.Recursion.{is_position_or_len}
 use Rattle.std.proofs.lemmas.Nat.{be_bytes_2, be_bytes_4, be_bytes_8, from_be_bytes-to_be_bytes_2, from_be_bytes-to_be_bytes_4, from_be_bytes-to_be_bytes_8}
 use Rattle.frames.specs.Fields.{byte_at, bytes_at, number_at, string, string_at, has_zero, int16, int32, int64}
-use Rattle.frames.specs.Steps.{◌>>=◌, mark_at, letter_at, count_at, signed_at}
-use Rattle.frames.proofs.Codec.{IsBytes, IsBytes-drop, IsBytes-take, IsBytes-rest, bind_ok, found_some, not_missing, some_is, done, ok_is, Takes, Codec, tested, with_range, converted}
+use Rattle.frames.specs.Steps.{◌>>=◌, mark_at, letter_at}
+use Rattle.frames.proofs.Codec.{IsBytes, IsBytes-drop, IsBytes-take, IsBytes-rest, bind_ok, found_some, not_missing, ok_is, Takes, Codec, tested, with_range, converted}
 
 -- what the numbers of a width are
 pub record IsWide (w : Width) (limit : ℕ) : Type 0 where

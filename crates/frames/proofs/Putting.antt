@@ -1,7 +1,7 @@
 -- Writers in place.
-use Rattle.std.proofs.Common.{◌≡◌, ◌≤◌, ℕ, List, ◌++◌, length, take, Result, Ok, Err, refl, sym, ap, ◌∙◌, append_assoc, arith}
+use Rattle.std.proofs.Common.{◌≤◌, ℕ, List, ◌++◌, length, take, refl, sym, ap, ◌∙◌, arith}
 use Rattle.std.proofs.lemmas.List.{take_at, take_all, take-take, length-append}
-use Rattle.frames.specs.Putting.{Extends, Puts}
+use Rattle.frames.specs.Putting.{Extends}
 
 pub extends_itself : (old : List ℕ) → Extends old old
 extends_itself old = take_all (length old) old (omega arith)

@@ -1,5 +1,5 @@
 -- The frames that the server sends: their type bytes, limits and bodies, and how they are spelled and read.
-use Rattle.std.specs.Prelude.{◌≡◌, ℕ, ◌==◌, List, Option, Some, None, Result, Ok, Err, if◌then◌else◌}
+use Rattle.std.specs.Prelude.{ℕ, ◌==◌, List, Option, Some, None, Result, Ok, Err, if◌then◌else◌}
 use Rattle.frames.specs.declared.back.Back.{Back}
 use Rattle.frames.specs.declared.back.Back.TheVariants.{CopyData}
 use Rattle.frames.specs.declared.copy_data.TheConstants.{COPY_DATA}

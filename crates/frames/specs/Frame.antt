@@ -1,6 +1,6 @@
 -- What all regular frames have in common (PostgreSQL 15, 55.1.1 and 55.7): one type byte, a length of four bytes that
 -- counts itself and not the type byte, and the body. The length is read as an unsigned number.
-use Rattle.std.specs.Prelude.{◌≡◌, ◌≢◌, ℕ, ◌+◌, ◌-◌, ◌^◌, ◌<◌, ◌≤◌, List, [], ◌∷◌, ◌++◌, length, Option, Some, None, option_map, IsSomeAnd, Result, Ok, Err, nat_lt, if◌then◌else◌}
+use Rattle.std.specs.Prelude.{◌≡◌, ℕ, ◌+◌, ◌-◌, ◌^◌, ◌<◌, ◌≤◌, List, [], ◌∷◌, ◌++◌, length, Option, Some, None, option_map, IsSomeAnd, Result, Ok, Err, nat_lt, if◌then◌else◌}
 use Rattle.std.specs.Option.{ok_or}
 use Rattle.std.specs.Int.{w32}
 use Rattle.frames.specs.Fields.{int32, bytes_at, number_at}

@@ -1,6 +1,6 @@
 -- Reading one field after the other, up to the first fault. The faults are each reader's own: `short` where the field
 -- isn't there whole, `other` where it is there and can't be read.
-use Rattle.std.specs.Prelude.{◌≡◌, ℕ, ℤ, zero, suc, ◌==◌, nat_lt, List, [], ◌∷◌, Option, Result, Ok, Err, Bool, if◌then◌else◌}
+use Rattle.std.specs.Prelude.{ℕ, ℤ, zero, suc, ◌==◌, nat_lt, List, [], ◌∷◌, Option, Result, Ok, Err, if◌then◌else◌}
 use Rattle.std.specs.Option.{ok_or}
 use Rattle.std.specs.Int.{Width, cast_signed}
 use Rattle.frames.specs.Fields.{byte_at, number_at}

@@ -1,22 +1,15 @@
 -- The laws of a whole message: what is read, what is spelled, and where each fault stands.
-use Rattle.std.proofs.Common.{◌≡◌, ◌≢◌, ℕ, ◌<◌, List, [], ◌∷◌, ◌++◌, length, take, Result, Ok, Err, pos, refl, sym, ap, subst, ◌∙◌, arith, inl, inr}
+use Rattle.std.proofs.Common.{◌≡◌, ◌≢◌, ℕ, ◌<◌, List, [], ◌∷◌, ◌++◌, length, take, Result, Ok, Err, refl, sym, ap, subst, ◌∙◌, arith, inl, inr}
 use Rattle.std.specs.Prelude.{◌⊎◌, IfOk, IfErr}
 use Rattle.std.proofs.lemmas.List.{append-nil, take_at, length-append}
 use Rattle.frames.proofs.Codec.{IsBytes, bind_ok, ok_is}
 use Rattle.pgoutput.specs.declared.fault.OutFault.{OutFault}
 use Rattle.pgoutput.specs.declared.fault.OutFault.TheVariants.{Short, UnknownKind, BadMark, BadText, Trailing, Memory}
 use Rattle.pgoutput.specs.declared.logical.Logical.{Logical}
-use Rattle.pgoutput.specs.declared.logical.Logical.TheVariants as logical
-use Rattle.pgoutput.specs.declared.begin.TheConstants.{BEGIN}
-use Rattle.pgoutput.specs.declared.commit.TheConstants.{COMMIT}
-use Rattle.pgoutput.specs.declared.relation.TheConstants.{RELATION}
-use Rattle.pgoutput.specs.declared.relation.Identity.TheVariants.{Default}
-use Rattle.pgoutput.specs.declared.insert.TheConstants.{INSERT}
 use Rattle.pgoutput.specs.Reading.{Answers}
-use Rattle.pgoutput.specs.Logical.{logical_at, logical_field, alone, whole_of, spell_logical, kind_byte, FitsLogical, SpellsLogical, Stands}
-use Rattle.pgoutput.proofs.Engine.{bind_err}
-use Rattle.pgoutput.proofs.Wires.{logical_wire}
-use Rattle.pgoutput.proofs.Own.{IsFieldFault, is_own, in_begin, in_commit, in_relation, in_insert}
+use Rattle.pgoutput.specs.Logical.{logical_at, alone, whole_of, spell_logical, FitsLogical, SpellsLogical, Stands}
+use Rattle.pgoutput.proofs.Engine.{bind_err, IsFieldFault}
+use Rattle.pgoutput.proofs.Wires.{logical_chosen, logical_codec, logical_ends}
 
 -- ---- what is read and what is spelled
 
@@ -27,7 +20,7 @@ left_alone m n (b ∷ rest) e = absurd cc
 whole_takes : (bytes : List ℕ) (m : Logical) → IsBytes bytes → whole_of bytes ≡ Ok m → SpellsLogical bytes m
 whole_takes bytes m fits e =
     let a = bind_ok (logical_at bytes) (λ a. alone a.0 a.1) m e in
-    let t = logical_wire.codec.takes bytes a.0.0 a.0.1 fits a.1 in
+    let t = logical_codec.takes bytes a.0.0 a.0.1 fits a.1 in
     let l = left_alone a.0.0 m a.0.1 a.2 in
     let text : bytes ≡ spell_logical a.0.0 = t.0.parts ∙ ap (λ (r : List ℕ). spell_logical a.0.0 ++ r) l.1 ∙ append-nil (spell_logical a.0.0) in
     let P : Logical → Type 0 = λ n. SpellsLogical bytes n in
@@ -36,7 +29,7 @@ whole_takes bytes m fits e =
 whole_again : (bytes : List ℕ) (m : Logical) → SpellsLogical bytes m → whole_of bytes ≡ Ok m
 whole_again bytes m s =
     let text : bytes ≡ spell_logical m ++ [] = s.text ∙ sym (append-nil (spell_logical m)) in
-    rw (text, logical_wire.codec.again m [] s.in_range) refl
+    rw (text, logical_codec.again m [] s.in_range) refl
 
 pub is_found : (bytes : List ℕ) (result : Result Logical OutFault) → IsBytes bytes → Answers result (whole_of bytes) → IfOk result (λ m. SpellsLogical bytes m)
 is_found bytes (Ok m) fits e = whole_takes bytes m fits e
@@ -57,71 +50,26 @@ is_only bytes result e m s = subst (λ (read : Result Logical OutFault). Answers
 
 -- ---- where a fault stands
 
--- in the fields behind this kind byte, or behind another
-past : {Is Here Other Others R : Type 0} → (Here → R) → (Is × Here) ⊎ (Other × Others) → (Other → Others → R) → R
-past here s others = elim s [
-  | inl a ↦ here a.1
-  | inr a ↦ others a.0 a.1
+-- which message it is, is judged first
+kind_judged : (bytes : List ℕ) (e : OutFault) → logical_at bytes ≡ Err e → IsFieldFault e ⊎ ((e ≡ UnknownKind) × Stands UnknownKind bytes)
+unfolding logical_at
+kind_judged [] e is = let same : Short ≡ e = cc in inl (subst IsFieldFault same tt)
+kind_judged (b ∷ bytes) e is = elim (logical_chosen.own b bytes e is) [
+  | inl own ↦ inl own
+  | inr other ↦ inr (other.0, (b, bytes, refl, other.1))
 ]
 
-no_message : (b : ℕ) → b ≢ BEGIN → b ≢ COMMIT → b ≢ RELATION → b ≢ INSERT → (m : Logical) → kind_byte m ≢ b
-no_message b begin commit relation insert (logical.Begin m) = λ same. begin (sym same)
-no_message b begin commit relation insert (logical.Commit m) = λ same. commit (sym same)
-no_message b begin commit relation insert (logical.Relation m) = λ same. relation (sym same)
-no_message b begin commit relation insert (logical.Insert m) = λ same. insert (sym same)
+kind_refused : (bytes : List ℕ) → Stands UnknownKind bytes → logical_at bytes ≡ Err UnknownKind
+unfolding logical_at
+kind_refused bytes s = ap logical_at s.2 ∙ logical_chosen.other s.0 s.1 s.3
 
-judged : (bytes : List ℕ) (e : OutFault) → logical_field.Stops e bytes → IsFieldFault e ⊎ ((e ≡ UnknownKind) × Stands UnknownKind bytes)
-judged bytes e s = elim s [
-  | inl short ↦ inl (is_own Short e short.0 tt)
-  | inr a ↦
-      past (λ here. inl (in_begin.own e a.1 here)) a.3 (λ begin s.
-      past (λ here. inl (in_commit.own e a.1 here)) s (λ commit s.
-      past (λ here. inl (in_relation.own e a.1 here)) s (λ relation s.
-      past (λ here. inl (in_insert.own e a.1 here)) s (λ insert s.
-      inr (s, (a.0, a.1, a.2, no_message a.0 begin commit relation insert))))))
-]
-
--- a message of each kind
-a_begin : Logical
-a_begin = logical.Begin (record { position = 0; time = pos 0; xid = 0 })
-
-a_commit : Logical
-a_commit = logical.Commit (record { position = 0; end = 0; time = pos 0 })
-
-a_relation : Logical
-a_relation = logical.Relation (record { oid = 0; namespace = []; name = []; identity = Default; columns = [] })
-
-an_insert : Logical
-an_insert = logical.Insert (record { oid = 0; new = [] })
-
-kind_stops : (bytes : List ℕ) → Stands UnknownKind bytes → logical_field.Stops UnknownKind bytes
-unfolding a_begin a_commit a_relation an_insert
-kind_stops bytes s = inr (
-  s.0,
-  s.1,
-  s.2,
-  inr (
-    λ same. s.3 a_begin (sym same),
-    inr (
-      λ same. s.3 a_commit (sym same),
-      inr (
-        λ same. s.3 a_relation (sym same),
-        inr (
-          λ same. s.3 an_insert (sym same),
-          refl,
-        ),
-      ),
-    ),
-  ),
-)
-
-field_fault : (bytes : List ℕ) (e : OutFault) → logical_field.Stops e bytes → IsFieldFault e → Stands e bytes
-field_fault bytes Short s own = s
-field_fault bytes BadMark s own = s
-field_fault bytes BadText s own = s
-field_fault bytes UnknownKind s own = absurd own
-field_fault bytes Trailing s own = absurd own
-field_fault bytes Memory s own = absurd own
+field_stands : (bytes : List ℕ) (e : OutFault) → IsFieldFault e → whole_of bytes ≡ Err e → Stands e bytes
+field_stands bytes Short own is = is
+field_stands bytes BadMark own is = is
+field_stands bytes BadText own is = is
+field_stands bytes UnknownKind own is = absurd own
+field_stands bytes Trailing own is = absurd own
+field_stands bytes Memory own is = absurd own
 
 behind_message : (m : Logical) (rest : List ℕ) (e : OutFault) → alone m rest ≡ Err e → (e ≡ Trailing) × (rest ≢ [])
 behind_message m [] e is = absurd cc
@@ -134,23 +82,23 @@ left_over m (b ∷ rest) some = refl
 whole_stops : (bytes : List ℕ) (e : OutFault) → IsBytes bytes → whole_of bytes ≡ Err e → Stands e bytes
 whole_stops bytes e fits is =
     elim (bind_err (logical_at bytes) (λ a. alone a.0 a.1) e is) [
-      | inl here ↦ let s = logical_wire.stops bytes e fits here in
-          elim (judged bytes e s) [
-            | inl own ↦ field_fault bytes e s own
+      | inl here ↦
+          elim (kind_judged bytes e here) [
+            | inl own ↦ field_stands bytes e own is
             | inr kind ↦ subst (λ (d : OutFault). Stands d bytes) (sym kind.0) kind.1
           ]
       | inr a ↦
-          let t = logical_wire.codec.takes bytes a.0.0 a.0.1 fits a.1 in
+          let t = logical_codec.takes bytes a.0.0 a.0.1 fits a.1 in
           let over = behind_message a.0.0 a.0.1 e a.2 in
           subst (λ (d : OutFault). Stands d bytes) (sym over.0) (a.0.0, a.0.1, t.1, t.0.parts, over.1)
     ]
 
 whole_stands : (bytes : List ℕ) (e : OutFault) → e ≢ Memory → Stands e bytes → whole_of bytes ≡ Err e
-whole_stands bytes Short some s = rw (logical_wire.stands bytes Short s) refl
-whole_stands bytes BadMark some s = rw (logical_wire.stands bytes BadMark s) refl
-whole_stands bytes BadText some s = rw (logical_wire.stands bytes BadText s) refl
-whole_stands bytes UnknownKind some s = rw (logical_wire.stands bytes UnknownKind (kind_stops bytes s)) refl
-whole_stands bytes Trailing some s = rw (s.3, logical_wire.codec.again s.0 s.1 s.2) (left_over s.0 s.1 s.4)
+whole_stands bytes Short some s = s
+whole_stands bytes BadMark some s = s
+whole_stands bytes BadText some s = s
+whole_stands bytes UnknownKind some s = rw (kind_refused bytes s) refl
+whole_stands bytes Trailing some s = rw (s.3, logical_codec.again s.0 s.1 s.2) (left_over s.0 s.1 s.4)
 whole_stands bytes Memory some s = absurd (some refl)
 
 pub is_fault : (bytes : List ℕ) (result : Result Logical OutFault) → IsBytes bytes → Answers result (whole_of bytes) → (result ≡ Err Memory → Stands Memory bytes)
@@ -179,7 +127,7 @@ is_cut bytes result a text more m s parts some =
     let spelled : spell_logical m ≡ bytes ++ more = sym s.text ∙ parts in
     let front : take (length bytes) (spell_logical m) ≡ bytes = ap (take (length bytes)) spelled ∙ take_at bytes more (length bytes) refl in
     let less : length bytes < length (spell_logical m) = omega (arith, ap (length {A = ℕ}) spelled, length-append bytes more, not_empty more some) in
-    let short : logical_at bytes ≡ Err Short = ap logical_at (sym front) ∙ logical_wire.cut m (length bytes) s.in_range less in
+    let short : logical_at bytes ≡ Err Short = ap logical_at (sym front) ∙ logical_ends m (length bytes) s.in_range less in
     refused_so bytes result Short a (rw short refl)
   where
     not_empty : (xs : List ℕ) → xs ≢ [] → 0 < length xs
@@ -190,8 +138,8 @@ is_cut bytes result a text more m s parts some =
 
 pub two_spellings : (m n : Logical) (x y : List ℕ) → FitsLogical m → FitsLogical n → spell_logical m ++ x ≡ spell_logical n ++ y → (m ≡ n) × (x ≡ y)
 two_spellings m n x y m_fits n_fits same =
-    let one : logical_at (spell_logical n ++ y) ≡ Ok (m, x) = ap logical_at (sym same) ∙ logical_wire.codec.again m x m_fits in
-    let other : logical_at (spell_logical n ++ y) ≡ Ok (n, y) = logical_wire.codec.again n y n_fits in
+    let one : logical_at (spell_logical n ++ y) ≡ Ok (m, x) = ap logical_at (sym same) ∙ logical_codec.again m x m_fits in
+    let other : logical_at (spell_logical n ++ y) ≡ Ok (n, y) = logical_codec.again n y n_fits in
     let both : Logical × List ℕ = (m, x) in
     let pairs = ok_is OutFault both (n, y) (sym one ∙ other) in
     (ap (λ (p : Logical × List ℕ). p.0) pairs, ap (λ (p : Logical × List ℕ). p.1) pairs)

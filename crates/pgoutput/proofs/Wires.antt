@@ -1,5 +1,7 @@
 -- Each message is read as it is spelled, with its faults.
-use Rattle.std.proofs.Common.{◌≡◌, ℕ, suc, ◌<◌, Bool, true, false, List, ◌++◌, length, take, Some, Ok, Err, refl, arith}
+use Rattle.std.proofs.Common.{◌≡◌, ℕ, suc, ◌<◌, ◌^◌, Bool, true, false, List, ◌++◌, length, take, Some, Ok, Err, refl, arith}
+use Rattle.std.specs.List.{flat_map, AllByRecursion}
+use Rattle.frames.specs.Fields.{int16}
 use Rattle.std.proofs.lemmas.Bool.Decides.{nat_tests}
 use Rattle.pgoutput.specs.declared.fault.OutFault.TheVariants.{Short, UnknownKind, BadMark}
 use Rattle.pgoutput.specs.declared.tuple.Cell.{Cell}
@@ -13,30 +15,30 @@ use Rattle.pgoutput.specs.declared.begin.TheConstants.{BEGIN}
 use Rattle.pgoutput.specs.declared.commit.TheConstants.{COMMIT, COMMIT_FLAGS}
 use Rattle.pgoutput.specs.declared.relation.TheConstants.{RELATION}
 use Rattle.pgoutput.specs.declared.insert.TheConstants.{INSERT, NEW}
-use Rattle.pgoutput.specs.Begin.{begin_at, begin_field}
-use Rattle.pgoutput.specs.Commit.{commit_at, commit_field}
-use Rattle.pgoutput.specs.Relation.{column_at, column_field, columns_at, relation_at, relation_field, identity_of, identity_letter, is_key_of, key_flag}
-use Rattle.pgoutput.specs.Tuple.{cell, FitsCell, cell_at, cell_field, tuple_at, tuple_field}
-use Rattle.pgoutput.specs.Insert.{insert_at, insert_field}
-use Rattle.pgoutput.specs.Logical.{logical_at, logical_field, spell_logical, FitsLogical}
-use Rattle.pgoutput.specs.Stops.{list_field}
-use Rattle.pgoutput.proofs.Engine.{Wire, field, last_field, free_field, wire_of, choice, no_choice, choice_wire}
-use Rattle.pgoutput.proofs.Plain.{number32, number64, signed32, signed64, name_wire, text_wire, list_wire, letter_wire, due_wire, nothing}
+use Rattle.pgoutput.specs.Begin.{begin, FitsBegin, begin_at}
+use Rattle.pgoutput.specs.Commit.{commit, FitsCommit, commit_at}
+use Rattle.pgoutput.specs.Relation.{column, FitsColumn, column_at, columns_at, relation, FitsRelation, relation_at, identity_of, identity_letter, is_key_of, key_flag}
+use Rattle.pgoutput.specs.Tuple.{cell, FitsCell, cell_at, tuple, FitsTuple, tuple_at}
+use Rattle.pgoutput.specs.Insert.{insert, FitsInsert, insert_at}
+use Rattle.pgoutput.specs.Logical.{logical_at, fields_at, is_kind, spell_logical, FitsLogical}
+use Rattle.frames.proofs.Codec.{Codec, choice_codec}
+use Rattle.pgoutput.proofs.Engine.{Wire, field, last_field, free_field, wire_of, Chosen, choice, no_choice, choice_wire, choice_cut}
+use Rattle.pgoutput.proofs.Plain.{number32, number64, signed32, signed64, name_wire, text_wire, list_wire, letter_wire, expected_wire, nothing}
 
-begin_wire : Wire begin_at begin_field
+begin_wire : Wire begin_at begin FitsBegin
 unfolding begin_at
 begin_wire = wire_of (
-    field number64 (λ m. m.position) _ _ _ _ _ (λ position.
-    field signed64 (λ m. m.time) _ _ _ _ _ (λ time.
+    field number64 (λ m. m.position) _ _ _ _ (λ position.
+    field signed64 (λ m. m.time) _ _ _ _ (λ time.
     last_field number32 (λ m. m.xid) _ (λ xid. record { position = position; time = time; xid = xid })
     (λ _. refl) (λ _ _. (refl, (refl, tt))) (λ m known. rw (← known.0, ← known.1.0) refl))))
 
-commit_wire : Wire commit_at commit_field
+commit_wire : Wire commit_at commit FitsCommit
 unfolding commit_at
 commit_wire = wire_of (
-    free_field (due_wire COMMIT_FLAGS) (λ _. tt) (λ _. tt) _ _ _ _ _ (λ flags.
-    field number64 (λ m. m.position) _ _ _ _ _ (λ position.
-    field number64 (λ m. m.end) _ _ _ _ _ (λ end.
+    free_field (expected_wire COMMIT_FLAGS) (λ _. tt) (λ _. tt) _ _ _ _ (λ flags.
+    field number64 (λ m. m.position) _ _ _ _ (λ position.
+    field number64 (λ m. m.end) _ _ _ _ (λ end.
     last_field signed64 (λ m. m.time) _ (λ time. record { position = position; end = end; time = time })
     (λ _. refl) (λ _ _. (refl, (refl, (refl, tt)))) (λ m known. rw (← known.0, ← known.1.0) refl)))))
 
@@ -48,16 +50,16 @@ is_key_back : (x : Bool) → is_key_of (key_flag x) ≡ Some x
 is_key_back true = refl
 is_key_back false = refl
 
-column_wire : Wire column_at column_field
+column_wire : Wire column_at column FitsColumn
 unfolding column_at
 column_wire = wire_of (
-    free_field (letter_wire is_key_of key_flag is_key_there is_key_back) (λ _. tt) (λ m. m.is_key) _ _ _ _ _ (λ is_key.
-    field name_wire (λ m. m.name) _ _ _ _ _ (λ name.
-    field number32 (λ m. m.kind) _ _ _ _ _ (λ kind.
+    free_field (letter_wire is_key_of key_flag is_key_there is_key_back) (λ _. tt) (λ m. m.is_key) _ _ _ _ (λ is_key.
+    field name_wire (λ m. m.name) _ _ _ _ (λ name.
+    field number32 (λ m. m.kind) _ _ _ _ (λ kind.
     last_field signed32 (λ m. m.modifier) _ (λ modifier. record { is_key = is_key; name = name; kind = kind; modifier = modifier })
     (λ _. refl) (λ _ _. (refl, (refl, (refl, tt)))) (λ m known. rw (← known.0, ← known.1.0, ← known.1.1.0) refl)))))
 
-columns_wire : Wire columns_at (list_field column_field)
+columns_wire : Wire columns_at (λ cs. int16 (length cs) ++ flat_map column cs) (λ cs. (length cs < 2 ^ 15) × AllByRecursion FitsColumn cs)
 unfolding columns_at
 columns_wire = list_wire column_wire
 
@@ -73,13 +75,13 @@ identity_back Nothing = refl
 identity_back Full = refl
 identity_back Index = refl
 
-relation_wire : Wire relation_at relation_field
+relation_wire : Wire relation_at relation FitsRelation
 unfolding relation_at
 relation_wire = wire_of (
-    field number32 (λ m. m.oid) _ _ _ _ _ (λ oid.
-    field name_wire (λ m. m.namespace) _ _ _ _ _ (λ namespace.
-    field name_wire (λ m. m.name) _ _ _ _ _ (λ name.
-    free_field (letter_wire identity_of identity_letter identity_there identity_back) (λ _. tt) (λ m. m.identity) _ _ _ _ _ (λ identity.
+    field number32 (λ m. m.oid) _ _ _ _ (λ oid.
+    field name_wire (λ m. m.namespace) _ _ _ _ (λ namespace.
+    field name_wire (λ m. m.name) _ _ _ _ (λ name.
+    free_field (letter_wire identity_of identity_letter identity_there identity_back) (λ _. tt) (λ m. m.identity) _ _ _ _ (λ identity.
     last_field columns_wire (λ m. m.columns) _ (λ columns. record { oid = oid; namespace = namespace; name = name; identity = identity; columns = columns })
     (λ _. refl) (λ _ _. (refl, (refl, (refl, (refl, tt))))) (λ m known. rw (← known.0, ← known.1.0, ← known.1.1.0, ← known.1.1.1.0) refl))))))
 
@@ -95,23 +97,23 @@ cell_cut cells.Null n fits lt = absurd (omega arith)
 cell_cut cells.Unchanged n fits lt = absurd (omega arith)
 cell_cut (cells.Text t) n fits lt = rw (text_wire.cut t n fits (omega arith)) refl
 
-cell_wire : Wire cell_at cell_field
+cell_wire : Wire cell_at cell FitsCell
 unfolding cell_at
 cell_wire = choice_wire (
     choice NULL nothing (λ _. cells.Null) cell FitsCell (λ _. refl) (λ _ fits. fits) (
     choice UNCHANGED nothing (λ _. cells.Unchanged) cell FitsCell (λ _. refl) (λ _ fits. fits) (
     choice TEXT text_wire (λ t. cells.Text t) cell FitsCell (λ _. refl) (λ _ fits. fits) (
-    no_choice BadMark cell FitsCell)))) cell_again cell_cut
+    no_choice BadMark cell FitsCell)))) tt cell_again cell_cut
 
-tuple_wire : Wire tuple_at tuple_field
+tuple_wire : Wire tuple_at tuple FitsTuple
 unfolding tuple_at
 tuple_wire = list_wire cell_wire
 
-insert_wire : Wire insert_at insert_field
+insert_wire : Wire insert_at insert FitsInsert
 unfolding insert_at
 insert_wire = wire_of (
-    field number32 (λ m. m.oid) _ _ _ _ _ (λ oid.
-    free_field (due_wire NEW) (λ _. tt) (λ _. tt) _ _ _ _ _ (λ letter.
+    field number32 (λ m. m.oid) _ _ _ _ (λ oid.
+    free_field (expected_wire NEW) (λ _. tt) (λ _. tt) _ _ _ _ (λ letter.
     last_field tuple_wire (λ m. m.new) _ (λ new. record { oid = oid; new = new })
     (λ _. refl) (λ _ _. (refl, (refl, tt))) (λ m known. rw (← known.1.0) refl))))
 
@@ -131,11 +133,18 @@ logical_cut (logical.Commit m) n fits lt = rw (commit_wire.cut m n fits (omega a
 logical_cut (logical.Relation m) n fits lt = rw (relation_wire.cut m n fits (omega arith)) refl
 logical_cut (logical.Insert m) n fits lt = rw (insert_wire.cut m n fits (omega arith)) refl
 
-pub logical_wire : Wire logical_at logical_field
-unfolding logical_at
-logical_wire = choice_wire (
+pub logical_chosen : Chosen UnknownKind fields_at spell_logical FitsLogical is_kind
+logical_chosen =
     choice BEGIN begin_wire (λ m. logical.Begin m) spell_logical FitsLogical (λ _. refl) (λ _ fits. fits) (
     choice COMMIT commit_wire (λ m. logical.Commit m) spell_logical FitsLogical (λ _. refl) (λ _ fits. fits) (
     choice RELATION relation_wire (λ m. logical.Relation m) spell_logical FitsLogical (λ _. refl) (λ _ fits. fits) (
     choice INSERT insert_wire (λ m. logical.Insert m) spell_logical FitsLogical (λ _. refl) (λ _ fits. fits) (
-    no_choice UnknownKind spell_logical FitsLogical))))) logical_again logical_cut
+    no_choice UnknownKind spell_logical FitsLogical))))
+
+pub logical_codec : Codec logical_at spell_logical FitsLogical
+unfolding logical_at
+logical_codec = choice_codec Short logical_chosen.chooses logical_again
+
+pub logical_ends : (m : Logical) (n : ℕ) → FitsLogical m → n < length (spell_logical m) → logical_at (take n (spell_logical m)) ≡ Err Short
+unfolding logical_at
+logical_ends = choice_cut fields_at spell_logical FitsLogical logical_cut

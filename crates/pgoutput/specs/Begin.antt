@@ -1,11 +1,10 @@
--- Begin (PostgreSQL 15, 55.9): B, the commit record's position, the commit time, the transaction's number.
+-- Begin (PostgreSQL 15, 55.9): B, the commit record's position, the commit time, the transaction's id.
 use Rattle.std.specs.Prelude.{ℕ, ◌<◌, ◌^◌, FitsSigned, List, ◌++◌, Result, Ok}
 use Rattle.std.specs.Int.{w32, w64, cast_unsigned}
 use Rattle.frames.specs.Fields.{int32, int64, number_at}
 use Rattle.frames.specs.Steps.{◌>>=◌}
 use Rattle.pgoutput.specs.Reading.{short, signed64_at}
 use Rattle.pgoutput.specs.declared.fault.OutFault.{OutFault}
-use Rattle.pgoutput.specs.Stops.{FieldOf, In, number32, number64, signed64}
 use Rattle.pgoutput.specs.declared.begin.Begin.{Begin}
 
 abbrev pub begin : Begin → List ℕ
@@ -20,10 +19,3 @@ begin_at bytes = do
   time ← signed64_at position.1
   xid ← short (number_at w32 time.1)
   Ok (record { position = position.0; time = time.0; xid = xid.0 }, xid.1)
-
-abbrev pub begin_field : FieldOf Begin
-begin_field = record {
-  text = begin;
-  Fits = FitsBegin;
-  Stops = In number64 (λ position. In signed64 (λ time. number32.Stops));
-}

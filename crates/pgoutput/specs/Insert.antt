@@ -3,12 +3,11 @@ use Rattle.std.specs.Prelude.{ℕ, ◌<◌, ◌^◌, List, [], ◌∷◌, ◌++�
 use Rattle.std.specs.Int.{w32}
 use Rattle.frames.specs.Fields.{int32, number_at}
 use Rattle.frames.specs.Steps.{◌>>=◌}
-use Rattle.pgoutput.specs.Reading.{short, due}
+use Rattle.pgoutput.specs.Reading.{short, expected}
 use Rattle.pgoutput.specs.declared.fault.OutFault.{OutFault}
-use Rattle.pgoutput.specs.Stops.{FieldOf, In, due_letter, number32}
 use Rattle.pgoutput.specs.declared.insert.Insert.{Insert}
 use Rattle.pgoutput.specs.declared.insert.TheConstants.{NEW}
-use Rattle.pgoutput.specs.Tuple.{tuple, FitsTuple, IsShortTuple, tuple_at, tuple_field}
+use Rattle.pgoutput.specs.Tuple.{tuple, FitsTuple, IsShortTuple, tuple_at}
 
 abbrev pub insert : Insert → List ℕ
 insert m = int32 m.oid ++ ((NEW ∷ []) ++ tuple m.new)
@@ -22,13 +21,6 @@ IsShortInsert m = IsShortTuple m.new
 unfoldable pub insert_at : List ℕ → Result (Insert × List ℕ) OutFault
 insert_at bytes = do
   oid ← short (number_at w32 bytes)
-  letter ← due NEW oid.1
+  letter ← expected NEW oid.1
   new ← tuple_at letter.1
   Ok (record { oid = oid.0; new = new.0 }, new.1)
-
-abbrev pub insert_field : FieldOf Insert
-insert_field = record {
-  text = insert;
-  Fits = FitsInsert;
-  Stops = In number32 (λ oid. In (due_letter NEW) (λ letter. tuple_field.Stops));
-}

@@ -1,5 +1,4 @@
 pub mod Reading
-pub mod Stops
 pub mod Begin
 pub mod Commit
 pub mod Relation

@@ -7,14 +7,14 @@ use Rattle.std.specs.Int.{w16, w32, w64}
 use Rattle.frames.specs.Fields.{string_at, bytes_at}
 use Rattle.frames.specs.Steps.{◌>>=◌, mark_at, letter_at, count_at, signed_at}
 use Rattle.pgoutput.specs.declared.fault.OutFault.{OutFault}
-use Rattle.pgoutput.specs.declared.fault.OutFault.TheVariants.{Short, UnknownKind, BadMark, BadText, Trailing, Memory}
+use Rattle.pgoutput.specs.declared.fault.OutFault.TheVariants.{Short, BadMark, BadText, Memory}
 
 abbrev pub short : {A : Type 0} → Option A → Result A OutFault
 short found = ok_or found Short
 
 -- this letter and no other
-abbrev pub due : ℕ → List ℕ → Result (Unit {0} × List ℕ) OutFault
-due letter bytes = mark_at Short BadMark letter bytes
+abbrev pub expected : ℕ → List ℕ → Result (Unit {0} × List ℕ) OutFault
+expected letter bytes = mark_at Short BadMark letter bytes
 
 -- a letter that stands for a value
 abbrev pub one_of : {X : Type 0} → (ℕ → Option X) → List ℕ → Result (X × List ℕ) OutFault
@@ -47,12 +47,8 @@ text_at bytes = count32_at bytes >>= λ n. short (bytes_at n.0 n.1) >>= λ found
 -- ---- A call that answers what reading gives, unless memory ran out.
 
 abbrev pub Fails : {Y : Type 0} → OutFault → Result Y OutFault → Type 0
-Fails Short read = read ≡ Err Short
-Fails UnknownKind read = read ≡ Err UnknownKind
-Fails BadMark read = read ≡ Err BadMark
-Fails BadText read = read ≡ Err BadText
-Fails Trailing read = read ≡ Err Trailing
 Fails Memory read = Unit {0}
+Fails e read = read ≡ Err e
 
 abbrev pub Answers : {X : Type 0} → Result X OutFault → Result X OutFault → Type 0
 Answers (Ok x) read = read ≡ Ok x

@@ -8,7 +8,6 @@ use Rattle.frames.specs.Fields.{int16, int32, string, has_zero, number_at}
 use Rattle.frames.specs.Steps.{◌>>=◌, repeat_at}
 use Rattle.pgoutput.specs.Reading.{short, one_of, count16_at, signed32_at, name_at}
 use Rattle.pgoutput.specs.declared.fault.OutFault.{OutFault}
-use Rattle.pgoutput.specs.Stops.{FieldOf, In, letter_of, name_field, number32, signed32, list_field}
 use Rattle.pgoutput.specs.declared.relation.Relation.{Relation}
 use Rattle.pgoutput.specs.declared.relation.Column.{Column}
 use Rattle.pgoutput.specs.declared.relation.Identity.{Identity}
@@ -75,17 +74,3 @@ relation_at bytes = do
   identity ← one_of identity_of name.1
   columns ← columns_at identity.1
   Ok (record { oid = oid.0; namespace = namespace.0; name = name.0; identity = identity.0; columns = columns.0 }, columns.1)
-
-abbrev pub column_field : FieldOf Column
-column_field = record {
-  text = column;
-  Fits = FitsColumn;
-  Stops = In (letter_of key_flag) (λ flags. In name_field (λ name. In number32 (λ kind. signed32.Stops)));
-}
-
-abbrev pub relation_field : FieldOf Relation
-relation_field = record {
-  text = relation;
-  Fits = FitsRelation;
-  Stops = In number32 (λ oid. In name_field (λ namespace. In name_field (λ name. In (letter_of identity_letter) (λ identity. (list_field column_field).Stops))));
-}

@@ -7,7 +7,6 @@ use Rattle.frames.specs.Fields.{int16, int32, byte_at}
 use Rattle.frames.specs.Steps.{◌>>=◌, repeat_at}
 use Rattle.pgoutput.specs.Reading.{short, count16_at, text_at}
 use Rattle.pgoutput.specs.declared.fault.OutFault.{OutFault}
-use Rattle.pgoutput.specs.Stops.{FieldOf, ByFirst, Behind, NoOther, Nothing, text_field, list_field}
 use Rattle.pgoutput.specs.declared.fault.OutFault.TheVariants.{BadMark}
 use Rattle.pgoutput.specs.declared.tuple.Cell.{Cell}
 use Rattle.pgoutput.specs.declared.tuple.Cell.TheVariants as cells
@@ -28,18 +27,16 @@ abbrev pub FitsText : List ℕ → Type 0
 FitsText text = (length text < 2 ^ 31) × (is_utf8 text ≡ true)
 
 abbrev pub FitsCell : Cell → Type 0
-FitsCell cells.Null = Unit {0}
-FitsCell cells.Unchanged = Unit {0}
 FitsCell (cells.Text text) = FitsText text
+FitsCell _ = Unit {0}
 
 abbrev pub FitsTuple : List Cell → Type 0
 FitsTuple cells = (length cells < 2 ^ 15) × AllByRecursion FitsCell cells
 
 -- what a writer asks: the count and the lengths fit their fields
 abbrev pub IsShortCell : Cell → Type 0
-IsShortCell cells.Null = Unit {0}
-IsShortCell cells.Unchanged = Unit {0}
 IsShortCell (cells.Text text) = length text < 2 ^ 31
+IsShortCell _ = Unit {0}
 
 abbrev pub IsShortTuple : List Cell → Type 0
 IsShortTuple cells = (length cells < 2 ^ 15) × AllByRecursion IsShortCell cells
@@ -53,13 +50,3 @@ cell_at bytes = short (byte_at bytes) >>= λ b.
 
 unfoldable pub tuple_at : List ℕ → Result (List Cell × List ℕ) OutFault
 tuple_at bytes = count16_at bytes >>= λ n. repeat_at cell_at n.0 n.1
-
-abbrev pub cell_field : FieldOf Cell
-cell_field = record {
-  text = cell;
-  Fits = FitsCell;
-  Stops = ByFirst (Behind NULL Nothing (Behind UNCHANGED Nothing (Behind TEXT text_field.Stops (NoOther BadMark))));
-}
-
-abbrev pub tuple_field : FieldOf (List Cell)
-tuple_field = list_field cell_field

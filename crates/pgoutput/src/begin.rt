@@ -1,4 +1,4 @@
-//! Begin: a transaction's messages follow.
+//! Begin, before a transaction's messages: its type, its reader and its writer.
 
 ghost use Rattle.std.specs.Prelude.{◌≡◌, ◌≢◌, Err};
 ghost use Rattle.frames.specs.Putting.{Puts};
@@ -14,14 +14,18 @@ use std::alloc::AllocError;
 /// The kind byte of Begin.
 pub const BEGIN: u8 = b'B';
 
-/// Begin.
+/// Begin (PostgreSQL 15, 55.9).
+///
+/// ```text
+/// Byte1('B') | Int64 position | Int64 time | Int32 xid
+/// ```
 #[derive(Debug, Drop, PartialEq)]
 pub struct Begin {
     /// The position at which the commit record starts.
     pub position: u64,
     /// The commit time, in microseconds since 2000-01-01.
     pub time: i64,
-    /// The transaction's number.
+    /// The transaction's id.
     pub xid: u32,
 }
 
@@ -40,7 +44,7 @@ pub(crate) fn begin_of(cursor: &mut Cursor<'_>) -> Result<Begin, OutFault>
     })
 }
 
-#[tactic(auto, using(crate::proofs::Putting::extends_itself, crate::proofs::Putting::extends_more, crate::proofs::Putting::extends_back))]
+#[tactic(auto, using(frames::proofs::Putting::in_place))]
 pub(crate) fn put_begin(out: &mut BytesMut, message: &Begin) -> Result<(), AllocError>
     ensures { Puts result out.old.items out.new.items (begin message.now) }
 {

@@ -1,4 +1,4 @@
-//! Commit: a transaction's messages are all there.
+//! Commit, behind a transaction's messages: its type, its reader and its writer.
 
 ghost use Rattle.std.specs.Prelude.{◌≡◌, ◌≢◌, Err};
 ghost use Rattle.frames.specs.Putting.{Puts};
@@ -6,7 +6,7 @@ ghost use Rattle.pgoutput.specs.Reading.{Gives};
 ghost use Rattle.pgoutput.specs.Commit.{commit, commit_at};
 
 use crate::fault::OutFault;
-use crate::fields::{due_of, put_signed64, signed64_of};
+use crate::fields::{expected_of, put_signed64, signed64_of};
 use bytes::BytesMut;
 use frames::{Cursor, put_byte, put_int64};
 use std::alloc::AllocError;
@@ -17,7 +17,11 @@ pub const COMMIT: u8 = b'C';
 /// The flags byte of every Commit: none is in use.
 pub const COMMIT_FLAGS: u8 = 0;
 
-/// Commit.
+/// Commit (PostgreSQL 15, 55.9).
+///
+/// ```text
+/// Byte1('C') | Int8 flags, always 0 | Int64 position | Int64 end | Int64 time
+/// ```
 #[derive(Debug, Drop, PartialEq)]
 pub struct Commit {
     /// The position at which the commit record starts.
@@ -33,7 +37,7 @@ pub(crate) fn commit_of(cursor: &mut Cursor<'_>) -> Result<Commit, OutFault>
     ensures exact { Gives result cursor.new (commit_at cursor.old) }
     ensures steady { result ≢ Err OutFault.Memory }
 {
-    due_of(cursor, COMMIT_FLAGS)?;
+    expected_of(cursor, COMMIT_FLAGS)?;
     let position = cursor.u64().ok_or(OutFault::Short)?;
     let end = cursor.u64().ok_or(OutFault::Short)?;
     let time = signed64_of(cursor)?;
@@ -44,7 +48,7 @@ pub(crate) fn commit_of(cursor: &mut Cursor<'_>) -> Result<Commit, OutFault>
     })
 }
 
-#[tactic(auto, using(crate::proofs::Putting::extends_itself, crate::proofs::Putting::extends_more, crate::proofs::Putting::extends_back))]
+#[tactic(auto, using(frames::proofs::Putting::in_place))]
 pub(crate) fn put_commit(out: &mut BytesMut, message: &Commit) -> Result<(), AllocError>
     ensures { Puts result out.old.items out.new.items (commit message.now) }
 {

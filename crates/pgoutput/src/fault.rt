@@ -1,3 +1,5 @@
+//! The faults of logical messages, O1 to O6.
+
 ghost use Rattle.std.specs.Prelude.{◌≡◌};
 ghost use Rattle.pgoutput.specs.declared.fault.OutFault.TheVariants.{Memory};
 

@@ -1,10 +1,10 @@
-//! The fields of which messages are made.
+//! The fields of which messages are made: signed numbers, counts, letters, names and texts, read and written.
 
 ghost use Rattle.std.specs.Prelude.{◌≡◌, ◌≢◌, ◌^◌, ◌<◌, length, Err};
 ghost use Rattle.std.specs.Int.{w32, w64, cast_unsigned};
 ghost use Rattle.frames.specs.Fields.{int32, int64};
 ghost use Rattle.frames.specs.Putting.{Puts};
-ghost use Rattle.pgoutput.specs.Reading.{Gives, due, count16_at, count32_at, signed32_at, signed64_at, name_at, text_at};
+ghost use Rattle.pgoutput.specs.Reading.{Gives, expected, count16_at, count32_at, signed32_at, signed64_at, name_at, text_at};
 ghost use Rattle.pgoutput.specs.Tuple.{counted_text};
 
 use crate::fault::OutFault;
@@ -13,8 +13,8 @@ use frames::{Cursor, Text, put_bytes, put_int32, put_int64, utf8_of};
 use std::alloc::{AllocError, Global};
 
 /// Moves past this letter; another one is O3.
-pub(crate) fn due_of(cursor: &mut Cursor<'_>, letter: u8) -> Result<(), OutFault>
-    ensures exact { Gives result cursor.new (due letter cursor.old) }
+pub(crate) fn expected_of(cursor: &mut Cursor<'_>, letter: u8) -> Result<(), OutFault>
+    ensures exact { Gives result cursor.new (expected letter cursor.old) }
     ensures steady { result ≢ Err OutFault.Memory }
 {
     let found = cursor.u8().ok_or(OutFault::Short)?;
@@ -95,7 +95,7 @@ pub(crate) fn put_signed64(out: &mut BytesMut, number: i64) -> Result<(), AllocE
 }
 
 /// A text behind its length.
-#[tactic(auto, using(crate::proofs::Putting::extends_itself, crate::proofs::Putting::extends_more, crate::proofs::Putting::extends_back))]
+#[tactic(auto, using(frames::proofs::Putting::in_place))]
 pub(crate) fn put_text(out: &mut BytesMut, text: &Text) -> Result<(), AllocError>
     requires { length text.now < 2 ^ 31 }
     ensures { Puts result out.old.items out.new.items (counted_text text.now) }

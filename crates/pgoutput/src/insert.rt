@@ -1,4 +1,4 @@
-//! Insert: a new row.
+//! Insert, a new row: its type, its reader and its writer.
 
 ghost use Rattle.std.specs.Prelude.{◌≡◌};
 ghost use Rattle.frames.specs.Putting.{Puts};
@@ -6,7 +6,7 @@ ghost use Rattle.pgoutput.specs.Reading.{Gives};
 ghost use Rattle.pgoutput.specs.Insert.{insert, insert_at, IsShortInsert};
 
 use crate::fault::OutFault;
-use crate::fields::due_of;
+use crate::fields::expected_of;
 use crate::tuple::{Cell, put_tuple, tuple_of};
 use bytes::BytesMut;
 use frames::{Cursor, Items, put_byte, put_int32};
@@ -18,11 +18,16 @@ pub const INSERT: u8 = b'I';
 /// The letter before a new tuple.
 pub const NEW: u8 = b'N';
 
-/// Insert.
+/// Insert (PostgreSQL 15, 55.9).
+///
+/// ```text
+/// Byte1('I') | Int32 oid | Byte1('N') | TupleData new
+/// ```
 #[derive(Debug, Drop, PartialEq)]
 pub struct Insert {
-    /// The table.
+    /// The OID of the table.
     pub oid: u32,
+    /// The new row, a cell for each column of the table's Relation.
     pub new: Items<Cell>,
 }
 
@@ -31,12 +36,12 @@ pub(crate) fn insert_of(alloc: Global, cursor: &mut Cursor<'_>) -> Result<Insert
     ensures { Gives result cursor.new (insert_at cursor.old) }
 {
     let oid = cursor.u32().ok_or(OutFault::Short)?;
-    due_of(cursor, NEW)?;
+    expected_of(cursor, NEW)?;
     let new = tuple_of(alloc, cursor)?;
     Ok(Insert { oid, new })
 }
 
-#[tactic(auto, using(crate::proofs::Putting::extends_itself, crate::proofs::Putting::extends_more, crate::proofs::Putting::extends_back))]
+#[tactic(auto, using(frames::proofs::Putting::in_place))]
 pub(crate) fn put_insert(out: &mut BytesMut, message: &Insert) -> Result<(), AllocError>
     requires { IsShortInsert message.now }
     ensures { Puts result out.old.items out.new.items (insert message.now) }

@@ -1,4 +1,4 @@
-//! Logical replication messages of pgoutput, protocol version 1.
+//! Logical replication messages of pgoutput, protocol version 1: what they are, read and written.
 #![tactic(auto)]
 
 mod begin;

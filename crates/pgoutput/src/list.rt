@@ -1,4 +1,4 @@
-//! Lists: a count of two bytes, and that many items.
+//! Lists, a count of two bytes and that many items: what an item must tell to be read and written in one.
 
 ghost use Rattle.std.specs.Prelude.{◌≡◌, ◌^◌, ◌<◌, ◌++◌, length, take};
 ghost use Rattle.std.specs.List.{flat_map, AllByRecursion};
@@ -52,7 +52,7 @@ pub(crate) trait PutItem {
 }
 
 /// The count of the items, and each item.
-#[tactic(auto, using(crate::proofs::Putting::extends_itself, crate::proofs::Putting::extends_more, crate::proofs::Putting::extends_back))]
+#[tactic(auto, using(frames::proofs::Putting::in_place))]
 pub(crate) fn put_items<T: PutItem>(out: &mut BytesMut, items: &[T]) -> Result<(), AllocError>
     requires count { length items.now < 2 ^ 15 }
     requires each { AllByRecursion T.is_short items.now }

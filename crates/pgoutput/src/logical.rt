@@ -1,4 +1,4 @@
-//! A logical message: one kind byte, and the fields of its kind.
+//! A logical message, one kind byte and the fields of its kind: the enum over them, its reader and its writer.
 
 ghost use Rattle.std.specs.Prelude.{◌≡◌, ◌≢◌, ◌⊎◌, ℕ, List, [], ◌++◌, Ok, Err, IfOk, IfErr, OnOk, OnErr};
 ghost use Rattle.frames.specs.Putting.{Puts};
@@ -14,7 +14,9 @@ use bytes::BytesMut;
 use frames::{Cursor, put_byte};
 use std::alloc::{AllocError, Global};
 
-/// A logical replication message.
+/// A logical replication message (PostgreSQL 15, 55.9), protocol version 1.
+///
+/// `write_logical` spells it, and `read_logical` reads a whole text that spells one.
 #[derive(Debug, Drop, PartialEq)]
 pub enum Logical {
     Begin(Begin),
@@ -33,11 +35,11 @@ pub fn read_logical(alloc: Global, bytes: &[u8]) -> Result<Logical, OutFault>
     ensures found { IfOk result (λ m. SpellsLogical bytes.now m) }
     // What is spelled is read, unless memory runs out.
     ensures only { (m : Logical) → SpellsLogical bytes.now m → Answers result (Ok m) }
-    // A fault stands in the bytes, behind fields that are spelled right.
+    // A fault stands in the bytes.
     ensures fault { IfErr result (λ e. Stands e bytes.now) }
     // And where a fault stands it is answered, unless memory runs out before it.
     ensures refused { (e : OutFault) → e ≢ OutFault.Memory → Stands e bytes.now → (result ≡ Err e) ⊎ (result ≡ Err OutFault.Memory) }
-    // A message that ends too soon is O1 and nothing else.
+    // A proper beginning of a message is O1, so every other fault stands where no bytes behind it make a message.
     ensures cut { (text more : List ℕ) (m : Logical) → SpellsLogical text m → text ≡ bytes.now ++ more → more ≢ []
         → (result ≡ Err OutFault.Short) ⊎ (result ≡ Err OutFault.Memory) }
     // Which fault it is, in the order in which the fields are judged.
@@ -86,7 +88,7 @@ pub fn write_logical(message: &Logical, out: &mut BytesMut) -> Result<(), AllocE
     written
 }
 
-#[tactic(auto, using(crate::proofs::Putting::extends_itself, crate::proofs::Putting::extends_more, crate::proofs::Putting::extends_back))]
+#[tactic(auto, using(frames::proofs::Putting::in_place))]
 fn put_logical(out: &mut BytesMut, message: &Logical) -> Result<(), AllocError>
     requires { IsShort message.now }
     ensures { Puts result out.old.items out.new.items (spell_logical message.now) }

@@ -1,4 +1,4 @@
-//! Relation: what the columns of a table are, before the first message that names it.
+//! Relation, the columns of a table, before the first message that names it: its type, its reader and its writer.
 
 ghost use Rattle.std.specs.Prelude.{◌≡◌};
 ghost use Rattle.frames.specs.Putting.{Puts};
@@ -29,9 +29,15 @@ pub const KEY_FLAG: u8 = 1;
 
 pub const NO_FLAG: u8 = 0;
 
-/// Relation.
+/// Relation (PostgreSQL 15, 55.9).
+///
+/// ```text
+/// Byte1('R') | Int32 oid | String namespace | String name | Byte1 identity: d, n, f or i
+///     | Int16 count | for each column: Int8 flags, 1: is_key | String name | Int32 kind | Int32 modifier
+/// ```
 #[derive(Debug, Drop, PartialEq)]
 pub struct Relation {
+    /// The OID of the table.
     pub oid: u32,
     pub namespace: Text,
     pub name: Text,
@@ -126,7 +132,7 @@ fn is_key_by(flags: u8) -> Option<bool>
     }
 }
 
-#[tactic(auto, using(crate::proofs::Putting::extends_itself, crate::proofs::Putting::extends_more, crate::proofs::Putting::extends_back))]
+#[tactic(auto, using(frames::proofs::Putting::in_place))]
 pub(crate) fn put_relation(out: &mut BytesMut, message: &Relation) -> Result<(), AllocError>
     requires { IsShortRelation message.now }
     ensures { Puts result out.old.items out.new.items (relation message.now) }
@@ -167,7 +173,7 @@ impl PutItem for Column {
 
     ghost is_short = { λ _. Unit {0} };
 
-    #[tactic(auto, using(crate::proofs::Putting::extends_itself, crate::proofs::Putting::extends_more, crate::proofs::Putting::extends_back))]
+    #[tactic(auto, using(frames::proofs::Putting::in_place))]
     fn put(&self, out: &mut BytesMut) -> Result<(), AllocError> {
         put_byte(out, if self.is_key { KEY_FLAG } else { NO_FLAG })?;
         put_string(out, self.name.as_str())?;

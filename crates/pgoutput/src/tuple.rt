@@ -1,4 +1,4 @@
-//! Tuples: the values of a row as texts.
+//! Tuples, the values of a row as texts: the type of a value, and the reader and the writer of rows.
 
 ghost use Rattle.std.specs.Prelude.{◌≡◌};
 ghost use Rattle.frames.specs.Putting.{Puts};
@@ -19,7 +19,13 @@ pub const UNCHANGED: u8 = b'u';
 
 pub const TEXT: u8 = b't';
 
-/// A value of a row.
+/// A value of a row (PostgreSQL 15, 55.9, TupleData).
+///
+/// ```text
+/// TupleData: Int16 count | for each value: Byte1('n') null
+///                                        | Byte1('u') unchanged, not sent
+///                                        | Byte1('t') | Int32 length | Byten text
+/// ```
 #[derive(Debug, Drop, PartialEq)]
 pub enum Cell {
     Null,
@@ -72,7 +78,7 @@ impl PutItem for Cell {
 
     ghost is_short = { IsShortCell };
 
-    #[tactic(auto, using(crate::proofs::Putting::extends_itself, crate::proofs::Putting::extends_more, crate::proofs::Putting::extends_back))]
+    #[tactic(auto, using(frames::proofs::Putting::in_place))]
     fn put(&self, out: &mut BytesMut) -> Result<(), AllocError> {
         match self {
             Cell::Null => put_byte(out, NULL),

@@ -1,6 +1,6 @@
 -- A stream has one reading. In three steps: frames to words, by the law of frames and of their bodies; words to items;
 -- and both together.
-use Rattle.std.proofs.Common.{◌≡◌, ◌≢◌, ℕ, ℤ, zero, suc, ◌+◌, ◌^◌, ◌<◌, ◌≤◌, Bool, true, false, cond, List, [], ◌∷◌, ◌++◌, length, map, Result, Ok, Err, refl, sym, ap, subst, ◌∙◌, append_assoc, arith}
+use Rattle.std.proofs.Common.{◌≡◌, ℕ, ℤ, ◌^◌, ◌<◌, Bool, true, false, cond, List, [], ◌∷◌, ◌++◌, length, refl, sym, ap, ◌∙◌, append_assoc, arith}
 use Rattle.std.specs.Prelude.{FitsSigned}
 use Rattle.std.specs.List.{flat_map, AllByRecursion}
 use Rattle.std.specs.Int.{w64, cast_signed, cast_unsigned}
@@ -11,10 +11,9 @@ use Rattle.std.proofs.lemmas.List.{length-append}
 use Rattle.std.proofs.lemmas.List.Concat.{flat_map-cons}
 use Rattle.frames.specs.Fields.{int32, int64, number_at}
 use Rattle.frames.specs.declared.copy_data.TheConstants.{COPY_DATA}
-use Rattle.frames.specs.declared.frame.TheConstants.{FRAME_LIMIT}
 use Rattle.frames.specs.declared.fault.FrameFault.{FrameFault}
 use Rattle.frames.specs.declared.fault.FrameFault.TheVariants.{BadBody}
-use Rattle.frames.specs.Frame.{frame, FitsLength}
+use Rattle.frames.specs.Frame.{FitsLength}
 use Rattle.frames.proofs.Codec.{done, ok_is}
 use Rattle.frames.proofs.Numbers.{number64, length-int32, length-int64}
 use Rattle.frames.proofs.Frames.{frame_begins}
@@ -22,17 +21,16 @@ use Rattle.copyboth.specs.Keepalive.{ask_byte}
 use Rattle.pgoutput.specs.declared.logical.Logical.{Logical}
 use Rattle.pgoutput.specs.declared.logical.Logical.TheVariants as logical
 use Rattle.pgoutput.specs.declared.relation.Relation.{Relation}
-use Rattle.pgoutput.specs.declared.begin.Begin.{Begin}
-use Rattle.pgoutput.specs.declared.commit.Commit.{Commit}
 use Rattle.pgoutput.specs.Logical.{spell_logical, FitsLogical}
 use Rattle.stream.specs.declared.word.Word.{Word}
 use Rattle.stream.specs.declared.word.Word.TheVariants as words
 use Rattle.stream.specs.declared.word.Keepalive.{Keepalive}
-use Rattle.stream.specs.declared.word.Sent.{Sent}
+use Rattle.stream.specs.declared.word.XLogData.{XLogData}
 use Rattle.stream.specs.declared.published.Published.{Published}
 use Rattle.stream.specs.declared.published.PublishedChange.{PublishedChange}
-use Rattle.stream.specs.Words.{word_body, word_bytes, frames_of, FitsWord}
-use Rattle.stream.specs.Items.{Item, Alive, Block, xlogdata_word, tables_of, is_relation_sent, due, relations_sent_by, relation_words, change_words, changes_words, item_words, relations_sent_after, words_of, spelled, IsShortMessage, FitsRelationOf, IsOfChange, FitsChange, FitsPublished, FitsItem, FitItems}
+use Rattle.stream.proofs.Lists.{all_of_both}
+use Rattle.stream.specs.Words.{word_body, word_bytes, FitsWord}
+use Rattle.stream.specs.Items.{Item, KeepaliveItem, Block, xlogdata_word, tables_of, is_relation_sent, relations_due, relations_sent_by, relation_words, change_words, changes_words, item_words, relations_sent_after, words_of, spelled, IsShortMessage, FitsRelationOf, IsOfChange, FitsChange, FitsItem, FitItems}
 
 -- ---- frames to words
 
@@ -99,18 +97,18 @@ word_body_once once (words.Keepalive k) (words.Keepalive l) fits_a fits_b e =
     same_ask true false e = absurd (omega (arith, heads 1 0 [] [] e))
     same_ask false true e = absurd (omega (arith, heads 0 1 [] [] e))
     same_ask false false e = refl
-word_body_once once (words.Keepalive k) (words.Sent s) fits_a fits_b e = absurd (omega (arith, heads 107 119 _ _ e))
-word_body_once once (words.Sent s) (words.Keepalive k) fits_a fits_b e = absurd (omega (arith, heads 119 107 _ _ e))
-word_body_once once (words.Sent s) (words.Sent t) fits_a fits_b e =
+word_body_once once (words.Keepalive k) (words.XLogData s) fits_a fits_b e = absurd (omega (arith, heads 107 119 _ _ e))
+word_body_once once (words.XLogData s) (words.Keepalive k) fits_a fits_b e = absurd (omega (arith, heads 119 107 _ _ e))
+word_body_once once (words.XLogData s) (words.XLogData t) fits_a fits_b e =
     let tails : int64 s.start ++ (int64 s.end ++ (int64 (cast_unsigned w64 s.clock) ++ spell_logical s.message)) ≡ int64 t.start ++ (int64 t.end ++ (int64 (cast_unsigned w64 t.clock) ++ spell_logical t.message)) = cc in
     let starts = peel64 s.start t.start (int64 s.end ++ (int64 (cast_unsigned w64 s.clock) ++ spell_logical s.message)) (int64 t.end ++ (int64 (cast_unsigned w64 t.clock) ++ spell_logical t.message)) fits_a.fields.0 fits_b.fields.0 tails in
     let ends = peel64 s.end t.end (int64 (cast_unsigned w64 s.clock) ++ spell_logical s.message) (int64 (cast_unsigned w64 t.clock) ++ spell_logical t.message) fits_a.fields.1 fits_b.fields.1 starts.1 in
     let clocks = peel_signed s.clock t.clock (spell_logical s.message) (spell_logical t.message) fits_a.fields.2 fits_b.fields.2 ends.1 in
     let messages = once s.message t.message fits_a.fields.3 fits_b.fields.3 clocks.1 in
-    ap words.Sent (ap (λ (p : ℕ). sent_of p s.end s.clock s.message) starts.0 ∙ ap (λ (p : ℕ). sent_of t.start p s.clock s.message) ends.0 ∙ ap (λ (c : ℤ). sent_of t.start t.end c s.message) clocks.0 ∙ ap (sent_of t.start t.end t.clock) messages)
+    ap words.XLogData (ap (λ (p : ℕ). xlogdata_of p s.end s.clock s.message) starts.0 ∙ ap (λ (p : ℕ). xlogdata_of t.start p s.clock s.message) ends.0 ∙ ap (λ (c : ℤ). xlogdata_of t.start t.end c s.message) clocks.0 ∙ ap (xlogdata_of t.start t.end t.clock) messages)
   where
-    sent_of : ℕ → ℕ → ℤ → Logical → Sent
-    sent_of start end clock message = record { start = start; end = end; clock = clock; message = message }
+    xlogdata_of : ℕ → ℕ → ℤ → Logical → XLogData
+    xlogdata_of start end clock message = record { start = start; end = end; clock = clock; message = message }
 
 pub words_are_code : IsSpelledOnce → IsCode word_bytes FitsWord
 words_are_code once a b x y fits_a fits_b e =
@@ -129,17 +127,15 @@ abbrev message_kind : Logical → ℕ
 message_kind (logical.Begin m) = 1
 message_kind (logical.Commit m) = 2
 message_kind (logical.Relation m) = 3
-message_kind (logical.Insert m) = 4
+message_kind _ = 4
 
 abbrev kind_of : Word → ℕ
 kind_of (words.Keepalive k) = 0
-kind_of (words.Sent s) = message_kind s.message
+kind_of (words.XLogData s) = message_kind s.message
 
 change_kind : (relation : ℕ → Relation) (m : Logical) → IsOfChange relation m → (message_kind m ≡ 2 → ⊥) × (message_kind m ≡ 3 → ⊥)
 change_kind relation (logical.Insert m) h = (λ e. omega (arith, e), λ e. omega (arith, e))
-change_kind relation (logical.Begin m) h = absurd h
-change_kind relation (logical.Commit m) h = absurd h
-change_kind relation (logical.Relation m) h = absurd h
+change_kind relation _ h = absurd h
 
 -- behind the Relations the next word is the same, and so is what follows it
 past_relations : (xs ys : List Word) (w v : Word) (u t : List Word) → AllByRecursion (λ x. kind_of x ≡ 3) xs → AllByRecursion (λ y. kind_of y ≡ 3) ys
@@ -156,29 +152,29 @@ are_relations relation position clock (oid ∷ oids) = (refl, are_relations rela
 -- a change's words in front of others
 regrouped : (relation : ℕ → Relation) (relations_sent : List ℕ) (clock : ℤ) (c : PublishedChange) (cs : List PublishedChange) (x : List Word)
     → changes_words relation relations_sent clock (c ∷ cs) ++ x
-    ≡ relation_words relation c.position clock (due relations_sent (tables_of c.message)) ++ (xlogdata_word c.position clock c.message ∷ (changes_words relation (relations_sent_by relations_sent c) clock cs ++ x))
+    ≡ relation_words relation c.position clock (relations_due relations_sent (tables_of c.message)) ++ (xlogdata_word c.position clock c.message ∷ (changes_words relation (relations_sent_by relations_sent c) clock cs ++ x))
 regrouped relation relations_sent clock c cs x =
-    let front = relation_words relation c.position clock (due relations_sent (tables_of c.message)) in
+    let front = relation_words relation c.position clock (relations_due relations_sent (tables_of c.message)) in
     append_assoc (front ++ (xlogdata_word c.position clock c.message ∷ [])) (changes_words relation (relations_sent_by relations_sent c) clock cs) x
     ∙ append_assoc front (xlogdata_word c.position clock c.message ∷ []) (changes_words relation (relations_sent_by relations_sent c) clock cs ++ x)
 
 abbrev change_of : ℕ → Logical → PublishedChange
 change_of position message = record { position = position; message = message }
 
-same_said : (p q : ℕ) (c d : ℤ) (m n : Logical) → xlogdata_word p c m ≡ xlogdata_word q d n → (p ≡ q) × (c ≡ d) × (m ≡ n)
-same_said p q c d m n e = (ap position_in e, ap (clock_in c) e, ap (message_in m) e)
+same_xlogdata : (p q : ℕ) (c d : ℤ) (m n : Logical) → xlogdata_word p c m ≡ xlogdata_word q d n → (p ≡ q) × (c ≡ d) × (m ≡ n)
+same_xlogdata p q c d m n e = (ap position_in e, ap (clock_in c) e, ap (message_in m) e)
   where
     position_in : Word → ℕ
     position_in (words.Keepalive k) = 0
-    position_in (words.Sent s) = s.start
+    position_in (words.XLogData s) = s.start
 
     clock_in : ℤ → Word → ℤ
     clock_in z (words.Keepalive k) = z
-    clock_in z (words.Sent s) = s.clock
+    clock_in z (words.XLogData s) = s.clock
 
     message_in : Logical → Word → Logical
     message_in z (words.Keepalive k) = z
-    message_in z (words.Sent s) = s.message
+    message_in z (words.XLogData s) = s.message
 
 same_changes : (relation : ℕ → Relation) (relations_sent : List ℕ) (clock : ℤ) (cs ds : List PublishedChange) (w v : Word) (x y : List Word)
     → AllByRecursion (FitsChange relation) cs → AllByRecursion (FitsChange relation) ds → kind_of w ≡ 2 → kind_of v ≡ 2
@@ -186,22 +182,22 @@ same_changes : (relation : ℕ → Relation) (relations_sent : List ℕ) (clock 
 same_changes relation relations_sent clock [] [] w v x y fits_c fits_d is_w is_v e = (refl, cc, cc)
 same_changes relation relations_sent clock [] (d ∷ ds) w v x y fits_c fits_d is_w is_v e =
     let kinds = change_kind relation d.message fits_d.0.of_change in
-    let met = past_relations [] (relation_words relation d.position clock (due relations_sent (tables_of d.message))) w (xlogdata_word d.position clock d.message) x (changes_words relation (relations_sent_by relations_sent d) clock ds ++ (v ∷ y))
-    tt (are_relations relation d.position clock (due relations_sent (tables_of d.message))) (λ is. omega (arith, is, is_w)) kinds.1 (e ∙ regrouped relation relations_sent clock d ds (v ∷ y)) in
+    let met = past_relations [] (relation_words relation d.position clock (relations_due relations_sent (tables_of d.message))) w (xlogdata_word d.position clock d.message) x (changes_words relation (relations_sent_by relations_sent d) clock ds ++ (v ∷ y))
+    tt (are_relations relation d.position clock (relations_due relations_sent (tables_of d.message))) (λ is. omega (arith, is, is_w)) kinds.1 (e ∙ regrouped relation relations_sent clock d ds (v ∷ y)) in
     absurd (kinds.0 (sym (ap kind_of met.0) ∙ is_w))
 same_changes relation relations_sent clock (c ∷ cs) [] w v x y fits_c fits_d is_w is_v e =
     let kinds = change_kind relation c.message fits_c.0.of_change in
-    let met = past_relations (relation_words relation c.position clock (due relations_sent (tables_of c.message))) [] (xlogdata_word c.position clock c.message) v (changes_words relation (relations_sent_by relations_sent c) clock cs ++ (w ∷ x)) y
-    (are_relations relation c.position clock (due relations_sent (tables_of c.message))) tt kinds.1 (λ is. omega (arith, is, is_v)) (sym (regrouped relation relations_sent clock c cs (w ∷ x)) ∙ e) in
+    let met = past_relations (relation_words relation c.position clock (relations_due relations_sent (tables_of c.message))) [] (xlogdata_word c.position clock c.message) v (changes_words relation (relations_sent_by relations_sent c) clock cs ++ (w ∷ x)) y
+    (are_relations relation c.position clock (relations_due relations_sent (tables_of c.message))) tt kinds.1 (λ is. omega (arith, is, is_v)) (sym (regrouped relation relations_sent clock c cs (w ∷ x)) ∙ e) in
     absurd (kinds.0 (ap kind_of met.0 ∙ is_v))
 same_changes relation relations_sent clock (c ∷ cs) (d ∷ ds) w v x y fits_c fits_d is_w is_v e =
     let kinds_c = change_kind relation c.message fits_c.0.of_change in
     let kinds_d = change_kind relation d.message fits_d.0.of_change in
-    let met = past_relations (relation_words relation c.position clock (due relations_sent (tables_of c.message))) (relation_words relation d.position clock (due relations_sent (tables_of d.message)))
+    let met = past_relations (relation_words relation c.position clock (relations_due relations_sent (tables_of c.message))) (relation_words relation d.position clock (relations_due relations_sent (tables_of d.message)))
     (xlogdata_word c.position clock c.message) (xlogdata_word d.position clock d.message) (changes_words relation (relations_sent_by relations_sent c) clock cs ++ (w ∷ x)) (changes_words relation (relations_sent_by relations_sent d) clock ds ++ (v ∷ y))
-    (are_relations relation c.position clock (due relations_sent (tables_of c.message))) (are_relations relation d.position clock (due relations_sent (tables_of d.message))) kinds_c.1 kinds_d.1
+    (are_relations relation c.position clock (relations_due relations_sent (tables_of c.message))) (are_relations relation d.position clock (relations_due relations_sent (tables_of d.message))) kinds_c.1 kinds_d.1
     (sym (regrouped relation relations_sent clock c cs (w ∷ x)) ∙ e ∙ regrouped relation relations_sent clock d ds (v ∷ y)) in
-    let parts = same_said c.position d.position clock clock c.message d.message met.0 in
+    let parts = same_xlogdata c.position d.position clock clock c.message d.message met.0 in
     let change : c ≡ d = ap (λ (p : ℕ). change_of p c.message) parts.0 ∙ ap (change_of d.position) parts.2 in
     let aligned : changes_words relation (relations_sent_by relations_sent d) clock cs ++ (w ∷ x) ≡ changes_words relation (relations_sent_by relations_sent d) clock ds ++ (v ∷ y) = ap (λ (a : PublishedChange). changes_words relation (relations_sent_by relations_sent a) clock cs ++ (w ∷ x)) (sym change) ∙ met.1 in
     let inner = same_changes relation (relations_sent_by relations_sent d) clock cs ds w v x y fits_c.1 fits_d.1 is_w is_v aligned in
@@ -212,26 +208,26 @@ published_of start end time xid changes = record { start = start; end = end; tim
 
 same_item : (relation : ℕ → Relation) (relations_sent : List ℕ) (i j : Item) (x y : List Word) → FitsItem relation i → FitsItem relation j
     → item_words relation relations_sent i ++ x ≡ item_words relation relations_sent j ++ y → (i ≡ j) × (x ≡ y)
-same_item relation relations_sent (Alive k) (Alive l) x y fits_i fits_j e =
+same_item relation relations_sent (KeepaliveItem k) (KeepaliveItem l) x y fits_i fits_j e =
     let heads : words.Keepalive k ≡ words.Keepalive l = cc in
     let same : k ≡ l = cc in
-    (ap Alive same, cc)
-same_item relation relations_sent (Alive k) (Block clock t) x y fits_i fits_j e = absurd cc
-same_item relation relations_sent (Block clock t) (Alive k) x y fits_i fits_j e = absurd cc
+    (ap KeepaliveItem same, cc)
+same_item relation relations_sent (KeepaliveItem k) (Block clock t) x y fits_i fits_j e = absurd cc
+same_item relation relations_sent (Block clock t) (KeepaliveItem k) x y fits_i fits_j e = absurd cc
 same_item relation relations_sent (Block clock t) (Block other u) x y fits_i fits_j e =
     let begun : Logical = logical.Begin (record { position = t.start; time = t.time; xid = t.xid }) in
     let begun_too : Logical = logical.Begin (record { position = u.start; time = u.time; xid = u.xid }) in
     let ended : Word = xlogdata_word t.end clock (logical.Commit (record { position = t.start; end = t.end; time = t.time })) in
     let ended_too : Word = xlogdata_word u.end other (logical.Commit (record { position = u.start; end = u.end; time = u.time })) in
     let first : xlogdata_word t.start clock begun ≡ xlogdata_word u.start other begun_too = cc in
-    let front = same_said t.start u.start clock other begun begun_too first in
+    let front = same_xlogdata t.start u.start clock other begun begun_too first in
     let tails : (changes_words relation relations_sent clock t.changes ++ (ended ∷ [])) ++ x ≡ (changes_words relation relations_sent other u.changes ++ (ended_too ∷ [])) ++ y = cc in
     let clocks : clock ≡ other = front.1 in
     let aligned : changes_words relation relations_sent other t.changes ++ (ended ∷ x) ≡ changes_words relation relations_sent other u.changes ++ (ended_too ∷ y) =
     ap (λ (z : ℤ). changes_words relation relations_sent z t.changes ++ (ended ∷ x)) (sym clocks)
     ∙ sym (append_assoc (changes_words relation relations_sent clock t.changes) (ended ∷ []) x) ∙ tails ∙ append_assoc (changes_words relation relations_sent other u.changes) (ended_too ∷ []) y in
     let inner = same_changes relation relations_sent other t.changes u.changes ended ended_too x y fits_i.1.changes fits_j.1.changes refl refl aligned in
-    let last = same_said t.end u.end clock other (logical.Commit (record { position = t.start; end = t.end; time = t.time })) (logical.Commit (record { position = u.start; end = u.end; time = u.time })) inner.1 in
+    let last = same_xlogdata t.end u.end clock other (logical.Commit (record { position = t.start; end = t.end; time = t.time })) (logical.Commit (record { position = u.start; end = u.end; time = u.time })) inner.1 in
     let times : t.time ≡ u.time = ap (time_in t.time) front.2 in
     let numbers : t.xid ≡ u.xid = ap (xid_in t.xid) front.2 in
     let whole : t ≡ u = ap (λ (n : ℕ). published_of n t.end t.time t.xid t.changes) front.0 ∙ ap (λ (n : ℕ). published_of u.start n t.time t.xid t.changes) last.0
@@ -240,21 +236,17 @@ same_item relation relations_sent (Block clock t) (Block other u) x y fits_i fit
   where
     time_in : ℤ → Logical → ℤ
     time_in z (logical.Begin m) = m.time
-    time_in z (logical.Commit m) = z
-    time_in z (logical.Relation m) = z
-    time_in z (logical.Insert m) = z
+    time_in z _ = z
 
     xid_in : ℕ → Logical → ℕ
     xid_in z (logical.Begin m) = m.xid
-    xid_in z (logical.Commit m) = z
-    xid_in z (logical.Relation m) = z
-    xid_in z (logical.Insert m) = z
+    xid_in z _ = z
 
 -- items whose words begin the words of others are a beginning of those
 pub begun_words : (relation : ℕ → Relation) (relations_sent : List ℕ) (a b : List Item) (x : List Word) → FitItems relation a → FitItems relation b
     → words_of relation relations_sent a ++ x ≡ words_of relation relations_sent b → (more : List Item) × (b ≡ a ++ more)
 begun_words relation relations_sent [] b x fits_a fits_b e = (b, refl)
-begun_words relation relations_sent (Alive k ∷ a) [] x fits_a fits_b e = absurd cc
+begun_words relation relations_sent (KeepaliveItem k ∷ a) [] x fits_a fits_b e = absurd cc
 begun_words relation relations_sent (Block clock t ∷ a) [] x fits_a fits_b e = absurd cc
 begun_words relation relations_sent (i ∷ a) (j ∷ b) x fits_a fits_b e =
     let parted : item_words relation relations_sent i ++ (words_of relation (relations_sent_after relations_sent i) a ++ x) ≡ item_words relation relations_sent j ++ words_of relation (relations_sent_after relations_sent j) b = sym (append_assoc (item_words relation relations_sent i) (words_of relation (relations_sent_after relations_sent i) a) x) ∙ e in
@@ -265,20 +257,16 @@ begun_words relation relations_sent (i ∷ a) (j ∷ b) x fits_a fits_b e =
 
 -- ---- items in range have words in range
 
-all_of_both : {A : Type 0} (P : A → Type 0) (xs ys : List A) → AllByRecursion P xs → AllByRecursion P ys → AllByRecursion P (xs ++ ys)
-all_of_both P [] ys all_x all_y = all_y
-all_of_both P (x ∷ xs) ys all_x all_y = (all_x.0, all_of_both P xs ys all_x.1 all_y)
-
-all_due : (P : ℕ → Type 0) (relations_sent oids : List ℕ) → AllByRecursion P oids → AllByRecursion P (due relations_sent oids)
-all_due P relations_sent [] all = tt
-all_due P relations_sent (oid ∷ oids) all = by_test (is_relation_sent relations_sent oid) (all_due P relations_sent oids all.1) (all_due P (oid ∷ relations_sent) oids all.1)
+all_relations_due : (P : ℕ → Type 0) (relations_sent oids : List ℕ) → AllByRecursion P oids → AllByRecursion P (relations_due relations_sent oids)
+all_relations_due P relations_sent [] all = tt
+all_relations_due P relations_sent (oid ∷ oids) all = by_test (is_relation_sent relations_sent oid) (all_relations_due P relations_sent oids all.1) (all_relations_due P (oid ∷ relations_sent) oids all.1)
   where
-    by_test : (b : Bool) → AllByRecursion P (due relations_sent oids) → AllByRecursion P (due (oid ∷ relations_sent) oids) → AllByRecursion P (cond b (due relations_sent oids) (oid ∷ due (oid ∷ relations_sent) oids))
+    by_test : (b : Bool) → AllByRecursion P (relations_due relations_sent oids) → AllByRecursion P (relations_due (oid ∷ relations_sent) oids) → AllByRecursion P (cond b (relations_due relations_sent oids) (oid ∷ relations_due (oid ∷ relations_sent) oids))
     by_test true old new = old
     by_test false old new = (all.0, new)
 
-said_fits : (position : ℕ) (clock : ℤ) (m : Logical) → position < 2 ^ 64 → FitsSigned w64 clock → FitsLogical m → IsShortMessage m → FitsWord (xlogdata_word position clock m)
-said_fits position clock m lt fits in_range short = record {
+xlogdata_fits : (position : ℕ) (clock : ℤ) (m : Logical) → position < 2 ^ 64 → FitsSigned w64 clock → FitsLogical m → IsShortMessage m → FitsWord (xlogdata_word position clock m)
+xlogdata_fits position clock m lt fits in_range short = record {
   fields = (lt, lt, fits, in_range);
   short = omega (
     arith,
@@ -291,8 +279,8 @@ said_fits position clock m lt fits in_range short = record {
   );
 }
 
-alive_fits : (k : Keepalive) → (k.position < 2 ^ 64) × FitsSigned w64 k.clock → FitsWord (words.Keepalive k)
-alive_fits k fits = record {
+keepalive_fits : (k : Keepalive) → (k.position < 2 ^ 64) × FitsSigned w64 k.clock → FitsWord (words.Keepalive k)
+keepalive_fits k fits = record {
   fields = fits;
   short = omega (
     arith,
@@ -307,26 +295,26 @@ relations_fit : (relation : ℕ → Relation) (position : ℕ) (clock : ℤ) (oi
     → AllByRecursion FitsWord (relation_words relation position clock oids)
 relations_fit relation position clock [] lt fits all = tt
 relations_fit relation position clock (oid ∷ oids) lt fits all =
-    (said_fits position clock (logical.Relation (relation oid)) lt fits all.0.fits all.0.short, relations_fit relation position clock oids lt fits all.1)
+    (xlogdata_fits position clock (logical.Relation (relation oid)) lt fits all.0.fits all.0.short, relations_fit relation position clock oids lt fits all.1)
 
 changes_fit : (relation : ℕ → Relation) (relations_sent : List ℕ) (clock : ℤ) (cs : List PublishedChange) → FitsSigned w64 clock → AllByRecursion (FitsChange relation) cs
     → AllByRecursion FitsWord (changes_words relation relations_sent clock cs)
 changes_fit relation relations_sent clock [] fits all = tt
 changes_fit relation relations_sent clock (c ∷ cs) fits all =
     all_of_both FitsWord (change_words relation relations_sent clock c) (changes_words relation (relations_sent_by relations_sent c) clock cs)
-    (all_of_both FitsWord (relation_words relation c.position clock (due relations_sent (tables_of c.message))) (xlogdata_word c.position clock c.message ∷ [])
-    (relations_fit relation c.position clock (due relations_sent (tables_of c.message)) all.0.position fits (all_due (FitsRelationOf relation) relations_sent (tables_of c.message) all.0.relations))
-    (said_fits c.position clock c.message all.0.position fits all.0.fits all.0.short, tt))
+    (all_of_both FitsWord (relation_words relation c.position clock (relations_due relations_sent (tables_of c.message))) (xlogdata_word c.position clock c.message ∷ [])
+    (relations_fit relation c.position clock (relations_due relations_sent (tables_of c.message)) all.0.position fits (all_relations_due (FitsRelationOf relation) relations_sent (tables_of c.message) all.0.relations))
+    (xlogdata_fits c.position clock c.message all.0.position fits all.0.fits all.0.short, tt))
     (changes_fit relation (relations_sent_by relations_sent c) clock cs fits all.1)
 
 item_fits : (relation : ℕ → Relation) (relations_sent : List ℕ) (i : Item) → FitsItem relation i → AllByRecursion FitsWord (item_words relation relations_sent i)
-item_fits relation relations_sent (Alive k) fits = (alive_fits k fits, tt)
+item_fits relation relations_sent (KeepaliveItem k) fits = (keepalive_fits k fits, tt)
 item_fits relation relations_sent (Block clock t) fits =
     let begun : FitsWord (xlogdata_word t.start clock (logical.Begin (record { position = t.start; time = t.time; xid = t.xid }))) =
-    said_fits t.start clock (logical.Begin (record { position = t.start; time = t.time; xid = t.xid })) fits.1.start fits.0 (fits.1.start, (fits.1.time, fits.1.xid))
+    xlogdata_fits t.start clock (logical.Begin (record { position = t.start; time = t.time; xid = t.xid })) fits.1.start fits.0 (fits.1.start, (fits.1.time, fits.1.xid))
     (omega (arith, length-int64 t.start, length-int64 (cast_unsigned w64 t.time), length-int32 t.xid, length-append (int64 t.start) (int64 (cast_unsigned w64 t.time) ++ int32 t.xid), length-append (int64 (cast_unsigned w64 t.time)) (int32 t.xid))) in
     let ended : FitsWord (xlogdata_word t.end clock (logical.Commit (record { position = t.start; end = t.end; time = t.time }))) =
-    said_fits t.end clock (logical.Commit (record { position = t.start; end = t.end; time = t.time })) fits.1.end fits.0 (fits.1.start, (fits.1.end, fits.1.time))
+    xlogdata_fits t.end clock (logical.Commit (record { position = t.start; end = t.end; time = t.time })) fits.1.end fits.0 (fits.1.start, (fits.1.end, fits.1.time))
     (omega (arith, length-int64 t.start, length-int64 t.end, length-int64 (cast_unsigned w64 t.time), length-append (int64 t.start) (int64 t.end ++ int64 (cast_unsigned w64 t.time)), length-append (int64 t.end) (int64 (cast_unsigned w64 t.time)))) in (
       begun,
       all_of_both FitsWord (changes_words relation relations_sent clock t.changes) (xlogdata_word t.end clock (logical.Commit (record { position = t.start; end = t.end; time = t.time })) ∷ [])

@@ -1,16 +1,15 @@
 -- A worked row: one transaction with one insert, read under clock 9, block by block against the bytes of the protocol.
-use Rattle.std.specs.Prelude.{◌≡◌, ℕ, ℤ, pos, negsuc, codes, true, false, List, [], ◌∷◌, ◌++◌, refl}
+use Rattle.std.specs.Prelude.{◌≡◌, ℕ, pos, negsuc, codes, true, false, List, [], ◌∷◌, ◌++◌, refl}
 use Rattle.frames.specs.Fields.{int16, int32, int64}
 use Rattle.pgoutput.specs.declared.logical.Logical.{Logical}
 use Rattle.pgoutput.specs.declared.logical.Logical.TheVariants as logical
 use Rattle.pgoutput.specs.declared.relation.Relation.{Relation}
 use Rattle.pgoutput.specs.declared.relation.Identity.TheVariants as identities
 use Rattle.pgoutput.specs.declared.tuple.Cell.TheVariants as cells
-use Rattle.stream.specs.declared.word.Word.{Word}
 use Rattle.stream.specs.declared.word.Word.TheVariants as words
 use Rattle.stream.specs.declared.published.Published.{Published}
 use Rattle.stream.specs.Words.{word_bytes}
-use Rattle.stream.specs.Items.{Item, Alive, Block, xlogdata_word, words_of, spelled}
+use Rattle.stream.specs.Items.{Block, xlogdata_word, words_of, spelled}
 
 -- public.item: id int4, the key; name text; qty int8
 abbrev item : Relation

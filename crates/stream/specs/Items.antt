@@ -1,4 +1,4 @@
--- The items of a stream, and the words that say them. An item is a keepalive, or a block: one published transaction
+-- The items of a stream, and the words that spell them. An item is a keepalive, or a block: one published transaction
 -- whole, under one clock. Before the first message of the stream that names a table stands the table's Relation.
 use Rattle.std.specs.Prelude.{◌≡◌, ℕ, ℤ, ◌+◌, ◌<◌, ◌≤◌, ◌^◌, FitsSigned, Bool, ◌==◌, if◌then◌else◌, List, [], ◌∷◌, ◌++◌, map, reverse, length}
 use Rattle.std.specs.List.{list_any, AllByRecursion}
@@ -6,27 +6,24 @@ use Rattle.std.specs.Int.{w64}
 use Rattle.pgoutput.specs.declared.logical.Logical.{Logical}
 use Rattle.pgoutput.specs.declared.logical.Logical.TheVariants as logical
 use Rattle.pgoutput.specs.declared.relation.Relation.{Relation}
-use Rattle.pgoutput.specs.declared.begin.Begin.{Begin}
-use Rattle.pgoutput.specs.declared.commit.Commit.{Commit}
 use Rattle.pgoutput.specs.Logical.{spell_logical, FitsLogical}
 use Rattle.stream.specs.declared.word.Word.{Word}
 use Rattle.stream.specs.declared.word.Word.TheVariants as words
 use Rattle.stream.specs.declared.word.Keepalive.{Keepalive}
-use Rattle.stream.specs.declared.word.Sent.{Sent}
 use Rattle.stream.specs.declared.published.Published.{Published}
 use Rattle.stream.specs.declared.published.PublishedChange.{PublishedChange}
 use Rattle.frames.specs.declared.frame.TheConstants.{FRAME_LIMIT}
 use Rattle.stream.specs.Words.{frames_of}
 
 pub data Item : Type 0 where
-  Alive : Keepalive → Item
+  KeepaliveItem : Keepalive → Item
   Block : (clock : ℤ) → Published → Item
 
 -- ---- Words.
 
 -- one message at a position: the second number of its XLogData repeats the first
 abbrev pub xlogdata_word : ℕ → ℤ → Logical → Word
-xlogdata_word position clock message = words.Sent (record { start = position; end = position; clock = clock; message = message })
+xlogdata_word position clock message = words.XLogData (record { start = position; end = position; clock = clock; message = message })
 
 abbrev pub keepalive_word : ℕ → ℤ → Bool → Word
 keepalive_word position clock ask = words.Keepalive (record { position = position; clock = clock; ask = ask })
@@ -41,14 +38,14 @@ tables_of (logical.Relation m) = []
 abbrev pub is_relation_sent : List ℕ → ℕ → Bool
 is_relation_sent relations_sent oid = list_any (λ n. n == oid) relations_sent
 
--- those of the tables that weren't named before, each once
-abbrev pub due : List ℕ → List ℕ → List ℕ
-due relations_sent [] = []
-due relations_sent (oid ∷ oids) = if is_relation_sent relations_sent oid then due relations_sent oids else oid ∷ due (oid ∷ relations_sent) oids
+-- those of the tables whose Relation wasn't sent before, each once
+abbrev pub relations_due : List ℕ → List ℕ → List ℕ
+relations_due relations_sent [] = []
+relations_due relations_sent (oid ∷ oids) = if is_relation_sent relations_sent oid then relations_due relations_sent oids else oid ∷ relations_due (oid ∷ relations_sent) oids
 
--- the tables named so far, the newest first, once the change is said too
+-- the tables whose Relation was sent, the newest first, once the change is sent too
 abbrev pub relations_sent_by : List ℕ → PublishedChange → List ℕ
-relations_sent_by relations_sent c = reverse (due relations_sent (tables_of c.message)) ++ relations_sent
+relations_sent_by relations_sent c = reverse (relations_due relations_sent (tables_of c.message)) ++ relations_sent
 
 abbrev pub relations_sent_by_all : List ℕ → List PublishedChange → List ℕ
 relations_sent_by_all relations_sent [] = relations_sent
@@ -61,7 +58,7 @@ relation_words relation position clock oids = map (λ oid. xlogdata_word positio
 -- a change: the Relations that are due, and its message, all at its position
 abbrev pub change_words : (ℕ → Relation) → List ℕ → ℤ → PublishedChange → List Word
 change_words relation relations_sent clock c =
-    relation_words relation c.position clock (due relations_sent (tables_of c.message)) ++ (xlogdata_word c.position clock c.message ∷ [])
+    relation_words relation c.position clock (relations_due relations_sent (tables_of c.message)) ++ (xlogdata_word c.position clock c.message ∷ [])
 
 abbrev pub changes_words : (ℕ → Relation) → List ℕ → ℤ → List PublishedChange → List Word
 changes_words relation relations_sent clock [] = []
@@ -81,14 +78,14 @@ block_words relation relations_sent clock t =
     ++ (xlogdata_word t.end clock (commit_message t) ∷ []))
 
 abbrev pub item_words : (ℕ → Relation) → List ℕ → Item → List Word
-item_words relation relations_sent (Alive k) = words.Keepalive k ∷ []
+item_words relation relations_sent (KeepaliveItem k) = words.Keepalive k ∷ []
 item_words relation relations_sent (Block clock t) = block_words relation relations_sent clock t
 
 abbrev pub relations_sent_after : List ℕ → Item → List ℕ
-relations_sent_after relations_sent (Alive k) = relations_sent
+relations_sent_after relations_sent (KeepaliveItem k) = relations_sent
 relations_sent_after relations_sent (Block clock t) = relations_sent_by_all relations_sent t.changes
 
--- the words of the items, where these tables were named before them
+-- the words of the items, where the Relations of these tables were sent before them
 abbrev pub words_of : (ℕ → Relation) → List ℕ → List Item → List Word
 words_of relation relations_sent [] = []
 words_of relation relations_sent (item ∷ items) = item_words relation relations_sent item ++ words_of relation (relations_sent_after relations_sent item) items
@@ -97,18 +94,18 @@ words_of relation relations_sent (item ∷ items) = item_words relation relation
 abbrev pub spelled : (ℕ → Relation) → List ℕ → List Item → List ℕ
 spelled relation relations_sent items = frames_of (words_of relation relations_sent items)
 
--- the tables named so far, once these transactions are said too
+-- the tables whose Relation was sent, once these transactions are sent too
 abbrev pub relations_sent_through : List ℕ → List Published → List ℕ
 relations_sent_through relations_sent [] = relations_sent
 relations_sent_through relations_sent (t ∷ ts) = relations_sent_through (relations_sent_by_all relations_sent t.changes) ts
 
--- the transactions that the items send
-abbrev pub sent : List Item → List Published
-sent [] = []
-sent (Alive k ∷ items) = sent items
-sent (Block clock t ∷ items) = t ∷ sent items
+-- the transactions of the items, in order
+abbrev pub transactions_of : List Item → List Published
+transactions_of [] = []
+transactions_of (KeepaliveItem k ∷ items) = transactions_of items
+transactions_of (Block clock t ∷ items) = t ∷ transactions_of items
 
--- ---- Ranges, told without the tables named so far.
+-- ---- Ranges. They don't hang on the Relations that were sent.
 
 -- Its XLogData, which has 25 bytes before the message, is within the limit of a frame.
 abbrev pub IsShortMessage : Logical → Type 0
@@ -123,9 +120,7 @@ pub record FitsRelationOf (relation : ℕ → Relation) (oid : ℕ) : Type 0 whe
 -- a message of a change: an Insert whose tuple has as many cells as the table's Relation has columns
 abbrev pub IsOfChange : (ℕ → Relation) → Logical → Type 0
 IsOfChange relation (logical.Insert m) = length m.new ≡ length (relation m.oid).columns
-IsOfChange relation (logical.Begin m) = ⊥
-IsOfChange relation (logical.Commit m) = ⊥
-IsOfChange relation (logical.Relation m) = ⊥
+IsOfChange relation _ = ⊥
 
 pub record FitsChange (relation : ℕ → Relation) (c : PublishedChange) : Type 0 where
   pub position : c.position < 2 ^ 64
@@ -142,7 +137,7 @@ pub record FitsPublished (relation : ℕ → Relation) (t : Published) : Type 0 
   pub changes : AllByRecursion (FitsChange relation) t.changes
 
 abbrev pub FitsItem : (ℕ → Relation) → Item → Type 0
-FitsItem relation (Alive k) = (k.position < 2 ^ 64) × FitsSigned w64 k.clock
+FitsItem relation (KeepaliveItem k) = (k.position < 2 ^ 64) × FitsSigned w64 k.clock
 FitsItem relation (Block clock t) = FitsSigned w64 clock × FitsPublished relation t
 
 abbrev pub FitItems : (ℕ → Relation) → List Item → Type 0

@@ -4,19 +4,19 @@ use Rattle.std.specs.Prelude.{◌≡◌, ℕ, ◌≤◌, List, [], ◌∷◌}
 use Rattle.std.specs.List.{AllByRecursion}
 use Rattle.pgoutput.specs.declared.relation.Relation.{Relation}
 use Rattle.stream.specs.declared.published.Published.{Published}
-use Rattle.stream.specs.Items.{Item, Alive, Block, spelled, sent, FitItems}
+use Rattle.stream.specs.Items.{Item, KeepaliveItem, Block, spelled, transactions_of, FitItems}
 
 -- Safe keepalives. Each one carries a number that is at most the limit, the end of what was read of the log; and every
 -- transaction whose commit record starts below that number stands whole before the keepalive. Told from behind: no
 -- transaction that stands after the keepalive starts below its number.
 abbrev pub AreSafeKeepalives : ℕ → List Item → Type 0
 AreSafeKeepalives limit [] = Unit {0}
-AreSafeKeepalives limit (Alive k ∷ items) = (k.position ≤ limit) × AllByRecursion (λ t. k.position ≤ t.start) (sent items) × AreSafeKeepalives limit items
+AreSafeKeepalives limit (KeepaliveItem k ∷ items) = (k.position ≤ limit) × AllByRecursion (λ t. k.position ≤ t.start) (transactions_of items) × AreSafeKeepalives limit items
 AreSafeKeepalives limit (Block clock t ∷ items) = AreSafeKeepalives limit items
 
 pub record IsStream (relation : ℕ → Relation) (bytes : List ℕ) (transactions : List Published) (limit : ℕ) : Type 0 where
   pub items : List Item
   pub fits : FitItems relation items
   pub spells : bytes ≡ spelled relation [] items
-  pub sends : sent items ≡ transactions
+  pub sends : transactions_of items ≡ transactions
   pub safe : AreSafeKeepalives limit items

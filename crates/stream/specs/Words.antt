@@ -15,7 +15,7 @@ use Rattle.stream.specs.declared.word.Word.TheVariants as words
 -- what the CopyData of a word holds
 abbrev pub word_body : Word → List ℕ
 word_body (words.Keepalive k) = keepalive k.position k.clock k.ask
-word_body (words.Sent s) = xlogdata s.start s.end s.clock (spell_logical s.message)
+word_body (words.XLogData s) = xlogdata s.start s.end s.clock (spell_logical s.message)
 
 abbrev pub word_bytes : Word → List ℕ
 word_bytes w = frame COPY_DATA (word_body w)
@@ -26,7 +26,7 @@ frames_of ws = flat_map word_bytes ws
 
 abbrev pub AreFieldsInRange : Word → Type 0
 AreFieldsInRange (words.Keepalive k) = (k.position < 2 ^ 64) × FitsSigned w64 k.clock
-AreFieldsInRange (words.Sent s) = (s.start < 2 ^ 64) × (s.end < 2 ^ 64) × FitsSigned w64 s.clock × FitsLogical s.message
+AreFieldsInRange (words.XLogData s) = (s.start < 2 ^ 64) × (s.end < 2 ^ 64) × FitsSigned w64 s.clock × FitsLogical s.message
 
 -- every number, text and count fits its field, and the frame is within its limit
 pub record FitsWord (w : Word) : Type 0 where

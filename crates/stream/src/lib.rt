@@ -7,4 +7,4 @@ mod word;
 
 pub use published::{Published, PublishedChange};
 pub use reading::a_stream_has_one_reading;
-pub use word::{Keepalive, Sent, Word};
+pub use word::{Keepalive, Word, XLogData};

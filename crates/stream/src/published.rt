@@ -1,4 +1,4 @@
-//! A published transaction: what a subscriber is to apply.
+//! A published transaction, what a subscriber is to apply: its commit's place and time, and its changes as messages.
 
 use frames::Items;
 use pgoutput::Logical;

@@ -1,4 +1,4 @@
-//! The law of streams.
+//! The law of streams: each has one reading.
 
 ghost use Rattle.std.specs.Prelude.{◌≡◌, ℕ, List, ◌++◌, []};
 ghost use Rattle.pgoutput.specs.declared.relation.Relation.{Relation};

@@ -1,15 +1,15 @@
-//! A word: what one frame of the stream says.
+//! A word, what one frame of the stream says: a keepalive, or a logical message in its XLogData.
 
 use pgoutput::Logical;
 
-/// What one frame of the stream says.
+/// What one CopyData frame of the stream says (PostgreSQL 15, 55.4).
 #[derive(Debug, Drop, PartialEq)]
 pub enum Word {
     Keepalive(Keepalive),
-    Sent(Sent),
+    XLogData(XLogData),
 }
 
-/// A primary keepalive.
+/// A primary keepalive: `Byte1('k') | Int64 position | Int64 clock | Byte1 ask`.
 #[derive(Clone, Copy, Debug, PartialEq)]
 pub struct Keepalive {
     /// The end of what the server has read of the log.
@@ -20,9 +20,9 @@ pub struct Keepalive {
     pub ask: bool,
 }
 
-/// A logical message in its XLogData.
+/// A logical message in its XLogData: `Byte1('w') | Int64 start | Int64 end | Int64 clock | message`.
 #[derive(Debug, Drop, PartialEq)]
-pub struct Sent {
+pub struct XLogData {
     /// The position of the message.
     pub start: u64,
     /// The position again.
