@@ -19,6 +19,13 @@ use std::sync::Arc;
 use tables::{Catalog, Change, Row};
 
 /// The log, and the transactions that write it. A place in the log is kept in reserve for the end of each of them.
+///
+/// A session calls `begin` and gets a `Tx`. With it, in any order, it calls `insert`, `savepoint`, `rollback_to` and
+/// `release`, and last `commit`, `abort` or `leave`, which take the `Tx`. Sessions may take turns, call by call.
+///
+/// Ok means that the one record of the call stands at the log's end; `begin`, `release` and `leave` write none. An error
+/// means that nothing has changed, so the call may be made again: S11 is want of memory, S7 a full log, S14 a `Tx` that is not
+/// live in this log, and the others say what is wrong with the call. `end` and `tail` may be called at any time.
 #[derive(Debug, Drop)]
 pub struct Publisher {
     catalog: Catalog,

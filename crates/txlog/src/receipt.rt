@@ -1,6 +1,6 @@
 //! What a commit answers.
 
-/// What a commit tells of its record.
+/// What a commit tells of its record. A reader whose position is `end` or more has read the transaction whole.
 #[derive(Clone, Copy, Debug, PartialEq, Eq)]
 pub struct Receipt {
     /// The record's index in the log.

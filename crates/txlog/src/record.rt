@@ -24,7 +24,7 @@ pub struct Record {
 /// What happened, and under which xid.
 #[derive(Debug, Drop, PartialEq)]
 pub enum Body {
-    /// A subtransaction and its parent.
+    /// A subtransaction, from a savepoint on, and its parent.
     Assign(u32, u32),
     /// The innermost open subtransaction, or the transaction, and what it changed.
     Change(u32, LoggedChange),

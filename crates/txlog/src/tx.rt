@@ -4,7 +4,8 @@ ghost use Rattle.std.specs.Prelude.{◌≡◌};
 
 use std::marker::Model;
 
-/// A session's hold on a transaction, spent by commit, abort or leave. Contracts see the transaction's xid.
+/// A session's hold on a transaction, from `Publisher::begin`. It can't be copied or dropped: `commit` and `abort` end the
+/// transaction, and give it back where they are refused; `leave` lets it live on. Contracts see the transaction's xid.
 #[derive(Debug)]
 pub struct Tx {
     xid: u32,
