@@ -36,7 +36,7 @@ use Rattle.stream.specs.Items.{tables_of, IsShortMessage, IsOfChange, FitsRelati
 use Rattle.publication.specs.Selection.{relation, relation_in, relation_of, relation_column, type_oid, FitsTable}
 use Rattle.publication.specs.Projection.{cell_of, stands_in, inserted_in, message, projected, MessageFits, FitsProjected}
 
-both_true : (a b : Bool) → (a && b) ≡ true → (a ≡ true) × (b ≡ true)
+pub both_true : (a b : Bool) → (a && b) ≡ true → (a ≡ true) × (b ≡ true)
 both_true true b e = (refl, e)
 both_true false b e = absurd cc
 

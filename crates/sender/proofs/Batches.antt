@@ -1,7 +1,6 @@
 -- Reading records one by one and in batches comes to the same: exactly the blocks that all of them publish.
-use Rattle.std.proofs.Common.{◌≡◌, ◌<◌, ◌+◌, zero, suc, take, get_or, ℕ, ℤ, Bool, true, false, cond, leb, List, [], ◌∷◌, ◌++◌, length, map, filter, Option, Some, None, refl, sym, ap, subst, ◌∙◌, append_assoc, arith}
+use Rattle.std.proofs.Common.{◌≡◌, ◌<◌, ◌+◌, zero, suc, take, get_or, ℕ, ℤ, Bool, true, false, cond, List, [], ◌∷◌, ◌++◌, length, map, filter, refl, sym, ap, subst, ◌∙◌, append_assoc, arith}
 use Rattle.std.proofs.lemmas.List.{append-nil, take_all}
-use Rattle.std.proofs.lemmas.List.Concat.{flat_map-cons}
 use Rattle.std.proofs.lemmas.Grind.{flat_map-append}
 use Rattle.std.specs.Global.{Global}
 use Rattle.std.specs.declared.sync.Arc.{Arc}
@@ -10,16 +9,16 @@ use Rattle.tables.specs.declared.table.Table.{Table}
 use Rattle.txlog.specs.declared.record.Record.{Record}
 use Rattle.txlog.specs.declared.record.Body.{Body}
 use Rattle.txlog.specs.declared.record.Body.TheVariants.{Assign, Change as Changed, AbortSub, Abort, Commit}
-use Rattle.txlog.specs.Log.{Entry, Transaction, committed_at, committed_from, kept, end_of}
+use Rattle.txlog.specs.Log.{committed_at, committed_from, end_of}
 use Rattle.txlog.proofs.Laws.{end_of-append, committed_from-append}
 use Rattle.reorder.specs.Taking.{promised}
 use Rattle.publication.specs.Selection.{relation}
 use Rattle.pgoutput.specs.declared.relation.Relation.{Relation}
 use Rattle.stream.specs.declared.published.Published.{Published}
 use Rattle.stream.specs.Words.{word_bytes, frames_of}
-use Rattle.stream.specs.Items.{Item, Alive, Block, words_of, item_words, spelled, relations_sent_by_all, relations_sent_after, relations_sent_through}
+use Rattle.stream.specs.Items.{Block, words_of, item_words, spelled, relations_sent_by_all, relations_sent_through}
 use Rattle.sender.specs.Published.{published, published_as, published_from, has_message}
-use Rattle.sender.specs.Sending.{SenderState, MayFollow, HasRead, blocks, blocks_behind, ready_at, released, TookOne, Fed, FedSome, SeemsSame, AddsBlocks}
+use Rattle.sender.specs.Sending.{SenderState, MayFollow, HasRead, blocks, published_bytes, published_by_commit, ReadOne, ReadAll, RanOutOfMemory, OutputUnchanged, AddsPublished}
 
 -- ---- items behind items
 
@@ -68,11 +67,11 @@ MayFollow-back before (r ∷ m) n may = let P : List Record → Type 0 = λ l. M
 -- ---- one record
 
 -- what is ready by the definition is what the record publishes
-released_is : (selection : List Table) (s : ℕ) (before : List Record) (r : Record) → released selection s r (promised before r.body) ≡ published_from selection s before (r ∷ [])
-released_is selection s before r = by_body r.body refl
+published_by_commit_is : (selection : List Table) (s : ℕ) (before : List Record) (r : Record) → published_by_commit selection s r (promised before r.body) ≡ published_from selection s before (r ∷ [])
+published_by_commit_is selection s before r = by_body r.body refl
   where
     Same : Body → Type 0
-    Same body = released selection s (record r { body = body }) (promised before body) ≡ filter has_message (map (published_as selection) (committed_at s before r.start r.end body ++ []))
+    Same body = published_by_commit selection s (record r { body = body }) (promised before body) ≡ filter has_message (map (published_as selection) (committed_at s before r.start r.end body ++ []))
 
     by_commit : (xid : ℕ) (time : ℤ) → Same (Commit xid time)
     by_commit xid time = ap (λ ts. filter has_message (map (published_as selection) ts)) (sym (append-nil (committed_at s before r.start r.end (Commit xid time))))
@@ -84,59 +83,56 @@ released_is selection s before r = by_body r.body refl
     by_body (Abort xid) is = refl
     by_body (Commit xid time) is = by_commit xid time
 
-pub took-Fed : (clock : ℤ) (old new : SenderState) (r : Record) → TookOne clock old new r → Fed clock old new (r ∷ [])
-took-Fed clock old new r took = record {
-  selection = took.selection;
-  start = took.start;
-  position = took.position;
-  reads = reads;
-  adds = adds;
+pub ReadOne-ReadAll : (clock : ℤ) (old new : SenderState) (r : Record) → ReadOne clock old new r → ReadAll clock old new (r ∷ [])
+ReadOne-ReadAll clock old new r one = record {
+  selection = one.selection;
+  start = one.start;
+  position = one.position;
+  after = λ before has may.
+      let taken = one.takes.after before has.taken may.0 may.1 in
+      let is : commits ≡ published_from old.selection old.start before (r ∷ []) = ap (published_by_commit old.selection old.start r) taken.1 ∙ published_by_commit_is old.selection old.start before r in
+      (record { taken = taken.0; relations_sent = sent before has is }, adds before has is);
 } where
-  rel : List Published
-  rel = released old.selection old.start r took.ready
+  commits : List Published
+  commits = published_by_commit old.selection old.start r one.ready
 
-  is : (before : List Record) → HasRead old before → MayFollow before (r ∷ []) → rel ≡ published_from old.selection old.start before (r ∷ [])
-  is before has may = ap (released old.selection old.start r) (took.takes.gives before has.taken may.0 may.1) ∙ released_is old.selection old.start before r
+  sent : (before : List Record) → HasRead old before → commits ≡ published_from old.selection old.start before (r ∷ []) → new.relations_sent ≡ relations_sent_through [] (published new.selection (before ++ r ∷ []) new.start)
+  sent before has is =
+      one.relations_sent ∙ ap (relations_sent_through old.relations_sent) is ∙ ap (λ n. relations_sent_through n (published_from old.selection old.start before (r ∷ []))) has.relations_sent
+      ∙ sym (relations_sent_through-append [] (published old.selection before old.start) (published_from old.selection old.start before (r ∷ [])))
+      ∙ ap (relations_sent_through []) (sym (published_from-append old.selection old.start [] before (r ∷ [])))
+      ∙ ap (λ sel. relations_sent_through [] (published sel (before ++ r ∷ []) old.start)) (sym one.selection) ∙ ap (λ s. relations_sent_through [] (published new.selection (before ++ r ∷ []) s)) (sym one.start)
 
-  reads : (before : List Record) → HasRead old before → MayFollow before (r ∷ []) → HasRead new (before ++ r ∷ [])
-  reads before has may = record {
-    taken = took.takes.reads before has.taken may.0 may.1;
-    names = took.relations_sent ∙ ap (relations_sent_through old.relations_sent) (is before has may) ∙ ap (λ n. relations_sent_through n (published_from old.selection old.start before (r ∷ []))) has.names
-        ∙ sym (relations_sent_through-append [] (published old.selection before old.start) (published_from old.selection old.start before (r ∷ [])))
-        ∙ ap (relations_sent_through []) (sym (published_from-append old.selection old.start [] before (r ∷ [])))
-        ∙ ap (λ sel. relations_sent_through [] (published sel (before ++ r ∷ []) old.start)) (sym took.selection) ∙ ap (λ s. relations_sent_through [] (published new.selection (before ++ r ∷ []) s)) (sym took.start);
-  }
-
-  adds : AddsBlocks clock old new.held (r ∷ [])
-  adds before has may =
-      took.held ∙ ap (λ ts. old.held ++ spelled (relation old.selection) old.relations_sent (blocks clock ts)) (is before has may)
-      ∙ ap (λ n. old.held ++ spelled (relation old.selection) n (blocks clock (published_from old.selection old.start before (r ∷ [])))) has.names
+  adds : (before : List Record) → HasRead old before → commits ≡ published_from old.selection old.start before (r ∷ []) → AddsPublished clock old new.held before (r ∷ [])
+  adds before has is =
+      one.held ∙ ap (λ ts. old.held ++ spelled (relation old.selection) old.relations_sent (blocks clock ts)) is
+      ∙ ap (λ n. old.held ++ spelled (relation old.selection) n (blocks clock (published_from old.selection old.start before (r ∷ [])))) has.relations_sent
 
 -- ---- batches
 
-pub Fed-append : (clock : ℤ) (a b c : SenderState) (m n : List Record) → Fed clock a b m → Fed clock b c n → Fed clock a c (m ++ n)
-Fed-append clock a b c m n first second = record {
+pub ReadAll-append : (clock : ℤ) (a b c : SenderState) (m n : List Record) → ReadAll clock a b m → ReadAll clock b c n → ReadAll clock a c (m ++ n)
+ReadAll-append clock a b c m n first second = record {
   selection = second.selection ∙ first.selection;
   start = second.start ∙ first.start;
   position = second.position ∙ ap (λ p. end_of p n) first.position ∙ sym (end_of-append a.position m n);
-  reads = λ before has may.
+  after = λ before has may.
+      let early = first.after before has (MayFollow-front before m n may) in
+      let late = second.after (before ++ m) early.0 (MayFollow-back before m n may) in
       let P : List Record → Type 0 = λ l. HasRead c l in
-      subst P (append_assoc before m n) (second.reads (before ++ m) (first.reads before has (MayFollow-front before m n may)) (MayFollow-back before m n may));
-  adds = λ before has may. both before has (MayFollow-front before m n may) (MayFollow-back before m n may);
+      (subst P (append_assoc before m n) late.0, both before early.1 late.1);
 } where
-  both : (before : List Record) → HasRead a before → MayFollow before m → MayFollow (before ++ m) n
-      → c.held ≡ a.held ++ blocks_behind a.selection clock (published a.selection before a.start) (published_from a.selection a.start before (m ++ n))
-  both before has may_m may_n =
-      let P : List Table → ℕ → Type 0 = λ sel s. c.held ≡ b.held ++ blocks_behind sel clock (published sel (before ++ m) s) (published_from sel s (before ++ m) n) in
-      let later : P a.selection a.start = rw (← first.selection, ← first.start) (second.adds (before ++ m) (first.reads before has may_m) may_n) in
+  both : (before : List Record) → AddsPublished clock a b.held before m → AddsPublished clock b c.held (before ++ m) n → AddsPublished clock a c.held before (m ++ n)
+  both before adds_m adds_n =
+      let P : List Table → ℕ → Type 0 = λ sel s. c.held ≡ b.held ++ published_bytes sel clock (published sel (before ++ m) s) (published_from sel s (before ++ m) n) in
+      let later : P a.selection a.start = rw (← first.selection, ← first.start) adds_n in
       let early = published a.selection before a.start in
       let one = published_from a.selection a.start before m in
       let two = published_from a.selection a.start (before ++ m) n in
       let through : relations_sent_through [] (published a.selection (before ++ m) a.start) ≡ relations_sent_through (relations_sent_through [] early) one =
       ap (relations_sent_through []) (published_from-append a.selection a.start [] before m) ∙ relations_sent_through-append [] early one in
-      later ∙ ap (λ (l : List ℕ). l ++ blocks_behind a.selection clock (published a.selection (before ++ m) a.start) two) (first.adds before has may_m)
-      ∙ ap (λ (relations_sent : List ℕ). (a.held ++ blocks_behind a.selection clock early one) ++ spelled (relation a.selection) relations_sent (blocks clock two)) through
-      ∙ append_assoc a.held (blocks_behind a.selection clock early one) (spelled (relation a.selection) (relations_sent_through (relations_sent_through [] early) one) (blocks clock two))
+      later ∙ ap (λ (l : List ℕ). l ++ published_bytes a.selection clock (published a.selection (before ++ m) a.start) two) adds_m
+      ∙ ap (λ (relations_sent : List ℕ). (a.held ++ published_bytes a.selection clock early one) ++ spelled (relation a.selection) relations_sent (blocks clock two)) through
+      ∙ append_assoc a.held (published_bytes a.selection clock early one) (spelled (relation a.selection) (relations_sent_through (relations_sent_through [] early) one) (blocks clock two))
       ∙ ap (λ (l : List ℕ). a.held ++ l) (sym (spelled-blocks (relation a.selection) (relations_sent_through [] early) clock one two) ∙ ap (λ ts. spelled (relation a.selection) (relations_sent_through [] early) (blocks clock ts)) (sym (published_from-append a.selection a.start before m n)))
 
 -- ---- a loop over a batch
@@ -158,16 +154,18 @@ length_shared [] = refl
 length_shared (y ∷ records) = ap suc (length_shared records)
 
 -- a batch that stops at a refused record
-pub fed_some : (clock : ℤ) (old mid stopped new : SenderState) (records : List (Arc Record Global)) (i : ℕ) → i < length records → Fed clock old mid (shared (take i records)) → SeemsSame mid stopped
-    → new.selection ≡ stopped.selection → new.start ≡ stopped.start → new.position ≡ stopped.position → new.held ≡ stopped.held → new.failed ≡ true → FedSome clock old new (shared records)
-fed_some clock old mid stopped new records i lt fed same selection start position held failed =
-    let front = shared_take records i in
+pub stopped_at : (clock : ℤ) (old mid stopped new : SenderState) (records : List (Arc Record Global)) (i : ℕ) → i < length records → ReadAll clock old mid (shared (take i records)) → OutputUnchanged mid stopped
+    → new.selection ≡ stopped.selection → new.start ≡ stopped.start → new.position ≡ stopped.position → new.held ≡ stopped.held → new.failed ≡ true → RanOutOfMemory clock old new (shared records)
+stopped_at clock old mid stopped new records i lt front same selection start position held failed =
+    let taken = shared_take records i in
     record {
       count = i;
       fewer = omega (arith, length_shared records);
-      selection = selection ∙ same.selection ∙ fed.selection;
-      start = start ∙ same.start ∙ fed.start;
-      position = position ∙ same.position ∙ fed.position ∙ ap (end_of old.position) front;
-      adds = (let P : List Record → Type 0 = λ l. AddsBlocks clock old new.held l in subst P front (λ before has may. held ∙ same.held ∙ fed.adds before has may));
+      selection = selection ∙ same.selection ∙ front.selection;
+      start = start ∙ same.start ∙ front.start;
+      position = position ∙ same.position ∙ front.position ∙ ap (end_of old.position) taken;
+      after =
+          (let P : List Record → Type 0 = λ l. (before : List Record) → HasRead old before → MayFollow before l → AddsPublished clock old new.held before l in
+          subst P taken (λ before has may. held ∙ same.held ∙ (front.after before has may).1));
       failed = failed;
     }

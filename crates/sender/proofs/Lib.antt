@@ -2,3 +2,4 @@ pub mod Framing
 pub mod Lists
 pub mod Batches
 pub mod Changes
+pub mod Sections

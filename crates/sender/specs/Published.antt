@@ -1,6 +1,6 @@
 -- The published transactions of a log: those that commit at the start position or later, each change replaced by its position
 -- and its message, without the changes that have none and without the transactions that have none left.
-use Rattle.std.specs.Prelude.{◌≡◌, ℕ, ◌==◌, Bool, not, List, [], ◌∷◌, ◌++◌, length, map, filter, Option, Some, None}
+use Rattle.std.specs.Prelude.{ℕ, ◌==◌, Bool, not, List, [], ◌∷◌, ◌++◌, length, map, filter, Option, Some, None}
 use Rattle.pgoutput.specs.declared.logical.Logical.{Logical}
 use Rattle.tables.specs.declared.table.Table.{Table}
 use Rattle.txlog.specs.declared.record.Record.{Record}

@@ -4,31 +4,30 @@ ghost use Rattle.std.specs.Prelude.{◌≡◌, ◌++◌, Some, false, Err, IfErr
 ghost use Rattle.txlog.specs.Publishing.{shared};
 ghost use Rattle.publication.specs.Selection.{relation};
 ghost use Rattle.stream.specs.Items.{spelled, relations_sent_through};
-ghost use Rattle.sender.specs.Sending.{Fed, FedSome, SeemsSame, TookOne, released, blocks};
+ghost use Rattle.sender.specs.Sending.{ReadAll, RanOutOfMemory, OutputUnchanged, ReadOne, published_by_commit, blocks};
 
 use crate::fault::SendFault;
 use crate::publishing::transaction_of;
 use crate::sender::Sender;
 use reorder::{Ready, Step};
-use std::alloc::{AllocError, Global};
+use std::alloc::AllocError;
 use std::sync::Arc;
 use txlog::Record;
 
 impl Sender {
     pub(crate) fn take_all(
         &mut self,
-        alloc: Global,
         records: &[Arc<Record>],
         clock: i64,
     ) -> Result<(), SendFault>
         requires { self.old.failed ≡ false }
-        ensures ok { OnOk result (Fed clock self.old self.new (shared records.now)) }
+        ensures ok { OnOk result (ReadAll clock self.old self.new (shared records.now)) }
         ensures running { OnOk result (self.new.failed ≡ false) }
-        ensures memory { OnErr result (FedSome clock self.old self.new (shared records.now)) }
+        ensures memory { OnErr result (RanOutOfMemory clock self.old self.new (shared records.now)) }
         ensures err { IfErr result (λ e. e ≡ SendFault.Memory) }
     {
         for record in records {
-            match self.take(alloc, record, clock) {
+            match self.take(record, clock) {
                 Ok(()) => {}
                 Err(_) => {
                     self.failed = true;
@@ -39,19 +38,19 @@ impl Sender {
         Ok(())
     }
 
-    fn take(&mut self, alloc: Global, next: &Arc<Record>, clock: i64) -> Result<(), AllocError>
-        ensures ok { OnOk result (TookOne clock self.old self.new next.now.value) }
-        ensures err { OnErr result (SeemsSame self.old self.new) }
+    fn take(&mut self, next: &Arc<Record>, clock: i64) -> Result<(), AllocError>
+        ensures ok { OnOk result (ReadOne clock self.old self.new next.now.value) }
+        ensures err { OnErr result (OutputUnchanged self.old self.new) }
         ensures failed { self.new.failed ≡ self.old.failed }
     {
-        match self.reorder.take(alloc, next) {
+        match self.reorder.take(next) {
             Err(_) => return Err(AllocError),
             Ok(Step::Quiet) => {
                 self.position = next.end;
                 return Ok(());
             }
             Ok(Step::Ready(ready)) => {
-                let published = self.publish(alloc, next, &ready, clock);
+                let published = self.publish(next, &ready, clock);
                 self.reorder.finish(ready);
                 published?;
                 self.position = next.end;
@@ -62,15 +61,14 @@ impl Sender {
 
     fn publish(
         &mut self,
-        alloc: Global,
         next: &Record,
         ready: &Ready,
         clock: i64,
     ) -> Result<(), AllocError>
         ensures held { OnOk result (self.new.held ≡ self.old.held ++ spelled (relation self.old.selection) self.old.relations_sent
-            (blocks clock (released self.old.selection self.old.start next.now (Some ready.now)))) }
+            (blocks clock (published_by_commit self.old.selection self.old.start next.now (Some ready.now)))) }
         ensures relations_sent { OnOk result (self.new.relations_sent ≡ relations_sent_through self.old.relations_sent
-            (released self.old.selection self.old.start next.now (Some ready.now))) }
+            (published_by_commit self.old.selection self.old.start next.now (Some ready.now))) }
         ensures err { OnErr result (self.new.held ≡ self.old.held) }
         ensures selection { self.new.selection ≡ self.old.selection }
         ensures start { self.new.start ≡ self.old.start }
@@ -78,6 +76,7 @@ impl Sender {
         ensures failed { self.new.failed ≡ self.old.failed }
         ensures reorder { self.new.reorder ≡ self.old.reorder }
     {
+        let alloc = self.outgoing.allocator();
         let Some(transaction) = transaction_of(
             alloc,
             &self.selection,
@@ -89,8 +88,7 @@ impl Sender {
         else {
             return Ok(());
         };
-        self.outgoing
-            .commit(alloc, &self.selection, clock, &transaction)?;
+        self.outgoing.commit(&self.selection, clock, &transaction)?;
         Ok(())
     }
 }

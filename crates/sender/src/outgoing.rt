@@ -39,6 +39,11 @@ impl Outgoing {
         }
     }
 
+    /// The allocator of what is held.
+    pub(crate) fn allocator(&self) -> Global {
+        *self.relations_sent.allocator()
+    }
+
     /// Adds a keepalive, or, where memory is refused, nothing.
     pub(crate) fn keepalive(
         &mut self,
@@ -89,7 +94,6 @@ impl Outgoing {
     /// Adds the block of a transaction, or, where memory is refused, nothing.
     pub(crate) fn commit(
         &mut self,
-        alloc: Global,
         selection: &Selection,
         clock: i64,
         transaction: &Published,
@@ -101,7 +105,7 @@ impl Outgoing {
         ensures err { OnErr result (self.new.held.items ≡ self.old.held.items) }
     {
         let length = self.held.len();
-        let written = self.block(alloc, selection, clock, transaction);
+        let written = self.block(selection, clock, transaction);
         if written.is_err() {
             self.held.truncate(length);
         }
@@ -122,7 +126,6 @@ impl Outgoing {
     #[tactic(auto, using(frames::proofs::Putting::extends_itself, frames::proofs::Putting::extends_more, frames::proofs::Putting::extends_back))]
     fn introduce(
         &mut self,
-        alloc: Global,
         selection: &Selection,
         position: u64,
         clock: i64,
@@ -137,7 +140,7 @@ impl Outgoing {
         if is_known(self.relations_sent.as_slice(), oid) {
             return Ok(());
         }
-        let Some(message) = selection.relation(alloc, oid)? else {
+        let Some(message) = selection.relation(self.allocator(), oid)? else {
             unreachable!();
         };
         self.say(position, clock, &message)?;
@@ -148,7 +151,6 @@ impl Outgoing {
     /// Adds a change: the Relations that are due, and its message.
     fn change(
         &mut self,
-        alloc: Global,
         selection: &Selection,
         clock: i64,
         change: &PublishedChange,
@@ -159,7 +161,7 @@ impl Outgoing {
         ensures relations_sent { OnOk result (reverse self.new.relations_sent.items ≡ relations_sent_by (reverse self.old.relations_sent.items) change.now) }
     {
         if let Logical::Insert(insert) = &change.message {
-            self.introduce(alloc, selection, change.position, clock, insert.oid)?;
+            self.introduce(selection, change.position, clock, insert.oid)?;
         }
         self.say(change.position, clock, &change.message)?;
         Ok(())
@@ -168,7 +170,6 @@ impl Outgoing {
     #[tactic(auto, using(frames::proofs::Putting::extends_itself, frames::proofs::Putting::extends_more, frames::proofs::Putting::extends_back))]
     fn changes(
         &mut self,
-        alloc: Global,
         selection: &Selection,
         clock: i64,
         changes: &[PublishedChange],
@@ -179,7 +180,7 @@ impl Outgoing {
         ensures relations_sent { OnOk result (reverse self.new.relations_sent.items ≡ relations_sent_by_all (reverse self.old.relations_sent.items) changes.now) }
     {
         for change in changes {
-            self.change(alloc, selection, clock, change)?;
+            self.change(selection, clock, change)?;
         }
         Ok(())
     }
@@ -188,7 +189,6 @@ impl Outgoing {
     #[tactic(auto, using(frames::proofs::Putting::extends_itself, frames::proofs::Putting::extends_more, frames::proofs::Putting::extends_back, crate::proofs::Framing::block_is))]
     fn block(
         &mut self,
-        alloc: Global,
         selection: &Selection,
         clock: i64,
         transaction: &Published,
@@ -200,7 +200,7 @@ impl Outgoing {
     {
         let begin = begin_of(transaction);
         self.say(transaction.start, clock, &begin)?;
-        self.changes(alloc, selection, clock, transaction.changes.as_slice())?;
+        self.changes(selection, clock, transaction.changes.as_slice())?;
         let commit = commit_of(transaction);
         self.say(transaction.end, clock, &commit)?;
         Ok(())

@@ -4,7 +4,7 @@ ghost use Rattle.std.specs.Prelude.{◌≡◌, ◌+◌, ◌<◌, ◌++◌, [], I
 ghost use Rattle.std.specs.List.{AllByRecursion};
 ghost use Rattle.publication.specs.Projection.{MessageFits, message};
 ghost use Rattle.sender.specs.Published.{published_at, published_changes};
-ghost use Rattle.sender.specs.Sending.{released};
+ghost use Rattle.sender.specs.Sending.{published_by_commit};
 
 use frames::Items;
 use publication::{Projected, Selection};
@@ -24,7 +24,7 @@ pub(crate) fn transaction_of(
     reorder: &Reorder,
     ready: &Ready,
 ) -> Result<Option<Published>, AllocError>
-    ensures value { IfOk result (λ o. option_to_list o ≡ released selection.now start next.now (Some ready.now)) }
+    ensures value { IfOk result (λ o. option_to_list o ≡ published_by_commit selection.now start next.now (Some ready.now)) }
     ensures fits { IfOk result (λ o. IfSome o (λ t. AllByRecursion (λ c. MessageFits selection.now c.message) t.changes)) }
 {
     let Body::Commit(xid, time) = next.body else {

@@ -5,7 +5,7 @@ ghost use Rattle.txlog.specs.Log.{follows};
 ghost use Rattle.txlog.specs.Publishing.{shared};
 ghost use Rattle.stream.specs.Words.{word_bytes};
 ghost use Rattle.stream.specs.Items.{keepalive_word};
-ghost use Rattle.sender.specs.Sending.{HasRead, Fed, FedSome};
+ghost use Rattle.sender.specs.Sending.{HasRead, ReadAll, RanOutOfMemory};
 
 use crate::fault::SendFault;
 use crate::outgoing::Outgoing;
@@ -75,16 +75,11 @@ impl Sender {
 
     /// Reads records. What they publish is held from then on, under this clock. G3, then G4 where they don't follow
     /// `position()` or each other, then G2, after which the sender has failed.
-    pub fn feed(
-        &mut self,
-        alloc: Global,
-        records: &[Arc<Record>],
-        clock: i64,
-    ) -> Result<(), SendFault>
-        ensures ok { OnOk result (Fed clock self.old self.new (shared records.now)) }
+    pub fn feed(&mut self, records: &[Arc<Record>], clock: i64) -> Result<(), SendFault>
+        ensures ok { OnOk result (ReadAll clock self.old self.new (shared records.now)) }
         ensures running { OnOk result (self.new.failed ≡ false) }
         ensures follow { OnOk result (follows self.old.position (shared records.now) ≡ true) }
-        ensures memory { result ≡ Err SendFault.Memory → FedSome clock self.old self.new (shared records.now) }
+        ensures memory { result ≡ Err SendFault.Memory → RanOutOfMemory clock self.old self.new (shared records.now) }
         ensures failed { (result ≡ Err SendFault.Failed) ↔ (self.old.failed ≡ true) }
         ensures gap { (result ≡ Err SendFault.Gap) ↔ ((self.old.failed ≡ false) × (follows self.old.position (shared records.now) ≡ false)) }
         ensures unchanged { self.old.failed ≡ true → self.new ≡ self.old }
@@ -96,7 +91,7 @@ impl Sender {
         if !do_follow(self.position, records) {
             return Err(SendFault::Gap);
         }
-        self.take_all(alloc, records, clock)
+        self.take_all(records, clock)
     }
 
     /// Holds a keepalive with the sender's position behind all that is held.
@@ -133,7 +128,7 @@ impl Sender {
     }
 
     /// Whether any bytes are held.
-    pub fn held(&self) -> bool
+    pub fn holds_bytes(&self) -> bool
         ensures { result ≡ not (length self.now.held == 0) }
     {
         !self.outgoing.held.is_empty()

@@ -1,5 +1,4 @@
-use Rattle.std.proofs.Common.{ℕ, ◌<◌, length, arith}
-use Rattle.std.specs.List.{AllByRecursion}
+use Rattle.std.proofs.Common.{◌<◌, length, arith}
 use Rattle.publication.specs.Projection.{MessageFits, message}
 use Rattle.stream.specs.declared.published.PublishedChange.{PublishedChange}
 use Rattle.sender.specs.Published.{published_at}

@@ -1,9 +1,9 @@
-use Rattle.std.proofs.Common.{◌≡◌, List, ◌++◌, ap, reverse, ◌∙◌}
+use Rattle.std.proofs.Common.{◌++◌, ap, reverse, ◌∙◌}
 use Rattle.std.specs.Int.{w64}
 use Rattle.std.proofs.lemmas.Int.{to_z-of_z}
 use Rattle.publication.specs.Selection.{relation}
 use Rattle.stream.specs.Words.{frames_of}
-use Rattle.stream.specs.Items.{begin_message, commit_message, changes_words}
+use Rattle.stream.specs.Items.{changes_words}
 use Rattle.sender.proofs.Framing.{block_whole, begin_short, commit_short}
 use Rattle.sender.proofs.outgoing.Outgoing.block.Goals as goal
 

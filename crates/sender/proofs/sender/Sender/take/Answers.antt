@@ -1,12 +1,8 @@
-use Rattle.std.proofs.Common.{◌≡◌, ◌++◌, ℕ, ℤ, List, Some, ap, reverse, sym, subst, ◌∙◌}
+use Rattle.std.proofs.Common.{Some, ap, reverse, subst, ◌∙◌}
 use Rattle.std.specs.Int.{w64}
 use Rattle.std.proofs.lemmas.Int.{to_z-of_z}
 use Rattle.txlog.specs.declared.record.Record.{Record}
-use Rattle.publication.specs.Selection.{relation}
-use Rattle.reorder.specs.declared.ready.Step.{Step}
-use Rattle.reorder.specs.Taking.{ReorderState, Takes, readied}
-use Rattle.stream.specs.Items.{spelled, relations_sent_through}
-use Rattle.sender.specs.Sending.{SenderState, TookOne, released, blocks}
+use Rattle.sender.specs.Sending.{SenderState, ReadOne}
 use Rattle.sender.proofs.sender.Sender.take.Goals as goal
 
 pub returns-in-Ok-Ready-clause-ok : goal.returns-in-Ok-Ready-clause-ok
@@ -38,7 +34,7 @@ returns-in-Ok-Ready-clause-ok c =
     let published = rw (to_z-of_z w64 c.args.clock c.ranges.clock, record_is) at c.in_ok-published-in-Ok-Ready.ensures.held in
     let relations_sent = rw record_is at c.in_ok-published-in-Ok-Ready.ensures.relations_sent in
     let taken = rw c.in-Ok-Ready.field-0-is at c.in-Ok-Ready.ensures.ok in
-    let P : SenderState → Type 0 = λ a. TookOne c.args.clock a new c.args.next.now.value in
+    let P : SenderState → Type 0 = λ a. ReadOne c.args.clock a new c.args.next.now.value in
     subst P c.self.view_is (record {
       ready = Some c.in-Ok-Ready.ready;
       takes = rw (c.finish.ensures, ap (λ (s : SenderState). s.reorder) e, told.reorder) taken;

@@ -1,10 +1,9 @@
-use Rattle.std.proofs.Common.{◌≡◌, ◌<◌, ◌++◌, ◌∷◌, [], ℕ, List, true, length, take, ap, reverse, refl, sym, subst, ◌∙◌, arith}
+use Rattle.std.proofs.Common.{◌∷◌, [], true, take, ap, reverse, refl, sym, ◌∙◌, arith}
 use Rattle.std.specs.Int.{w64}
 use Rattle.std.proofs.lemmas.Int.{to_z-of_z}
-use Rattle.txlog.specs.declared.record.Record.{Record}
 use Rattle.txlog.specs.Publishing.{shared}
-use Rattle.sender.specs.Sending.{SenderState, Fed, FedSome}
-use Rattle.sender.proofs.Batches.{took-Fed, Fed-append, shared_more, fed_some}
+use Rattle.sender.specs.Sending.{SenderState}
+use Rattle.sender.proofs.Batches.{ReadOne-ReadAll, ReadAll-append, shared_more, stopped_at}
 use Rattle.sender.proofs.sender.Sender.take_all.Goals as goal
 
 pub returns-in-Err-clause-memory : goal.returns-in-Err-clause-memory
@@ -19,14 +18,14 @@ returns-in-Err-clause-memory c =
       relations_sent = reverse i.outgoing.relations_sent.items;
       reorder = i.reorder;
     } in
-    fed_some c.args.clock c.args.self.now c.loop-record.self c.take.new.self new c.args.records.now c.loop-record.record-index (omega arith) (rw (to_z-of_z w64 c.args.clock c.ranges.clock) at c.loop-record.invariant.fed) c.in-Err.ensures.err
+    stopped_at c.args.clock c.args.self.now c.loop-record.self c.take.new.self new c.args.records.now c.loop-record.record-index (omega arith) (rw (to_z-of_z w64 c.args.clock c.ranges.clock) at c.loop-record.invariant.read) c.in-Err.ensures.err
     (ap (λ (s : SenderState). s.selection) c.self.view_is) (ap (λ (s : SenderState). s.start) c.self.view_is) (ap (λ (s : SenderState). s.position) c.self.view_is) (ap (λ (s : SenderState). s.held) c.self.view_is) refl
 
 pub loop-record-preserved : goal.loop-record-preserved
 loop-record-preserved c =
     let item = shared_more c.args.records.now c.loop-record.record-index c.record-item.result (omega arith) (sym c.record-item.is) in
     record {
-      fed = rw item (Fed-append _ c.args.self.now c.loop-record.self c.take.new.self (shared (take c.loop-record.record-index c.args.records.now)) (c.record-item.result.value ∷ [])
-          c.loop-record.invariant.fed (took-Fed _ c.loop-record.self c.take.new.self c.record-item.result.value c.in-Ok.ensures.ok));
+      read = rw item (ReadAll-append _ c.args.self.now c.loop-record.self c.take.new.self (shared (take c.loop-record.record-index c.args.records.now)) (c.record-item.result.value ∷ [])
+          c.loop-record.invariant.read (ReadOne-ReadAll _ c.loop-record.self c.take.new.self c.record-item.result.value c.in-Ok.ensures.ok));
       running = c.in-Ok.ensures.failed ∙ c.loop-record.invariant.running;
     }

@@ -1,10 +1,10 @@
 use Rattle.std.proofs.Common.{◌≡◌, take, false}
 use Rattle.txlog.specs.Publishing.{shared}
-use Rattle.sender.specs.Sending.{Fed}
+use Rattle.sender.specs.Sending.{ReadAll}
 use Rattle.sender.proofs.sender.Sender.take_all.Given as goal
 
 abbrev pub invariant-loop-record : goal.invariant-loop-record
 invariant-loop-record l = record {
-  fed : Fed l.clock l.fn.self l.self (shared (take l.record-index l.records));
+  read : ReadAll l.clock l.fn.self l.self (shared (take l.record-index l.records));
   running : l.self.failed ≡ false;
 }
