@@ -1,6 +1,7 @@
 //! The walsender's core: from records of the log to the bytes of a stream.
 #![tactic(auto)]
 
+mod ended;
 mod fault;
 mod feeding;
 mod outgoing;
@@ -8,5 +9,6 @@ mod publishing;
 mod sender;
 mod word;
 
+pub use ended::Ended;
 pub use fault::SendFault;
 pub use sender::Sender;

@@ -7,6 +7,7 @@ ghost use Rattle.stream.specs.Words.{word_bytes};
 ghost use Rattle.stream.specs.Items.{keepalive_word};
 ghost use Rattle.sender.specs.Sending.{HasRead, ReadAll, RanOutOfMemory};
 
+use crate::ended::Ended;
 use crate::fault::SendFault;
 use crate::outgoing::Outgoing;
 use crate::word::put_keepalive;
@@ -134,12 +135,21 @@ impl Sender {
         !self.outgoing.held.is_empty()
     }
 
-    /// Ends the sender: what it held is lost, and its selection is given back.
-    pub fn into_selection(self) -> Selection
-        ensures { result ≡ self.selection }
+    /// Ends the sender: what it held is lost.
+    pub fn end(self) -> Ended
+        ensures { result ≡ record { selection = self.selection; start = self.start; position = self.position } }
     {
-        let Sender { selection, .. } = self;
-        selection
+        let Sender {
+            selection,
+            start,
+            position,
+            ..
+        } = self;
+        Ended {
+            selection,
+            start,
+            position,
+        }
     }
 
     /// The end of the last record read, at first where the sender began.

@@ -2,6 +2,7 @@ pub mod Ranges
 pub mod Streams
 pub mod Sections
 pub mod Names
-pub mod Desks
-pub mod Courses
+pub mod Openings
+pub mod Asking
+pub mod Runs
 pub mod Machines

@@ -1,54 +1,65 @@
--- The machine between two events: a longer log leaves every connection served, and what is selected fits.
-use Rattle.std.proofs.Common.{◌≡◌, ℕ, ℤ, List, [], ◌∷◌, ◌++◌, map, refl, sym, ap, subst}
-use Rattle.std.specs.Prelude.{Result, Ok, Err, IfOk, OnErr}
+-- The machine between two events: a longer log leaves every start served, a call or an act is its event in the world.
+use Rattle.std.proofs.Common.{◌≡◌, ℕ, ℤ, Bool, true, false, List, [], ◌∷◌, ◌++◌, map, Option, Some, None, refl, sym, ap, subst, ◌∙◌, option_map}
+use Rattle.std.specs.Prelude.{Result, Ok, Err, IfOk, OnErr, is_some, not, slice_get}
 use Rattle.std.specs.List.{AllByRecursion}
+use Rattle.std.proofs.lemmas.Option.{slice_get-map}
 use Rattle.txlog.specs.declared.record.Record.{Record}
 use Rattle.txlog.specs.Publishing.{PublisherState}
-use Rattle.world.specs.declared.answer.Answer.{Answer}
-use Rattle.world.specs.declared.fault.WorldFault.{WorldFault}
-use Rattle.world.specs.declared.event.Event.{Event}
-use Rattle.world.specs.declared.event.Event.TheVariants as events
+use Rattle.sender.specs.declared.fault.SendFault.TheVariants as sends
+use Rattle.schedule.specs.declared.answer.Answer.{Answer}
+use Rattle.schedule.specs.declared.answer.Answer.TheVariants as answers
+use Rattle.schedule.specs.declared.fault.WorldFault.{WorldFault}
+use Rattle.schedule.specs.declared.event.Event.{Event}
+use Rattle.schedule.specs.declared.event.Event.TheVariants as events
+use Rattle.world.specs.declared.action.Action.{Action}
+use Rattle.world.specs.declared.action.Action.TheVariants as actions
 use Rattle.world.specs.declared.session.Session.{Session}
-use Rattle.world.specs.declared.connection.Connection.{Connection}
+use Rattle.world.specs.declared.start.Start.{Start}
+use Rattle.world.specs.declared.start.Walsender.{Walsender}
+use Rattle.world.specs.declared.start.Walsender.TheVariants as walsenders
 use Rattle.world.specs.declared.machine.Machine.{Machine}
-use Rattle.world.specs.State.{WorldState}
-use Rattle.world.specs.Sessions.{named, Desk, desk}
-use Rattle.world.specs.Events.{Calls, Comes, IsBad, IsBadCall}
-use Rattle.world.specs.Actions.{IsServed}
-use Rattle.world.specs.Machine.{Grows, shown}
+use Rattle.world.specs.State.{StartState, WorldState}
+use Rattle.world.specs.SessionLines.{Ask, SessionState, ask_of, if_new, if_known, IsCalled}
+use Rattle.world.specs.ConnectionLines.{Acts}
+use Rattle.world.specs.Steps.{IsStep, is_bad, session_state}
+use Rattle.world.specs.Machine.{named_tx, sessions_state, IsCallOf, Grows, IsServed, ActsIn, IsOpenStartAt, is_open, open_places, without_place, start_state, state_with, shown}
 use Rattle.world.proofs.Sections.{grown_served}
+use Rattle.world.proofs.Openings.{places_kept, places_less}
+use Rattle.world.proofs.Asking.{one_there}
 
-served_on : (log more : List Record) (cs : List Connection) → AllByRecursion (IsServed log) cs → AllByRecursion (IsServed (log ++ more)) cs
+served_on : (log more : List Record) (cs : List Start) → AllByRecursion (IsServed log) cs → AllByRecursion (IsServed (log ++ more)) cs
 served_on log more [] all = tt
-served_on log more (c ∷ cs) all = (grown_served log more c.place c.produced.items c.sender all.0, served_on log more cs all.1)
+served_on log more (c ∷ cs) all = (grown_served log more c.place c.produced.items c.walsender all.0, served_on log more cs all.1)
 
-pub all_grown : (old new : List Record) (cs : List Connection) → Grows old new → AllByRecursion (IsServed old) cs → AllByRecursion (IsServed new) cs
+pub all_grown : (old new : List Record) (cs : List Start) → Grows old new → AllByRecursion (IsServed old) cs → AllByRecursion (IsServed new) cs
 all_grown old new cs grows all = let P : List Record → Type 0 = λ l. AllByRecursion (IsServed l) cs in subst P (sym grows.is) (served_on old grows.more cs all)
 
--- a session line's call is its event in the world
-came : (e : Event) (old new : WorldState) (a : Answer) → Calls e (record { publisher = old.publisher; names = old.names }) a (record { publisher = new.publisher; names = new.names })
-    → new ≡ record old { publisher = new.publisher; names = new.names } → Comes old e a new
-came (events.Begin t) old new a calls is = record { calls = calls; is = is }
-came (events.Insert t table row) old new a calls is = record { calls = calls; is = is }
-came (events.Savepoint t) old new a calls is = record { calls = calls; is = is }
-came (events.Rollback t depth) old new a calls is = record { calls = calls; is = is }
-came (events.Release t depth) old new a calls is = record { calls = calls; is = is }
-came (events.Commit t time) old new a calls is = record { calls = calls; is = is }
-came (events.Abort t) old new a calls is = record { calls = calls; is = is }
-came (events.Start c slot position names) old new a calls is = absurd calls
-came (events.Read c max clock) old new a calls is = absurd calls
-came (events.Keepalive c clock) old new a calls is = absurd calls
-came (events.Drain c n) old new a calls is = absurd calls
-came (events.Cut c) old new a calls is = absurd calls
+-- ---- a session's line
 
-pub all_came : (e : Event) (m : Machine) (p : PublisherState) (ss : List Session) (r : Result Answer WorldFault) → IfOk r (λ a. Calls e (desk m.publisher m.sessions.items) a (desk p ss))
-    → IfOk r (λ a. Comes (shown m) e a (record (shown m) { publisher = p; names = map named ss }))
-all_came e m p ss (Ok a) calls = came e (shown m) (record (shown m) { publisher = p; names = map named ss }) a calls refl
-all_came e m p ss (Err fault) calls = tt
+stepped : (e : Event) (old : WorldState) (p : PublisherState) (ss : List Session) (a : Answer) → IsCalled (ask_of e old.publisher old.transactions) (session_state old) a (sessions_state p ss)
+    → IsStep old e a (record old { publisher = p; transactions = map named_tx ss })
+stepped (events.Begin t) old p ss a calls = record { called = calls; is = refl }
+stepped (events.Insert t table row) old p ss a calls = record { called = calls; is = refl }
+stepped (events.Savepoint t) old p ss a calls = record { called = calls; is = refl }
+stepped (events.Rollback t depth) old p ss a calls = record { called = calls; is = refl }
+stepped (events.Release t depth) old p ss a calls = record { called = calls; is = refl }
+stepped (events.Commit t time) old p ss a calls = record { called = calls; is = refl }
+stepped (events.Abort t) old p ss a calls = record { called = calls; is = refl }
+stepped (events.Start c slot position names) old p ss a calls = absurd calls
+stepped (events.Read c max clock) old p ss a calls = absurd calls
+stepped (events.Keepalive c clock) old p ss a calls = absurd calls
+stepped (events.Drain c n) old p ss a calls = absurd calls
+stepped (events.Cut c) old p ss a calls = absurd calls
 
-pub none_came : (m : Machine) (p : PublisherState) (ss : List Session) (r : Result Answer WorldFault) → OnErr r (desk p ss ≡ desk m.publisher m.sessions.items) → OnErr r (record (shown m) { publisher = p; names = map named ss } ≡ shown m)
-none_came m p ss (Ok a) same = tt
-none_came m p ss (Err fault) same = ap (λ (d : Desk). record (shown m) { publisher = d.publisher; names = d.names }) same
+pub all_stepped : (e : Event) (m : Machine) (p : PublisherState) (ss : List Session) (r : Result Answer WorldFault) → IfOk r (λ a. IsCallOf e m.publisher m.sessions.items a p ss)
+    → IfOk r (λ a. IsStep (shown m) e a (record (shown m) { publisher = p; transactions = map named_tx ss }))
+all_stepped e m p ss (Ok a) calls = stepped e (shown m) p ss a calls
+all_stepped e m p ss (Err fault) calls = tt
+
+pub none_stepped : (m : Machine) (p : PublisherState) (ss : List Session) (r : Result Answer WorldFault) → OnErr r (sessions_state p ss ≡ sessions_state m.publisher m.sessions.items)
+    → OnErr r (record (shown m) { publisher = p; transactions = map named_tx ss } ≡ shown m)
+none_stepped m p ss (Ok a) same = tt
+none_stepped m p ss (Err fault) same = ap (λ (s : SessionState). record (shown m) { publisher = s.publisher; transactions = s.transactions }) same
 
 -- a line that is no session line is told apart before
 pub bad_call : (e : Event) (w : WorldState)
@@ -57,16 +68,72 @@ pub bad_call : (e : Event) (w : WorldState)
     → ((c : List ℕ) (clock : ℤ) → e ≡ events.Keepalive c clock → ⊥)
     → ((c : List ℕ) (n : ℕ) → e ≡ events.Drain c n → ⊥)
     → ((c : List ℕ) → e ≡ events.Cut c → ⊥)
-    → IsBadCall e w.names → IsBad e w
-bad_call (events.Begin t) w start read keepalive drain cut bad = bad
-bad_call (events.Insert t table row) w start read keepalive drain cut bad = bad
-bad_call (events.Savepoint t) w start read keepalive drain cut bad = bad
-bad_call (events.Rollback t depth) w start read keepalive drain cut bad = bad
-bad_call (events.Release t depth) w start read keepalive drain cut bad = bad
-bad_call (events.Commit t time) w start read keepalive drain cut bad = bad
-bad_call (events.Abort t) w start read keepalive drain cut bad = bad
+    → is_some (ask_of e w.publisher w.transactions) ≡ false → is_bad e w ≡ true
+bad_call (events.Begin t) w start read keepalive drain cut bad = ap not bad
+bad_call (events.Insert t table row) w start read keepalive drain cut bad = ap not bad
+bad_call (events.Savepoint t) w start read keepalive drain cut bad = ap not bad
+bad_call (events.Rollback t depth) w start read keepalive drain cut bad = ap not bad
+bad_call (events.Release t depth) w start read keepalive drain cut bad = ap not bad
+bad_call (events.Commit t time) w start read keepalive drain cut bad = ap not bad
+bad_call (events.Abort t) w start read keepalive drain cut bad = ap not bad
 bad_call (events.Start c slot position names) w start read keepalive drain cut bad = absurd (start c slot position names refl)
 bad_call (events.Read c max clock) w start read keepalive drain cut bad = absurd (read c max clock refl)
 bad_call (events.Keepalive c clock) w start read keepalive drain cut bad = absurd (keepalive c clock refl)
 bad_call (events.Drain c n) w start read keepalive drain cut bad = absurd (drain c n refl)
 bad_call (events.Cut c) w start read keepalive drain cut bad = absurd (cut c refl)
+
+-- a name that is in use is bad where it is to be new, and one that is not where it is to be known
+pub bad_new : (o : Option ℕ) (ask : Ask) → is_some o ≡ not (is_some (if_new o ask))
+bad_new None ask = refl
+bad_new (Some xid) ask = refl
+
+pub bad_known : (o : Option ℕ) (ask : ℕ → Ask) → not (is_some o) ≡ not (is_some (if_known o ask))
+bad_known None ask = refl
+bad_known (Some xid) ask = refl
+
+-- ---- a connection's line
+
+abbrev is_cut : Action → Bool
+is_cut actions.Cut = true
+is_cut action = false
+
+stays_open : (log : List Record) (action : Action) (old new : StartState) (a : Answer) → is_cut action ≡ false → Acts log action old a new → new.is_open ≡ old.is_open
+stays_open log (actions.Read max clock) old new answers.Done no acts = ap (λ (s : StartState). s.is_open) acts.1
+stays_open log (actions.Keepalive clock) old new answers.Done no acts = ap (λ (s : StartState). s.is_open) acts.1
+stays_open log (actions.Drain n) old new answers.Done no acts = ap (λ (s : StartState). s.is_open) acts.1
+stays_open log actions.Cut old new a no acts = let never : true ≡ false = no in cc
+stays_open log (actions.Read max clock) old new (answers.Sender sends.Memory) no acts = ap (λ (s : StartState). s.is_open) acts.1.is
+stays_open log (actions.Keepalive clock) old new (answers.Sender sends.Memory) no acts = ap (λ (s : StartState). s.is_open) acts.1
+stays_open log (actions.Drain n) old new (answers.Sender sends.Memory) no acts = absurd acts.1
+stays_open log action old new (answers.Sender sends.Failed) no acts = ap (λ (s : StartState). s.is_open) acts.2
+stays_open log action old new (answers.Sender sends.Gap) no acts = absurd acts
+stays_open log action old new (answers.Session fault) no acts = absurd acts
+stays_open log action old new (answers.Slot fault) no acts = absurd acts
+stays_open log action old new (answers.Publication fault) no acts = absurd acts
+
+is_closed : (log : List Record) (old new : StartState) (a : Answer) → Acts log actions.Cut old a new → new.is_open ≡ false
+is_closed log old new answers.Done acts = ap (λ (s : StartState). s.is_open) acts.1
+is_closed log old new (answers.Sender sends.Memory) acts = absurd acts.1
+is_closed log old new (answers.Sender sends.Failed) acts = let never : false ≡ true = acts.0 in cc
+is_closed log old new (answers.Sender sends.Gap) acts = absurd acts
+is_closed log old new (answers.Session fault) acts = absurd acts
+is_closed log old new (answers.Slot fault) acts = absurd acts
+is_closed log old new (answers.Publication fault) acts = absurd acts
+
+open_shown : (connection produced : List ℕ) (w : Walsender) → is_open w ≡ true → (state_with connection produced w).is_open ≡ true
+open_shown connection produced (walsenders.Open s) is = refl
+open_shown connection produced (walsenders.Cut e) is = is
+
+pub found_on : (log : List Record) (place : ℕ) (action : Action) (cs new : List Start) (open : List ℕ) (a : Answer) → is_cut action ≡ false → ActsIn log place action cs a new → open ≡ open_places 0 (map start_state cs)
+    → open ≡ open_places 0 (map start_state new)
+found_on log place action cs new open a no acts found =
+    let there = slice_get-map start_state cs place ∙ ap (option_map start_state) acts.there in
+    found ∙ sym (places_kept 0 (map start_state cs) place (start_state acts.before) acts.after there (stays_open log action (start_state acts.before) acts.after a no acts.acts)) ∙ ap (open_places 0) (sym acts.is)
+
+pub found_less : (log : List Record) (name : List ℕ) (place : ℕ) (cs new : List Start) (open : List ℕ) (a : Answer) → IsOpenStartAt name place cs → ActsIn log place actions.Cut cs a new → open ≡ open_places 0 (map start_state cs)
+    → without_place place open ≡ open_places 0 (map start_state new)
+found_less log name place cs new open a at acts found =
+    let there = slice_get-map start_state cs place ∙ ap (option_map start_state) acts.there in
+    let same : at.start ≡ acts.before = one_there cs place at.start acts.before at.there acts.there in
+    let was : (start_state acts.before).is_open ≡ true = ap (λ (s : Start). (start_state s).is_open) (sym same) ∙ open_shown at.start.connection at.start.produced.items at.start.walsender at.opened in
+    ap (without_place place) found ∙ places_less 0 (map start_state cs) place (start_state acts.before) acts.after there was (is_closed log (start_state acts.before) acts.after a acts.acts) ∙ ap (open_places 0) (sym acts.is)

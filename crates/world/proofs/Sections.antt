@@ -15,18 +15,22 @@ use Rattle.txlog.specs.Log.{IsLogInRange, FitsRecord, IsWellFormedLog, IsSized, 
 use Rattle.txlog.proofs.Laws.{end_of-append, WellFormedAfter-front, WellFormedAfter-back}
 use Rattle.publication.specs.Selection.{relation, FitsTable}
 use Rattle.stream.specs.Words.{word_bytes}
-use Rattle.stream.specs.Items.{keepalive_word as alive_word}
+use Rattle.stream.specs.Items.{keepalive_word}
 use Rattle.stream.specs.Stream.{IsStream}
 use Rattle.sender.specs.declared.fault.SendFault.{SendFault}
 use Rattle.sender.specs.declared.fault.SendFault.TheVariants as sends
 use Rattle.sender.specs.Published.{published, published_from}
 use Rattle.sender.specs.Sending.{SenderState, HasRead, MayFollow, blocks_behind, Fed, FedSome}
+use Rattle.schedule.specs.declared.answer.Answer.TheVariants as answers
 use Rattle.world.specs.declared.action.Action.TheVariants as actions
-use Rattle.world.specs.State.{Link, link_with}
-use Rattle.world.specs.Law.{upto}
-use Rattle.world.specs.Actions.{unread, acted, read_on, BreaksDown, ActsOnFault, IsStreaming, IsReading, IsAlive, IsServedBy}
+use Rattle.world.specs.declared.start.Walsender.{Walsender}
+use Rattle.world.specs.declared.start.Walsender.TheVariants as walsenders
+use Rattle.world.specs.State.{StartState}
+use Rattle.world.specs.Law.{read_by}
+use Rattle.world.specs.ConnectionLines.{unread, after_action, after_reading, BreaksDown, Acts}
+use Rattle.world.specs.Machine.{IsStreaming, IsReading, IsServing, WasStreaming, IsServedBy, state_with}
 use Rattle.world.proofs.Ranges.{all_front, all_back, published_fit, published_late, followed}
-use Rattle.world.proofs.Streams.{stream_read, stream_kept_alive, stream_moved, stream_new, follows_parts, starts_below, may_follow, upto_place}
+use Rattle.world.proofs.Streams.{stream_read, stream_kept_alive, stream_moved, stream_new, follows_parts, starts_below, may_follow, read_by_place}
 
 -- ---- a section of a log
 
@@ -140,7 +144,7 @@ grown_stream tables log place section clock produced s new part fits table readi
     let goes : follows s.position section ≡ true = ap (λ (p : ℕ). follows p section) at ∙ next.follows_on in
     let sized = all_back IsSized pre section next.sized in
     let le = (starts_below s.position section goes sized).0 in
-    let same : take streaming.place log ≡ pre = sym (upto_place log streaming.place part.good) ∙ ap (λ (p : ℕ). upto p log) (sym streaming.at ∙ at) ∙ upto_place log place part.good in
+    let same : take streaming.place log ≡ pre = sym (read_by_place log streaming.place part.good) ∙ ap (λ (p : ℕ). read_by p log) (sym streaming.at ∙ at) ∙ read_by_place log place part.good in
     let S : List Record → Type 0 = λ l. IsStream (relation s.selection) (produced ++ s.held) (published s.selection l s.start) s.position in
     let old = subst S same streaming.stream in
     let added : produced ++ new.held ≡ (produced ++ s.held) ++ blocks_behind s.selection clock (published s.selection pre s.start) (published_from s.selection s.start pre section) =
@@ -157,32 +161,32 @@ grown_stream tables log place section clock produced s new part fits table readi
     }
 
 pub fed_alive : (tables : List Table) (log : List Record) (place : ℕ) (section : List Record) (clock : ℤ) (produced : List ℕ) (s new : SenderState) → IsSection tables log place section → FitsSigned w64 clock
-    → IsAlive log place produced s → s.failed ≡ false → Fed clock s new section → IsAlive log (place + length section) produced new
-fed_alive tables log place section clock produced s new part fits keepalive_word running fed =
-    let reading = keepalive_word.running running in
+    → IsServing log place produced s → s.failed ≡ false → Fed clock s new section → IsServing log (place + length section) produced new
+fed_alive tables log place section clock produced s new part fits serving running fed =
+    let reading = serving.running running in
     let next = next_part tables log place section part in
     let grown = take_section tables log place section part in
     record {
-      tables = (let P : List Table → Type 0 = λ ts. AllByRecursion FitsTable ts in subst P (sym fed.selection) keepalive_word.tables);
+      tables = (let P : List Table → Type 0 = λ ts. AllByRecursion FitsTable ts in subst P (sym fed.selection) serving.tables);
       running = λ still. record {
         within = within_section tables log place section part;
         reads = (let P : List Record → Type 0 = λ l. HasRead new l in subst P (sym grown) (fed.reads (take place log) reading.reads next.may));
         at = fed.position ∙ ap (λ (p : ℕ). end_of p section) reading.at ∙ sym (end_of-append FIRST_POSITION (take place log) section) ∙ ap (end_of FIRST_POSITION) (sym grown);
       };
-      streaming = grown_stream tables log place section clock produced s new part fits keepalive_word.tables reading keepalive_word.streaming fed.selection fed.start fed.position (fed.adds (take place log) reading.reads next.may);
+      streaming = grown_stream tables log place section clock produced s new part fits serving.tables reading serving.streaming fed.selection fed.start fed.position (fed.adds (take place log) reading.reads next.may);
     }
 
 -- after a refusal for memory the place is of no use any more
 pub broken_alive : (tables : List Table) (log : List Record) (place any : ℕ) (section : List Record) (clock : ℤ) (produced : List ℕ) (s new : SenderState) → IsSection tables log place section → FitsSigned w64 clock
-    → IsAlive log place produced s → s.failed ≡ false → FedSome clock s new section → IsAlive log any produced new
-broken_alive tables log place any section clock produced s new part fits keepalive_word running fed =
-    let reading = keepalive_word.running running in
+    → IsServing log place produced s → s.failed ≡ false → FedSome clock s new section → IsServing log any produced new
+broken_alive tables log place any section clock produced s new part fits serving running fed =
+    let reading = serving.running running in
     let less = section_front tables log place fed.count section part in
     let next = next_part tables log place (take fed.count section) less in
     record {
-      tables = (let P : List Table → Type 0 = λ ts. AllByRecursion FitsTable ts in subst P (sym fed.selection) keepalive_word.tables);
+      tables = (let P : List Table → Type 0 = λ ts. AllByRecursion FitsTable ts in subst P (sym fed.selection) serving.tables);
       running = λ still. absurd (both still fed.failed);
-      streaming = grown_stream tables log place (take fed.count section) clock produced s new less fits keepalive_word.tables reading keepalive_word.streaming fed.selection fed.start fed.position (fed.adds (take place log) reading.reads next.may);
+      streaming = grown_stream tables log place (take fed.count section) clock produced s new less fits serving.tables reading serving.streaming fed.selection fed.start fed.position (fed.adds (take place log) reading.reads next.may);
     }
   where
     both : new.failed ≡ false → new.failed ≡ true → ⊥
@@ -195,28 +199,28 @@ read_is : (tables : List Table) (log : List Record) (place max : ℕ) (clock : �
     → s.position ≡ end_of FIRST_POSITION (take place log)
     → new.selection ≡ s.selection → new.start ≡ s.start → new.position ≡ end_of s.position section → new.failed ≡ s.failed
     → new.held ≡ s.held ++ blocks_behind s.selection clock (published s.selection (take place log) s.start) (published_from s.selection s.start (take place log) section)
-    → link_with name produced (Some new) ≡ read_on log clock section (link_with name produced (Some s))
+    → state_with name produced (walsenders.Open new) ≡ after_reading log clock section (state_with name produced (walsenders.Open s))
 read_is tables log place max clock name produced s new section le good at selection start position failed held =
-    let pre_is : take place log ≡ upto s.position log = sym (upto_place log place good) ∙ ap (λ (p : ℕ). upto p log) (sym at) in
+    let pre_is : take place log ≡ read_by s.position log = sym (read_by_place log place good) ∙ ap (λ (p : ℕ). read_by p log) (sym at) in
     let held_is = held ∙ ap (λ l. s.held ++ blocks_behind s.selection clock (published s.selection l s.start) (published_from s.selection s.start l section)) pre_is in
     rw (selection, start, position, failed, held_is) refl
 
 pub fed_acts : (tables : List Table) (log : List Record) (place max : ℕ) (clock : ℤ) (name produced : List ℕ) (s new : SenderState) → IsSection tables log place (take max (drop place log))
-    → IsAlive log place produced s → s.failed ≡ false → new.failed ≡ false → Fed clock s new (take max (drop place log))
-    → link_with name produced (Some new) ≡ acted log (actions.Read max clock) (link_with name produced (Some s))
-fed_acts tables log place max clock name produced s new part keepalive_word running still fed =
-    let reading = keepalive_word.running running in
+    → IsServing log place produced s → s.failed ≡ false → new.failed ≡ false → Fed clock s new (take max (drop place log))
+    → state_with name produced (walsenders.Open new) ≡ after_action log (actions.Read max clock) (state_with name produced (walsenders.Open s))
+fed_acts tables log place max clock name produced s new part serving running still fed =
+    let reading = serving.running running in
     let section = take max (drop place log) in
     let next = next_part tables log place section part in
     let section_is : section ≡ take max (unread s.position log) = ap (take max) (sym (unread_place log place part.good)) ∙ ap (λ (p : ℕ). take max (unread p log)) (sym reading.at) in
     read_is tables log place max clock name produced s new section reading.within part.good reading.at fed.selection fed.start fed.position (still ∙ sym running) (fed.adds (take place log) reading.reads next.may)
-    ∙ ap (λ l. read_on log clock l (link_with name produced (Some s))) section_is
+    ∙ ap (λ l. after_reading log clock l (state_with name produced (walsenders.Open s))) section_is
 
 pub broken_acts : (tables : List Table) (log : List Record) (place max : ℕ) (clock : ℤ) (name produced : List ℕ) (s new : SenderState) → IsSection tables log place (take max (drop place log))
-    → IsAlive log place produced s → s.failed ≡ false → FedSome clock s new (take max (drop place log))
-    → BreaksDown log max clock (link_with name produced (Some s)) (link_with name produced (Some new))
-broken_acts tables log place max clock name produced s new part keepalive_word running fed =
-    let reading = keepalive_word.running running in
+    → IsServing log place produced s → s.failed ≡ false → FedSome clock s new (take max (drop place log))
+    → BreaksDown log max clock (state_with name produced (walsenders.Open s)) (state_with name produced (walsenders.Open new))
+broken_acts tables log place max clock name produced s new part serving running fed =
+    let reading = serving.running running in
     let section = take max (drop place log) in
     let less = section_front tables log place fed.count section part in
     let next = next_part tables log place (take fed.count section) less in
@@ -227,7 +231,7 @@ broken_acts tables log place max clock name produced s new part keepalive_word r
     record {
       count = fed.count;
       fewer = subst N (ap length section_is) fed.fewer;
-      is = rw fed.failed (ap (λ (l : Link). record l { failed = true }) (same ∙ ap (λ l. read_on log clock (take fed.count l) (link_with name produced (Some s))) section_is));
+      is = rw fed.failed (ap (λ (l : StartState). record l { failed = true }) (same ∙ ap (λ l. after_reading log clock (take fed.count l) (state_with name produced (walsenders.Open s))) section_is));
     }
 
 -- a sender that answered anything but Failed was running
@@ -251,19 +255,19 @@ not_both : {b : Bool} → b ≡ true → b ≡ false → ⊥
 not_both p q = let never : true ≡ false = sym p ∙ q in cc
 
 pub refused_acts : (tables : List Table) (log : List Record) (place max : ℕ) (clock : ℤ) (name produced : List ℕ) (s new : SenderState) (r : Result (Unit {0}) SendFault) (fault : SendFault)
-    → IsWellFormedLog log → IsLogInRange tables log → IsAlive log place produced s → r ≡ Err fault → RefusesFeed clock s new r (take max (drop place log))
-    → ActsOnFault log (actions.Read max clock) (link_with name produced (Some s)) fault (link_with name produced (Some new))
-refused_acts tables log place max clock name produced s new r sends.Memory good in_range keepalive_word is refuses =
+    → IsWellFormedLog log → IsLogInRange tables log → IsServing log place produced s → r ≡ Err fault → RefusesFeed clock s new r (take max (drop place log))
+    → Acts log (actions.Read max clock) (state_with name produced (walsenders.Open s)) (answers.Sender fault) (state_with name produced (walsenders.Open new))
+refused_acts tables log place max clock name produced s new r sends.Memory good in_range serving is refuses =
     let running = was_running s r refuses.failed (λ other. differ (sym is ∙ other)) in
-    (running, broken_acts tables log place max clock name produced s new (section_of tables log place max (keepalive_word.running running).within good in_range) keepalive_word running (refuses.memory is))
+    (running, broken_acts tables log place max clock name produced s new (section_of tables log place max (serving.running running).within good in_range) serving running (refuses.memory is))
   where
     differ : failed_with sends.Memory ≡ failed_with sends.Failed → ⊥
     differ e = cc
-refused_acts tables log place max clock name produced s new r sends.Failed good in_range keepalive_word is refuses =
-    (refl, refuses.failed.0 is, ap (λ (t : SenderState). link_with name produced (Some t)) (refuses.unchanged (refuses.failed.0 is)))
-refused_acts tables log place max clock name produced s new r sends.Gap good in_range keepalive_word is refuses =
+refused_acts tables log place max clock name produced s new r sends.Failed good in_range serving is refuses =
+    (refl, refuses.failed.0 is, ap (λ (t : SenderState). state_with name produced (walsenders.Open t)) (refuses.unchanged (refuses.failed.0 is)))
+refused_acts tables log place max clock name produced s new r sends.Gap good in_range serving is refuses =
     let running = was_running s r refuses.failed (λ other. differ (sym is ∙ other)) in
-    let reading = keepalive_word.running running in
+    let reading = serving.running running in
     let next = next_part tables log place (take max (drop place log)) (section_of tables log place max reading.within good in_range) in
     let P : ℕ → Type 0 = λ p. follows p (take max (drop place log)) ≡ true in
     absurd (not_both (subst P (sym reading.at) next.follows_on) (refuses.gap is))
@@ -273,25 +277,25 @@ refused_acts tables log place max clock name produced s new r sends.Gap good in_
 
 -- a refused keepalive
 pub refused_keepalive : (log : List Record) (clock : ℤ) (name produced : List ℕ) (s new : SenderState) (r : Result (Unit {0}) SendFault) (fault : SendFault) → r ≡ Err fault → (r ≡ Err sends.Failed) ↔ (s.failed ≡ true)
-    → (r ≡ Err sends.Gap → ⊥) → new ≡ s → ActsOnFault log (actions.Keepalive clock) (link_with name produced (Some s)) fault (link_with name produced (Some new))
+    → (r ≡ Err sends.Gap → ⊥) → new ≡ s → Acts log (actions.Keepalive clock) (state_with name produced (walsenders.Open s)) (answers.Sender fault) (state_with name produced (walsenders.Open new))
 refused_keepalive log clock name produced s new r sends.Memory is failed gap same =
-    (was_running s r failed (λ other. differ (sym is ∙ other)), ap (λ (t : SenderState). link_with name produced (Some t)) same)
+    (was_running s r failed (λ other. differ (sym is ∙ other)), ap (λ (t : SenderState). state_with name produced (walsenders.Open t)) same)
   where
     differ : failed_with sends.Memory ≡ failed_with sends.Failed → ⊥
     differ e = cc
-refused_keepalive log clock name produced s new r sends.Failed is failed gap same = (refl, failed.0 is, ap (λ (t : SenderState). link_with name produced (Some t)) same)
+refused_keepalive log clock name produced s new r sends.Failed is failed gap same = (refl, failed.0 is, ap (λ (t : SenderState). state_with name produced (walsenders.Open t)) same)
 refused_keepalive log clock name produced s new r sends.Gap is failed gap same = absurd (gap is)
 
 pub refused_alive : (tables : List Table) (log : List Record) (place max : ℕ) (clock : ℤ) (produced : List ℕ) (s new : SenderState) (r : Result (Unit {0}) SendFault) (fault : SendFault)
-    → IsWellFormedLog log → IsLogInRange tables log → FitsSigned w64 clock → IsAlive log place produced s → r ≡ Err fault → RefusesFeed clock s new r (take max (drop place log)) → IsAlive log place produced new
-refused_alive tables log place max clock produced s new r sends.Memory good in_range fits keepalive_word is refuses =
+    → IsWellFormedLog log → IsLogInRange tables log → FitsSigned w64 clock → IsServing log place produced s → r ≡ Err fault → RefusesFeed clock s new r (take max (drop place log)) → IsServing log place produced new
+refused_alive tables log place max clock produced s new r sends.Memory good in_range fits serving is refuses =
     let running = was_running s r refuses.failed (λ other. differ (sym is ∙ other)) in
-    broken_alive tables log place place (take max (drop place log)) clock produced s new (section_of tables log place max (keepalive_word.running running).within good in_range) fits keepalive_word running (refuses.memory is)
+    broken_alive tables log place place (take max (drop place log)) clock produced s new (section_of tables log place max (serving.running running).within good in_range) fits serving running (refuses.memory is)
   where
     differ : failed_with sends.Memory ≡ failed_with sends.Failed → ⊥
     differ e = cc
-refused_alive tables log place max clock produced s new r sends.Failed good in_range fits keepalive_word is refuses = let P : SenderState → Type 0 = λ t. IsAlive log place produced t in subst P (sym (refuses.unchanged (refuses.failed.0 is))) keepalive_word
-refused_alive tables log place max clock produced s new r sends.Gap good in_range fits keepalive_word is refuses = let P : SenderState → Type 0 = λ t. IsAlive log place produced t in subst P (sym (refuses.unread is)) keepalive_word
+refused_alive tables log place max clock produced s new r sends.Failed good in_range fits serving is refuses = let P : SenderState → Type 0 = λ t. IsServing log place produced t in subst P (sym (refuses.unchanged (refuses.failed.0 is))) serving
+refused_alive tables log place max clock produced s new r sends.Gap good in_range fits serving is refuses = let P : SenderState → Type 0 = λ t. IsServing log place produced t in subst P (sym (refuses.unread is)) serving
 
 pub length_shared : {A : Type 0} (records : List (Arc Record A)) → length (shared records) ≡ length records
 length_shared [] = refl
@@ -299,22 +303,22 @@ length_shared (y ∷ records) = ap suc (length_shared records)
 
 -- ---- the other actions
 
-pub kept_alive : (log : List Record) (place : ℕ) (clock : ℤ) (produced : List ℕ) (s : SenderState) → IsAlive log place produced s → FitsSigned w64 clock
-    → IsAlive log place produced (record s { held = s.held ++ word_bytes (alive_word s.position clock false) })
-kept_alive log place clock produced s keepalive_word fits =
-    let t = keepalive_word.streaming in
+pub kept_alive : (log : List Record) (place : ℕ) (clock : ℤ) (produced : List ℕ) (s : SenderState) → IsServing log place produced s → FitsSigned w64 clock
+    → IsServing log place produced (record s { held = s.held ++ word_bytes (keepalive_word s.position clock false) })
+kept_alive log place clock produced s serving fits =
+    let t = serving.streaming in
     record {
-      tables = keepalive_word.tables;
-      running = λ still. let r = keepalive_word.running still in record { within = r.within; reads = record { taken = r.reads.taken; names = r.reads.names }; at = r.at };
+      tables = serving.tables;
+      running = λ still. let r = serving.running still in record { within = r.within; reads = record { taken = r.reads.taken; names = r.reads.names }; at = r.at };
       streaming = record {
         place = t.place;
         within = t.within;
         at = t.at;
         fits = t.fits;
-        stream = stream_moved (relation s.selection) ((produced ++ s.held) ++ word_bytes (alive_word s.position clock false)) (produced ++ (s.held ++ word_bytes (alive_word s.position clock false)))
+        stream = stream_moved (relation s.selection) ((produced ++ s.held) ++ word_bytes (keepalive_word s.position clock false)) (produced ++ (s.held ++ word_bytes (keepalive_word s.position clock false)))
             (published s.selection (take t.place log) s.start) s.position
             (stream_kept_alive (relation s.selection) clock false (produced ++ s.held) (published s.selection (take t.place log) s.start) s.position t.stream t.fits fits)
-            (sym (append_assoc produced s.held (word_bytes (alive_word s.position clock false))));
+            (sym (append_assoc produced s.held (word_bytes (keepalive_word s.position clock false))));
       };
     }
 
@@ -325,34 +329,40 @@ take_grown log more place le =
     let parted : log ++ more ≡ take place log ++ (drop place log ++ more) = ap (λ l. l ++ more) (sym (take-append-drop place log)) ∙ append_assoc (take place log) (drop place log) more in
     ap (take place) parted ∙ take_at (take place log) (drop place log ++ more) place (omega (arith, length-take place log))
 
-grown_alive : (log more : List Record) (place : ℕ) (produced : List ℕ) (s : SenderState) → IsAlive log place produced s → IsAlive (log ++ more) place produced s
-grown_alive log more place produced s keepalive_word =
-    let t = keepalive_word.streaming in
+grown_streaming : (log more : List Record) (produced : List ℕ) (s : SenderState) → IsStreaming log produced s → IsStreaming (log ++ more) produced s
+grown_streaming log more produced s t =
     let same = take_grown log more t.place t.within in
     let longer : length log ≤ length (log ++ more) = omega (arith, length-append log more) in
     record {
-      tables = keepalive_word.tables;
-      running = λ still.
-          let r = keepalive_word.running still in
-          let here = take_grown log more place r.within in
-          let P : List Record → Type 0 = λ l. HasRead s l in
-          record { within = omega (arith, r.within, longer); reads = subst P (sym here) r.reads; at = r.at ∙ ap (end_of FIRST_POSITION) (sym here) };
-      streaming = record {
-        place = t.place;
-        within = omega (arith, t.within, longer);
-        at = t.at ∙ ap (end_of FIRST_POSITION) (sym same);
-        fits = t.fits;
-        stream = (let P : List Record → Type 0 = λ l. IsStream (relation s.selection) (produced ++ s.held) (published s.selection l s.start) s.position in subst P (sym same) t.stream);
-      };
+      place = t.place;
+      within = omega (arith, t.within, longer);
+      at = t.at ∙ ap (end_of FIRST_POSITION) (sym same);
+      fits = t.fits;
+      stream = (let P : List Record → Type 0 = λ l. IsStream (relation s.selection) (produced ++ s.held) (published s.selection l s.start) s.position in subst P (sym same) t.stream);
     }
 
-pub grown_served : (log more : List Record) (place : ℕ) (produced : List ℕ) (o : Option SenderState) → IsServedBy log place produced o → IsServedBy (log ++ more) place produced o
-grown_served log more place produced None served = tt
-grown_served log more place produced (Some s) keepalive_word = grown_alive log more place produced s keepalive_word
+pub grown_served : (log more : List Record) (place : ℕ) (produced : List ℕ) (w : Walsender) → IsServedBy log place produced w → IsServedBy (log ++ more) place produced w
+grown_served log more place produced (walsenders.Open s) serving = record {
+  tables = serving.tables;
+  running = λ still.
+      let r = serving.running still in
+      let here = take_grown log more place r.within in
+      let longer : length log ≤ length (log ++ more) = omega (arith, length-append log more) in
+      let P : List Record → Type 0 = λ l. HasRead s l in
+      record { within = omega (arith, r.within, longer); reads = subst P (sym here) r.reads; at = r.at ∙ ap (end_of FIRST_POSITION) (sym here) };
+  streaming = grown_streaming log more produced s serving.streaming;
+}
+grown_served log more place produced (walsenders.Cut e) was = record {
+  before = was.before;
+  streaming = grown_streaming log more produced was.before was.streaming;
+  selection_is = was.selection_is;
+  start_is = was.start_is;
+  position_is = was.position_is;
+}
 
 -- ---- a start
 
-pub started : (log : List Record) (s : SenderState) → AllByRecursion FitsTable s.selection → s.position ≡ FIRST_POSITION → s.held ≡ [] → HasRead s [] → IsAlive log 0 [] s
+pub started : (log : List Record) (s : SenderState) → AllByRecursion FitsTable s.selection → s.position ≡ FIRST_POSITION → s.held ≡ [] → HasRead s [] → IsServing log 0 [] s
 started log s tables position held reads = record {
   tables = tables;
   running = λ still. record { within = omega arith; reads = reads; at = position };

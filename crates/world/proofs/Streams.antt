@@ -23,7 +23,7 @@ use Rattle.stream.specs.Stream.{IsStream, AreSafeKeepalives}
 use Rattle.sender.specs.Published.{published, published_from}
 use Rattle.sender.specs.Sending.{blocks, blocks_behind, MayFollow}
 use Rattle.sender.proofs.Batches.{published_from-append}
-use Rattle.world.specs.Law.{upto}
+use Rattle.world.specs.Law.{read_by}
 use Rattle.sender.proofs.Changes.{all_of_both}
 use Rattle.world.proofs.Ranges.{all_front, all_back, blocks_fit, followed}
 
@@ -38,17 +38,17 @@ sent-blocks : (clock : ℤ) (ts : List Published) → sent (blocks clock ts) ≡
 sent-blocks clock [] = refl
 sent-blocks clock (t ∷ ts) = ap (λ l. t ∷ l) (sent-blocks clock ts)
 
-spelled-append : (rel : ℕ → Relation) (named : List ℕ) (a b : List Item) → spelled rel named (a ++ b) ≡ spelled rel named a ++ spelled rel (relations_sent_through named (sent a)) b
-spelled-append rel named [] b = refl
-spelled-append rel named (Alive k ∷ a) b =
-    let first = item_words rel named (Alive k) in
-    flat_map-append word_bytes first (words_of rel named (a ++ b))
-    ∙ ap (λ (l : List ℕ). frames_of first ++ l) (spelled-append rel named a b)
-    ∙ sym (append_assoc (frames_of first) (spelled rel named a) (spelled rel (relations_sent_through named (sent a)) b))
-    ∙ ap (λ (l : List ℕ). l ++ spelled rel (relations_sent_through named (sent a)) b) (sym (flat_map-append word_bytes first (words_of rel named a)))
-spelled-append rel named (Block clock t ∷ a) b =
-    let first = item_words rel named (Block clock t) in
-    let then = relations_sent_by_all named t.changes in
+spelled-append : (rel : ℕ → Relation) (told : List ℕ) (a b : List Item) → spelled rel told (a ++ b) ≡ spelled rel told a ++ spelled rel (relations_sent_through told (sent a)) b
+spelled-append rel told [] b = refl
+spelled-append rel told (Alive k ∷ a) b =
+    let first = item_words rel told (Alive k) in
+    flat_map-append word_bytes first (words_of rel told (a ++ b))
+    ∙ ap (λ (l : List ℕ). frames_of first ++ l) (spelled-append rel told a b)
+    ∙ sym (append_assoc (frames_of first) (spelled rel told a) (spelled rel (relations_sent_through told (sent a)) b))
+    ∙ ap (λ (l : List ℕ). l ++ spelled rel (relations_sent_through told (sent a)) b) (sym (flat_map-append word_bytes first (words_of rel told a)))
+spelled-append rel told (Block clock t ∷ a) b =
+    let first = item_words rel told (Block clock t) in
+    let then = relations_sent_by_all told t.changes in
     flat_map-append word_bytes first (words_of rel then (a ++ b))
     ∙ ap (λ (l : List ℕ). frames_of first ++ l) (spelled-append rel then a b)
     ∙ sym (append_assoc (frames_of first) (spelled rel then a) (spelled rel (relations_sent_through then (sent a)) b))
@@ -154,23 +154,23 @@ may_follow at before (r ∷ rs) goes sized order =
 
 -- ---- the log up to a position is its records up to a place
 
-all_upto : (at : ℕ) (m n : List Record) → follows at m ≡ true → AllByRecursion IsSized m → (p : ℕ) → end_of at m ≤ p → upto p (m ++ n) ≡ m ++ upto p n
-all_upto at [] n goes sized p le = refl
-all_upto at (r ∷ m) n goes sized p le =
+all_read_by : (at : ℕ) (m n : List Record) → follows at m ≡ true → AllByRecursion IsSized m → (p : ℕ) → end_of at m ≤ p → read_by p (m ++ n) ≡ m ++ read_by p n
+all_read_by at [] n goes sized p le = refl
+all_read_by at (r ∷ m) n goes sized p le =
     let next = followed at r m goes in
     let rest = starts_below r.end m next.1 sized.1 in
     let passes : leb r.end p ≡ true = le-leb _ _ (omega (arith, rest.0)) in
-    rw passes (ap (λ l. r ∷ l) (all_upto r.end m n next.1 sized.1 p le))
+    rw passes (ap (λ l. r ∷ l) (all_read_by r.end m n next.1 sized.1 p le))
 
-none_upto : (p : ℕ) (n : List Record) → follows p n ≡ true → AllByRecursion IsSized n → upto p n ≡ []
-none_upto p [] goes sized = refl
-none_upto p (r ∷ n) goes sized =
+none_read_by : (p : ℕ) (n : List Record) → follows p n ≡ true → AllByRecursion IsSized n → read_by p n ≡ []
+none_read_by p [] goes sized = refl
+none_read_by p (r ∷ n) goes sized =
     let next = followed p r n goes in
     let stops : leb r.end p ≡ false = lt-leb r.end p (omega (arith, next.0, sized.0)) in
     rw stops refl
 
-pub upto_place : (log : List Record) (place : ℕ) → IsWellFormedLog log → upto (end_of FIRST_POSITION (take place log)) log ≡ take place log
-upto_place log place good =
+pub read_by_place : (log : List Record) (place : ℕ) → IsWellFormedLog log → read_by (end_of FIRST_POSITION (take place log)) log ≡ take place log
+read_by_place log place good =
     let m = take place log in
     let n = drop place log in
     let whole : m ++ n ≡ log = take-append-drop place log in
@@ -179,6 +179,6 @@ upto_place log place good =
     let goes = subst F (sym whole) good.follows in
     let sized = subst S (sym whole) good.sizes in
     let parts = follows_parts FIRST_POSITION m n goes in
-    ap (upto (end_of FIRST_POSITION m)) (sym whole)
-    ∙ all_upto FIRST_POSITION m n parts.0 (all_front IsSized m n sized) (end_of FIRST_POSITION m) (omega arith)
-    ∙ ap (λ l. m ++ l) (none_upto (end_of FIRST_POSITION m) n parts.1 (all_back IsSized m n sized)) ∙ append-nil m
+    ap (read_by (end_of FIRST_POSITION m)) (sym whole)
+    ∙ all_read_by FIRST_POSITION m n parts.0 (all_front IsSized m n sized) (end_of FIRST_POSITION m) (omega arith)
+    ∙ ap (λ l. m ++ l) (none_read_by (end_of FIRST_POSITION m) n parts.1 (all_back IsSized m n sized)) ∙ append-nil m

@@ -1,19 +1,35 @@
--- The headline. For every connection that has a sender: what it has produced since its start, with what it still holds, is a
--- stream encoding of exactly the published transactions among the records that it has read, with safe keepalives.
-use Rattle.std.specs.Prelude.{ℕ, ◌++◌, List, IfSome, nat_le, [], ◌∷◌, if◌then◌else◌}
+-- The headline, of every start of a sender. While the sender is there: what it has produced, with what it still holds, is a
+-- stream encoding of exactly the published transactions among the records that it has read, with safe keepalives. Once it
+-- is cut: what it had produced is a beginning of such an encoding.
+use Rattle.std.specs.Prelude.{◌≡◌, ℕ, ◌++◌, true, List, nat_le, [], ◌∷◌, if◌then◌else◌}
+use Rattle.std.specs.List.{AllByRecursion}
+use Rattle.txlog.specs.declared.record.TheConstants.{FIRST_POSITION}
 use Rattle.txlog.specs.declared.record.Record.{Record}
+use Rattle.txlog.specs.Log.{end_of}
 use Rattle.publication.specs.Selection.{relation}
 use Rattle.stream.specs.Stream.{IsStream}
 use Rattle.sender.specs.Published.{published}
-use Rattle.world.specs.State.{Link, WorldState, link_of}
+use Rattle.world.specs.State.{StartState, WorldState}
 
--- the records that end at a position or before it
-abbrev pub upto : ℕ → List Record → List Record
-upto position [] = []
-upto position (r ∷ rs) = if nat_le r.end position then r ∷ upto position rs else []
+-- the records that end at a position or before it: what a sender at that position has read
+abbrev pub read_by : ℕ → List Record → List Record
+read_by position [] = []
+read_by position (r ∷ rs) = if nat_le r.end position then r ∷ read_by position rs else []
 
-abbrev pub Streams : List Record → Link → Type 0
-Streams log l = IsStream (relation l.selection) (l.produced ++ l.held) (published l.selection (upto l.position log) l.start) l.position
+-- The bytes are a stream encoding of what the start publishes of the records that it has read.
+abbrev pub Streams : List Record → StartState → List ℕ → Type 0
+Streams log s bytes = IsStream (relation s.selection) bytes (published s.selection (read_by s.position log) s.start) s.position
+
+-- they are a beginning of one
+pub record BeginsStream (log : List Record) (s : StartState) (bytes : List ℕ) : Type 0 where
+  pub rest : List ℕ
+  pub whole : Streams log s (bytes ++ rest)
+
+-- the position is the end of the last record that was read
+pub record IsExact (log : List Record) (s : StartState) : Type 0 where
+  pub reads : s.position ≡ end_of FIRST_POSITION (read_by s.position log)
+  pub begins : BeginsStream log s s.produced
+  pub whole : s.is_open ≡ true → Streams log s (s.produced ++ s.held)
 
 abbrev pub Headline : WorldState → Type 0
-Headline w = (connection : List ℕ) → IfSome (link_of connection w.links) (Streams w.publisher.log)
+Headline w = AllByRecursion (IsExact w.publisher.log) w.starts

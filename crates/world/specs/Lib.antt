@@ -1,7 +1,8 @@
 pub mod State
 pub mod Law
-pub mod Actions
-pub mod Sessions
-pub mod Events
+pub mod Rows
+pub mod SessionLines
+pub mod ConnectionLines
+pub mod Steps
 pub mod Machine
 pub mod Simulation

@@ -1,53 +1,172 @@
--- What the world shows of its parts, and what is true of them between events.
-use Rattle.std.specs.Prelude.{◌≡◌, ℕ, ◌+◌, List, [], ◌∷◌, ◌++◌, map, Option, Some, None, IsSome, slice_get, slice_set, if◌then◌else◌}
+-- What a world shows of its parts, and what is true of them between events. No promise is told here but by `start_state`
+-- and `shown`, which say how the parts are seen.
+use Rattle.std.specs.Prelude.{◌≡◌, ◌<◌, ◌≤◌, ◌^◌, ℕ, ◌+◌, ◌==◌, Bool, true, false, List, [], ◌∷◌, ◌++◌, length, map, take, Option, Some, None, slice_get, slice_set, remove, if◌then◌else◌}
+use Rattle.std.specs.Str.{bytes_eq}
 use Rattle.std.specs.List.{AllByRecursion}
+use Rattle.txlog.specs.declared.record.TheConstants.{FIRST_POSITION}
 use Rattle.txlog.specs.declared.record.Record.{Record}
-use Rattle.txlog.specs.Log.{IsWellFormedLog}
+use Rattle.txlog.specs.Log.{IsWellFormedLog, end_of}
+use Rattle.txlog.specs.declared.fault.SessionFault.{SessionFault}
+use Rattle.txlog.specs.Publishing.{PublisherState, IsRefusalOrMemory}
+use Rattle.publication.specs.Selection.{relation, FitsTable}
+use Rattle.stream.specs.Stream.{IsStream}
+use Rattle.sender.specs.Published.{published}
+use Rattle.sender.specs.Sending.{SenderState, HasRead}
+use Rattle.schedule.specs.declared.event.Event.{Event}
+use Rattle.schedule.specs.declared.answer.Answer.{Answer}
+use Rattle.schedule.specs.declared.answer.Answer.TheVariants as answers
 use Rattle.world.specs.declared.action.Action.{Action}
-use Rattle.world.specs.declared.answer.Answer.{Answer}
-use Rattle.world.specs.declared.connection.Connection.{Connection}
+use Rattle.world.specs.declared.session.Session.{Session}
+use Rattle.world.specs.declared.start.Start.{Start}
+use Rattle.world.specs.declared.start.Walsender.{Walsender}
+use Rattle.world.specs.declared.start.Walsender.TheVariants as walsenders
 use Rattle.world.specs.declared.machine.Machine.{Machine}
-use Rattle.world.specs.State.{Link, WorldState, is_of, link_of, at_name}
-use Rattle.world.specs.Actions.{IsServed, Acts, linked}
-use Rattle.world.specs.Sessions.{named}
+use Rattle.world.specs.State.{NamedTx, StartState, WorldState, xid_of, without_name, is_open_for, open_start, with_open_start}
+use Rattle.world.specs.SessionLines.{SessionState, IsCalled, ask_of}
+use Rattle.world.specs.ConnectionLines.{Acts}
 
-abbrev pub shown : Machine → WorldState
-shown c = record { publication = c.publications; publisher = c.publisher; names = map named c.sessions.items; links = map linked c.connections.items }
+-- ---- Sessions.
 
--- the log is one, and each connection's sender has read it up to its place
-pub record IsMachine (m : Machine) : Type 0 where
-  pub good : IsWellFormedLog m.publisher.log
-  pub served : AllByRecursion (IsServed m.publisher.log) m.connections.items
+abbrev pub named_tx : Session → NamedTx
+named_tx s = record { name = s.name; xid = s.tx }
 
--- where the connection's sender stands, counted from a number on
-abbrev pub link_place : ℕ → List ℕ → List Link → Option ℕ
-link_place at name [] = None
-link_place at name (l ∷ links) = if is_of name l then Some at else link_place (at + 1) name links
+abbrev pub sessions_state : PublisherState → List Session → SessionState
+sessions_state publisher sessions = record { publisher = publisher; transactions = map named_tx sessions }
 
--- the connection's sender stands there
-pub record IsLinkAt (name : List ℕ) (place : ℕ) (connections : List Connection) : Type 0 where
-  pub connection : Connection
-  pub there : slice_get connections place ≡ Some connection
-  pub has_sender : IsSome connection.sender
-  pub of : link_of name (map linked connections) ≡ Some (linked connection)
-  pub changed : (after : Link) → at_name name (λ _. after) (map linked connections) ≡ slice_set (map linked connections) place after
+-- where the transaction of this name stands, counted from a number on
+abbrev pub place_from : ℕ → List ℕ → List NamedTx → Option ℕ
+place_from at name [] = None
+place_from at name (t ∷ ts) = if bytes_eq t.name name then Some at else place_from (at + 1) name ts
 
--- a connection that has a sender stands there
-pub record IsOpenAt (place : ℕ) (connections : List Connection) : Type 0 where
-  pub connection : Connection
-  pub there : slice_get connections place ≡ Some connection
-  pub has_sender : IsSome connection.sender
+-- the transaction of this name stands there, and is the first of it
+pub record IsNamedAt (name : List ℕ) (place : ℕ) (sessions : List Session) : Type 0 where
+  pub session : Session
+  pub there : slice_get sessions place ≡ Some session
+  pub xid : xid_of name (map named_tx sessions) ≡ Some session.tx
+  pub without : without_name name (map named_tx sessions) ≡ map named_tx (remove sessions place)
 
--- what is asked of the connection at a place, and of no other
-pub record ActsIn (log : List Record) (place : ℕ) (action : Action) (old : List Connection) (answer : Answer) (new : List Connection) : Type 0 where
-  pub before : Connection
-  pub after : Link
-  pub there : slice_get old place ≡ Some before
-  pub acts : Acts log action (linked before) answer after
-  pub is : map linked new ≡ slice_set (map linked old) place after
+-- A call of the publisher: done, it left this state; refused, by this refusal or for memory, it left the state as it was.
+abbrev pub Called : Option SessionFault → PublisherState → PublisherState → Answer → PublisherState → Type 0
+Called refusal done old answers.Done new = (refusal ≡ None) × (new ≡ done)
+Called refusal done old (answers.Session fault) new = IsRefusalOrMemory refusal fault × (new ≡ old)
+Called refusal done old answer new = ⊥
+
+-- a session's line, for the sessions by name
+abbrev pub IsCallOf : Event → PublisherState → List Session → Answer → PublisherState → List Session → Type 0
+IsCallOf event publisher sessions answer new_publisher new_sessions =
+    IsCalled (ask_of event publisher (map named_tx sessions)) (sessions_state publisher sessions) answer (sessions_state new_publisher new_sessions)
 
 -- a log that has grown, or stayed as it was
 pub record Grows (old new : List Record) : Type 0 where
   pub more : List Record
   pub is : new ≡ old ++ more
   pub good : IsWellFormedLog old → IsWellFormedLog new
+
+-- ---- Starts.
+
+-- what a start shows while its sender is there, and once it was cut
+abbrev pub state_with : List ℕ → List ℕ → Walsender → StartState
+state_with connection produced (walsenders.Open s) =
+    record { connection = connection; is_open = true; selection = s.selection; start = s.start; position = s.position; failed = s.failed; produced = produced; held = s.held }
+state_with connection produced (walsenders.Cut e) =
+    record { connection = connection; is_open = false; selection = e.selection; start = e.start; position = e.position; failed = false; produced = produced; held = [] }
+
+abbrev pub start_state : Start → StartState
+start_state s = state_with s.connection s.produced.items s.walsender
+
+abbrev pub is_open : Walsender → Bool
+is_open (walsenders.Open s) = true
+is_open (walsenders.Cut e) = false
+
+-- what it produced and holds is the stream of the log up to some place, where its position is
+pub record IsStreaming (log : List Record) (produced : List ℕ) (s : SenderState) : Type 0 where
+  pub place : ℕ
+  pub within : place ≤ length log
+  pub at : s.position ≡ end_of FIRST_POSITION (take place log)
+  pub fits : s.position < 2 ^ 64
+  pub stream : IsStream (relation s.selection) (produced ++ s.held) (published s.selection (take place log) s.start) s.position
+
+-- a sender that has not failed has read the log up to the place of its next record
+pub record IsReading (log : List Record) (place : ℕ) (s : SenderState) : Type 0 where
+  pub within : place ≤ length log
+  pub reads : HasRead s (take place log)
+  pub at : s.position ≡ end_of FIRST_POSITION (take place log)
+
+pub record IsServing (log : List Record) (place : ℕ) (produced : List ℕ) (s : SenderState) : Type 0 where
+  pub tables : AllByRecursion FitsTable s.selection
+  pub running : s.failed ≡ false → IsReading log place s
+  pub streaming : IsStreaming log produced s
+
+-- what a sender that is no longer there was before it was cut
+pub record WasStreaming (log : List Record) (produced : List ℕ) (selection : List Table) (start position : ℕ) : Type 0 where
+  pub before : SenderState
+  pub streaming : IsStreaming log produced before
+  pub selection_is : selection ≡ before.selection
+  pub start_is : start ≡ before.start
+  pub position_is : position ≡ before.position
+
+abbrev pub IsServedBy : List Record → ℕ → List ℕ → Walsender → Type 0
+IsServedBy log place produced (walsenders.Open s) = IsServing log place produced s
+IsServedBy log place produced (walsenders.Cut e) = WasStreaming log produced e.selection e.start e.position
+
+abbrev pub IsServed : List Record → Start → Type 0
+IsServed log s = IsServedBy log s.place s.produced.items s.walsender
+
+-- ---- The open ones among them.
+
+-- the places of the open starts, counted from a number on
+abbrev pub open_places : ℕ → List StartState → List ℕ
+open_places at [] = []
+open_places at (s ∷ starts) = if s.is_open then at ∷ open_places (at + 1) starts else open_places (at + 1) starts
+
+abbrev pub is_for : List ℕ → Option StartState → Bool
+is_for connection None = false
+is_for connection (Some s) = is_open_for connection s
+
+-- the first of these places at which an open start of the connection stands
+abbrev pub place_among : List ℕ → List StartState → List ℕ → Option ℕ
+place_among connection starts [] = None
+place_among connection starts (p ∷ places) = if is_for connection (slice_get starts p) then Some p else place_among connection starts places
+
+-- these places without the first that is this one
+abbrev pub without_place : ℕ → List ℕ → List ℕ
+without_place place [] = []
+without_place place (p ∷ places) = if p == place then places else p ∷ without_place place places
+
+-- where the open start of the connection stands, counted from a number on
+abbrev pub start_place : ℕ → List ℕ → List StartState → Option ℕ
+start_place at connection [] = None
+start_place at connection (s ∷ starts) = if is_open_for connection s then Some at else start_place (at + 1) connection starts
+
+-- the open start of the connection stands there
+pub record IsOpenStartAt (connection : List ℕ) (place : ℕ) (starts : List Start) : Type 0 where
+  pub start : Start
+  pub there : slice_get starts place ≡ Some start
+  pub opened : is_open start.walsender ≡ true
+  pub of : open_start connection (map start_state starts) ≡ Some (start_state start)
+  pub changed : (after : StartState) → with_open_start connection after (map start_state starts) ≡ slice_set (map start_state starts) place after
+
+-- an open start stands there
+pub record IsOpenAt (place : ℕ) (starts : List Start) : Type 0 where
+  pub start : Start
+  pub there : slice_get starts place ≡ Some start
+  pub opened : is_open start.walsender ≡ true
+
+-- what is asked of the start at a place, and of no other
+pub record ActsIn (log : List Record) (place : ℕ) (action : Action) (old : List Start) (answer : Answer) (new : List Start) : Type 0 where
+  pub before : Start
+  pub after : StartState
+  pub there : slice_get old place ≡ Some before
+  pub acts : Acts log action (start_state before) answer after
+  pub is : map start_state new ≡ slice_set (map start_state old) place after
+
+-- ---- The machine.
+
+abbrev pub shown : Machine → WorldState
+shown m = record { publication = m.publications; publisher = m.publisher; transactions = map named_tx m.sessions.items; starts = map start_state m.starts.items }
+
+-- the log is one, each start has read it up to its place, and the open ones are found
+pub record IsMachine (m : Machine) : Type 0 where
+  pub good : IsWellFormedLog m.publisher.log
+  pub served : AllByRecursion (IsServed m.publisher.log) m.starts.items
+  pub found : m.«open».items ≡ open_places 0 (map start_state m.starts.items)

@@ -1,21 +1,21 @@
--- The world between two events: a publisher, its sessions by name, and every start of a sender with what came of it.
-use Rattle.std.specs.Prelude.{ℕ, Bool, true, false, ◌&&◌, List, [], ◌∷◌, Option, Some, None, if◌then◌else◌}
+-- The world between two events: a publisher, its transactions in progress by name, and every start of a sender with what
+-- came of it.
+use Rattle.std.specs.Prelude.{ℕ, Bool, ◌&&◌, List, [], ◌∷◌, Option, Some, None, if◌then◌else◌}
 use Rattle.std.specs.Str.{bytes_eq}
 use Rattle.tables.specs.declared.table.Table.{Table}
 use Rattle.txlog.specs.Publishing.{PublisherState, new_publisher}
 use Rattle.publication.specs.Publications.{Publication}
-use Rattle.sender.specs.Sending.{SenderState}
-use Rattle.world.specs.declared.answer.Answer.{Answer}
+use Rattle.schedule.specs.declared.answer.Answer.{Answer}
 
--- a session's transaction, by its name
-pub record Named : Type 0 where
+-- a transaction in progress, by the name that the schedule gives it
+pub record NamedTx : Type 0 where
   pub name : List ℕ
   pub xid : ℕ
 
--- A start of a sender: the connection's name, and what the sender has produced. While the sender is there: what it selects,
--- where it starts, how far it has read, whether it has failed, and what it holds.
-pub record Link : Type 0 where
-  pub name : List ℕ
+-- A start of a connection's sender: what it selects, from which position on, how far it has read the log, whether it has
+-- failed, and which bytes it has produced and holds. It is open until it is cut; then it holds nothing any more.
+pub record StartState : Type 0 where
+  pub connection : List ℕ
   pub is_open : Bool
   pub selection : List Table
   pub start : ℕ
@@ -24,11 +24,12 @@ pub record Link : Type 0 where
   pub produced : List ℕ
   pub held : List ℕ
 
+-- the starts stand in the order in which they came
 pub record WorldState : Type 0 where
   pub publication : Publication
   pub publisher : PublisherState
-  pub names : List Named
-  pub links : List Link
+  pub transactions : List NamedTx
+  pub starts : List StartState
 
 -- what a publisher is configured with
 pub record Setting : Type 0 where
@@ -37,38 +38,33 @@ pub record Setting : Type 0 where
   pub records : ℕ
 
 -- before the first event the log is empty, and nobody is there
-abbrev pub at_start : Setting → WorldState
-at_start setting = record { publication = setting.publication; publisher = new_publisher setting.tables setting.records; names = []; links = [] }
+abbrev pub new_world : Setting → WorldState
+new_world setting = record { publication = setting.publication; publisher = new_publisher setting.tables setting.records; transactions = []; starts = [] }
 
 -- what a world tells of itself: its state, and what each event so far answered
-pub record Course : Type 0 where
+pub record WorldView : Type 0 where
   pub state : WorldState
   pub answers : List Answer
 
--- the number of the transaction of this name
-abbrev pub xid_of : List ℕ → List Named → Option ℕ
+-- the xid of the transaction of this name
+abbrev pub xid_of : List ℕ → List NamedTx → Option ℕ
 xid_of name [] = None
-xid_of name (n ∷ names) = if bytes_eq n.name name then Some n.xid else xid_of name names
+xid_of name (t ∷ ts) = if bytes_eq t.name name then Some t.xid else xid_of name ts
 
-abbrev pub without_name : List ℕ → List Named → List Named
+abbrev pub without_name : List ℕ → List NamedTx → List NamedTx
 without_name name [] = []
-without_name name (n ∷ names) = if bytes_eq n.name name then names else n ∷ without_name name names
+without_name name (t ∷ ts) = if bytes_eq t.name name then ts else t ∷ without_name name ts
 
--- whether this is the connection's sender
-abbrev pub is_of : List ℕ → Link → Bool
-is_of name l = bytes_eq l.name name && l.is_open
+-- whether this is the open start of the connection
+abbrev pub is_open_for : List ℕ → StartState → Bool
+is_open_for connection s = bytes_eq s.connection connection && s.is_open
 
--- the connection's sender
-abbrev pub link_of : List ℕ → List Link → Option Link
-link_of name [] = None
-link_of name (l ∷ links) = if is_of name l then Some l else link_of name links
+-- the open start of the connection
+abbrev pub open_start : List ℕ → List StartState → Option StartState
+open_start connection [] = None
+open_start connection (s ∷ starts) = if is_open_for connection s then Some s else open_start connection starts
 
--- the connection's sender, changed
-abbrev pub at_name : List ℕ → (Link → Link) → List Link → List Link
-at_name name f [] = []
-at_name name f (l ∷ links) = if is_of name l then f l ∷ links else l ∷ at_name name f links
-
--- a connection whose sender is there, or was cut
-abbrev pub link_with : List ℕ → List ℕ → Option SenderState → Link
-link_with name produced None = record { name = name; is_open = false; selection = []; start = 0; position = 0; failed = false; produced = produced; held = [] }
-link_with name produced (Some s) = record { name = name; is_open = true; selection = s.selection; start = s.start; position = s.position; failed = s.failed; produced = produced; held = s.held }
+-- the starts, the open one of the connection replaced
+abbrev pub with_open_start : List ℕ → StartState → List StartState → List StartState
+with_open_start connection new [] = []
+with_open_start connection new (s ∷ starts) = if is_open_for connection s then new ∷ starts else s ∷ with_open_start connection new starts

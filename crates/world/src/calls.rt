@@ -1,16 +1,13 @@
-//! The session lines of a script: each makes the one call of the publisher that it names.
+//! The session lines of a schedule: each makes the one call of the publisher that it names.
 
 ghost use Rattle.std.specs.Prelude.{◌≡◌, ◌<◌, map, is_some, length, Err, IfOk, OnErr, IsNone};
 ghost use Rattle.world.specs.State.{xid_of};
-ghost use Rattle.world.specs.Sessions.{IsNamedAt, desk, named};
-ghost use Rattle.world.specs.Events.{Calls, IsBadCall};
-ghost use Rattle.world.specs.Machine.{Grows};
+ghost use Rattle.world.specs.SessionLines.{ask_of};
+ghost use Rattle.world.specs.Machine.{Grows, IsCallOf, IsNamedAt, named_tx, sessions_state};
 
-use crate::answer::Answer;
-use crate::event::{Event, Literal};
-use crate::fault::WorldFault;
 use crate::session::{Session, place_of};
 use frames::Text;
+use schedule::{Answer, Event, Literal, WorldFault};
 use std::alloc::Global;
 use txlog::Publisher;
 
@@ -21,9 +18,9 @@ pub(crate) fn call(
     alloc: Global,
     event: &Event,
 ) -> Result<Answer, WorldFault>
-    ensures calls { IfOk result (λ a. Calls event.now (desk publisher.old sessions.old.items) a (desk publisher.new sessions.new.items)) }
-    ensures bad { result ≡ Err WorldFault.BadEvent → IsBadCall event.now (map named sessions.old.items) }
-    ensures err { OnErr result (desk publisher.new sessions.new.items ≡ desk publisher.old sessions.old.items) }
+    ensures calls { IfOk result (λ a. IsCallOf event.now publisher.old sessions.old.items a publisher.new sessions.new.items) }
+    ensures bad { result ≡ Err WorldFault.BadEvent → IsNone (ask_of event.now publisher.old (map named_tx sessions.old.items)) }
+    ensures err { OnErr result (sessions_state publisher.new sessions.new.items ≡ sessions_state publisher.old sessions.old.items) }
     ensures grows { Grows publisher.old.log publisher.new.log }
 {
     match event {
@@ -36,11 +33,11 @@ pub(crate) fn call(
         Event::Release(name, depth) => release(publisher, sessions, name, *depth),
         Event::Commit(name, time) => commit(publisher, sessions, name, *time),
         Event::Abort(name) => abort(publisher, sessions, name),
-        Event::Start(_, _, _, _) => Err(WorldFault::BadEvent),
-        Event::Read(_, _, _) => Err(WorldFault::BadEvent),
-        Event::Keepalive(_, _) => Err(WorldFault::BadEvent),
-        Event::Drain(_, _) => Err(WorldFault::BadEvent),
-        Event::Cut(_) => Err(WorldFault::BadEvent),
+        Event::Start(_, _, _, _)
+        | Event::Read(_, _, _)
+        | Event::Keepalive(_, _)
+        | Event::Drain(_, _)
+        | Event::Cut(_) => Err(WorldFault::BadEvent),
     }
 }
 
@@ -48,7 +45,7 @@ pub(crate) fn call(
 fn known_place(sessions: &[Session], name: &Text) -> Result<usize, WorldFault>
     ensures there { IfOk result (λ place. IsNamedAt name.now place sessions.now) }
     ensures within { IfOk result (λ place. place < length sessions.now) }
-    ensures bad { OnErr result (IsNone (xid_of name.now (map named sessions.now))) }
+    ensures bad { OnErr result (IsNone (xid_of name.now (map named_tx sessions.now))) }
 {
     match place_of(sessions, name) {
         Some(place) => return Ok(place),
@@ -56,8 +53,8 @@ fn known_place(sessions: &[Session], name: &Text) -> Result<usize, WorldFault>
     }
 }
 
-fn is_known(sessions: &[Session], name: &Text) -> bool
-    ensures { result ≡ is_some (xid_of name.now (map named sessions.now)) }
+pub(crate) fn is_known(sessions: &[Session], name: &Text) -> bool
+    ensures { result ≡ is_some (xid_of name.now (map named_tx sessions.now)) }
 {
     place_of(sessions, name).is_some()
 }
@@ -69,9 +66,9 @@ fn begin(
     alloc: Global,
     name: &Text,
 ) -> Result<Answer, WorldFault>
-    ensures calls { IfOk result (λ a. Calls (Event.Begin name.now) (desk publisher.old sessions.old.items) a (desk publisher.new sessions.new.items)) }
-    ensures bad { result ≡ Err WorldFault.BadEvent → IsBadCall (Event.Begin name.now) (map named sessions.old.items) }
-    ensures err { OnErr result (desk publisher.new sessions.new.items ≡ desk publisher.old sessions.old.items) }
+    ensures calls { IfOk result (λ a. IsCallOf (Event.Begin name.now) publisher.old sessions.old.items a publisher.new sessions.new.items) }
+    ensures bad { result ≡ Err WorldFault.BadEvent → IsNone (ask_of (Event.Begin name.now) publisher.old (map named_tx sessions.old.items)) }
+    ensures err { OnErr result (sessions_state publisher.new sessions.new.items ≡ sessions_state publisher.old sessions.old.items) }
     ensures grows { Grows publisher.old.log publisher.new.log }
 {
     if is_known(sessions.as_slice(), name) {
@@ -98,9 +95,9 @@ fn insert(
     table: &Text,
     row: &[Literal],
 ) -> Result<Answer, WorldFault>
-    ensures calls { IfOk result (λ a. Calls (Event.Insert name.now table.now row.now) (desk publisher.old sessions.old.items) a (desk publisher.new sessions.new.items)) }
-    ensures bad { result ≡ Err WorldFault.BadEvent → IsBadCall (Event.Insert name.now table.now row.now) (map named sessions.old.items) }
-    ensures err { OnErr result (desk publisher.new sessions.new.items ≡ desk publisher.old sessions.old.items) }
+    ensures calls { IfOk result (λ a. IsCallOf (Event.Insert name.now table.now row.now) publisher.old sessions.old.items a publisher.new sessions.new.items) }
+    ensures bad { result ≡ Err WorldFault.BadEvent → IsNone (ask_of (Event.Insert name.now table.now row.now) publisher.old (map named_tx sessions.old.items)) }
+    ensures err { OnErr result (sessions_state publisher.new sessions.new.items ≡ sessions_state publisher.old sessions.old.items) }
     ensures grows { Grows publisher.old.log publisher.new.log }
 {
     let place = known_place(sessions.as_slice(), name)?;
@@ -112,9 +109,9 @@ fn savepoint(
     sessions: &mut Vec<Session>,
     name: &Text,
 ) -> Result<Answer, WorldFault>
-    ensures calls { IfOk result (λ a. Calls (Event.Savepoint name.now) (desk publisher.old sessions.old.items) a (desk publisher.new sessions.new.items)) }
-    ensures bad { result ≡ Err WorldFault.BadEvent → IsBadCall (Event.Savepoint name.now) (map named sessions.old.items) }
-    ensures err { OnErr result (desk publisher.new sessions.new.items ≡ desk publisher.old sessions.old.items) }
+    ensures calls { IfOk result (λ a. IsCallOf (Event.Savepoint name.now) publisher.old sessions.old.items a publisher.new sessions.new.items) }
+    ensures bad { result ≡ Err WorldFault.BadEvent → IsNone (ask_of (Event.Savepoint name.now) publisher.old (map named_tx sessions.old.items)) }
+    ensures err { OnErr result (sessions_state publisher.new sessions.new.items ≡ sessions_state publisher.old sessions.old.items) }
     ensures grows { Grows publisher.old.log publisher.new.log }
 {
     let place = known_place(sessions.as_slice(), name)?;
@@ -127,9 +124,9 @@ fn rollback(
     name: &Text,
     depth: u32,
 ) -> Result<Answer, WorldFault>
-    ensures calls { IfOk result (λ a. Calls (Event.Rollback name.now depth) (desk publisher.old sessions.old.items) a (desk publisher.new sessions.new.items)) }
-    ensures bad { result ≡ Err WorldFault.BadEvent → IsBadCall (Event.Rollback name.now depth) (map named sessions.old.items) }
-    ensures err { OnErr result (desk publisher.new sessions.new.items ≡ desk publisher.old sessions.old.items) }
+    ensures calls { IfOk result (λ a. IsCallOf (Event.Rollback name.now depth) publisher.old sessions.old.items a publisher.new sessions.new.items) }
+    ensures bad { result ≡ Err WorldFault.BadEvent → IsNone (ask_of (Event.Rollback name.now depth) publisher.old (map named_tx sessions.old.items)) }
+    ensures err { OnErr result (sessions_state publisher.new sessions.new.items ≡ sessions_state publisher.old sessions.old.items) }
     ensures grows { Grows publisher.old.log publisher.new.log }
 {
     let place = known_place(sessions.as_slice(), name)?;
@@ -142,9 +139,9 @@ fn release(
     name: &Text,
     depth: u32,
 ) -> Result<Answer, WorldFault>
-    ensures calls { IfOk result (λ a. Calls (Event.Release name.now depth) (desk publisher.old sessions.old.items) a (desk publisher.new sessions.new.items)) }
-    ensures bad { result ≡ Err WorldFault.BadEvent → IsBadCall (Event.Release name.now depth) (map named sessions.old.items) }
-    ensures err { OnErr result (desk publisher.new sessions.new.items ≡ desk publisher.old sessions.old.items) }
+    ensures calls { IfOk result (λ a. IsCallOf (Event.Release name.now depth) publisher.old sessions.old.items a publisher.new sessions.new.items) }
+    ensures bad { result ≡ Err WorldFault.BadEvent → IsNone (ask_of (Event.Release name.now depth) publisher.old (map named_tx sessions.old.items)) }
+    ensures err { OnErr result (sessions_state publisher.new sessions.new.items ≡ sessions_state publisher.old sessions.old.items) }
     ensures grows { Grows publisher.old.log publisher.new.log }
 {
     let place = known_place(sessions.as_slice(), name)?;
@@ -158,9 +155,9 @@ fn commit(
     name: &Text,
     time: i64,
 ) -> Result<Answer, WorldFault>
-    ensures calls { IfOk result (λ a. Calls (Event.Commit name.now time) (desk publisher.old sessions.old.items) a (desk publisher.new sessions.new.items)) }
-    ensures bad { result ≡ Err WorldFault.BadEvent → IsBadCall (Event.Commit name.now time) (map named sessions.old.items) }
-    ensures err { OnErr result (desk publisher.new sessions.new.items ≡ desk publisher.old sessions.old.items) }
+    ensures calls { IfOk result (λ a. IsCallOf (Event.Commit name.now time) publisher.old sessions.old.items a publisher.new sessions.new.items) }
+    ensures bad { result ≡ Err WorldFault.BadEvent → IsNone (ask_of (Event.Commit name.now time) publisher.old (map named_tx sessions.old.items)) }
+    ensures err { OnErr result (sessions_state publisher.new sessions.new.items ≡ sessions_state publisher.old sessions.old.items) }
     ensures grows { Grows publisher.old.log publisher.new.log }
 {
     let place = known_place(sessions.as_slice(), name)?;
@@ -180,9 +177,9 @@ fn abort(
     sessions: &mut Vec<Session>,
     name: &Text,
 ) -> Result<Answer, WorldFault>
-    ensures calls { IfOk result (λ a. Calls (Event.Abort name.now) (desk publisher.old sessions.old.items) a (desk publisher.new sessions.new.items)) }
-    ensures bad { result ≡ Err WorldFault.BadEvent → IsBadCall (Event.Abort name.now) (map named sessions.old.items) }
-    ensures err { OnErr result (desk publisher.new sessions.new.items ≡ desk publisher.old sessions.old.items) }
+    ensures calls { IfOk result (λ a. IsCallOf (Event.Abort name.now) publisher.old sessions.old.items a publisher.new sessions.new.items) }
+    ensures bad { result ≡ Err WorldFault.BadEvent → IsNone (ask_of (Event.Abort name.now) publisher.old (map named_tx sessions.old.items)) }
+    ensures err { OnErr result (sessions_state publisher.new sessions.new.items ≡ sessions_state publisher.old sessions.old.items) }
     ensures grows { Grows publisher.old.log publisher.new.log }
 {
     let place = known_place(sessions.as_slice(), name)?;

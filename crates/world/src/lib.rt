@@ -1,30 +1,23 @@
-//! Sessions, a log and senders over one another, driven by events: the whole publisher, deterministic and without threads.
+//! Sessions, a log and senders over one another, driven by the events of a schedule: the whole publisher, deterministic
+//! and without threads.
+//!
+//! `World::run` does a list of events, and `World::step` one; `World::answers` lends what each answered, and
+//! `World::starts` what each start of a sender produced. `simulate` runs a schedule from its text to its report.
 #![tactic(auto)]
 
 mod action;
-mod answer;
 mod calls;
-mod codes;
 mod config;
-mod connection;
-mod event;
-mod fault;
-mod fields;
-mod literals;
 mod machine;
-mod parse;
-mod report;
+mod opening;
 mod rows;
-mod schedule;
 mod session;
 mod simulation;
+mod start;
 mod world;
 
-pub use answer::{Answer, SlotFault};
 pub use config::{BUILTIN_RECORDS, Config, ConfigFault};
-pub use connection::Connection;
-pub use event::{Event, Literal};
-pub use fault::WorldFault;
-pub use schedule::{LineFault, Schedule};
+pub use schedule::{Answer, BadEvent, Event, LineFault, Literal, Schedule, SlotFault, WorldFault};
 pub use simulation::{SimFault, simulate};
-pub use world::World;
+pub use start::Start;
+pub use world::{RunFault, World};

@@ -1,35 +1,35 @@
-//! The publisher with its sessions and its connections.
+//! The publisher with its sessions and the starts of its senders.
 
-ghost use Rattle.std.specs.Prelude.{◌≡◌, ◌<◌, map, is_some, length, Err, IfSome, IfErr, IfOk, IsSome, IsNone, OnErr};
+ghost use Rattle.std.specs.Prelude.{◌≡◌, ◌↔◌, map, is_some, true, false, IfErr, IfOk, IsSome, IsNone, OnErr, None};
 ghost use Rattle.std.specs.List.{AllByRecursion};
-ghost use Rattle.world.specs.State.{at_start, link_of};
-ghost use Rattle.world.specs.Actions.{IsServed, linked};
-ghost use Rattle.world.specs.Events.{ActsAt, Comes, IsBad, IsStart};
-ghost use Rattle.world.specs.Machine.{ActsIn, IsMachine, IsOpenAt, link_place, shown};
+ghost use Rattle.world.specs.State.{new_world, open_start, xid_of};
+ghost use Rattle.world.specs.ConnectionLines.{ActsAt, IsStart};
+ghost use Rattle.world.specs.Steps.{IsStep, is_bad};
+ghost use Rattle.world.specs.Machine.{ActsIn, IsMachine, IsOpenAt, IsServed, shown, start_state};
 
 use crate::action::Action;
-use crate::answer::{Answer, SlotFault};
-use crate::calls::call;
+use crate::calls::{call, is_known};
 use crate::config::Config;
-use crate::connection::Connection;
-use crate::event::Event;
-use crate::fault::WorldFault;
+use crate::opening::{close, place_among};
 use crate::session::{Session, leave_all};
+use crate::start::Start;
 use frames::Text;
 use publication::Publications;
+use schedule::{Answer, Event, SlotFault, WorldFault};
 use std::alloc::Global;
 use txlog::Publisher;
 
 /// What a start names instead of a slot.
 const NO_SLOT: &str = "-";
 
-/// A publisher, its sessions by name, and a connection for each start of a sender.
+/// A publisher, its sessions by name, every start of a sender, and where the open ones stand, in order.
 #[derive(Debug)]
 pub(crate) struct Machine {
     pub(crate) publications: Publications,
     pub(crate) publisher: Publisher,
     pub(crate) sessions: Vec<Session>,
-    pub(crate) connections: Vec<Connection>,
+    pub(crate) starts: Vec<Start>,
+    pub(crate) open: Vec<usize>,
 }
 
 impl Drop for Machine {
@@ -38,7 +38,8 @@ impl Drop for Machine {
             publications: _,
             publisher,
             sessions,
-            connections: _,
+            starts: _,
+            open: _,
         } = self;
         leave_all(&publisher, sessions);
     }
@@ -46,7 +47,7 @@ impl Drop for Machine {
 
 impl Machine {
     pub(crate) fn new(alloc: Global, config: Config) -> Result<Self, WorldFault>
-        ensures start { IfOk result (λ m. shown m ≡ at_start config) }
+        ensures start { IfOk result (λ m. shown m ≡ new_world config) }
         ensures err { IfErr result (λ e. e ≡ WorldFault.Memory) }
         ensures machine { IfOk result IsMachine }
     {
@@ -61,21 +62,44 @@ impl Machine {
                     publications,
                     publisher,
                     sessions: Vec::new(alloc),
-                    connections: Vec::new(alloc),
+                    starts: Vec::new(alloc),
+                    open: Vec::new(alloc),
                 });
             }
             Err(_) => return Err(WorldFault::Memory),
         }
     }
 
+    /// Whether the event can't happen now, since its name is unknown or wrongly repeated.
+    pub(crate) fn is_bad(&self, event: &Event) -> bool
+        requires machine { IsMachine self.now }
+        ensures { result ≡ is_bad event.now (shown self.now) }
+    {
+        match event {
+            Event::Begin(name) => is_known(self.sessions.as_slice(), name),
+            Event::Insert(name, _, _)
+            | Event::Savepoint(name)
+            | Event::Rollback(name, _)
+            | Event::Release(name, _)
+            | Event::Commit(name, _)
+            | Event::Abort(name) => !is_known(self.sessions.as_slice(), name),
+            Event::Start(name, _, _, _) => self.is_connected(name),
+            Event::Read(name, _, _)
+            | Event::Keepalive(name, _)
+            | Event::Drain(name, _)
+            | Event::Cut(name) => !self.is_connected(name),
+        }
+    }
+
     /// Does one line. A fault is that of a line that doesn't happen at all, and changes nothing.
-    pub(crate) fn step(&mut self, alloc: Global, event: &Event) -> Result<Answer, WorldFault>
+    pub(crate) fn step(&mut self, event: &Event) -> Result<Answer, WorldFault>
         requires machine { IsMachine self.old }
-        ensures comes { IfOk result (λ a. Comes (shown self.old) event.now a (shown self.new)) }
-        ensures bad { result ≡ Err WorldFault.BadEvent → IsBad event.now (shown self.old) }
+        ensures step { IfOk result (λ a. IsStep (shown self.old) event.now a (shown self.new)) }
+        ensures bad { result ≡ Err WorldFault.BadEvent → is_bad event.now (shown self.old) ≡ true }
         ensures err { OnErr result (shown self.new ≡ shown self.old) }
         ensures machine { IsMachine self.new }
     {
+        let alloc = *self.starts.allocator();
         match event {
             Event::Start(name, slot, position, names) => {
                 self.start(alloc, name, slot, *position, names.as_slice())
@@ -98,77 +122,71 @@ impl Machine {
         names: &[Text],
     ) -> Result<Answer, WorldFault>
         requires machine { IsMachine self.old }
-        ensures start { IfOk result (λ a. IsNone (link_of name.now (shown self.old).links) × IsStart name.now slot.now position names.now (shown self.old) a (shown self.new)) }
-        ensures bad { result ≡ Err WorldFault.BadEvent → IsSome (link_of name.now (shown self.old).links) }
+        ensures start { IfOk result (λ a. IsNone (open_start name.now (shown self.old).starts) × IsStart name.now slot.now position names.now (shown self.old) a (shown self.new)) }
+        ensures bad { result ≡ Err WorldFault.BadEvent → IsSome (open_start name.now (shown self.old).starts) }
         ensures err { OnErr result (shown self.new ≡ shown self.old) }
         ensures machine { IsMachine self.new }
     {
-        if is_connected(self.connections.as_slice(), name) {
+        if self.is_connected(name) {
             return Err(WorldFault::BadEvent);
         }
         if slot.as_str() != NO_SLOT {
             return Ok(Answer::Slot(SlotFault::Missing));
         }
-        self.connections.reserve(1)?;
+        self.starts.reserve(1)?;
+        self.open.reserve(1)?;
         let name = name.copy(alloc)?;
         let selection = match self.publications.select(alloc, names) {
             Ok(selection) => selection,
             Err(fault) => return Ok(Answer::Publication(fault)),
         };
-        let connection = Connection::start(alloc, &self.publisher, name, selection, position);
-        match self.connections.push(connection) {
-            Ok(()) => return Ok(Answer::Done),
-            Err(_) => unreachable!(),
-        }
+        let start = Start::new(alloc, &self.publisher, name, selection, position);
+        self.open.push(self.starts.len()).unwrap();
+        self.starts.push(start).unwrap();
+        Ok(Answer::Done)
     }
 
     /// Does what a line asks of the connection's sender. V1 where it has none.
     fn act(&mut self, alloc: Global, name: &Text, action: Action) -> Result<Answer, WorldFault>
         requires machine { IsMachine self.old }
         ensures acts { IfOk result (λ a. ActsAt name.now action (shown self.old) a (shown self.new)) }
-        ensures bad { result ≡ Err WorldFault.BadEvent → IsNone (link_of name.now (shown self.old).links) }
+        ensures bad { result ≡ Err WorldFault.BadEvent → IsNone (open_start name.now (shown self.old).starts) }
         ensures err { OnErr result (shown self.new ≡ shown self.old) }
         ensures machine { IsMachine self.new }
     {
-        let Some(place) = connection_at(self.connections.as_slice(), name) else {
+        let found = place_among(self.starts.as_slice(), self.open.as_slice(), name);
+        let Some(place) = found else {
             return Err(WorldFault::BadEvent);
         };
-        act_at(&mut self.connections, place, alloc, &self.publisher, action)
-    }
-}
-
-fn is_connected(connections: &[Connection], name: &Text) -> bool
-    ensures { result ≡ is_some (link_of name.now (map linked connections.now)) }
-{
-    connection_at(connections, name).is_some()
-}
-
-/// The place of the connection of this name that has a sender.
-fn connection_at(connections: &[Connection], name: &Text) -> Option<usize>
-    ensures place { result ≡ link_place 0 name.now (map linked connections.now) }
-    ensures within { IfSome result (λ place. place < length connections.now) }
-{
-    for (place, connection) in connections.iter().enumerate() {
-        if connection.is_of(name) {
-            return Some(place);
+        let answer = act_at(&mut self.starts, place, alloc, &self.publisher, action)?;
+        match action {
+            Action::Cut => close(&mut self.open, place),
+            _ => {}
         }
+        Ok(answer)
     }
-    None
+
+    fn is_connected(&self, name: &Text) -> bool
+        requires machine { IsMachine self.now }
+        ensures { result ≡ is_some (open_start name.now (shown self.now).starts) }
+    {
+        place_among(self.starts.as_slice(), self.open.as_slice(), name).is_some()
+    }
 }
 
 fn act_at(
-    connections: &mut Vec<Connection>,
+    starts: &mut Vec<Start>,
     place: usize,
     alloc: Global,
     publisher: &Publisher,
     action: Action,
 ) -> Result<Answer, WorldFault>
-    requires open { IsOpenAt place connections.old.items }
-    requires all { AllByRecursion (IsServed publisher.now.log) connections.old.items }
-    ensures acts { IfOk result (λ a. ActsIn publisher.now.log place action connections.old.items a connections.new.items) }
-    ensures err { OnErr result (map linked connections.new.items ≡ map linked connections.old.items) }
+    requires opened { IsOpenAt place starts.old.items }
+    requires all { AllByRecursion (IsServed publisher.now.log) starts.old.items }
+    ensures acts { IfOk result (λ a. ActsIn publisher.now.log place action starts.old.items a starts.new.items) }
+    ensures err { OnErr result (map start_state starts.new.items ≡ map start_state starts.old.items) }
     ensures memory { IfErr result (λ e. e ≡ WorldFault.Memory) }
-    ensures all { AllByRecursion (IsServed publisher.now.log) connections.new.items }
+    ensures all { AllByRecursion (IsServed publisher.now.log) starts.new.items }
 {
-    connections[place].act(alloc, publisher, action)
+    starts[place].act(alloc, publisher, action)
 }

@@ -1,9 +1,9 @@
-//! The rows of a script.
+//! The rows of lines.
 
 ghost use Rattle.std.specs.Prelude.{◌≡◌, ◌++◌, IfOk, drop};
-ghost use Rattle.world.specs.Sessions.{row_in, value_in, integer_in, huge_in, first_kind};
+ghost use Rattle.world.specs.Rows.{row_in, value_in, integer_in, huge_in, first_kind};
 
-use crate::event::Literal;
+use schedule::Literal;
 use std::alloc::{AllocError, Global};
 use tables::{Column, Kind, Row, Value};
 

@@ -1,20 +1,18 @@
-//! The sessions of a script: transactions by name.
+//! The sessions of a schedule: transactions by name.
 
 ghost use Rattle.std.specs.Prelude.{◌≡◌, ◌<◌, map, length, None, IfErr, IfOk, IfSome, OnErr, OnOk};
 ghost use Rattle.tables.specs.Tables.{table_named};
 ghost use Rattle.txlog.specs.Publishing.{IsRefusalOrMemory, saved, rolled_back, released, after_commit, after_abort, savepoint_refusal, rollback_refusal, release_refusal, end_refusal};
-ghost use Rattle.world.specs.Sessions.{named, place_from};
-ghost use Rattle.world.specs.Events.{Called, insert_refused, inserted_in};
-ghost use Rattle.world.specs.Machine.{Grows};
+ghost use Rattle.world.specs.SessionLines.{insert_refused, inserted_in};
+ghost use Rattle.world.specs.Machine.{Called, Grows, named_tx, place_from};
 
-use crate::answer::Answer;
-use crate::event::Literal;
 use crate::rows::row_of;
 use frames::Text;
+use schedule::{Answer, Literal};
 use std::alloc::{AllocError, Global};
 use txlog::{Publisher, SessionFault, Tx};
 
-/// A transaction in progress, by the name that a script gives it.
+/// A transaction in progress, by the name that a schedule gives it.
 #[derive(Debug)]
 pub(crate) struct Session {
     pub(crate) name: Text,
@@ -112,7 +110,7 @@ impl Session {
 
 /// The place of the transaction of this name.
 pub(crate) fn place_of(sessions: &[Session], name: &Text) -> Option<usize>
-    ensures place { result ≡ place_from 0 name.now (map named sessions.now) }
+    ensures place { result ≡ place_from 0 name.now (map named_tx sessions.now) }
     ensures within { IfSome result (λ place. place < length sessions.now) }
 {
     for (place, session) in sessions.iter().enumerate() {

@@ -1,16 +1,12 @@
 //! A run of a schedule from its text to its report.
 
-ghost use Rattle.std.specs.Prelude.{◌≡◌, Err};
-ghost use Rattle.world.specs.declared.fault.WorldFault.{WorldFault};
-ghost use Rattle.world.specs.declared.schedule.LineFault.{LineFault};
+ghost use Rattle.std.specs.Prelude.{◌≡◌, Err, true, OnOk};
 ghost use Rattle.world.specs.declared.simulation.SimFault.{SimFault};
 ghost use Rattle.world.specs.Simulation.{is_bad_schedule};
 
 use crate::config::Config;
-use crate::fault::WorldFault;
-use crate::report::write_report;
-use crate::schedule::{LineFault, Schedule};
-use crate::world::World;
+use crate::world::{RunFault, World};
+use schedule::{BadEvent, LineFault, Schedule, WorldFault, write_refusals, write_stream};
 use std::alloc::Global;
 use std::io;
 use std::io::{Read, Write};
@@ -25,8 +21,10 @@ pub enum SimFault {
     NotUtf8,
     #[error("{0}")]
     Line(LineFault),
-    #[error("the schedule does not run: {0}")]
-    World(WorldFault),
+    #[error("{0}")]
+    Event(BadEvent),
+    #[error("out of memory")]
+    Memory,
     #[error("the report cannot be written: {0}")]
     Write(io::Error),
 }
@@ -39,32 +37,55 @@ impl SimFault {
         match self {
             SimFault::NotUtf8 => true,
             SimFault::Line(line) => line.fault == WorldFault::BadEvent,
-            SimFault::World(fault) => *fault == WorldFault::BadEvent,
-            SimFault::Read(_) | SimFault::Write(_) => false,
+            SimFault::Event(_) => true,
+            SimFault::Read(_) | SimFault::Memory | SimFault::Write(_) => false,
         }
     }
 }
 
-/// Reads the whole schedule, runs its events and writes the report. A schedule with an event that does not happen at
-/// all is refused, and nothing is written.
+/// Reads the whole schedule, runs its events and writes the report: a line for each refused event, then one for each start
+/// of a sender. Nothing is written of a schedule that is refused, or for which memory ran out while it was run.
 pub fn simulate<R: Read, W: Write>(
     alloc: Global,
     config: Config,
     input: &mut R,
     output: &mut W,
 ) -> Result<(), SimFault>
-    ensures utf8 { result ≡ Err SimFault.NotUtf8 → output.new ≡ output.old }
-    ensures line { (f : LineFault) → result ≡ Err (SimFault.Line f) → output.new ≡ output.old }
-    ensures world { (f : WorldFault) → result ≡ Err (SimFault.World f) → output.new ≡ output.old }
+    ensures refused { (fault : SimFault) → result ≡ Err fault → is_bad_schedule fault ≡ true → output.new ≡ output.old }
 {
     let text = read_schedule(alloc, input)?;
     let schedule = Schedule::parse(alloc, text.as_str()).map_err(SimFault::Line)?;
-    let world = World::run(alloc, config, schedule.events()).map_err(SimFault::World)?;
-    write_report(output, schedule.lines(), world.answers(), world.starts()).map_err(SimFault::Write)
+    match World::run(alloc, config, schedule.events()) {
+        Ok(world) => write_report(alloc, output, &schedule, &world).map_err(SimFault::Write),
+        Err(fault) => Err(stopped(schedule, fault)),
+    }
+}
+
+/// The fault of a run that ended before its events did.
+fn stopped(schedule: Schedule, fault: RunFault) -> SimFault {
+    if let RunFault::Step(done, WorldFault::BadEvent) = fault
+        && let Some(event) = schedule.into_bad_event(done)
+    {
+        return SimFault::Event(event);
+    }
+    SimFault::Memory
 }
 
 fn read_schedule<R: Read>(alloc: Global, input: &mut R) -> Result<String, SimFault> {
     let mut bytes = Vec::new(alloc);
     input.read_to_end(&mut bytes).map_err(SimFault::Read)?;
     String::from_utf8(bytes).map_err(|_| SimFault::NotUtf8)
+}
+
+fn write_report<W: Write>(
+    alloc: Global,
+    output: &mut W,
+    schedule: &Schedule,
+    world: &World,
+) -> io::Result<()> {
+    write_refusals(output, schedule.lines(), world.answers())?;
+    for start in world.starts() {
+        write_stream(alloc, output, start.connection(), start.produced())?;
+    }
+    output.flush()
 }

@@ -1,32 +1,47 @@
 //! A run of events over the whole publisher.
 
-ghost use Rattle.std.specs.Prelude.{◌≡◌, ◌++◌, ◌∷◌, [], map, Err, IfOk, IfErr, OnErr};
-ghost use Rattle.world.specs.State.{at_start};
+ghost use Rattle.std.specs.Prelude.{◌≡◌, ◌↔◌, ◌++◌, ◌∷◌, [], true, map, Err, IfOk, IfErr, OnErr};
+ghost use Rattle.world.specs.State.{new_world};
 ghost use Rattle.world.specs.Law.{Headline};
-ghost use Rattle.world.specs.Actions.{linked};
-ghost use Rattle.world.specs.Events.{Comes, IsBad, Run, Stops};
+ghost use Rattle.world.specs.Steps.{IsRun, IsStep, StopsAt, is_bad};
+ghost use Rattle.world.specs.Machine.{start_state};
+ghost use Rattle.world.specs.declared.world.RunFault.{RunFault};
+ghost use Rattle.schedule.specs.declared.fault.WorldFault.{WorldFault as Fault};
 
-use crate::answer::Answer;
 use crate::config::Config;
-use crate::connection::Connection;
-use crate::event::Event;
-use crate::fault::WorldFault;
 use crate::machine::Machine;
+use crate::start::Start;
+use schedule::{Answer, Event, WorldFault};
 use std::alloc::Global;
 use std::marker::Model;
+use thiserror::Error;
 
 /// The publisher, its sessions and connections, and what the events so far answered.
+///
+/// `new` makes one and `step` does an event in it; `run` is both for a list of events. An event that happens answers
+/// `Done`, or the refusal of the part that it asked. One that doesn't happen is a `WorldFault`, and changes nothing.
 #[derive(Debug, Drop)]
 pub struct World {
     machine: Machine,
     answers: Vec<Answer>,
 }
 
+/// Why a run ended before its events did.
+#[derive(Clone, Copy, Debug, PartialEq, Eq, Error)]
+pub enum RunFault {
+    /// There was no memory for a world.
+    #[error("V2: out of memory")]
+    New,
+    /// So many events happened, and the next one didn't.
+    #[error("{1}, at event {0}")]
+    Step(usize, WorldFault),
+}
+
 impl Model for World {
-    ghost use Rattle.world.specs.State.{Course};
+    ghost use Rattle.world.specs.State.{WorldView};
     ghost use Rattle.world.specs.Machine.{IsMachine, shown};
 
-    ghost Value = { Course };
+    ghost Value = { WorldView };
 
     ghost view = { λ w. record { state = shown w.machine; answers = w.answers.items } };
 
@@ -34,8 +49,9 @@ impl Model for World {
 }
 
 impl World {
+    /// A world with an empty log. V2 where there was no memory for it.
     pub fn new(alloc: Global, config: Config) -> Result<Self, WorldFault>
-        ensures start { IfOk result (λ w. w ≡ record { state = at_start config; answers = [] }) }
+        ensures start { IfOk result (λ w. w ≡ record { state = new_world config; answers = [] }) }
         ensures err { IfErr result (λ e. e ≡ WorldFault.Memory) }
     {
         Ok(World {
@@ -44,31 +60,35 @@ impl World {
         })
     }
 
-    /// Does one event, keeps what it answered, and answers it. V1 and V2 change nothing.
-    pub fn step(&mut self, alloc: Global, event: &Event) -> Result<Answer, WorldFault>
-        ensures comes { IfOk result (λ a. Comes self.old.state event.now a self.new.state) }
+    /// Does one event, keeps what it answered, and answers it. V1 exactly where its name is unknown or wrongly repeated, and
+    /// V2 for memory; both change nothing.
+    pub fn step(&mut self, event: &Event) -> Result<Answer, WorldFault>
+        ensures step { IfOk result (λ a. IsStep self.old.state event.now a self.new.state) }
         ensures kept { IfOk result (λ a. self.new.answers ≡ self.old.answers ++ a ∷ []) }
-        ensures bad { result ≡ Err WorldFault.BadEvent → IsBad event.now self.old.state }
+        ensures bad { (result ≡ Err WorldFault.BadEvent) ↔ (is_bad event.now self.old.state ≡ true) }
         ensures err { OnErr result (self.new ≡ self.old) }
         ensures headline { Headline self.new.state }
     {
-        self.answers.reserve(1)?;
-        let answer = self.machine.step(alloc, event)?;
-        match self.answers.push(answer) {
-            Ok(()) => return Ok(answer),
-            Err(_) => unreachable!(),
+        if self.machine.is_bad(event) {
+            return Err(WorldFault::BadEvent);
         }
+        self.answers.reserve(1)?;
+        let answer = self.machine.step(event)?;
+        self.answers.push(answer).unwrap();
+        Ok(answer)
     }
 
     /// Does the events one after the other, up to the first that doesn't happen.
-    pub fn run(alloc: Global, config: Config, events: &[Event]) -> Result<Self, WorldFault>
-        ensures run { IfOk result (λ w. Run (at_start config) events.now w.answers w.state) }
+    pub fn run(alloc: Global, config: Config, events: &[Event]) -> Result<Self, RunFault>
+        ensures run { IfOk result (λ w. IsRun (new_world config) events.now w.answers w.state) }
         ensures headline { IfOk result (λ w. Headline w.state) }
-        ensures bad { result ≡ Err WorldFault.BadEvent → Stops (at_start config) events.now }
+        ensures stops { (done : ℕ) (fault : Fault) → result ≡ Err (RunFault.Step done fault) → StopsAt (new_world config) events.now done fault }
     {
-        let mut world = World::new(alloc, config)?;
-        for event in events {
-            world.step(alloc, event)?;
+        let mut world = World::new(alloc, config).map_err(|_| RunFault::New)?;
+        for (done, event) in events.iter().enumerate() {
+            if let Err(fault) = world.step(event) {
+                return Err(RunFault::Step(done, fault));
+            }
         }
         Ok(world)
     }
@@ -81,9 +101,9 @@ impl World {
     }
 
     /// Every start of a sender, in order, with what came of it.
-    pub fn starts(&self) -> &[Connection]
-        ensures { map linked result.now ≡ self.now.state.links }
+    pub fn starts(&self) -> &[Start]
+        ensures { map start_state result.now ≡ self.now.state.starts }
     {
-        self.machine.connections.as_slice()
+        self.machine.starts.as_slice()
     }
 }

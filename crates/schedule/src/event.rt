@@ -1,6 +1,8 @@
+//! The events of a schedule, one a line.
+
 use frames::{Items, Text};
 
-/// One line of a schedule.
+/// One line of a schedule. T names a transaction, C a connection.
 #[derive(Debug, Drop, PartialEq)]
 pub enum Event {
     /// `begin T`: a transaction begins.
@@ -29,7 +31,7 @@ pub enum Event {
     Cut(Text),
 }
 
-/// A value of a row as a script writes it. An integer takes the kind of its column.
+/// A value of a row as a schedule writes it. An integer takes the kind of its column.
 #[derive(Debug, Drop, PartialEq)]
 pub enum Literal {
     Null,

@@ -1,3 +1,5 @@
+//! What an event answered.
+
 use publication::PubFault;
 use sender::SendFault;
 use txlog::SessionFault;

@@ -3,7 +3,7 @@
 ghost use Rattle.std.specs.Prelude.{◌≡◌, length, vec_len};
 
 use crate::event::Event;
-use crate::fault::WorldFault;
+use crate::fault::{BadEvent, WorldFault};
 use std::alloc::Global;
 use thiserror::Error;
 
@@ -54,6 +54,16 @@ impl Schedule {
         ensures { result.now ≡ self.now.events.items }
     {
         self.events.as_slice()
+    }
+
+    /// The event at this place, with its line, as one that could not happen there.
+    pub fn into_bad_event(self, place: usize) -> Option<BadEvent> {
+        let Schedule { mut events, lines } = self;
+        let line = *lines.get(place)?;
+        Some(BadEvent {
+            line,
+            event: events.swap_remove(place),
+        })
     }
 
     /// The numbers of the lines, one for each event.

@@ -1,4 +1,4 @@
-//! The fields of a script line, which single spaces separate.
+//! The fields of a line, which single spaces separate.
 
 use crate::fault::WorldFault;
 use frames::{Items, Text};

@@ -1,4 +1,4 @@
-//! The rows of a script: values in parentheses, which commas separate.
+//! The rows of a schedule: values in parentheses, which commas separate.
 
 use crate::event::Literal;
 use crate::fault::WorldFault;

@@ -1,9 +1,7 @@
 //! The codes by which refusals are printed.
 
-ghost use Rattle.std.specs.Prelude.{◌≡◌, ◌↔◌, IsNone, IfSome};
-ghost use Rattle.txlog.specs.Publishing.{code_of};
-ghost use Rattle.txlog.specs.declared.fault.SessionFault.{SessionFault};
-ghost use Rattle.world.specs.declared.answer.Answer.{Answer};
+ghost use Rattle.std.specs.Prelude.{◌≡◌, option_map};
+ghost use Rattle.schedule.specs.Codes.{answer_code};
 
 use crate::answer::{Answer, SlotFault};
 use publication::PubFault;
@@ -12,8 +10,7 @@ use sender::SendFault;
 impl Answer {
     /// The refusal's code, or none where the event was done.
     pub fn code(&self) -> Option<&'static str>
-        ensures done { IsNone result ↔ (self.now ≡ Answer.Done) }
-        ensures session { (f : SessionFault) → self.now ≡ Answer.Session f → IfSome result (λ c. c.now ≡ code_of f) }
+        ensures { option_map (λ c. c.now) result ≡ answer_code self.now }
     {
         match self {
             Answer::Done => None,

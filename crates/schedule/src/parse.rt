@@ -1,4 +1,4 @@
-//! Script lines, read as events.
+//! Lines of a schedule, read as events.
 
 use crate::event::Event;
 use crate::fault::WorldFault;
@@ -7,7 +7,7 @@ use crate::literals::row_of;
 use std::alloc::Global;
 
 impl Event {
-    /// The event that a line of a script spells; the line end is not part of the line. V1 where the text is no such
+    /// The event that a line of a schedule spells; the line end is not part of the line. V1 where the text is no such
     /// line, V2 where there was no memory for the event.
     pub fn parse(alloc: Global, line: &str) -> Result<Event, WorldFault> {
         let mut fields = Fields::new(line);

@@ -1,0 +1,31 @@
+-- The codes by which refusals are printed.
+use Rattle.std.specs.Prelude.{ℕ, codes, List, Option, Some, None}
+use Rattle.txlog.specs.Publishing.{code_of}
+use Rattle.publication.specs.declared.fault.PubFault.{PubFault}
+use Rattle.publication.specs.declared.fault.PubFault.TheVariants as pubs
+use Rattle.sender.specs.declared.fault.SendFault.{SendFault}
+use Rattle.sender.specs.declared.fault.SendFault.TheVariants as sends
+use Rattle.schedule.specs.declared.answer.Answer.{Answer}
+use Rattle.schedule.specs.declared.answer.Answer.TheVariants as answers
+use Rattle.schedule.specs.declared.answer.SlotFault.{SlotFault}
+use Rattle.schedule.specs.declared.answer.SlotFault.TheVariants as slots
+
+abbrev pub slot_code : SlotFault → List ℕ
+slot_code slots.Missing = codes "L1"
+
+abbrev pub publication_code : PubFault → List ℕ
+publication_code pubs.Unknown = codes "P1"
+publication_code pubs.Memory = codes "P7"
+
+abbrev pub sender_code : SendFault → List ℕ
+sender_code sends.Memory = codes "G2"
+sender_code sends.Failed = codes "G3"
+sender_code sends.Gap = codes "G4"
+
+-- the code of a refusal; an event that was done has none
+abbrev pub answer_code : Answer → Option (List ℕ)
+answer_code answers.Done = None
+answer_code (answers.Session fault) = Some (code_of fault)
+answer_code (answers.Slot fault) = Some (slot_code fault)
+answer_code (answers.Publication fault) = Some (publication_code fault)
+answer_code (answers.Sender fault) = Some (sender_code fault)

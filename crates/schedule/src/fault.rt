@@ -1,0 +1,65 @@
+//! Why an event did not happen.
+
+ghost use Rattle.std.specs.Prelude.{◌≡◌};
+ghost use Rattle.schedule.specs.declared.fault.WorldFault.TheVariants.{Memory};
+
+use crate::event::Event;
+use std::alloc::{AllocError, AllocFailed};
+use std::fmt;
+use std::fmt::{Display, Formatter, Write};
+use thiserror::Error;
+
+/// Why an event did not happen at all. It changed nothing.
+#[derive(Clone, Copy, Debug, PartialEq, Eq, Error)]
+pub enum WorldFault {
+    #[error("V1: no such event, or not now")]
+    BadEvent,
+    #[error("V2: out of memory")]
+    Memory,
+}
+
+impl From<AllocError> for WorldFault {
+    ghost from_gives = { λ _ e. e ≡ Memory };
+
+    fn from(_e: AllocError) -> WorldFault {
+        WorldFault::Memory
+    }
+}
+
+impl<T: Drop> From<AllocFailed<T>> for WorldFault {
+    ghost from_gives = { λ _ e. e ≡ Memory };
+
+    fn from(_e: AllocFailed<T>) -> WorldFault {
+        WorldFault::Memory
+    }
+}
+
+/// An event of a schedule that was V1 where it stood. Its text says why.
+#[derive(Debug, Drop)]
+pub struct BadEvent {
+    /// The line of the schedule, from 1.
+    pub line: usize,
+    pub event: Event,
+}
+
+impl Display for BadEvent {
+    fn fmt<W: Write>(&self, f: &mut Formatter<W>) -> Result<(), fmt::Error> {
+        write!(f, "line {}: V1: ", self.line)?;
+        match &self.event {
+            Event::Begin(name) => write!(f, "transaction {} is in progress", name.as_str()),
+            Event::Insert(name, _, _)
+            | Event::Savepoint(name)
+            | Event::Rollback(name, _)
+            | Event::Release(name, _)
+            | Event::Commit(name, _)
+            | Event::Abort(name) => write!(f, "no transaction {}", name.as_str()),
+            Event::Start(name, _, _, _) => {
+                write!(f, "connection {} has a sender already", name.as_str())
+            }
+            Event::Read(name, _, _)
+            | Event::Keepalive(name, _)
+            | Event::Drain(name, _)
+            | Event::Cut(name) => write!(f, "connection {} has no sender", name.as_str()),
+        }
+    }
+}

@@ -1,0 +1,21 @@
+//! Schedules: texts of one event a line that drive a publisher, and what is printed of their answers. Nothing here has a
+//! state of the publisher; crate `world` runs the events.
+//!
+//! `Schedule::parse` reads a text, `Answer` is what an event answered, and `write_refusals` and `write_stream` print.
+#![tactic(auto)]
+
+mod answer;
+mod codes;
+mod event;
+mod fault;
+mod fields;
+mod literals;
+mod parse;
+mod report;
+mod schedule;
+
+pub use answer::{Answer, SlotFault};
+pub use event::{Event, Literal};
+pub use fault::{BadEvent, WorldFault};
+pub use report::{write_refusals, write_stream};
+pub use schedule::{LineFault, Schedule};

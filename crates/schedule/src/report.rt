@@ -1,0 +1,32 @@
+//! What is printed of a run: its refusals, and what each start of a sender produced.
+
+use crate::answer::Answer;
+use std::alloc::Global;
+use std::io;
+use std::io::Write;
+
+/// For each refused event the number of its line and its code, as in `7 S1`. The lines and the answers are those of the
+/// same events, in order.
+pub fn write_refusals<W: Write>(
+    output: &mut W,
+    lines: &[usize],
+    answers: &[Answer],
+) -> io::Result<()> {
+    for (line, answer) in lines.iter().zip(answers) {
+        if let Some(code) = answer.code() {
+            writeln!(output, "{line} {code}")?;
+        }
+    }
+    Ok(())
+}
+
+/// A connection's name, a colon, and the bytes that one start of its sender produced, in lower-case hexadecimal.
+pub fn write_stream<W: Write>(
+    alloc: Global,
+    output: &mut W,
+    connection: &str,
+    produced: &[u8],
+) -> io::Result<()> {
+    let digits = hex::encode(alloc, produced)?;
+    writeln!(output, "{connection}:{digits}")
+}

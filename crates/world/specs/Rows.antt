@@ -1,0 +1,38 @@
+-- The row that the literals of a line spell. An integer takes the kind of its column; what doesn't fit the column becomes a
+-- value of another kind, so that no table takes the row.
+use Rattle.std.specs.Prelude.{ℕ, ℤ, pos, negsuc, ◌^◌, Bool, false, nat_lt, drop, List, [], ◌∷◌, if◌then◌else◌}
+use Rattle.tables.specs.declared.kind.Kind.{Kind}
+use Rattle.tables.specs.declared.kind.Kind.TheVariants as kinds
+use Rattle.tables.specs.declared.value.Value.{Value}
+use Rattle.tables.specs.declared.value.Value.TheVariants as values
+use Rattle.tables.specs.declared.column.Column.{Column}
+use Rattle.schedule.specs.declared.event.Literal.{Literal}
+use Rattle.schedule.specs.declared.event.Literal.TheVariants as literals
+
+abbrev pub is_int4 : ℤ → Bool
+is_int4 (pos n) = nat_lt n (2 ^ 31)
+is_int4 (negsuc n) = nat_lt n (2 ^ 31)
+
+abbrev pub integer_in : Kind → ℤ → Value
+integer_in kinds.Int4 n = if is_int4 n then values.Int4 n else values.Int8 n
+integer_in kind n = values.Int8 n
+
+-- an integer that no column holds
+abbrev pub huge_in : Kind → Value
+huge_in kinds.Bool = values.Int8 (pos 0)
+huge_in kind = values.Bool false
+
+abbrev pub value_in : Kind → Literal → Value
+value_in kind literals.Null = values.Null
+value_in kind (literals.Bool b) = values.Bool b
+value_in kind (literals.Integer n) = integer_in kind n
+value_in kind literals.Huge = huge_in kind
+value_in kind (literals.Text text) = values.Text text
+
+abbrev pub first_kind : List Column → Kind
+first_kind [] = kinds.Int8
+first_kind (c ∷ columns) = c.kind
+
+abbrev pub row_in : List Column → List Literal → List Value
+row_in columns [] = []
+row_in columns (l ∷ ls) = value_in (first_kind columns) l ∷ row_in (drop 1 columns) ls
