@@ -49,7 +49,7 @@ fn sender_of_p(alloc: Global) -> Result<Sender, Fail> {
 fn a_sender_starts_with_nothing(rt: HostRuntime) -> Result<(), Fail> {
     let mut sender = sender_of_p(rt.alloc())?;
     assert_eq!(rt; sender.position(), FIRST_POSITION);
-    assert!(rt; !sender.held());
+    assert!(rt; !sender.holds_bytes());
     assert_eq!(rt; sender.drain(&mut [0]), 0);
     Ok(())
 }
@@ -58,13 +58,13 @@ fn a_sender_starts_with_nothing(rt: HostRuntime) -> Result<(), Fail> {
 fn a_sender_is_fed_and_drained(rt: HostRuntime) -> Result<(), Fail> {
     let alloc = rt.alloc();
     let mut sender = sender_of_p(alloc)?;
-    sender.feed(alloc, log(&rt, alloc)?.as_slice(), 9)?;
+    sender.feed(log(&rt, alloc)?.as_slice(), 9)?;
     assert_eq!(rt; sender.position(), 0x100_0050);
     let mut out = [0; 300];
     assert_eq!(rt; sender.drain(&mut []), 0);
     assert_eq!(rt; sender.drain(&mut out), ROW_LENGTH);
     assert_eq!(rt; &out[..6], b"d\x00\x00\x002w".as_slice());
-    assert!(rt; !sender.held());
+    assert!(rt; !sender.holds_bytes());
     Ok(())
 }
 
@@ -72,14 +72,14 @@ fn a_sender_is_fed_and_drained(rt: HostRuntime) -> Result<(), Fail> {
 fn a_sender_is_drained_into_a_buffer(rt: HostRuntime) -> Result<(), Fail> {
     let alloc = rt.alloc();
     let mut sender = sender_of_p(alloc)?;
-    sender.feed(alloc, log(&rt, alloc)?.as_slice(), 9)?;
+    sender.feed(log(&rt, alloc)?.as_slice(), 9)?;
     let mut out = BytesMut::new(alloc);
     sender.drain_into(100, &mut out)?;
     assert_eq!(rt; out.len(), 100);
-    assert!(rt; sender.held());
+    assert!(rt; sender.holds_bytes());
     sender.drain_into(usize::MAX, &mut out)?;
     assert_eq!(rt; out.len(), ROW_LENGTH);
-    assert!(rt; !sender.held());
+    assert!(rt; !sender.holds_bytes());
     Ok(())
 }
 
@@ -87,8 +87,8 @@ fn a_sender_is_drained_into_a_buffer(rt: HostRuntime) -> Result<(), Fail> {
 fn a_keepalive_asks(rt: HostRuntime) -> Result<(), Fail> {
     let alloc = rt.alloc();
     let mut sender = sender(alloc, &[])?;
-    sender.feed(alloc, log(&rt, alloc)?.as_slice(), 9)?;
-    assert!(rt; !sender.held(), "no publication, no bytes");
+    sender.feed(log(&rt, alloc)?.as_slice(), 9)?;
+    assert!(rt; !sender.holds_bytes(), "no publication, no bytes");
     sender.keepalive(9, true)?;
     let mut out = BytesMut::new(alloc);
     sender.drain_into(usize::MAX, &mut out)?;
@@ -103,11 +103,11 @@ fn a_gap_is_refused(rt: HostRuntime) -> Result<(), Fail> {
     let mut sender = sender_of_p(alloc)?;
     let records = log(&rt, alloc)?;
     let (change, commit) = records.as_slice().split_at_checked(1).ok_or("two records")?;
-    assert_eq!(rt; sender.feed(alloc, commit, 9), Err(SendFault::Gap));
-    sender.feed(alloc, change, 9)?;
-    assert_eq!(rt; sender.feed(alloc, change, 9), Err(SendFault::Gap));
+    assert_eq!(rt; sender.feed(commit, 9), Err(SendFault::Gap));
+    sender.feed(change, 9)?;
+    assert_eq!(rt; sender.feed(change, 9), Err(SendFault::Gap));
     assert_eq!(rt; sender.position(), 0x100_0030);
-    sender.feed(alloc, commit, 9)?;
+    sender.feed(commit, 9)?;
     assert_eq!(rt; sender.position(), 0x100_0050);
     Ok(())
 }

@@ -37,15 +37,9 @@ fn a_log_has_room_for_some_records(rt: HostRuntime) -> Result<(), Fail> {
 fn steps_answer_one_by_one(rt: HostRuntime) -> Result<(), Fail> {
     let alloc = rt.alloc();
     let mut world = World::new(alloc, Config::builtin(alloc)?)?;
-    assert_eq!(rt;
-        world.step(alloc, &Event::parse(alloc, "begin A")?)?,
-        Answer::Done
-    );
+    assert_eq!(rt; world.step(&Event::parse(alloc, "begin A")?)?, Answer::Done);
     let refused = Answer::Session(SessionFault::NoSavepoint);
-    assert_eq!(rt;
-        world.step(alloc, &Event::parse(alloc, "rollback A 1")?)?,
-        refused
-    );
+    assert_eq!(rt; world.step(&Event::parse(alloc, "rollback A 1")?)?, refused);
     assert_eq!(rt; world.answers(), [Answer::Done, refused].as_slice());
     Ok(())
 }
@@ -62,7 +56,7 @@ fn a_run_lends_what_its_starts_produced(rt: HostRuntime) -> Result<(), Fail> {
     );
     assert_eq!(rt; world.starts().len(), 1);
     let start = world.starts().first().ok_or("a start")?;
-    assert_eq!(rt; start.name(), "c");
+    assert_eq!(rt; start.connection(), "c");
     assert_eq!(rt; start.produced(), KEEPALIVE.as_slice());
     Ok(())
 }

@@ -18,7 +18,7 @@ fn main(rt: HostRuntime) -> Result<()> {
     let selection = Publications::builtin(alloc)?.select(alloc, &names)?;
     let mut sender = Sender::start(alloc, selection, 0, FIRST_POSITION)?;
     let records = publisher.tail(0, 100)?;
-    sender.feed(alloc, records.as_slice(), 9)?;
+    sender.feed(records.as_slice(), 9)?;
     sender.keepalive(9, false)?;
 
     // A connection writes as many bytes as its socket takes, until none are left.

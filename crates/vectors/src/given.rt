@@ -4,7 +4,7 @@ use anyhow::Result;
 use std::alloc::Global;
 
 /// Bytes in hexadecimal digits, in groups as it pleases. What stands behind a bar stands behind the sample's own bytes.
-#[derive(Debug, Drop)]
+#[derive(Drop)]
 pub struct Given {
     own: Vec<u8>,
     all: Vec<u8>,

@@ -4,7 +4,7 @@ use std::alloc::{AllocError, Global};
 use std::{fmt, io};
 
 /// How many samples held, and what is to be said of each of the others.
-#[derive(Debug, Drop)]
+#[derive(Drop)]
 pub struct Report {
     held: usize,
     missed: Vec<String>,

@@ -4,7 +4,7 @@ use anyhow::{Result, bail};
 use std::fmt;
 
 /// A line such as `read_back 64 00000004 = CopyData` or `read_back 3f ! F3`.
-#[derive(Clone, Copy, Debug)]
+#[derive(Clone, Copy)]
 pub struct Sample<'a> {
     /// The call that takes the sample.
     pub call: &'a str,
@@ -13,7 +13,7 @@ pub struct Sample<'a> {
 }
 
 /// What a line says of its sample.
-#[derive(Clone, Copy, Debug)]
+#[derive(Clone, Copy)]
 pub enum Said<'a> {
     /// It is taken, and means this.
     Meaning(&'a str),
@@ -22,7 +22,7 @@ pub enum Said<'a> {
 }
 
 /// What came of a sample.
-#[derive(Debug, Drop)]
+#[derive(Drop)]
 pub enum Answer {
     Meaning(String),
     Fault(String),

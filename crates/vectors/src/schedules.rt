@@ -15,7 +15,7 @@ const NAMED: &str = "== ";
 const PRINTS: &str = "--";
 
 /// A schedule as it stands in its file.
-#[derive(Debug, Drop)]
+#[derive(Drop)]
 struct Case<'a> {
     /// The line of the file where it begins.
     line: usize,

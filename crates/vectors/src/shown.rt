@@ -3,7 +3,7 @@
 use std::fmt;
 
 /// A position of the log, as in `0/1000030`.
-#[derive(Clone, Copy, Debug)]
+#[derive(Clone, Copy)]
 pub struct Position(pub u64);
 
 impl fmt::Display for Position {
@@ -15,7 +15,7 @@ impl fmt::Display for Position {
 }
 
 /// A text between quotes, in which a quote stands twice.
-#[derive(Clone, Copy, Debug)]
+#[derive(Clone, Copy)]
 pub struct Quoted<'a>(pub &'a str);
 
 impl fmt::Display for Quoted<'_> {

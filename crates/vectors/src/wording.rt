@@ -47,7 +47,7 @@ fn shown_xlogdata(
     let message = shown_message(alloc, &read_logical(alloc, cursor.rest())?)?;
     let start = Position(start);
     let end = Position(end);
-    Ok(Some(format!(in alloc; "Sent {start} {end} {clock} {message}")?))
+    Ok(Some(format!(in alloc; "XLogData {start} {end} {clock} {message}")?))
 }
 
 fn shown_keepalive(
