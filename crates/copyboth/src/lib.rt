@@ -6,6 +6,3 @@ mod xlogdata;
 
 pub use keepalive::{ASKS, KEEPALIVE, SILENT, write_keepalive};
 pub use xlogdata::{XLOGDATA, write_xlogdata};
-
-#[cfg(test)]
-mod tests;

@@ -20,6 +20,3 @@ pub use front::{Front, no_front_begins_another, read_front, write_front};
 pub use items::Items;
 pub use put::{put_byte, put_bytes, put_int16, put_int32, put_int64, put_string};
 pub use text::Text;
-
-#[cfg(test)]
-mod tests;

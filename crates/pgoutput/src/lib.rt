@@ -23,6 +23,3 @@ pub use relation::{
 };
 pub use round_trip::written_and_read;
 pub use tuple::{Cell, NULL, TEXT, UNCHANGED};
-
-#[cfg(test)]
-mod tests;

@@ -13,6 +13,3 @@ pub use projection::Projected;
 pub use publications::Publications;
 pub use relation::{BOOL_OID, INT4_OID, INT8_OID, NO_MODIFIER, TEXT_OID};
 pub use selection::Selection;
-
-#[cfg(test)]
-mod tests;

@@ -11,6 +11,3 @@ mod strands;
 pub use fault::ReorderFault;
 pub use ready::{Ready, Step};
 pub use reorder::Reorder;
-
-#[cfg(test)]
-mod tests;

@@ -12,8 +12,3 @@ mod word;
 pub use ended::Ended;
 pub use fault::SendFault;
 pub use sender::Sender;
-
-#[cfg(test)]
-mod rows;
-#[cfg(test)]
-mod tests;

@@ -8,6 +8,3 @@ mod word;
 pub use published::{Published, PublishedChange};
 pub use reading::a_stream_has_one_reading;
 pub use word::{Keepalive, Word, XLogData};
-
-#[cfg(test)]
-mod tests;

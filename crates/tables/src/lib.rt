@@ -27,6 +27,3 @@ pub use reading::read_body;
 pub use row::{MAX_ROW_LENGTH, Row};
 pub use table::Table;
 pub use value::Value;
-
-#[cfg(test)]
-mod tests;

@@ -21,6 +21,3 @@ pub use reading::a_log_has_one_reading;
 pub use receipt::Receipt;
 pub use record::{Body, FIRST_POSITION, FIRST_XID, Record};
 pub use tx::Tx;
-
-#[cfg(test)]
-mod tests;

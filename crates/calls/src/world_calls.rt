@@ -1,0 +1,134 @@
+//! Calls of world.
+
+use publication::Publications;
+use std::alloc::{AllocError, Global};
+use std::io;
+use std::io::{ErrorKind, Read, Write};
+use std::test::Fail;
+use tables::Catalog;
+use txlog::{MAX_RECORDS, SessionFault};
+use world::{Answer, Config, ConfigFault, Event, Schedule, SimFault, World, simulate};
+
+/// The keepalive of the empty log under clock 9.
+const KEEPALIVE: [u8; 23] = [
+    0x64, 0, 0, 0, 0x16, 0x6b, 0, 0, 0, 0, 1, 0, 0, 0, 0, 0, 0, 0, 0, 0, 0, 9, 0,
+];
+
+fn of_records(alloc: Global, records: usize) -> Result<Option<ConfigFault>, AllocError> {
+    let catalog = Catalog::builtin(alloc)?;
+    let publications = Publications::builtin(alloc)?;
+    Ok(Config::new(catalog, publications, records).err())
+}
+
+#[test]
+fn a_log_has_room_for_some_records(rt: HostRuntime) -> Result<(), Fail> {
+    let alloc = rt.alloc();
+    assert_eq!(rt; of_records(alloc, 0)?, Some(ConfigFault::BadServer));
+    assert_eq!(rt; of_records(alloc, 1)?, None);
+    assert_eq!(rt; of_records(alloc, MAX_RECORDS)?, None);
+    assert_eq!(rt;
+        of_records(alloc, MAX_RECORDS + 1)?,
+        Some(ConfigFault::BadServer)
+    );
+    Ok(())
+}
+
+#[test]
+fn steps_answer_one_by_one(rt: HostRuntime) -> Result<(), Fail> {
+    let alloc = rt.alloc();
+    let mut world = World::new(alloc, Config::builtin(alloc)?)?;
+    assert_eq!(rt; world.step(&Event::parse(alloc, "begin A")?)?, Answer::Done);
+    let refused = Answer::Session(SessionFault::NoSavepoint);
+    assert_eq!(rt; world.step(&Event::parse(alloc, "rollback A 1")?)?, refused);
+    assert_eq!(rt; world.answers(), [Answer::Done, refused].as_slice());
+    Ok(())
+}
+
+#[test]
+fn a_run_lends_what_its_starts_produced(rt: HostRuntime) -> Result<(), Fail> {
+    let alloc = rt.alloc();
+    let schedule = Schedule::parse(alloc, "start c - 0/0 p\nkeepalive c 9\n\ndrain c 99")?;
+    assert_eq!(rt; schedule.lines(), [1, 2, 4].as_slice());
+    let world = World::run(alloc, Config::builtin(alloc)?, schedule.events())?;
+    assert_eq!(rt;
+        world.answers(),
+        [Answer::Done, Answer::Done, Answer::Done].as_slice()
+    );
+    assert_eq!(rt; world.starts().len(), 1);
+    let start = world.starts().first().ok_or("a start")?;
+    assert_eq!(rt; start.connection(), "c");
+    assert_eq!(rt; start.produced(), KEEPALIVE.as_slice());
+    Ok(())
+}
+
+/// A file that can't be read behind its first bytes.
+#[derive(Drop)]
+struct Torn {
+    is_read: bool,
+}
+
+impl Read for Torn {
+    fn read(&mut self, buf: &mut [u8]) -> io::Result<usize> {
+        if self.is_read || buf.is_empty() {
+            return Err(io::Error::from(ErrorKind::Other));
+        }
+        self.is_read = true;
+        buf[0] = b'#';
+        Ok(1)
+    }
+}
+
+#[test]
+fn a_schedule_that_cannot_be_read_to_its_end(rt: HostRuntime) -> Result<(), Fail> {
+    let alloc = rt.alloc();
+    let mut output = Vec::new(alloc);
+    let mut torn = Torn { is_read: false };
+    let read = simulate(alloc, Config::builtin(alloc)?, &mut torn, &mut output);
+    assert!(rt; read.err().is_some_and(|fault| !fault.is_bad_schedule()));
+    assert!(rt; output.is_empty());
+    Ok(())
+}
+
+#[test]
+fn a_schedule_that_is_not_text(rt: HostRuntime) -> Result<(), Fail> {
+    let alloc = rt.alloc();
+    let mut output = Vec::new(alloc);
+    let mut bytes = b"# \xff".as_slice();
+    let decoded = simulate(alloc, Config::builtin(alloc)?, &mut bytes, &mut output);
+    assert!(rt; decoded.err().is_some_and(|fault| fault.is_bad_schedule()));
+    assert!(rt; output.is_empty());
+    Ok(())
+}
+
+/// A place to print that takes so many bytes.
+#[derive(Drop)]
+struct Narrow {
+    left: usize,
+}
+
+impl Write for Narrow {
+    fn write(&mut self, buf: &[u8]) -> io::Result<usize> {
+        let count = buf.len().min(self.left);
+        self.left -= count;
+        Ok(count)
+    }
+
+    fn flush(&mut self) -> io::Result<()> {
+        Ok(())
+    }
+}
+
+#[test]
+fn a_report_that_cannot_be_printed(rt: HostRuntime) -> Result<(), Fail> {
+    let alloc = rt.alloc();
+    for left in 0..4 {
+        let mut input = b"start c - 0/0 p\n".as_slice();
+        let mut output = Narrow { left };
+        let printed = simulate(alloc, Config::builtin(alloc)?, &mut input, &mut output);
+        match printed {
+            Ok(()) => assert_eq!(rt; left, 3),
+            Err(fault) => assert!(rt; matches!(fault, SimFault::Write(_)), "{left} bytes"),
+        }
+    }
+    Ok(())
+}

@@ -1,0 +1,63 @@
+//! Holds the crates against samples: each line of a file in data/ has a sample and says what it means, or which fault it is.
+//!
+//! `vectors FILE..` prints for each file how many of its samples held, and each that didn't. A file of samples has one on
+//! each line; a file of schedules has what each of them prints. The head of each file tells its form.
+#![tactic(auto)]
+
+mod event_line;
+mod expanded;
+mod field;
+mod framing;
+mod given;
+mod message;
+mod play;
+mod report;
+mod row_body;
+mod sample;
+mod samples;
+mod schedules;
+mod shown;
+mod told;
+mod wording;
+
+use anyhow::{Result, bail, ensure};
+use report::Report;
+use samples::judge_samples;
+use schedules::judge_schedules;
+use std::alloc::Global;
+use std::{env, fs};
+
+fn main(rt: HostRuntime) -> Result<()> {
+    let alloc = rt.alloc();
+    let mut held = true;
+    for path in env::args(&rt)?.skip(1) {
+        let text = fs::read_to_string(&rt, path.as_str())?;
+        let report = judged(alloc, path.as_str(), text.as_str())?;
+        report.print(&rt, name_of(path.as_str()))?;
+        held = held && report.has_held();
+    }
+    ensure!(held, "not every sample holds");
+    Ok(())
+}
+
+/// The file is of the kind that its name ends with.
+fn judged(alloc: Global, path: &str, text: &str) -> Result<Report> {
+    if path.ends_with(".samples") {
+        return judge_samples(alloc, text);
+    }
+    if path.ends_with(".schedules") {
+        return judge_schedules(alloc, text);
+    }
+    bail!("{path} is a file of no kind");
+}
+
+/// The name of a file without the folders before it.
+fn name_of(path: &str) -> &str {
+    match path.rfind('/') {
+        Some(at) => path
+            .get(at..)
+            .and_then(|rest| rest.strip_prefix('/'))
+            .unwrap_or(path),
+        None => path,
+    }
+}

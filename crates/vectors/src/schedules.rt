@@ -1,0 +1,87 @@
+//! Files of schedules, each with what it prints.
+
+use crate::expanded::{add_lines, add_printed};
+use crate::play::played;
+use crate::report::Report;
+use crate::sample::Said;
+use anyhow::{Context, Result};
+use std::alloc::Global;
+use world::BUILTIN_RECORDS;
+
+/// What begins the first line of a schedule, and its name follows.
+const NAMED: &str = "== ";
+
+/// What begins the line before what a schedule prints; behind it, where the schedule is refused, the fault.
+const PRINTS: &str = "--";
+
+/// A schedule as it stands in its file.
+#[derive(Drop)]
+struct Case<'a> {
+    /// The line of the file where it begins.
+    line: usize,
+    schedule: String,
+    fault: &'a str,
+    printed: String,
+}
+
+pub fn judge_schedules(alloc: Global, text: &str) -> Result<Report> {
+    let mut report = Report::new(alloc);
+    let records = records_of(text)?;
+    for case in cases_of(alloc, text)? {
+        let answer = played(alloc, records, case.schedule.as_str())?;
+        let said = match case.fault {
+            "" => Said::Meaning(case.printed.as_str()),
+            fault => Said::Fault(fault),
+        };
+        if answer.is_as_said(said) {
+            report.hold();
+        } else {
+            report.miss(case.line, &answer)?;
+        }
+    }
+    Ok(report)
+}
+
+/// For how many records the log has room: what the file's head says, or what the built-in configuration has.
+fn records_of(text: &str) -> Result<usize> {
+    for line in text.split('\n') {
+        if line.starts_with(NAMED) {
+            break;
+        }
+        if let Some(number) = line.strip_prefix("records ") {
+            return number
+                .parse::<usize>()
+                .context("reading a number of records");
+        }
+    }
+    Ok(BUILTIN_RECORDS)
+}
+
+fn cases_of<'a>(alloc: Global, text: &'a str) -> Result<Vec<Case<'a>>> {
+    let mut cases: Vec<Case<'a>> = Vec::new(alloc);
+    let mut is_printed = false;
+    for (number, line) in (1..usize::MAX).zip(text.split('\n')) {
+        if line.starts_with(NAMED) {
+            is_printed = false;
+            cases.push(Case {
+                line: number,
+                schedule: String::new(alloc),
+                fault: "",
+                printed: String::new(alloc),
+            })?;
+            continue;
+        }
+        let Some(case) = cases.as_mut_slice().last_mut() else {
+            continue;
+        };
+        if let Some(rest) = line.strip_prefix(PRINTS) {
+            is_printed = true;
+            case.fault = rest.strip_prefix(" ! ").unwrap_or("");
+        } else if is_printed {
+            add_printed(&mut case.printed, line)?;
+        } else {
+            add_lines(alloc, &mut case.schedule, line)?;
+        }
+    }
+    Ok(cases)
+}
