@@ -76,7 +76,7 @@ impl Sender {
         ensures failed { self.new.failed ≡ self.old.failed }
         ensures reorder { self.new.reorder ≡ self.old.reorder }
     {
-        let alloc = self.outgoing.allocator();
+        let alloc = *self.outgoing.relations_sent.allocator();
         let Some(transaction) = transaction_of(
             alloc,
             &self.selection,

@@ -40,11 +40,6 @@ impl Outgoing {
         }
     }
 
-    /// The allocator of what is held.
-    pub(crate) fn allocator(&self) -> Global {
-        *self.relations_sent.allocator()
-    }
-
     /// Adds a keepalive, or, where memory is refused, nothing.
     pub(crate) fn keepalive(
         &mut self,
