@@ -109,7 +109,12 @@ impl Outgoing {
     }
 
     /// Adds a message at a position.
-    fn add_message(&mut self, position: u64, clock: i64, message: &Logical) -> Result<(), AllocError>
+    fn add_message(
+        &mut self,
+        position: u64,
+        clock: i64,
+        message: &Logical,
+    ) -> Result<(), AllocError>
         requires counts { IsShort message.now }
         requires fits { IsShortMessage message.now }
         ensures held { Puts result self.old.held.items self.new.held.items (word_bytes (xlogdata_word position clock message.now)) }

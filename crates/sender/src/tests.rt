@@ -19,14 +19,7 @@ fn record(alloc: Global, start: u64, end: u64, body: Body) -> Result<Arc<Record>
     Ok(Arc::new(alloc, Record { start, end, body })?)
 }
 
-fn insert(
-    xid: u32,
-    oid: u32,
-    alloc: Global,
-    id: i32,
-    name: &str,
-    qty: i64,
-) -> Result<Body, Fail> {
+fn insert(xid: u32, oid: u32, alloc: Global, id: i32, name: &str, qty: i64) -> Result<Body, Fail> {
     let name = Value::Text(Text::copy_of(alloc, name)?);
     let row = Row::new(vec![in alloc; Value::Int4(id), name, Value::Int8(qty)]?);
     let change = LoggedChange::new(Change::Insert(oid, row)).ok_or("a short row")?;
