@@ -5,21 +5,20 @@ use Rattle.std.specs.Borrow.{Bor}
 use Rattle.std.specs.Option.{option_copied}
 use Rattle.std.specs.List.{flat_map, list_all, AllByRecursion}
 use Rattle.std.specs.Int.{w32, w64, cast_unsigned}
-use Rattle.std.specs.Str.{IsUtf8, IsAscii, is_utf8}
+use Rattle.std.specs.Str.{IsAscii, is_utf8}
 use Rattle.std.specs.Fmt.{signed_decimal}
 use Rattle.std.proofs.lemmas.Str.{IsUtf8-from_ascii, is_utf8-from_IsUtf8}
 use Rattle.std.proofs.lemmas.Fmt.{IsAscii-signed, length_signed_le}
 use Rattle.std.proofs.lemmas.Bool.{eqb-true, leb-true, ltb-true}
 use Rattle.std.proofs.lemmas.List.{length-append}
 use Rattle.std.proofs.lemmas.List.Concat.{flat_map-cons}
-use Rattle.frames.specs.Fields.{int16, int32, int64, string}
+use Rattle.frames.specs.Fields.{int16, int32, string}
 use Rattle.frames.proofs.Numbers.{length-int16, length-int32, length-int64}
 use Rattle.pgoutput.specs.declared.logical.Logical.{Logical}
 use Rattle.pgoutput.specs.declared.logical.Logical.TheVariants as logical
-use Rattle.pgoutput.specs.declared.tuple.Cell.{Cell}
-use Rattle.pgoutput.specs.Tuple.{cell, tuple, FitsCell, FitsTuple}
+use Rattle.pgoutput.specs.Tuple.{cell, tuple, FitsCell}
 use Rattle.pgoutput.specs.Relation.{column, identity_letter, FitsName, FitsColumn}
-use Rattle.pgoutput.specs.Logical.{FitsLogical, spell_logical}
+use Rattle.pgoutput.specs.Logical.{FitsLogical}
 use Rattle.tables.specs.declared.row.TheConstants.{MAX_ROW_LENGTH}
 use Rattle.tables.specs.declared.kind.Kind.{Kind}
 use Rattle.tables.specs.declared.kind.Kind.TheVariants as kinds
@@ -30,11 +29,11 @@ use Rattle.tables.specs.declared.value.Value.TheVariants as values
 use Rattle.tables.specs.declared.table.Table.{Table}
 use Rattle.tables.specs.declared.change.Change.{Change}
 use Rattle.tables.specs.declared.change.Change.TheVariants as changes
-use Rattle.tables.specs.Spelling.{spell_value, spell_row, row_length}
-use Rattle.tables.specs.Tables.{table_of, fits_table, IsValue, FitsChange, item_table, builtin_tables}
-use Rattle.stream.specs.Items.{tables_of, IsShortMessage, IsOfChange, FitsRelationOf}
-use Rattle.publication.specs.Selection.{relation, relation_in, relation_of, relation_column, type_oid, FitsTable}
-use Rattle.publication.specs.Projection.{cell_of, stands_in, inserted_in, message, projected, MessageFits, FitsProjected}
+use Rattle.tables.specs.Spelling.{spell_value, row_length}
+use Rattle.tables.specs.Tables.{table_of, fits_table, IsValue, item_table, builtin_tables}
+use Rattle.stream.specs.Items.{IsShortMessage, FitsRelationOf}
+use Rattle.publication.specs.Selection.{relation, relation_of, relation_column, type_oid, FitsTable}
+use Rattle.publication.specs.Projection.{cell_of, stands_in, inserted_in, message, MessageFits}
 
 pub both_true : (a b : Bool) → (a && b) ≡ true → (a ≡ true) × (b ≡ true)
 both_true true b e = (refl, e)

@@ -1,10 +1,9 @@
 -- The message of a change: an insert into a selected table is an Insert of the row's values as texts. What doesn't fit the
 -- catalogue has no message.
-use Rattle.std.specs.Prelude.{ℕ, ◌&&◌, Bool, List, map, codes, nat_le, Option, Some, None, IsSome, if◌then◌else◌}
+use Rattle.std.specs.Prelude.{◌&&◌, Bool, List, map, codes, nat_le, Option, Some, None, IsSome, if◌then◌else◌}
 use Rattle.std.specs.Fmt.{signed_decimal}
 use Rattle.pgoutput.specs.declared.logical.Logical.{Logical}
 use Rattle.pgoutput.specs.declared.logical.Logical.TheVariants as logical
-use Rattle.pgoutput.specs.declared.insert.Insert.{Insert}
 use Rattle.pgoutput.specs.declared.tuple.Cell.{Cell}
 use Rattle.pgoutput.specs.declared.tuple.Cell.TheVariants as cells
 use Rattle.tables.specs.declared.row.TheConstants.{MAX_ROW_LENGTH}

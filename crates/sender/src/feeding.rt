@@ -15,11 +15,7 @@ use std::sync::Arc;
 use txlog::Record;
 
 impl Sender {
-    pub(crate) fn take_all(
-        &mut self,
-        records: &[Arc<Record>],
-        clock: i64,
-    ) -> Result<(), SendFault>
+    pub(crate) fn take_all(&mut self, records: &[Arc<Record>], clock: i64) -> Result<(), SendFault>
         requires { self.old.failed ≡ false }
         ensures ok { OnOk result (ReadAll clock self.old self.new (shared records.now)) }
         ensures running { OnOk result (self.new.failed ≡ false) }
@@ -59,12 +55,7 @@ impl Sender {
         }
     }
 
-    fn publish(
-        &mut self,
-        next: &Record,
-        ready: &Ready,
-        clock: i64,
-    ) -> Result<(), AllocError>
+    fn publish(&mut self, next: &Record, ready: &Ready, clock: i64) -> Result<(), AllocError>
         ensures held { OnOk result (self.new.held ≡ self.old.held ++ spelled (relation self.old.selection) self.old.relations_sent
             (blocks clock (published_by_commit self.old.selection self.old.start next.now (Some ready.now)))) }
         ensures relations_sent { OnOk result (self.new.relations_sent ≡ relations_sent_through self.old.relations_sent
@@ -76,7 +67,7 @@ impl Sender {
         ensures failed { self.new.failed ≡ self.old.failed }
         ensures reorder { self.new.reorder ≡ self.old.reorder }
     {
-        let alloc = self.outgoing.allocator();
+        let alloc = *self.outgoing.relations_sent.allocator();
         let Some(transaction) = transaction_of(
             alloc,
             &self.selection,

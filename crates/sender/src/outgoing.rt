@@ -40,11 +40,6 @@ impl Outgoing {
         }
     }
 
-    /// The allocator of what is held.
-    pub(crate) fn allocator(&self) -> Global {
-        *self.relations_sent.allocator()
-    }
-
     /// Adds a keepalive, or, where memory is refused, nothing.
     pub(crate) fn keepalive(
         &mut self,
@@ -114,7 +109,12 @@ impl Outgoing {
     }
 
     /// Adds a message at a position.
-    fn add_message(&mut self, position: u64, clock: i64, message: &Logical) -> Result<(), AllocError>
+    fn add_message(
+        &mut self,
+        position: u64,
+        clock: i64,
+        message: &Logical,
+    ) -> Result<(), AllocError>
         requires counts { IsShort message.now }
         requires fits { IsShortMessage message.now }
         ensures held { Puts result self.old.held.items self.new.held.items (word_bytes (xlogdata_word position clock message.now)) }

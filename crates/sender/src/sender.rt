@@ -60,8 +60,8 @@ impl Sender {
     /// the first record that it will be fed: of the whole log, where that begins.
     ///
     /// A later `first` drops what stands before it. Of a transaction in progress there, only the changes from `first` on are
-    /// sent when it commits, and none of a subtransaction that began before. So take for `first` a position at or before the
-    /// first record of every transaction that is to be sent whole.
+    /// sent when it commits, and none of a subtransaction that began before `first`, or of one under it. So `first` stands at
+    /// or before the first record of every transaction that is to be sent whole.
     pub fn start(
         alloc: Global,
         selection: Selection,

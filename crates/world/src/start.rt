@@ -107,12 +107,7 @@ impl Start {
         }
     }
 
-    fn read(
-        &mut self,
-        publisher: &Publisher,
-        max: u32,
-        clock: i64,
-    ) -> Result<Answer, WorldFault>
+    fn read(&mut self, publisher: &Publisher, max: u32, clock: i64) -> Result<Answer, WorldFault>
         requires served { IsServed publisher.now.log self.old }
         requires opened { is_open self.old.walsender ≡ true }
         ensures acts { IfOk result (λ a. Acts publisher.now.log (Action.Read max clock) (start_state self.old) a (start_state self.new)) }

@@ -14,20 +14,20 @@ returns-in_default-clause-bad c = λ same.
 pub act_at-requires-clause-opened : goal.act_at-requires-clause-opened
 act_at-requires-clause-opened c =
     let at = open_at c.args.name.now c.args.self.now.starts.items c.args.self.now.opened.items c.in-Some.place c.requires.machine.found
-        (rw (c.as_slice.ensures.value, c.as_slice-2.ensures.value) at (sym c.place_among-found.ensures ∙ c.in-Some.is)) in
+    (rw (c.as_slice.ensures.value, c.as_slice-2.ensures.value) at (sym c.place_among-found.ensures ∙ c.in-Some.is)) in
     record { start = at.start; there = at.there; opened = at.opened }
 
 pub returns-in-Cut-clause-acts : goal.returns-in-Cut-clause-acts
 returns-in-Cut-clause-acts c =
     let at = open_at c.args.name.now c.args.self.now.starts.items c.args.self.now.opened.items c.in-Some.place c.requires.machine.found
-        (rw (c.as_slice.ensures.value, c.as_slice-2.ensures.value) at (sym c.place_among-found.ensures ∙ c.in-Some.is)) in
+    (rw (c.as_slice.ensures.value, c.as_slice-2.ensures.value) at (sym c.place_among-found.ensures ∙ c.in-Some.is)) in
     acted_at c.args.name.now c.in-Some.place c.args.action c.args.self.now c.act_at.new.starts.items c.in_ok-answer.answer at c.in_ok-answer.ensures.acts
 
 pub returns-in-Cut-clause-machine : goal.returns-in-Cut-clause-machine
 returns-in-Cut-clause-machine c =
     let log = c.args.self.now.publisher.log in
     let at = open_at c.args.name.now c.args.self.now.starts.items c.args.self.now.opened.items c.in-Some.place c.requires.machine.found
-        (rw (c.as_slice.ensures.value, c.as_slice-2.ensures.value) at (sym c.place_among-found.ensures ∙ c.in-Some.is)) in
+    (rw (c.as_slice.ensures.value, c.as_slice-2.ensures.value) at (sym c.place_among-found.ensures ∙ c.in-Some.is)) in
     let P : Action → Type 0 = λ action. ActsIn log c.in-Some.place action c.args.self.now.starts.items c.in_ok-answer.answer c.act_at.new.starts.items in
     record {
       good = c.requires.machine.good;
@@ -40,7 +40,7 @@ pub returns-in_default-action : goal.returns-in_default-action
 returns-in_default-action c =
     let log = c.args.self.now.publisher.log in
     let at = open_at c.args.name.now c.args.self.now.starts.items c.args.self.now.opened.items c.in-Some.place c.requires.machine.found
-        (rw (c.as_slice.ensures.value, c.as_slice-2.ensures.value) at (sym c.place_among-found.ensures ∙ c.in-Some.is)) in
+    (rw (c.as_slice.ensures.value, c.as_slice-2.ensures.value) at (sym c.place_among-found.ensures ∙ c.in-Some.is)) in
     record {
       acts = acted_at c.args.name.now c.in-Some.place c.args.action c.args.self.now c.act_at.new.starts.items c.in_ok-answer.answer at c.in_ok-answer.ensures.acts;
       bad = λ never. cc;
