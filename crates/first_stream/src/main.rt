@@ -15,7 +15,7 @@ fn main(rt: HostRuntime) -> Result<()> {
     run_session(alloc, &mut publisher)?;
 
     let names = [Text::copy_of(alloc, "p")?];
-    let selection = Publications::builtin(alloc)?.select(alloc, &names)?;
+    let selection = Publications::builtin(alloc)?.select(&names)?;
     let mut sender = Sender::start(alloc, selection, 0, FIRST_POSITION)?;
     let records = publisher.tail(0, 100)?;
     sender.feed(records.as_slice(), 9)?;
