@@ -40,7 +40,7 @@ For example:
   drain c 100000
 
 It prints a line for each event that was refused, the number of its line and a code, as in
-7 S5; and then a line for each sender: the connection's name, a colon and the bytes that
+7 S1; and then a line for each sender: the connection's name, a colon and the bytes that
 it produced, in hexadecimal.
 
 It ends with 0 where that is done, with 2 where the arguments or the schedule are refused,

@@ -3,7 +3,6 @@ use Rattle.std.proofs.Common.{◌≡◌, ◌<◌, ◌≤◌, ◌^◌, ℕ, ℤ, 
 use Rattle.std.specs.Prelude.{FitsSigned}
 use Rattle.std.specs.List.{AllByRecursion}
 use Rattle.std.specs.Int.{w64}
-use Rattle.std.proofs.lemmas.Bool.{eqb-true}
 use Rattle.std.proofs.lemmas.List.Concat.{flat_map-cons}
 use Rattle.pgoutput.specs.declared.logical.Logical.{Logical}
 use Rattle.tables.specs.declared.table.Table.{Table}
@@ -21,15 +20,8 @@ use Rattle.stream.specs.declared.published.Published.{Published}
 use Rattle.stream.specs.Items.{FitsChange, FitsPublished, FitItems}
 use Rattle.sender.specs.Published.{published_at, published_changes, published_as, has_message, published_from}
 use Rattle.sender.specs.Sending.{blocks}
-use Rattle.sender.proofs.Changes.{all_of_both}
-
-pub all_front : {A : Type 0} (P : A → Type 0) (xs ys : List A) → AllByRecursion P (xs ++ ys) → AllByRecursion P xs
-all_front P [] ys all = tt
-all_front P (x ∷ xs) ys all = (all.0, all_front P xs ys all.1)
-
-pub all_back : {A : Type 0} (P : A → Type 0) (xs ys : List A) → AllByRecursion P (xs ++ ys) → AllByRecursion P ys
-all_back P [] ys all = all
-all_back P (x ∷ xs) ys all = all_back P xs ys all.1
+use Rattle.sender.proofs.Sections.{followed}
+use Rattle.stream.proofs.Lists.{all_of_both}
 
 all_filter : {A : Type 0} (P : A → Type 0) (p : A → Bool) (xs : List A) → AllByRecursion P xs → AllByRecursion P (filter p xs)
 all_filter P p [] all = tt
@@ -136,13 +128,6 @@ late_at selection s at before start end (Commit xid time) le = by_test (leb s st
     by_test : (b : Bool) → AllByRecursion (λ (t : Transaction). at ≤ t.start) (cond b (record { start = start; end = end; time = time; xid = xid; changes = kept before xid } ∷ []) [])
     by_test true = (le, tt)
     by_test false = tt
-
-pub followed : (at : ℕ) (r : Record) (rs : List Record) → follows at (r ∷ rs) ≡ true → (r.start ≡ at) × (follows r.end rs ≡ true)
-followed at r rs e = by_test (eqb r.start at) (λ is. eqb-true r.start at is) e
-  where
-    by_test : (b : Bool) → (b ≡ true → r.start ≡ at) → cond b (follows r.end rs) false ≡ true → (r.start ≡ at) × (follows r.end rs ≡ true)
-    by_test true same e = (same refl, e)
-    by_test false same e = absurd cc
 
 committed_late : (selection : List Table) (s at from : ℕ) (before rs : List Record) → at ≤ from → follows from rs ≡ true → AllByRecursion IsSized rs → AllByRecursion (λ (t : Transaction). at ≤ t.start) (committed_from s before rs)
 committed_late selection s at from before [] le goes sized = tt

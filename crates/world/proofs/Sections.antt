@@ -11,8 +11,8 @@ use Rattle.txlog.specs.Publishing.{shared}
 use Rattle.tables.specs.declared.table.Table.{Table}
 use Rattle.txlog.specs.declared.record.TheConstants.{FIRST_POSITION}
 use Rattle.txlog.specs.declared.record.Record.{Record}
-use Rattle.txlog.specs.Log.{IsLogInRange, FitsRecord, IsWellFormedLog, IsSized, WellFormedAfter, follows, end_of}
-use Rattle.txlog.proofs.Laws.{end_of-append, WellFormedAfter-front, WellFormedAfter-back}
+use Rattle.txlog.specs.Log.{IsLogInRange, FitsRecord, IsWellFormedLog, IsSized, follows, end_of}
+use Rattle.txlog.proofs.Laws.{end_of-append}
 use Rattle.publication.specs.Selection.{relation, FitsTable}
 use Rattle.stream.specs.Words.{word_bytes}
 use Rattle.stream.specs.Items.{keepalive_word}
@@ -20,7 +20,7 @@ use Rattle.stream.specs.Stream.{IsStream}
 use Rattle.sender.specs.declared.fault.SendFault.{SendFault}
 use Rattle.sender.specs.declared.fault.SendFault.TheVariants as sends
 use Rattle.sender.specs.Published.{published, published_from}
-use Rattle.sender.specs.Sending.{SenderState, HasRead, MayFollow, blocks_behind, Fed, FedSome}
+use Rattle.sender.specs.Sending.{SenderState, HasRead, MayFollow, published_bytes, ReadAll, RanOutOfMemory}
 use Rattle.schedule.specs.declared.answer.Answer.TheVariants as answers
 use Rattle.world.specs.declared.action.Action.TheVariants as actions
 use Rattle.world.specs.declared.start.Walsender.{Walsender}
@@ -29,8 +29,9 @@ use Rattle.world.specs.State.{StartState}
 use Rattle.world.specs.Law.{read_by}
 use Rattle.world.specs.ConnectionLines.{unread, after_action, after_reading, BreaksDown, Acts}
 use Rattle.world.specs.Machine.{IsStreaming, IsReading, IsServing, WasStreaming, IsServedBy, state_with}
-use Rattle.world.proofs.Ranges.{all_front, all_back, published_fit, published_late, followed}
-use Rattle.world.proofs.Streams.{stream_read, stream_kept_alive, stream_moved, stream_new, follows_parts, starts_below, may_follow, read_by_place}
+use Rattle.sender.proofs.Sections.{all_front, all_back, followed, follows_parts, starts_below, section_may_follow}
+use Rattle.world.proofs.Ranges.{published_fit, published_late}
+use Rattle.world.proofs.Streams.{stream_read, stream_kept_alive, stream_moved, stream_new, read_by_place}
 
 -- ---- a section of a log
 
@@ -81,17 +82,15 @@ next_part tables log place section s =
     let pre = take place log in
     let F : List Record → Type 0 = λ l. follows FIRST_POSITION l ≡ true in
     let S : List Record → Type 0 = λ l. AllByRecursion IsSized l in
-    let W : List Record → Type 0 = λ l. WellFormedAfter [] l in
     let R : List Record → Type 0 = λ l. IsLogInRange tables l in
     let goes = (follows_parts FIRST_POSITION (pre ++ section) s.rest (subst F s.whole s.good.follows)).0 in
     let sized = all_front IsSized (pre ++ section) s.rest (subst S s.whole s.good.sizes) in
-    let order = WellFormedAfter-back [] pre section (WellFormedAfter-front [] (pre ++ section) s.rest (subst W s.whole s.good.order)) in
     let range = all_front (FitsRecord tables) (pre ++ section) s.rest (subst R s.whole s.in_range) in
     record {
       goes = goes;
       sized = sized;
       follows_on = (follows_parts FIRST_POSITION pre section goes).1;
-      may = may_follow FIRST_POSITION pre section goes sized order;
+      may = section_may_follow log [] pre section s.rest s.good s.whole;
       early = all_front (FitsRecord tables) pre section range;
       late = all_back (FitsRecord tables) pre section range;
     }
@@ -135,7 +134,7 @@ end_fits tables at (r ∷ section) range lt = end_fits tables r.end section rang
 grown_stream : (tables : List Table) (log : List Record) (place : ℕ) (section : List Record) (clock : ℤ) (produced : List ℕ) (s new : SenderState) → IsSection tables log place section → FitsSigned w64 clock
     → AllByRecursion FitsTable s.selection → IsReading log place s → IsStreaming log produced s
     → new.selection ≡ s.selection → new.start ≡ s.start → new.position ≡ end_of s.position section
-    → new.held ≡ s.held ++ blocks_behind s.selection clock (published s.selection (take place log) s.start) (published_from s.selection s.start (take place log) section)
+    → new.held ≡ s.held ++ published_bytes s.selection clock (published s.selection (take place log) s.start) (published_from s.selection s.start (take place log) section)
     → IsStreaming log produced new
 grown_stream tables log place section clock produced s new part fits table reading streaming selection start position held =
     let pre = take place log in
@@ -147,8 +146,8 @@ grown_stream tables log place section clock produced s new part fits table readi
     let same : take streaming.place log ≡ pre = sym (read_by_place log streaming.place part.good) ∙ ap (λ (p : ℕ). read_by p log) (sym streaming.at ∙ at) ∙ read_by_place log place part.good in
     let S : List Record → Type 0 = λ l. IsStream (relation s.selection) (produced ++ s.held) (published s.selection l s.start) s.position in
     let old = subst S same streaming.stream in
-    let added : produced ++ new.held ≡ (produced ++ s.held) ++ blocks_behind s.selection clock (published s.selection pre s.start) (published_from s.selection s.start pre section) =
-    ap (λ (l : List ℕ). produced ++ l) held ∙ sym (append_assoc produced s.held (blocks_behind s.selection clock (published s.selection pre s.start) (published_from s.selection s.start pre section))) in
+    let added : produced ++ new.held ≡ (produced ++ s.held) ++ published_bytes s.selection clock (published s.selection pre s.start) (published_from s.selection s.start pre section) =
+    ap (λ (l : List ℕ). produced ++ l) held ∙ sym (append_assoc produced s.held (published_bytes s.selection clock (published s.selection pre s.start) (published_from s.selection s.start pre section))) in
     let stream = stream_read s.selection clock (produced ++ s.held) (produced ++ new.held) pre section s.start s.position (end_of s.position section) old added le
     (published_late s.selection s.start s.position pre section goes sized) (published_fit tables s.selection s.start pre section table next.early next.late) fits in
     let P : List Table → ℕ → ℕ → List Record → Type 0 = λ sel from end rs. IsStream (relation sel) (produced ++ new.held) (published sel rs from) end in
@@ -161,7 +160,7 @@ grown_stream tables log place section clock produced s new part fits table readi
     }
 
 pub fed_alive : (tables : List Table) (log : List Record) (place : ℕ) (section : List Record) (clock : ℤ) (produced : List ℕ) (s new : SenderState) → IsSection tables log place section → FitsSigned w64 clock
-    → IsServing log place produced s → s.failed ≡ false → Fed clock s new section → IsServing log (place + length section) produced new
+    → IsServing log place produced s → s.failed ≡ false → ReadAll clock s new section → IsServing log (place + length section) produced new
 fed_alive tables log place section clock produced s new part fits serving running fed =
     let reading = serving.running running in
     let next = next_part tables log place section part in
@@ -170,15 +169,15 @@ fed_alive tables log place section clock produced s new part fits serving runnin
       tables = (let P : List Table → Type 0 = λ ts. AllByRecursion FitsTable ts in subst P (sym fed.selection) serving.tables);
       running = λ still. record {
         within = within_section tables log place section part;
-        reads = (let P : List Record → Type 0 = λ l. HasRead new l in subst P (sym grown) (fed.reads (take place log) reading.reads next.may));
+        reads = (let P : List Record → Type 0 = λ l. HasRead new l in subst P (sym grown) (fed.after (take place log) reading.reads next.may).0);
         at = fed.position ∙ ap (λ (p : ℕ). end_of p section) reading.at ∙ sym (end_of-append FIRST_POSITION (take place log) section) ∙ ap (end_of FIRST_POSITION) (sym grown);
       };
-      streaming = grown_stream tables log place section clock produced s new part fits serving.tables reading serving.streaming fed.selection fed.start fed.position (fed.adds (take place log) reading.reads next.may);
+      streaming = grown_stream tables log place section clock produced s new part fits serving.tables reading serving.streaming fed.selection fed.start fed.position (fed.after (take place log) reading.reads next.may).1;
     }
 
 -- after a refusal for memory the place is of no use any more
 pub broken_alive : (tables : List Table) (log : List Record) (place any : ℕ) (section : List Record) (clock : ℤ) (produced : List ℕ) (s new : SenderState) → IsSection tables log place section → FitsSigned w64 clock
-    → IsServing log place produced s → s.failed ≡ false → FedSome clock s new section → IsServing log any produced new
+    → IsServing log place produced s → s.failed ≡ false → RanOutOfMemory clock s new section → IsServing log any produced new
 broken_alive tables log place any section clock produced s new part fits serving running fed =
     let reading = serving.running running in
     let less = section_front tables log place fed.count section part in
@@ -186,7 +185,7 @@ broken_alive tables log place any section clock produced s new part fits serving
     record {
       tables = (let P : List Table → Type 0 = λ ts. AllByRecursion FitsTable ts in subst P (sym fed.selection) serving.tables);
       running = λ still. absurd (both still fed.failed);
-      streaming = grown_stream tables log place (take fed.count section) clock produced s new less fits serving.tables reading serving.streaming fed.selection fed.start fed.position (fed.adds (take place log) reading.reads next.may);
+      streaming = grown_stream tables log place (take fed.count section) clock produced s new less fits serving.tables reading serving.streaming fed.selection fed.start fed.position (fed.after (take place log) reading.reads next.may);
     }
   where
     both : new.failed ≡ false → new.failed ≡ true → ⊥
@@ -198,26 +197,26 @@ broken_alive tables log place any section clock produced s new part fits serving
 read_is : (tables : List Table) (log : List Record) (place max : ℕ) (clock : ℤ) (name produced : List ℕ) (s new : SenderState) (section : List Record) → place ≤ length log → IsWellFormedLog log
     → s.position ≡ end_of FIRST_POSITION (take place log)
     → new.selection ≡ s.selection → new.start ≡ s.start → new.position ≡ end_of s.position section → new.failed ≡ s.failed
-    → new.held ≡ s.held ++ blocks_behind s.selection clock (published s.selection (take place log) s.start) (published_from s.selection s.start (take place log) section)
+    → new.held ≡ s.held ++ published_bytes s.selection clock (published s.selection (take place log) s.start) (published_from s.selection s.start (take place log) section)
     → state_with name produced (walsenders.Open new) ≡ after_reading log clock section (state_with name produced (walsenders.Open s))
 read_is tables log place max clock name produced s new section le good at selection start position failed held =
     let pre_is : take place log ≡ read_by s.position log = sym (read_by_place log place good) ∙ ap (λ (p : ℕ). read_by p log) (sym at) in
-    let held_is = held ∙ ap (λ l. s.held ++ blocks_behind s.selection clock (published s.selection l s.start) (published_from s.selection s.start l section)) pre_is in
+    let held_is = held ∙ ap (λ l. s.held ++ published_bytes s.selection clock (published s.selection l s.start) (published_from s.selection s.start l section)) pre_is in
     rw (selection, start, position, failed, held_is) refl
 
 pub fed_acts : (tables : List Table) (log : List Record) (place max : ℕ) (clock : ℤ) (name produced : List ℕ) (s new : SenderState) → IsSection tables log place (take max (drop place log))
-    → IsServing log place produced s → s.failed ≡ false → new.failed ≡ false → Fed clock s new (take max (drop place log))
+    → IsServing log place produced s → s.failed ≡ false → new.failed ≡ false → ReadAll clock s new (take max (drop place log))
     → state_with name produced (walsenders.Open new) ≡ after_action log (actions.Read max clock) (state_with name produced (walsenders.Open s))
 fed_acts tables log place max clock name produced s new part serving running still fed =
     let reading = serving.running running in
     let section = take max (drop place log) in
     let next = next_part tables log place section part in
     let section_is : section ≡ take max (unread s.position log) = ap (take max) (sym (unread_place log place part.good)) ∙ ap (λ (p : ℕ). take max (unread p log)) (sym reading.at) in
-    read_is tables log place max clock name produced s new section reading.within part.good reading.at fed.selection fed.start fed.position (still ∙ sym running) (fed.adds (take place log) reading.reads next.may)
+    read_is tables log place max clock name produced s new section reading.within part.good reading.at fed.selection fed.start fed.position (still ∙ sym running) (fed.after (take place log) reading.reads next.may).1
     ∙ ap (λ l. after_reading log clock l (state_with name produced (walsenders.Open s))) section_is
 
 pub broken_acts : (tables : List Table) (log : List Record) (place max : ℕ) (clock : ℤ) (name produced : List ℕ) (s new : SenderState) → IsSection tables log place (take max (drop place log))
-    → IsServing log place produced s → s.failed ≡ false → FedSome clock s new (take max (drop place log))
+    → IsServing log place produced s → s.failed ≡ false → RanOutOfMemory clock s new (take max (drop place log))
     → BreaksDown log max clock (state_with name produced (walsenders.Open s)) (state_with name produced (walsenders.Open new))
 broken_acts tables log place max clock name produced s new part serving running fed =
     let reading = serving.running running in
@@ -226,7 +225,7 @@ broken_acts tables log place max clock name produced s new part serving running 
     let next = next_part tables log place (take fed.count section) less in
     let section_is : section ≡ take max (unread s.position log) = ap (take max) (sym (unread_place log place part.good)) ∙ ap (λ (p : ℕ). take max (unread p log)) (sym reading.at) in
     let sound : SenderState = record new { failed = s.failed } in
-    let same = read_is tables log place max clock name produced s sound (take fed.count section) reading.within part.good reading.at fed.selection fed.start fed.position refl (fed.adds (take place log) reading.reads next.may) in
+    let same = read_is tables log place max clock name produced s sound (take fed.count section) reading.within part.good reading.at fed.selection fed.start fed.position refl (fed.after (take place log) reading.reads next.may) in
     let N : ℕ → Type 0 = λ n. fed.count < n in
     record {
       count = fed.count;
@@ -245,7 +244,7 @@ failed_with fault = Err fault
 
 -- what a feed says of a refusal
 pub record RefusesFeed (clock : ℤ) (s new : SenderState) (r : Result (Unit {0}) SendFault) (section : List Record) : Type 0 where
-  pub memory : r ≡ Err sends.Memory → FedSome clock s new section
+  pub memory : r ≡ Err sends.Memory → RanOutOfMemory clock s new section
   pub failed : (r ≡ Err sends.Failed) ↔ (s.failed ≡ true)
   pub unchanged : s.failed ≡ true → new ≡ s
   pub unread : r ≡ Err sends.Gap → new ≡ s
@@ -309,7 +308,7 @@ kept_alive log place clock produced s serving fits =
     let t = serving.streaming in
     record {
       tables = serving.tables;
-      running = λ still. let r = serving.running still in record { within = r.within; reads = record { taken = r.reads.taken; names = r.reads.names }; at = r.at };
+      running = λ still. let r = serving.running still in record { within = r.within; reads = record { taken = r.reads.taken; relations_sent = r.reads.relations_sent }; at = r.at };
       streaming = record {
         place = t.place;
         within = t.within;

@@ -11,48 +11,47 @@ use Rattle.pgoutput.specs.declared.relation.Relation.{Relation}
 use Rattle.tables.specs.declared.table.Table.{Table}
 use Rattle.txlog.specs.declared.record.TheConstants.{FIRST_POSITION}
 use Rattle.txlog.specs.declared.record.Record.{Record}
-use Rattle.txlog.specs.Log.{IsWellFormedLog, IsSized, WellFormedAfter, follows, end_of}
-use Rattle.txlog.proofs.Laws.{follows-append}
-use Rattle.reorder.specs.Taking.{StartsBehind}
+use Rattle.txlog.specs.Log.{IsWellFormedLog, IsSized, follows, end_of}
 use Rattle.publication.specs.Selection.{relation}
 use Rattle.stream.specs.declared.word.Keepalive.{Keepalive}
 use Rattle.stream.specs.declared.published.Published.{Published}
 use Rattle.stream.specs.Words.{word_bytes, frames_of}
-use Rattle.stream.specs.Items.{Item, Alive, Block, keepalive_word, item_words, words_of, spelled, sent, relations_sent_by_all, relations_sent_through, FitsPublished, FitsItem}
+use Rattle.stream.specs.Items.{Item, KeepaliveItem, Block, keepalive_word, item_words, words_of, spelled, transactions_of, relations_sent_by_all, relations_sent_through, FitsPublished, FitsItem}
 use Rattle.stream.specs.Stream.{IsStream, AreSafeKeepalives}
 use Rattle.sender.specs.Published.{published, published_from}
-use Rattle.sender.specs.Sending.{blocks, blocks_behind, MayFollow}
+use Rattle.sender.specs.Sending.{blocks, published_bytes}
 use Rattle.sender.proofs.Batches.{published_from-append}
 use Rattle.world.specs.Law.{read_by}
-use Rattle.sender.proofs.Changes.{all_of_both}
-use Rattle.world.proofs.Ranges.{all_front, all_back, blocks_fit, followed}
+use Rattle.stream.proofs.Lists.{all_of_both}
+use Rattle.sender.proofs.Sections.{all_front, all_back, followed, follows_parts, starts_below}
+use Rattle.world.proofs.Ranges.{blocks_fit}
 
 -- ---- items behind items
 
-sent-append : (a b : List Item) → sent (a ++ b) ≡ sent a ++ sent b
+sent-append : (a b : List Item) → transactions_of (a ++ b) ≡ transactions_of a ++ transactions_of b
 sent-append [] b = refl
-sent-append (Alive k ∷ a) b = sent-append a b
+sent-append (KeepaliveItem k ∷ a) b = sent-append a b
 sent-append (Block clock t ∷ a) b = ap (λ l. t ∷ l) (sent-append a b)
 
-sent-blocks : (clock : ℤ) (ts : List Published) → sent (blocks clock ts) ≡ ts
+sent-blocks : (clock : ℤ) (ts : List Published) → transactions_of (blocks clock ts) ≡ ts
 sent-blocks clock [] = refl
 sent-blocks clock (t ∷ ts) = ap (λ l. t ∷ l) (sent-blocks clock ts)
 
-spelled-append : (rel : ℕ → Relation) (told : List ℕ) (a b : List Item) → spelled rel told (a ++ b) ≡ spelled rel told a ++ spelled rel (relations_sent_through told (sent a)) b
+spelled-append : (rel : ℕ → Relation) (told : List ℕ) (a b : List Item) → spelled rel told (a ++ b) ≡ spelled rel told a ++ spelled rel (relations_sent_through told (transactions_of a)) b
 spelled-append rel told [] b = refl
-spelled-append rel told (Alive k ∷ a) b =
-    let first = item_words rel told (Alive k) in
+spelled-append rel told (KeepaliveItem k ∷ a) b =
+    let first = item_words rel told (KeepaliveItem k) in
     flat_map-append word_bytes first (words_of rel told (a ++ b))
     ∙ ap (λ (l : List ℕ). frames_of first ++ l) (spelled-append rel told a b)
-    ∙ sym (append_assoc (frames_of first) (spelled rel told a) (spelled rel (relations_sent_through told (sent a)) b))
-    ∙ ap (λ (l : List ℕ). l ++ spelled rel (relations_sent_through told (sent a)) b) (sym (flat_map-append word_bytes first (words_of rel told a)))
+    ∙ sym (append_assoc (frames_of first) (spelled rel told a) (spelled rel (relations_sent_through told (transactions_of a)) b))
+    ∙ ap (λ (l : List ℕ). l ++ spelled rel (relations_sent_through told (transactions_of a)) b) (sym (flat_map-append word_bytes first (words_of rel told a)))
 spelled-append rel told (Block clock t ∷ a) b =
     let first = item_words rel told (Block clock t) in
     let then = relations_sent_by_all told t.changes in
     flat_map-append word_bytes first (words_of rel then (a ++ b))
     ∙ ap (λ (l : List ℕ). frames_of first ++ l) (spelled-append rel then a b)
-    ∙ sym (append_assoc (frames_of first) (spelled rel then a) (spelled rel (relations_sent_through then (sent a)) b))
-    ∙ ap (λ (l : List ℕ). l ++ spelled rel (relations_sent_through then (sent a)) b) (sym (flat_map-append word_bytes first (words_of rel then a)))
+    ∙ sym (append_assoc (frames_of first) (spelled rel then a) (spelled rel (relations_sent_through then (transactions_of a)) b))
+    ∙ ap (λ (l : List ℕ). l ++ spelled rel (relations_sent_through then (transactions_of a)) b) (sym (flat_map-append word_bytes first (words_of rel then a)))
 
 -- ---- safe keepalives
 
@@ -67,16 +66,16 @@ all_later p limit (t ∷ ts) le all = (omega (arith, all.0), all_later p limit t
 safe-more : (limit wider : ℕ) (items : List Item) (clock : ℤ) (ts : List Published) → limit ≤ wider → AllByRecursion (λ (t : Published). limit ≤ t.start) ts → AreSafeKeepalives limit items
     → AreSafeKeepalives wider (items ++ blocks clock ts)
 safe-more limit wider [] clock ts le late safe = safe-blocks wider clock ts
-safe-more limit wider (Alive k ∷ items) clock ts le late safe =
-    let behind : sent (items ++ blocks clock ts) ≡ sent items ++ ts = sent-append items (blocks clock ts) ∙ ap (λ l. sent items ++ l) (sent-blocks clock ts) in
+safe-more limit wider (KeepaliveItem k ∷ items) clock ts le late safe =
+    let behind : transactions_of (items ++ blocks clock ts) ≡ transactions_of items ++ ts = sent-append items (blocks clock ts) ∙ ap (λ l. transactions_of items ++ l) (sent-blocks clock ts) in
     let P : List Published → Type 0 = λ l. AllByRecursion (λ (t : Published). k.position ≤ t.start) l in
-    (omega (arith, safe.0), subst P (sym behind) (all_of_both (λ (t : Published). k.position ≤ t.start) (sent items) ts safe.1 (all_later k.position limit ts safe.0 late)), safe-more limit wider items clock ts le late safe.2)
+    (omega (arith, safe.0), subst P (sym behind) (all_of_both (λ (t : Published). k.position ≤ t.start) (transactions_of items) ts safe.1 (all_later k.position limit ts safe.0 late)), safe-more limit wider items clock ts le late safe.2)
 safe-more limit wider (Block c t ∷ items) clock ts le late safe = safe-more limit wider items clock ts le late safe
 
-safe-alive : (limit : ℕ) (items : List Item) (k : Keepalive) → k.position ≤ limit → AreSafeKeepalives limit items → AreSafeKeepalives limit (items ++ (Alive k ∷ []))
+safe-alive : (limit : ℕ) (items : List Item) (k : Keepalive) → k.position ≤ limit → AreSafeKeepalives limit items → AreSafeKeepalives limit (items ++ (KeepaliveItem k ∷ []))
 safe-alive limit [] k le safe = (le, tt, tt)
-safe-alive limit (Alive j ∷ items) k le safe =
-    let behind : sent (items ++ (Alive k ∷ [])) ≡ sent items = sent-append items (Alive k ∷ []) ∙ append-nil (sent items) in
+safe-alive limit (KeepaliveItem j ∷ items) k le safe =
+    let behind : transactions_of (items ++ (KeepaliveItem k ∷ [])) ≡ transactions_of items = sent-append items (KeepaliveItem k ∷ []) ∙ append-nil (transactions_of items) in
     let P : List Published → Type 0 = λ l. AllByRecursion (λ (t : Published). j.position ≤ t.start) l in
     (safe.0, subst P (sym behind) safe.1, safe-alive limit items k le safe.2)
 safe-alive limit (Block clock t ∷ items) k le safe = safe-alive limit items k le safe
@@ -84,7 +83,7 @@ safe-alive limit (Block clock t ∷ items) k le safe = safe-alive limit items k 
 -- ---- a read, a keepalive
 
 pub stream_read : (selection : List Table) (clock : ℤ) (b more : List ℕ) (pre section : List Record) (s limit wider : ℕ) → IsStream (relation selection) b (published selection pre s) limit
-    → more ≡ b ++ blocks_behind selection clock (published selection pre s) (published_from selection s pre section) → limit ≤ wider
+    → more ≡ b ++ published_bytes selection clock (published selection pre s) (published_from selection s pre section) → limit ≤ wider
     → AllByRecursion (λ (t : Published). limit ≤ t.start) (published_from selection s pre section) → AllByRecursion (FitsPublished (relation selection)) (published_from selection s pre section) → FitsSigned w64 clock
     → IsStream (relation selection) more (published selection (pre ++ section) s) wider
 stream_read selection clock b more pre section s limit wider stream grown le late fit fits =
@@ -92,10 +91,10 @@ stream_read selection clock b more pre section s limit wider stream grown le lat
     record {
       items = stream.items ++ blocks clock ts;
       fits = all_of_both (FitsItem (relation selection)) stream.items (blocks clock ts) stream.fits (blocks_fit selection clock ts fits fit);
-      spells = grown ∙ ap (λ (l : List ℕ). l ++ blocks_behind selection clock (published selection pre s) ts) stream.spells
+      spells = grown ∙ ap (λ (l : List ℕ). l ++ published_bytes selection clock (published selection pre s) ts) stream.spells
           ∙ ap (λ (l : List Published). spelled (relation selection) [] stream.items ++ spelled (relation selection) (relations_sent_through [] l) (blocks clock ts)) (sym stream.sends)
           ∙ sym (spelled-append (relation selection) [] stream.items (blocks clock ts));
-      sends = sent-append stream.items (blocks clock ts) ∙ ap (λ l. l ++ sent (blocks clock ts)) stream.sends ∙ ap (λ l. published selection pre s ++ l) (sent-blocks clock ts)
+      sends = sent-append stream.items (blocks clock ts) ∙ ap (λ l. l ++ transactions_of (blocks clock ts)) stream.sends ∙ ap (λ l. published selection pre s ++ l) (sent-blocks clock ts)
           ∙ sym (published_from-append selection s [] pre section);
       safe = safe-more limit wider stream.items clock ts le late stream.safe;
     }
@@ -105,12 +104,12 @@ pub stream_kept_alive : (rel : ℕ → Relation) (clock : ℤ) (ask : Bool) (b :
 stream_kept_alive rel clock ask b ts limit stream lt fits =
     let k : Keepalive = record { position = limit; clock = clock; ask = ask } in
     record {
-      items = stream.items ++ (Alive k ∷ []);
-      fits = all_of_both (FitsItem rel) stream.items (Alive k ∷ []) stream.fits ((lt, fits), tt);
+      items = stream.items ++ (KeepaliveItem k ∷ []);
+      fits = all_of_both (FitsItem rel) stream.items (KeepaliveItem k ∷ []) stream.fits ((lt, fits), tt);
       spells = ap (λ (l : List ℕ). l ++ word_bytes (keepalive_word limit clock ask)) stream.spells
           ∙ ap (λ (l : List ℕ). spelled rel [] stream.items ++ l) (sym (flat_map-cons word_bytes (keepalive_word limit clock ask) [] ∙ append-nil (word_bytes (keepalive_word limit clock ask))))
-          ∙ sym (spelled-append rel [] stream.items (Alive k ∷ []));
-      sends = sent-append stream.items (Alive k ∷ []) ∙ append-nil (sent stream.items) ∙ stream.sends;
+          ∙ sym (spelled-append rel [] stream.items (KeepaliveItem k ∷ []));
+      sends = sent-append stream.items (KeepaliveItem k ∷ []) ∙ append-nil (transactions_of stream.items) ∙ stream.sends;
       safe = safe-alive limit stream.items k (omega arith) stream.safe;
     }
 
@@ -122,35 +121,6 @@ stream_new rel limit = record { items = []; fits = tt; spells = refl; sends = re
 
 pub drained : (produced held : List ℕ) (n : ℕ) → (produced ++ take n held) ++ drop n held ≡ produced ++ held
 drained produced held n = append_assoc produced (take n held) (drop n held) ∙ ap (λ (l : List ℕ). produced ++ l) (take-append-drop n held)
-
--- ---- a section of a well-formed log may follow what stands before it
-
-pub starts_below : (at : ℕ) (before : List Record) → follows at before ≡ true → AllByRecursion IsSized before → (at ≤ end_of at before) × AllByRecursion (λ (q : Record). q.start < end_of at before) before
-starts_below at [] goes sized = (omega arith, tt)
-starts_below at (r ∷ before) goes sized =
-    let next = followed at r before goes in
-    let inner = starts_below r.end before next.1 sized.1 in
-    (omega (arith, next.0, sized.0, inner.0), (omega (arith, next.0, sized.0, inner.0), inner.1))
-
-pub both_true : (a b : Bool) → (a && b) ≡ true → (a ≡ true) × (b ≡ true)
-both_true true b e = (refl, e)
-both_true false b e = absurd cc
-
--- the parts of a log that follows
-pub follows_parts : (at : ℕ) (m n : List Record) → follows at (m ++ n) ≡ true → (follows at m ≡ true) × (follows (end_of at m) n ≡ true)
-follows_parts at m n e = both_true (follows at m) (follows (end_of at m) n) (sym (follows-append at m n) ∙ e)
-
-pub may_follow : (at : ℕ) (before rs : List Record) → follows at (before ++ rs) ≡ true → AllByRecursion IsSized (before ++ rs) → WellFormedAfter before rs → MayFollow before rs
-may_follow at before [] goes sized order = tt
-may_follow at before (r ∷ rs) goes sized order =
-    let parts = follows_parts at before (r ∷ rs) goes in
-    let here = followed (end_of at before) r rs parts.1 in
-    let below = starts_below at before parts.0 (all_front IsSized before (r ∷ rs) sized) in
-    let behind : StartsBehind before r = let P : ℕ → Type 0 = λ n. AllByRecursion (λ (q : Record). q.start < n) before in subst P (sym here.0) below.1 in
-    let regrouped : (before ++ r ∷ []) ++ rs ≡ before ++ r ∷ rs = append_assoc before (r ∷ []) rs in
-    let F : List Record → Type 0 = λ l. follows at l ≡ true in
-    let S : List Record → Type 0 = λ l. AllByRecursion IsSized l in
-    (order.0, behind, may_follow at (before ++ r ∷ []) rs (subst F (sym regrouped) goes) (subst S (sym regrouped) sized) order.1)
 
 -- ---- the log up to a position is its records up to a place
 

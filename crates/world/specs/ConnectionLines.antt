@@ -11,7 +11,7 @@ use Rattle.stream.specs.Words.{word_bytes}
 use Rattle.stream.specs.Items.{keepalive_word}
 use Rattle.sender.specs.declared.fault.SendFault.TheVariants as sends
 use Rattle.sender.specs.Published.{published, published_from}
-use Rattle.sender.specs.Sending.{blocks_behind}
+use Rattle.sender.specs.Sending.{published_bytes}
 use Rattle.schedule.specs.declared.event.Event.{Event}
 use Rattle.schedule.specs.declared.event.Event.TheVariants as events
 use Rattle.schedule.specs.declared.answer.Answer.{Answer}
@@ -38,7 +38,7 @@ unread position (r ∷ rs) = if nat_le r.end position then unread position rs el
 abbrev pub after_reading : List Record → ℤ → List Record → StartState → StartState
 after_reading log clock section s = record s {
   position = end_of s.position section;
-  held = s.held ++ blocks_behind s.selection clock (published s.selection (read_by s.position log) s.start) (published_from s.selection s.start (read_by s.position log) section);
+  held = s.held ++ published_bytes s.selection clock (published s.selection (read_by s.position log) s.start) (published_from s.selection s.start (read_by s.position log) section);
 }
 
 -- what an action leaves; a cut loses what is held, and nothing else

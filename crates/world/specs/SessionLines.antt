@@ -42,7 +42,7 @@ if_new (Some xid) ask = None
 -- The call of a session's line, for the transaction of its name; none where that name is unknown, or is for a second time,
 -- and none for other lines.
 abbrev pub ask_of : Event → PublisherState → List NamedTx → Option Ask
-ask_of (events.Begin t) p ts = if_new (xid_of t ts) (record { refusal = begin_refusal p; done = begun p; transactions = ts ++ record { name = t; xid = p.next } ∷ [] })
+ask_of (events.Begin t) p ts = if_new (xid_of t ts) (record { refusal = begin_refusal p; done = begun p; transactions = ts ++ record { name = t; xid = p.next_xid } ∷ [] })
 ask_of (events.Insert t table row) p ts = if_known (xid_of t ts) (λ xid. record { refusal = insert_refused (table_named table p.tables) xid row p; done = inserted_in (table_named table p.tables) xid row p; transactions = ts })
 ask_of (events.Savepoint t) p ts = if_known (xid_of t ts) (λ xid. record { refusal = savepoint_refusal xid p; done = saved xid p; transactions = ts })
 ask_of (events.Rollback t depth) p ts = if_known (xid_of t ts) (λ xid. record { refusal = rollback_refusal xid depth p; done = rolled_back xid depth p; transactions = ts })

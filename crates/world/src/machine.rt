@@ -136,7 +136,7 @@ impl Machine {
         self.starts.reserve(1)?;
         self.opened.reserve(1)?;
         let name = name.copy(alloc)?;
-        let selection = match self.publications.select(alloc, names) {
+        let selection = match self.publications.select(names) {
             Ok(selection) => selection,
             Err(fault) => return Ok(Answer::Publication(fault)),
         };

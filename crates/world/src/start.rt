@@ -100,7 +100,7 @@ impl Start {
         ensures served { IsServed publisher.now.log self.new }
     {
         match action {
-            Action::Read(max, clock) => return self.read(alloc, publisher, max, clock),
+            Action::Read(max, clock) => return self.read(publisher, max, clock),
             Action::Keepalive(clock) => return Ok(self.keepalive(publisher, clock)),
             Action::Drain(max) => return self.drain(publisher, max),
             Action::Cut => return Ok(self.cut(alloc, publisher)),
@@ -109,7 +109,6 @@ impl Start {
 
     fn read(
         &mut self,
-        alloc: Global,
         publisher: &Publisher,
         max: u32,
         clock: i64,
@@ -126,7 +125,7 @@ impl Start {
             unreachable!();
         };
         let section = records.as_slice();
-        match sender.feed(alloc, section, clock) {
+        match sender.feed(section, clock) {
             Ok(()) => {
                 self.place += section.len();
                 return Ok(Answer::Done);
@@ -182,7 +181,7 @@ impl Start {
 
 /// What stands in the place of a sender while it ends.
 fn nothing(alloc: Global) -> Walsender {
-    let selection = Selection::new(Items::new(Vec::new(alloc)));
+    let selection = Selection::new(alloc, Items::new(Vec::new(alloc)));
     Walsender::Cut(Ended {
         selection,
         start: 0,

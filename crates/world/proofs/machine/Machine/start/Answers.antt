@@ -3,7 +3,7 @@ use Rattle.std.specs.List.{AllByRecursion}
 use Rattle.world.specs.declared.start.Start.{Start}
 use Rattle.world.specs.State.{StartState}
 use Rattle.world.specs.Machine.{IsServed}
-use Rattle.sender.proofs.Changes.{all_of_both}
+use Rattle.stream.proofs.Lists.{all_of_both}
 use Rattle.world.proofs.Machines.{found_more}
 use Rattle.world.proofs.machine.Machine.start.Goals as goal
 
