@@ -9,23 +9,23 @@ use tables::{Change, Row, Value};
 
 fn selection(alloc: Global, name: &str) -> Result<Selection, PubFault> {
     let publications = Publications::builtin(alloc)?;
-    publications.select(alloc, &[Text::copy_of(alloc, name)?])
+    publications.select(&[Text::copy_of(alloc, name)?])
 }
 
 #[test]
 fn a_publication_is_selected(rt: HostRuntime) -> Result<(), Fail> {
     let alloc = rt.alloc();
     let selection = selection(alloc, "p")?;
-    assert!(rt; selection.relation(alloc, 16384)?.is_some());
-    assert!(rt; selection.relation(alloc, 16385)?.is_none());
+    assert!(rt; selection.relation(16384)?.is_some());
+    assert!(rt; selection.relation(16385)?.is_none());
     Ok(())
 }
 
 #[test]
 fn no_publication_selects_no_table(rt: HostRuntime) -> Result<(), Fail> {
     let alloc = rt.alloc();
-    let selection = Publications::builtin(alloc)?.select(alloc, &[])?;
-    assert!(rt; selection.relation(alloc, 16384)?.is_none());
+    let selection = Publications::builtin(alloc)?.select(&[])?;
+    assert!(rt; selection.relation(16384)?.is_none());
     Ok(())
 }
 
@@ -38,7 +38,7 @@ fn insert(alloc: Global, oid: u32) -> Result<Change, Fail> {
 #[test]
 fn a_change_becomes_a_message(rt: HostRuntime) -> Result<(), Fail> {
     let alloc = rt.alloc();
-    let projected = selection(alloc, "p")?.project(alloc, &insert(alloc, 16384)?)?;
+    let projected = selection(alloc, "p")?.project(&insert(alloc, 16384)?)?;
     let one = Cell::Text(Text::copy_of(alloc, "1")?);
     let seven = Cell::Text(Text::copy_of(alloc, "7")?);
     let message = Logical::Insert(Insert {
@@ -52,7 +52,7 @@ fn a_change_becomes_a_message(rt: HostRuntime) -> Result<(), Fail> {
 #[test]
 fn a_change_of_another_table_becomes_nothing(rt: HostRuntime) -> Result<(), Fail> {
     let alloc = rt.alloc();
-    let projected = selection(alloc, "p")?.project(alloc, &insert(alloc, 16385)?)?;
+    let projected = selection(alloc, "p")?.project(&insert(alloc, 16385)?)?;
     assert_eq!(rt; projected, Projected::Nothing);
     Ok(())
 }

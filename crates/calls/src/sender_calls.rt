@@ -37,7 +37,7 @@ fn log(rt: &impl Abort, alloc: Global) -> Result<Vec<Arc<Record>>, Fail> {
 }
 
 fn sender(alloc: Global, names: &[Text]) -> Result<Sender, Fail> {
-    let selection = Publications::builtin(alloc)?.select(alloc, names)?;
+    let selection = Publications::builtin(alloc)?.select(names)?;
     Ok(Sender::start(alloc, selection, 0, FIRST_POSITION)?)
 }
 

@@ -2,6 +2,7 @@
 #![tactic(auto)]
 
 use anyhow::Result;
+use bytes::BytesMut;
 use frames::Text;
 use publication::Publications;
 use sender::Sender;
@@ -13,24 +14,29 @@ fn main(rt: HostRuntime) -> Result<()> {
     let alloc = rt.alloc();
     let mut publisher = Publisher::new(alloc, Catalog::builtin(alloc)?, 1000)?;
     run_session(alloc, &mut publisher)?;
+    let mut sender = sender_of_p(alloc)?;
+    send(&publisher, &mut sender)?;
 
+    // All that is held, as for a socket; `drain` takes as much as a buffer has room for.
+    let mut out = BytesMut::new(alloc);
+    sender.drain_into(usize::MAX, &mut out)?;
+    let bytes = hex::encode(alloc, out.as_slice())?;
+    println!(rt; "{bytes}")?;
+    Ok(())
+}
+
+/// A sender of what the publication `p` publishes, from the beginning of the log on.
+fn sender_of_p(alloc: Global) -> Result<Sender> {
     let names = [Text::copy_of(alloc, "p")?];
-    let selection = Publications::builtin(alloc)?.select(alloc, &names)?;
-    let mut sender = Sender::start(alloc, selection, 0, FIRST_POSITION)?;
+    let selection = Publications::builtin(alloc)?.select(&names)?;
+    Ok(Sender::start(alloc, selection, 0, FIRST_POSITION)?)
+}
+
+/// The sender reads the log under clock 9, and tells how far it has read.
+fn send(publisher: &Publisher, sender: &mut Sender) -> Result<()> {
     let records = publisher.tail(0, 100)?;
     sender.feed(records.as_slice(), 9)?;
     sender.keepalive(9, false)?;
-
-    // A connection writes as many bytes as its socket takes, until none are left.
-    let mut room = [0; 1024];
-    for _ in 0..u64::MAX {
-        let count = sender.drain(&mut room);
-        if count == 0 {
-            break;
-        }
-        let bytes = hex::encode(alloc, &room[..count])?;
-        println!(rt; "{bytes}")?;
-    }
     Ok(())
 }
 
