@@ -1,3 +1,5 @@
+//! What a publisher is configured with.
+
 ghost use Rattle.std.specs.Prelude.{◌≡◌, ◌<◌, ◌≤◌, ◌⊎◌, IfOk, OnOk, OnErr};
 ghost use Rattle.tables.specs.Tables.{builtin_tables};
 ghost use Rattle.txlog.specs.declared.limits.TheConstants.{MAX_RECORDS};
