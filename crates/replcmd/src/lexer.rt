@@ -1,0 +1,148 @@
+//! From the text of a command to its tokens.
+
+ghost use Rattle.std.specs.Prelude.{◌≡◌, ◌≤◌, ◌∷◌, [], IfOk, IfSome, Some, MatchOption, length, false};
+ghost use Rattle.replcmd.specs.declared.token.Token.TheVariants.{Quoted, Value};
+ghost use Rattle.replcmd.specs.Tokens.{is_blank, is_mark, is_plain};
+ghost use Rattle.replcmd.specs.Lexing.{after_blanks, word_of, after_word, in_front, quoted_at, closed, token_at, Lexes, lent, lent_text};
+
+use crate::name::Name;
+use crate::token::{NAME_QUOTE, Token, VALUE_QUOTE};
+use std::alloc::{AllocError, Global};
+
+fn is_blank(b: u8) -> bool
+    ensures { result ≡ is_blank b }
+{
+    b == b' ' || b == b'\t' || b == b'\n' || b == b'\r'
+}
+
+fn is_mark(b: u8) -> bool
+    ensures { result ≡ is_mark b }
+{
+    b == b'(' || b == b')' || b == b',' || b == b';'
+}
+
+fn is_plain(b: u8) -> bool
+    ensures { result ≡ is_plain b }
+{
+    !(is_blank(b) || is_mark(b) || b == NAME_QUOTE || b == VALUE_QUOTE)
+}
+
+fn after_blanks(text: &[u8]) -> &[u8]
+    ensures { result.now ≡ after_blanks text.now }
+{
+    let mut rest = text;
+    while let Some((b, tail)) = rest.split_first() {
+        if !is_blank(*b) {
+            return rest;
+        }
+        rest = tail;
+    }
+    rest
+}
+
+/// The word at the front, and what follows it.
+fn word_of(alloc: Global, text: &[u8]) -> Result<(Name, &[u8]), AllocError>
+    ensures { IfOk result (λ x. (x.0 ≡ word_of text.now) × (x.1.now ≡ after_word text.now)) }
+{
+    let mut found = Vec::new(alloc);
+    let mut rest = text;
+    while let Some((b, tail)) = rest.split_first() {
+        if !is_plain(*b) {
+            return Ok((Name::new(found), rest));
+        }
+        found.push(*b)?;
+        rest = tail;
+    }
+    Ok((Name::new(found), rest))
+}
+
+/// Where a quoted text goes on behind this byte: a quote goes on behind the second of two, and else closes the text.
+fn goes_on(quote: u8, b: u8, tail: &[u8]) -> Option<&[u8]>
+    ensures goes { MatchOption result (quoted_at false quote (b ∷ tail.now) ≡ Some ([], tail.now))
+        (λ more. quoted_at false quote (b ∷ tail.now) ≡ in_front (b ∷ []) (quoted_at false quote more.now)) }
+    ensures shorter { IfSome result (λ more. length more.now ≤ length tail.now) }
+{
+    if b != quote {
+        return Some(tail);
+    }
+    let (c, more) = tail.split_first()?;
+    if *c == quote { Some(more) } else { None }
+}
+
+/// The text up to the closing quote, and what follows that; None where no quote closes it.
+fn quoted_of(alloc: Global, quote: u8, text: &[u8]) -> Result<Option<(Name, &[u8])>, AllocError>
+    ensures { IfOk result (λ x. lent_text x ≡ quoted_at false quote text.now) }
+{
+    let mut found = Vec::new(alloc);
+    let mut rest = text;
+    while let Some((b, tail)) = rest.split_first() {
+        let Some(more) = goes_on(quote, *b, tail) else {
+            return Ok(Some((Name::new(found), tail)));
+        };
+        found.push(*b)?;
+        rest = more;
+    }
+    Ok(None)
+}
+
+/// The token of a name in quotes, where its first quote was read.
+fn quoted_name(alloc: Global, text: &[u8]) -> Result<(Token, &[u8]), AllocError>
+    ensures { IfOk result (λ x. (x.0, x.1.now) ≡ closed (λ n. Quoted n) (quoted_at false NAME_QUOTE text.now)) }
+{
+    let Some((name, rest)) = quoted_of(alloc, NAME_QUOTE, text)? else {
+        return Ok((Token::Unclosed, nothing_of(text)));
+    };
+    Ok((Token::Quoted(name), rest))
+}
+
+/// The token of a value in quotes, where its first quote was read.
+fn quoted_value(alloc: Global, text: &[u8]) -> Result<(Token, &[u8]), AllocError>
+    ensures { IfOk result (λ x. (x.0, x.1.now) ≡ closed (λ v. Value v) (quoted_at false VALUE_QUOTE text.now)) }
+{
+    let Some((value, rest)) = quoted_of(alloc, VALUE_QUOTE, text)? else {
+        return Ok((Token::Unclosed, nothing_of(text)));
+    };
+    Ok((Token::Value(value), rest))
+}
+
+fn nothing_of(text: &[u8]) -> &[u8]
+    ensures { result.now ≡ [] }
+{
+    let (_, end) = text.split_at(text.len());
+    end
+}
+
+/// The first token, and what follows it; None where only blanks are left.
+#[tactic(auto, unfolding(crate::specs::Lexing::token_at))]
+fn token_of(alloc: Global, text: &[u8]) -> Result<Option<(Token, &[u8])>, AllocError>
+    ensures { IfOk result (λ x. lent x ≡ token_at text.now) }
+{
+    let text = after_blanks(text);
+    let Some((b, tail)) = text.split_first() else {
+        return Ok(None);
+    };
+    if *b == NAME_QUOTE {
+        return Ok(Some(quoted_name(alloc, tail)?));
+    }
+    if *b == VALUE_QUOTE {
+        return Ok(Some(quoted_value(alloc, tail)?));
+    }
+    if is_mark(*b) {
+        return Ok(Some((Token::Mark(*b), tail)));
+    }
+    let (word, rest) = word_of(alloc, text)?;
+    Ok(Some((Token::Word(word), rest)))
+}
+
+/// The tokens of a text, one behind the other.
+pub(crate) fn tokens_of(alloc: Global, text: &[u8]) -> Result<Vec<Token>, AllocError>
+    ensures { IfOk result (λ tokens. Lexes text.now tokens.items) }
+{
+    let mut tokens = Vec::new(alloc);
+    let mut place = text;
+    while let Some((token, rest)) = token_of(alloc, place)? {
+        tokens.push(token)?;
+        place = rest;
+    }
+    Ok(tokens)
+}

@@ -1,0 +1,46 @@
+//! Positions of the log as text: read in every spelling, written in one.
+
+ghost use Rattle.std.specs.Prelude.{◌≡◌, ℕ, Ok, Err, IfOk, IfErr, MatchOption, string_bytes};
+ghost use Rattle.std.specs.Str.Parse.{digits_value};
+ghost use Rattle.replcmd.specs.Position.{IsHalf, SpellsPosition, printed};
+
+use crate::fault::CmdFault;
+use std::alloc::{AllocError, Global};
+
+/// The position that the text spells, all of it, as `16/B374D848` does; a text that spells none is C3.
+pub fn parse_position(text: &str) -> Result<u64, CmdFault>
+    ensures found { IfOk result (λ n. SpellsPosition text.now n) }
+    ensures only { (n : ℕ) → SpellsPosition text.now n → result ≡ Ok n }
+    ensures fault { IfErr result (λ e. e ≡ CmdFault.BadPosition) }
+{
+    let (upper, lower) = text.split_once('/').ok_or(CmdFault::BadPosition)?;
+    let upper = half(upper).ok_or(CmdFault::BadPosition)?;
+    let lower = half(lower).ok_or(CmdFault::BadPosition)?;
+    Ok(upper as u64 * (1 << 32) + lower as u64)
+}
+
+/// The 32 bits that 1 to 8 hexadecimal digits spell.
+fn half(text: &str) -> Option<u32>
+    ensures { MatchOption result (¬ IsHalf text.now) (λ n. IsHalf text.now × (n ≡ digits_value 16 text.now)) }
+{
+    if text.len() > 8 || text.starts_with('+') {
+        return None;
+    }
+    u32::from_str_radix(text, 16).ok()
+}
+
+/// The text of the position, in upper case and without leading zeros.
+pub fn write_position(alloc: Global, position: u64) -> Result<String, AllocError>
+    ensures text { IfOk result (λ s. string_bytes s ≡ printed position) }
+    ensures read_again { IfOk result (λ s. SpellsPosition (string_bytes s) position) }
+{
+    text_of(alloc, position)
+}
+
+fn text_of(alloc: Global, position: u64) -> Result<String, AllocError>
+    ensures { IfOk result (λ s. string_bytes s ≡ printed position) }
+{
+    let upper = position / (1 << 32);
+    let lower = position % (1 << 32);
+    format!(in alloc; "{upper:X}/{lower:X}")
+}

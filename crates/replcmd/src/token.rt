@@ -1,0 +1,23 @@
+//! The tokens of a command.
+
+use crate::name::Name;
+
+/// The quote round names, and the one round values. One that is meant stands twice.
+pub(crate) const NAME_QUOTE: u8 = b'"';
+
+pub(crate) const VALUE_QUOTE: u8 = b'\'';
+
+/// A token. Quoted texts are held as they are meant, with single quotes for doubled ones.
+#[derive(Debug, Drop, PartialEq)]
+pub(crate) enum Token {
+    /// A keyword, a bare name or a position.
+    Word(Name),
+    /// A name in double quotes.
+    Quoted(Name),
+    /// A value in single quotes.
+    Value(Name),
+    /// A bracket, a comma or a semicolon.
+    Mark(u8),
+    /// A quote that is never closed, up to the end of the text.
+    Unclosed,
+}
