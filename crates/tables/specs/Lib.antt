@@ -1,4 +1,6 @@
+pub mod Journals
 pub mod Reading
+pub mod Slots
 pub mod Spelling
 pub mod Tables
 pub use Rattle.frames.specs.Fields

@@ -7,9 +7,13 @@ mod change;
 mod column;
 mod fault;
 mod identity;
+mod journal;
+mod key;
 mod kind;
 mod reading;
 mod row;
+mod slot;
+mod slots;
 mod table;
 mod value;
 
@@ -22,9 +26,13 @@ pub use change::Change;
 pub use column::Column;
 pub use fault::BodyFault;
 pub use identity::Identity;
+pub use journal::Journal;
+pub use key::KeyText;
 pub use kind::Kind;
 pub use reading::read_body;
 pub use row::{MAX_ROW_LENGTH, Row};
+pub use slot::{Slot, Undo};
+pub use slots::Slots;
 pub use table::Table;
 pub use value::Value;
 
