@@ -1,5 +1,6 @@
 pub mod Journals
 pub mod Reading
+pub mod Rows
 pub mod Slots
 pub mod Spelling
 pub mod Tables
