@@ -1,3 +1,4 @@
 pub mod Bodies
 pub mod Lengths
 pub mod Names
+pub mod Undoing

@@ -25,8 +25,8 @@ pub found : (P : LiveTransaction → Type 0) (xid : ℕ) (live : List LiveTransa
     P (record { xid = xid; savepoints = savepoints_of xid live })
 found P xid [] is all = let never : false ≡ true = is in cc
 found P xid (o ∷ live) is all =
-    by_test (o.xid == xid) (savepoints_of xid live) is (λ same. let number_is : o.xid ≡ xid = eqb-true o.xid xid same in
-    subst (λ (n : ℕ). P (record { xid = n; savepoints = o.savepoints })) number_is all.0) (λ rest. found P xid live rest all.1)
+    by_test (o.xid == xid) (savepoints_of xid live) is (λ same. let xid_is : o.xid ≡ xid = eqb-true o.xid xid same in
+    subst (λ (n : ℕ). P (record { xid = n; savepoints = o.savepoints })) xid_is all.0) (λ rest. found P xid live rest all.1)
   where
     by_test : (b : Bool) (others : List ℕ) → (b || is_live xid live) ≡ true →
         (b ≡ true → P (record { xid = xid; savepoints = o.savepoints })) →
@@ -83,9 +83,9 @@ all_changed P Q xid xs (o ∷ live) rising all keep here =
     by_test : (b : Bool) → (o.xid == xid) ≡ b → AllByRecursion Q (with_savepoints xid xs live) →
         AllByRecursion Q (cond b (record { xid = o.xid; savepoints = xs } ∷ live) (o ∷ with_savepoints xid xs live))
     by_test true is rest =
-        let number_is : o.xid ≡ xid = eqb-true o.xid xid is in (
-          subst (λ (n : ℕ). Q (record { xid = n; savepoints = xs })) (sym number_is) here,
-          apart_above Q o.xid P live rising.0 all.1 (λ p holds other. keep p holds (subst (λ (n : ℕ). (p.xid == n) ≡ false) number_is other)),
+        let xid_is : o.xid ≡ xid = eqb-true o.xid xid is in (
+          subst (λ (n : ℕ). Q (record { xid = n; savepoints = xs })) (sym xid_is) here,
+          apart_above Q o.xid P live rising.0 all.1 (λ p holds other. keep p holds (subst (λ (n : ℕ). (p.xid == n) ≡ false) xid_is other)),
         )
     by_test false is rest = (keep o all.0 is, rest)
 
@@ -125,8 +125,8 @@ length-without xid (o ∷ live) rising is = by_test (o.xid == xid) refl is (leng
     by_test : (b : Bool) → (o.xid == xid) ≡ b → (b || is_live xid live) ≡ true → (is_live xid live ≡ true → length (without xid live) + 1 ≡ length live) →
         length (cond (not b) (o ∷ without xid live) (without xid live)) + 1 ≡ length (o ∷ live)
     by_test true is any rest =
-        let number_is : o.xid ≡ xid = eqb-true o.xid xid is in
-        let same : without xid live ≡ live = without_above xid live (subst (λ (n : ℕ). AllByRecursion (λ p. n < p.xid) live) number_is rising.0) in
+        let xid_is : o.xid ≡ xid = eqb-true o.xid xid is in
+        let same : without xid live ≡ live = without_above xid live (subst (λ (n : ℕ). AllByRecursion (λ p. n < p.xid) live) xid_is rising.0) in
         rw same (omega arith)
     by_test false is any rest = omega (arith, rest any)
 

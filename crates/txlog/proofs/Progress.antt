@@ -48,8 +48,8 @@ nested-tops log t y below [] is nested = tt
 nested-tops log t y below (x ∷ xs) is nested = (rw nested.0 is, nested-tops log t x (y ∷ below) xs is nested.2)
 
 -- the xids of a transaction have it as their top
-pub numbers-top : (log : List Record) (next : ℕ) (o : LiveTransaction) → IsInProgress log next o → AllByRecursion (λ x. top_of log x ≡ o.xid) (xids_of o)
-numbers-top log next o h = (rw (chain-unassigned log o.xid h.top) refl, nested-tops log o.xid o.xid [] o.savepoints refl h.nested)
+pub xids-top : (log : List Record) (next : ℕ) (o : LiveTransaction) → IsInProgress log next o → AllByRecursion (λ x. top_of log x ≡ o.xid) (xids_of o)
+xids-top log next o h = (rw (chain-unassigned log o.xid h.top) refl, nested-tops log o.xid o.xid [] o.savepoints refl h.nested)
 
 -- CUT AT A DEPTH
 
@@ -165,9 +165,9 @@ nested_at log zero below (x ∷ xs) lt h = h.1
 nested_at log (suc n) below (x ∷ xs) lt h = nested_at log n (x ∷ below) xs (omega arith) h.2
 
 -- the savepoint at a place is above all xids before it
-pub above_numbers : (log : List Record) (next n : ℕ) (o : LiveTransaction) → IsInProgress log next o → n < length o.savepoints →
+pub above_xids : (log : List Record) (next n : ℕ) (o : LiveTransaction) → IsInProgress log next o → n < length o.savepoints →
     AllByRecursion (λ y. y < get_or o.savepoints n 0) (o.xid ∷ take n o.savepoints)
-above_numbers log next n o h lt =
+above_xids log next n o h lt =
     let both = all_from_onto (λ y. y < get_or o.savepoints n 0) (o.xid ∷ []) (take n o.savepoints) (nested_at log n (o.xid ∷ []) o.savepoints lt h.nested) in
     (both.0.0, both.1)
 

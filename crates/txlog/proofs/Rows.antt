@@ -1,13 +1,16 @@
 -- Whole logs with what they commit, as worked by hand: the definitions compute to it.
-use Rattle.std.proofs.Common.{◌≡◌, ℕ, pos, List, [], ◌∷◌, refl}
+use Rattle.std.proofs.Common.{◌≡◌, ℕ, pos, List, [], ◌∷◌, Some, None, take, refl}
 use Rattle.std.specs.Prelude.{codes}
 use Rattle.frames.specs.Fields.{int16, int32, int64}
 use Rattle.tables.specs.declared.value.Value.TheVariants as values
 use Rattle.tables.specs.declared.change.Change.{Change}
 use Rattle.tables.specs.declared.change.Change.TheVariants as changes
+use Rattle.tables.specs.Rows.{Key}
+use Rattle.tables.specs.Tables.{builtin_tables}
 use Rattle.txlog.specs.declared.record.Record.{Record}
 use Rattle.txlog.specs.declared.record.Body.{Body}
 use Rattle.txlog.specs.declared.record.Body.TheVariants.{Assign, Change as Changed, AbortSub, Commit}
+use Rattle.txlog.specs.Rows.{rows_of, holds}
 use Rattle.txlog.specs.Log.{Entry, Transaction, IsWellFormedLog, committed}
 use Rattle.txlog.proofs.LiveChanges.{live_changes}
 
@@ -127,3 +130,24 @@ released-committed = refl
 
 released-live : live_changes released ≡ []
 released-live = refl
+
+-- THE ROWS THAT A LOG LEAVES
+
+abbrev item_key : ℕ → Key
+item_key id = record { oid = 16384; values = values.Int4 (pos id) ∷ [] }
+
+-- what was rolled back leaves no row
+rolled_back-first : rows_of builtin_tables rolled_back (item_key 1) ≡ None
+unfolding int16 int32 int64
+rolled_back-first = refl
+
+rolled_back-third : rows_of builtin_tables rolled_back (item_key 3) ≡ Some (values.Int4 (pos 3) ∷ values.Text (codes "c") ∷ values.Int8 (pos 3) ∷ [])
+unfolding int16 int32 int64
+rolled_back-third = refl
+
+-- a transaction holds the keys of its changes, until they are rolled back
+rolled_back-held : holds builtin_tables (take 4 rolled_back) 700 ≡ item_key 1 ∷ item_key 2 ∷ []
+rolled_back-held = refl
+
+rolled_back-let_go : holds builtin_tables (take 5 rolled_back) 700 ≡ []
+rolled_back-let_go = refl

@@ -17,7 +17,7 @@ use Rattle.txlog.specs.Publishing.{LiveTransaction, PublisherState, record_after
 use Rattle.txlog.specs.Invariants.{IsLog, IsInProgress, IsPublisher, xids_of}
 use Rattle.txlog.proofs.Laws.{end_of-append, follows-append, WellFormedAfter-append, is_named-one, is_assigned-one, is_undone-one, chain-append, chain-unassigned, all_when}
 use Rattle.txlog.proofs.LiveList.{eqb_comm, all_append, found, length-with_savepoints, rising-with_savepoints, all_changed, all_without, rising-without, length-without, rising-push}
-use Rattle.txlog.proofs.Progress.{onto, chain-innermost, IsOpen-innermost, numbers-top, in_progress_push, above_numbers, last_of-take, all_at, in_progress_cut, IsQuiet, in_progress_quiet, tops_apart}
+use Rattle.txlog.proofs.Progress.{onto, chain-innermost, IsOpen-innermost, xids-top, in_progress_push, above_xids, last_of-take, all_at, in_progress_cut, IsQuiet, in_progress_quiet, tops_apart}
 
 -- THE LOG
 
@@ -186,7 +186,7 @@ changed-IsPublisher s xid change h is free fits small =
 quiet_by_top : (log : List Record) (next y t : ℕ) (body : Body) (p : LiveTransaction) → IsInProgress log next p → top_of log y ≡ t → (p.xid == t) ≡ false →
     ((x : ℕ) → (y == x) ≡ false → IsQuiet body x) → AllByRecursion (IsQuiet body) (xids_of p)
 quiet_by_top log next y t body p running top other quiet =
-    all_when _ _ (λ (x : ℕ) (x_top : top_of log x ≡ p.xid). quiet x (tops_apart log y x t p.xid top x_top (eqb_comm t p.xid ∙ other))) (xids_of p) (numbers-top log next p running)
+    all_when _ _ (λ (x : ℕ) (x_top : top_of log x ≡ p.xid). quiet x (tops_apart log y x t p.xid top x_top (eqb_comm t p.xid ∙ other))) (xids_of p) (xids-top log next p running)
 
 ended-IsPublisher : (s : PublisherState) (xid : ℕ) (body : Body) → IsPublisher s → is_live xid s.live ≡ true →
     (is_assigned s.log xid ≡ false → IsOpen s.log xid → IsNext s.log body) → (xid < 2 ^ 32 → FitsBody s.tables body) → size_of body ≤ 2 ^ 14 →
@@ -274,10 +274,10 @@ rolled_back-IsPublisher s xid depth h is some within free =
     let same : length (with_savepoints xid (take n xs) s.live) ≡ length s.live = length-with_savepoints xid (take n xs) s.live in
     let last : last_of xid (take (n + 1) xs) ≡ sub = last_of-take xid n xs lt in
     let alive : IsOpen s.log sub = subst (λ (x : ℕ). IsOpen s.log x) last (IsOpen-innermost s.log s.next_xid (record { xid = xid; savepoints = take (n + 1) xs }) (in_progress_cut s.log s.next_xid (n + 1) o running)) in
-    let top : top_of s.log sub ≡ xid = all_at (λ x. top_of s.log x ≡ xid) n xs lt (numbers-top s.log s.next_xid o running).1 in
+    let top : top_of s.log sub ≡ xid = all_at (λ x. top_of s.log x ≡ xid) n xs lt (xids-top s.log s.next_xid o running).1 in
     let quiet : (x : ℕ) → (sub == x) ≡ false → IsQuiet body x = λ x other. record { assigned = refl; ended = refl; undone = other } in
     let kept : AllByRecursion (IsQuiet body) (xid ∷ take n xs) =
-    all_when _ _ (λ (x : ℕ) (low : x < sub). quiet x (ne_eqb sub x (λ e. absurd (omega (arith, low, e))))) (xid ∷ take n xs) (above_numbers s.log s.next_xid n o running lt) in
+    all_when _ _ (λ (x : ℕ) (low : x < sub). quiet x (ne_eqb sub x (λ e. absurd (omega (arith, low, e))))) (xid ∷ take n xs) (above_xids s.log s.next_xid n o running lt) in
     record {
       log = log_grown s.tables s.log body h.log (all_at (λ x. is_assigned s.log x ≡ true) n xs lt running.subs, alive)
           (omega (arith, below, h.limit, h.xids, h.reserve)) (omega arith) (omega (arith, h.limit, free));
