@@ -16,11 +16,11 @@ const PRINTS: &str = "--";
 
 /// A schedule as it stands in its file.
 #[derive(Drop)]
-struct Case<'a> {
+struct Case {
     /// The line of the file where it begins.
     line: usize,
     schedule: String,
-    fault: &'a str,
+    fault: String,
     printed: String,
 }
 
@@ -29,9 +29,10 @@ pub fn judge_schedules(alloc: Global, text: &str) -> Result<Report> {
     let records = records_of(text)?;
     for case in cases_of(alloc, text)? {
         let answer = played(alloc, records, case.schedule.as_str())?;
-        let said = match case.fault {
-            "" => Said::Meaning(case.printed.as_str()),
-            fault => Said::Fault(fault),
+        let said = if case.fault.is_empty() {
+            Said::Meaning(case.printed.as_str())
+        } else {
+            Said::Fault(case.fault.as_str())
         };
         if answer.is_as_said(said) {
             report.hold();
@@ -57,8 +58,8 @@ fn records_of(text: &str) -> Result<usize> {
     Ok(BUILTIN_RECORDS)
 }
 
-fn cases_of<'a>(alloc: Global, text: &'a str) -> Result<Vec<Case<'a>>> {
-    let mut cases: Vec<Case<'a>> = Vec::new(alloc);
+fn cases_of(alloc: Global, text: &str) -> Result<Vec<Case>> {
+    let mut cases: Vec<Case> = Vec::new(alloc);
     let mut is_printed = false;
     for (number, line) in (1..usize::MAX).zip(text.split('\n')) {
         if line.starts_with(NAMED) {
@@ -66,7 +67,7 @@ fn cases_of<'a>(alloc: Global, text: &'a str) -> Result<Vec<Case<'a>>> {
             cases.push(Case {
                 line: number,
                 schedule: String::new(alloc),
-                fault: "",
+                fault: String::new(alloc),
                 printed: String::new(alloc),
             })?;
             continue;
@@ -76,7 +77,7 @@ fn cases_of<'a>(alloc: Global, text: &'a str) -> Result<Vec<Case<'a>>> {
         };
         if let Some(rest) = line.strip_prefix(PRINTS) {
             is_printed = true;
-            case.fault = rest.strip_prefix(" ! ").unwrap_or("");
+            case.fault.push_str(rest.strip_prefix(" ! ").unwrap_or(""))?;
         } else if is_printed {
             add_printed(&mut case.printed, line)?;
         } else {
