@@ -24,17 +24,22 @@ struct Case {
     printed: String,
 }
 
+impl Case {
+    fn said(&self) -> Said<'_> {
+        if self.fault.is_empty() {
+            Said::Meaning(self.printed.as_str())
+        } else {
+            Said::Fault(self.fault.as_str())
+        }
+    }
+}
+
 pub fn judge_schedules(alloc: Global, text: &str) -> Result<Report> {
     let mut report = Report::new(alloc);
     let records = records_of(text)?;
     for case in cases_of(alloc, text)? {
         let answer = played(alloc, records, case.schedule.as_str())?;
-        let said = if case.fault.is_empty() {
-            Said::Meaning(case.printed.as_str())
-        } else {
-            Said::Fault(case.fault.as_str())
-        };
-        if answer.is_as_said(said) {
+        if answer.is_as_said(case.said()) {
             report.hold();
         } else {
             report.miss(case.line, &answer)?;
