@@ -11,18 +11,26 @@ use tables::{Catalog, Row, Value};
 use txlog::{FIRST_POSITION, Publisher, SessionFault, Tx};
 
 fn main(rt: HostRuntime) -> Result<()> {
-    let alloc = rt.alloc();
-    let mut publisher = Publisher::new(alloc, Catalog::builtin(alloc)?, 1000)?;
+    let bytes = stream(rt.alloc())?;
+    println!(rt; "{bytes}")?;
+    Ok(())
+}
+
+/// What a subscriber gets, in hexadecimal digits.
+fn stream(alloc: Global) -> Result<String> {
+    let mut publisher = publisher(alloc)?;
     run_session(alloc, &mut publisher)?;
     let mut sender = sender_of_p(alloc)?;
     send(&publisher, &mut sender)?;
-
-    // All that is held, as for a socket; `drain` takes as much as a buffer has room for.
+    // All that is held; for a socket, `drain` takes as much as a buffer has room for.
     let mut out = BytesMut::new(alloc);
     sender.drain_into(usize::MAX, &mut out)?;
-    let bytes = hex::encode(alloc, out.as_slice())?;
-    println!(rt; "{bytes}")?;
-    Ok(())
+    Ok(hex::encode(alloc, out.as_slice())?)
+}
+
+/// A publisher of the built-in table, whose log has room for 1,000 records.
+fn publisher(alloc: Global) -> Result<Publisher> {
+    Ok(Publisher::new(alloc, Catalog::builtin(alloc)?, 1000)?)
 }
 
 /// A sender of what the publication `p` publishes, from the beginning of the log on.

@@ -16,12 +16,22 @@ const PRINTS: &str = "--";
 
 /// A schedule as it stands in its file.
 #[derive(Drop)]
-struct Case<'a> {
+struct Case {
     /// The line of the file where it begins.
     line: usize,
     schedule: String,
-    fault: &'a str,
+    fault: String,
     printed: String,
+}
+
+impl Case {
+    fn said(&self) -> Said<'_> {
+        if self.fault.is_empty() {
+            Said::Meaning(self.printed.as_str())
+        } else {
+            Said::Fault(self.fault.as_str())
+        }
+    }
 }
 
 pub fn judge_schedules(alloc: Global, text: &str) -> Result<Report> {
@@ -29,11 +39,7 @@ pub fn judge_schedules(alloc: Global, text: &str) -> Result<Report> {
     let records = records_of(text)?;
     for case in cases_of(alloc, text)? {
         let answer = played(alloc, records, case.schedule.as_str())?;
-        let said = match case.fault {
-            "" => Said::Meaning(case.printed.as_str()),
-            fault => Said::Fault(fault),
-        };
-        if answer.is_as_said(said) {
+        if answer.is_as_said(case.said()) {
             report.hold();
         } else {
             report.miss(case.line, &answer)?;
@@ -57,8 +63,8 @@ fn records_of(text: &str) -> Result<usize> {
     Ok(BUILTIN_RECORDS)
 }
 
-fn cases_of<'a>(alloc: Global, text: &'a str) -> Result<Vec<Case<'a>>> {
-    let mut cases: Vec<Case<'a>> = Vec::new(alloc);
+fn cases_of(alloc: Global, text: &str) -> Result<Vec<Case>> {
+    let mut cases: Vec<Case> = Vec::new(alloc);
     let mut is_printed = false;
     for (number, line) in (1..usize::MAX).zip(text.split('\n')) {
         if line.starts_with(NAMED) {
@@ -66,7 +72,7 @@ fn cases_of<'a>(alloc: Global, text: &'a str) -> Result<Vec<Case<'a>>> {
             cases.push(Case {
                 line: number,
                 schedule: String::new(alloc),
-                fault: "",
+                fault: String::new(alloc),
                 printed: String::new(alloc),
             })?;
             continue;
@@ -76,7 +82,7 @@ fn cases_of<'a>(alloc: Global, text: &'a str) -> Result<Vec<Case<'a>>> {
         };
         if let Some(rest) = line.strip_prefix(PRINTS) {
             is_printed = true;
-            case.fault = rest.strip_prefix(" ! ").unwrap_or("");
+            case.fault.push_str(rest.strip_prefix(" ! ").unwrap_or(""))?;
         } else if is_printed {
             add_printed(&mut case.printed, line)?;
         } else {
