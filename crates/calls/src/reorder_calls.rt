@@ -18,8 +18,8 @@ fn insert(alloc: Global, xid: u32) -> Result<Body, Fail> {
 fn ready(alloc: Global, bodies: Vec<Body>) -> Result<Vec<u64>, Fail> {
     let mut reorder = Reorder::new(alloc);
     let mut seen = Vec::new(alloc);
-    for (place, body) in (0..100).zip(bodies) {
-        let start = place * 8;
+    for (place, body) in (0u8..100).zip(bodies) {
+        let start = u64::from(place) * 8;
         let next = Arc::new(
             alloc,
             Record {
