@@ -5,6 +5,8 @@ mod body;
 mod catalog;
 mod change;
 mod column;
+mod config;
+mod config_fault;
 mod fault;
 mod identity;
 mod journal;
@@ -24,6 +26,8 @@ pub use body::{
 pub use catalog::Catalog;
 pub use change::Change;
 pub use column::Column;
+pub use config::{MAX_COLUMNS, MAX_NAME_LENGTH, MAX_OID, MAX_TABLES};
+pub use config_fault::{CatalogFault, Member, Misfit};
 pub use fault::BodyFault;
 pub use identity::Identity;
 pub use journal::Journal;
