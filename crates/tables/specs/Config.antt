@@ -2,7 +2,7 @@
 use Rattle.std.specs.Prelude.{◌≡◌, ℕ, ℤ, pos, nat_abs, int_le, ◌+◌, ◌==◌, nat_le, nat_lt, Bool, true, false, ◌&&◌, ◌||◌, not, if◌then◌else◌, is_some, List, [], ◌∷◌, ◌++◌, length, codes, Option, Some, None, option_map, ok_or, Result, Ok, Err}
 use Rattle.std.specs.List.{list_all, list_any}
 use Rattle.std.specs.Str.{bytes_eq}
-use Rattle.toml.specs.Data.{Data, Items, no_items, item, Members, no_members, member, array, table, get, as_str, as_integer, as_array}
+use Rattle.toml.specs.Data.{Data, Items, no_items, item, Members, no_members, member, array, table, get, at, as_str, as_integer, as_array}
 use Rattle.toml.specs.Parse.{parse_document}
 use Rattle.frames.specs.Steps.{◌>>=◌}
 use Rattle.tables.specs.declared.kind.Kind.{Kind}
@@ -17,7 +17,9 @@ use Rattle.tables.specs.declared.config_fault.Misfit.{Misfit}
 use Rattle.tables.specs.declared.config_fault.Misfit.TheVariants as misfits
 use Rattle.tables.specs.declared.config_fault.CatalogFault.{CatalogFault}
 use Rattle.tables.specs.declared.config_fault.CatalogFault.TheVariants as faults
-use Rattle.tables.specs.declared.config.TheConstants.{MAX_NAME_LENGTH, MAX_COLUMNS, MAX_TABLES, MAX_OID}
+use Rattle.tables.specs.declared.config.TheConstants.{MAX_TABLES}
+use Rattle.tables.specs.declared.config_table.TheConstants.{MAX_COLUMNS}
+use Rattle.tables.specs.declared.config_member.TheConstants.{MAX_NAME_LENGTH, MAX_OID}
 use Rattle.tables.specs.Tables.{full_name, has_no_zero}
 
 -- what is read of what was found, if anything was
@@ -77,27 +79,28 @@ names_behind names (item d ds) = and_then (another_name names d) (λ name. names
 unfoldable pub names_in : Data → Option (List (List ℕ))
 names_in d = and_then (as_array d) (λ ds. and_then (names_behind [] ds) unless_empty)
 
-abbrev pub pair_of : Items → Option (Data × Data)
-pair_of (item a (item b no_items)) = Some (a, b)
-pair_of ds = None
+-- a list of two
+unfoldable pub pair_in : Data → Option (Data × Data)
+pair_in d = and_then (at 0 d) (λ first. and_then (at 1 d) (λ second. if is_some (at 2 d) then None else Some (first, second)))
 
 abbrev pub is_column : List Column → List ℕ → Bool
 is_column columns name = list_any (λ column. bytes_eq column.name name) columns
 
--- one more column: a name, which none of them has, and a type
-unfoldable pub with_column : List (List ℕ) → List Column → Data → Option (List Column)
-with_column key columns d =
-    if nat_lt (length columns) MAX_COLUMNS then
-        and_then (and_then (as_array d) pair_of) (λ pair.
-        and_then (name_in pair.0) (λ name.
-        and_then (kind_in pair.1) (λ kind.
-        if is_column columns name then None
-        else Some (columns ++ record { name = name; kind = kind; is_key = list_any (bytes_eq name) key } ∷ []))))
-    else None
+-- a name, which none of them has, and a type
+unfoldable pub another_column : List (List ℕ) → List Column → Data → Option Column
+another_column key columns d =
+    and_then (pair_in d) (λ pair.
+    and_then (name_in pair.0) (λ name.
+    and_then (kind_in pair.1) (λ kind.
+    if is_column columns name then None
+    else Some (record { name = name; kind = kind; is_key = list_any (bytes_eq name) key }))))
 
+-- each further column, while there is room for one more
 abbrev pub columns_behind : List (List ℕ) → List Column → Items → Option (List Column)
 columns_behind key columns no_items = Some columns
-columns_behind key columns (item d ds) = and_then (with_column key columns d) (λ more. columns_behind key more ds)
+columns_behind key columns (item d ds) =
+    if nat_lt (length columns) MAX_COLUMNS then and_then (another_column key columns d) (λ column. columns_behind key (columns ++ column ∷ []) ds)
+    else None
 
 unfoldable pub columns_in : List (List ℕ) → Data → Option (List Column)
 columns_in key d = and_then (as_array d) (λ ds. and_then (columns_behind key [] ds) unless_empty)
@@ -130,30 +133,35 @@ table_in d = do
     else if has_others d then Err members.Other
     else Ok (record { oid = oid; schema = schema; name = name; identity = identity; columns = columns })
 
--- no two tables have one OID or one name
-abbrev pub apart : List Table → Table → Result (List Table) Member
-apart tables t =
-    if list_any (λ u. u.oid == t.oid) tables then Err members.Oid
-    else if list_any (λ u. bytes_eq (full_name u) (full_name t)) tables then Err members.Name
-    else Ok (tables ++ t ∷ [])
+-- the OID or the name of the table is that of another
+abbrev pub clash : List Table → Table → Option Member
+clash tables t =
+    if list_any (λ u. u.oid == t.oid) tables then Some members.Oid
+    else if list_any (λ u. bytes_eq (full_name u) (full_name t)) tables then Some members.Name
+    else None
+
+abbrev pub unless_clash : Table → Option Member → Result Table Member
+unless_clash t None = Ok t
+unless_clash t (Some which) = Err which
+
+-- a table that has neither the OID nor the name of another
+unfoldable pub another_table : List Table → Data → Result Table Member
+another_table tables d = table_in d >>= λ t. unless_clash t (clash tables t)
 
 abbrev pub numbered : {X : Type 0} → ℕ → Result X Member → Result X Misfit
 numbered n (Ok x) = Ok x
 numbered n (Err which) = Err (misfits.Table n which)
 
-unfoldable pub with_table : List Table → Data → Result (List Table) Misfit
-with_table tables d =
-    if nat_lt (length tables) MAX_TABLES then numbered (length tables + 1) (table_in d >>= apart tables)
-    else Err misfits.TooMany
-
 -- the tables of a list, in its order
 abbrev pub tables_behind : List Table → Items → Result (List Table) Misfit
 tables_behind tables no_items = Ok tables
-tables_behind tables (item d ds) = with_table tables d >>= λ more. tables_behind more ds
+tables_behind tables (item d ds) =
+    if nat_lt (length tables) MAX_TABLES then (numbered (length tables + 1) (another_table tables d) >>= λ t. tables_behind (tables ++ t ∷ []) ds)
+    else Err misfits.TooMany
 
 abbrev pub tables_of : Option Data → Result (List Table) Misfit
 tables_of None = Ok []
-tables_of (Some d) = ok_or (as_array d) misfits.NoList >>= tables_behind []
+tables_of (Some d) = ok_or (as_array d) misfits.NoList >>= λ ds. tables_behind [] ds
 
 -- None where the text is no TOML
 abbrev pub named_by : List ℕ → Option (Result (List Table) Misfit)
