@@ -2,7 +2,7 @@
 use Rattle.std.specs.Prelude.{◌≡◌, ℕ, ℤ, pos, nat_abs, int_le, ◌+◌, ◌==◌, nat_le, nat_lt, Bool, true, false, ◌&&◌, ◌||◌, not, if◌then◌else◌, is_some, List, [], ◌∷◌, ◌++◌, length, codes, Option, Some, None, option_map, ok_or, Result, Ok, Err}
 use Rattle.std.specs.List.{list_all, list_any}
 use Rattle.std.specs.Str.{bytes_eq}
-use Rattle.toml.specs.Data.{Data, Items, no_items, item, Members, no_members, member, array, table, get, at, as_str, as_integer, as_array}
+use Rattle.toml.specs.Data.{Data, Items, no_items, item, Members, no_members, member, array, table, get, at, as_str, as_integer, as_array, as_table}
 use Rattle.toml.specs.Parse.{parse_document}
 use Rattle.frames.specs.Steps.{◌>>=◌}
 use Rattle.tables.specs.declared.kind.Kind.{Kind}
@@ -20,6 +20,8 @@ use Rattle.tables.specs.declared.config_fault.CatalogFault.TheVariants as faults
 use Rattle.tables.specs.declared.config.TheConstants.{MAX_TABLES}
 use Rattle.tables.specs.declared.config_table.TheConstants.{MAX_COLUMNS}
 use Rattle.tables.specs.declared.config_member.TheConstants.{MAX_NAME_LENGTH, MAX_OID}
+use Rattle.tables.specs.declared.config_table.Unread.{Unread}
+use Rattle.tables.specs.declared.config_table.Unread.TheVariants as unread
 use Rattle.tables.specs.Tables.{full_name, has_no_zero}
 
 -- what is read of what was found, if anything was
@@ -113,13 +115,13 @@ abbrev pub count_of : Members → ℕ
 count_of no_members = 0
 count_of (member k d ms) = count_of ms + 1
 
-abbrev pub members_in : Data → ℕ
-members_in (table ms) = count_of ms
-members_in d = 0
+abbrev pub is_more_than : ℕ → Option Members → Bool
+is_more_than known None = true
+is_more_than known (Some ms) = not (count_of ms == known)
 
--- five members, and the identity where it is there
+-- There are others than the five members and the identity, where that is there.
 abbrev pub has_others : Data → Bool
-has_others d = not (members_in d == (if is_some (get (codes "identity") d) then 6 else 5))
+has_others d = is_more_than (if is_some (get (codes "identity") d) then 6 else 5) (as_table d)
 
 unfoldable pub table_in : Data → Result Table Member
 table_in d = do
@@ -132,6 +134,12 @@ table_in d = do
   if not (list_all (is_column columns) key) then Err members.Key
     else if has_others d then Err members.Other
     else Ok (record { oid = oid; schema = schema; name = name; identity = identity; columns = columns })
+
+-- what reading a table answers, memory apart
+abbrev pub ReadsTable : Result Table Unread → Result Table Member → Type 0
+ReadsTable (Ok t) read = read ≡ Ok t
+ReadsTable (Err (unread.Wrong which)) read = read ≡ Err which
+ReadsTable (Err unread.Memory) read = Unit {0}
 
 -- the OID or the name of the table is that of another
 abbrev pub clash : List Table → Table → Option Member
