@@ -22,7 +22,7 @@ use Rattle.tables.specs.declared.config_table.TheConstants.{MAX_COLUMNS}
 use Rattle.tables.specs.declared.config_member.TheConstants.{MAX_NAME_LENGTH, MAX_OID}
 use Rattle.tables.specs.declared.config_table.Unread.{Unread}
 use Rattle.tables.specs.declared.config_table.Unread.TheVariants as unread
-use Rattle.tables.specs.Tables.{full_name, has_no_zero}
+use Rattle.tables.specs.Tables.{has_no_zero}
 
 -- what is read of what was found, if anything was
 abbrev pub and_then : {A B : Type 0} → Option A → (A → Option B) → Option B
@@ -141,11 +141,14 @@ ReadsTable (Ok t) read = read ≡ Ok t
 ReadsTable (Err (unread.Wrong which)) read = read ≡ Err which
 ReadsTable (Err unread.Memory) read = Unit {0}
 
+abbrev pub is_namesake : Table → Table → Bool
+is_namesake u t = bytes_eq u.schema t.schema && bytes_eq u.name t.name
+
 -- the OID or the name of the table is that of another
 abbrev pub clash : List Table → Table → Option Member
 clash tables t =
     if list_any (λ u. u.oid == t.oid) tables then Some members.Oid
-    else if list_any (λ u. bytes_eq (full_name u) (full_name t)) tables then Some members.Name
+    else if list_any (λ u. is_namesake u t) tables then Some members.Name
     else None
 
 abbrev pub unless_clash : Table → Option Member → Result Table Member
@@ -170,6 +173,13 @@ tables_behind tables (item d ds) =
 abbrev pub tables_of : Option Data → Result (List Table) Misfit
 tables_of None = Ok []
 tables_of (Some d) = ok_or (as_array d) misfits.NoList >>= λ ds. tables_behind [] ds
+
+-- what reading the tables answers, memory apart
+abbrev pub ReadsTables : Result (List Table) CatalogFault → Result (List Table) Misfit → Type 0
+ReadsTables (Ok tables) read = read ≡ Ok tables
+ReadsTables (Err (faults.BadTables misfit)) read = read ≡ Err misfit
+ReadsTables (Err (faults.NotToml line)) read = ⊥
+ReadsTables (Err faults.Memory) read = Unit {0}
 
 -- None where the text is no TOML
 abbrev pub named_by : List ℕ → Option (Result (List Table) Misfit)
