@@ -132,8 +132,8 @@ table_in d = do
   key ← told members.Key (codes "key") names_in d
   columns ← told members.Columns (codes "columns") (columns_in key) d
   if not (list_all (is_column columns) key) then Err members.Key
-    else if has_others d then Err members.Other
-    else Ok (record { oid = oid; schema = schema; name = name; identity = identity; columns = columns })
+      else if has_others d then Err members.Other
+      else Ok (record { oid = oid; schema = schema; name = name; identity = identity; columns = columns })
 
 -- what reading a table answers, memory apart
 abbrev pub ReadsTable : Result Table Unread → Result Table Member → Type 0

@@ -39,7 +39,10 @@ fn line_of(text: &str, fault: &toml::de::Error) -> usize {
         Some(span) => text.as_bytes().get(..span.start).unwrap_or(&[]),
         None => &[],
     };
-    read.iter().filter(|b| **b == b'\n').count().saturating_add(1)
+    read.iter()
+        .filter(|b| **b == b'\n')
+        .count()
+        .saturating_add(1)
 }
 
 fn tables_of(alloc: Global, member: Option<&Value>) -> Result<Items<Table>, CatalogFault>

@@ -28,7 +28,8 @@ impl fmt::Display for Member {
             Member::Name => "name: a name that no other table of the schema has",
             Member::Identity => "identity: default, nothing or full",
             Member::Key => "key: a list of columns, each once",
-            Member::Columns => "columns: a list of 1 to 64 pairs of a name and a type, each name once",
+            Member::Columns =>
+                "columns: a list of 1 to 64 pairs of a name and a type, each name once",
             Member::Other => "oid, schema, name, identity, key, columns, and no other member",
         })
     }

@@ -62,7 +62,7 @@ pub(crate) fn identity_in(member: Option<&Value>) -> Option<Identity>
     }
 }
 
-fn identity_of(text: &str) -> Option<Identity> 
+fn identity_of(text: &str) -> Option<Identity>
     ensures { result ≡ identity_of text.now }
 {
     match text {

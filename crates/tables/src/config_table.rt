@@ -9,7 +9,9 @@ ghost use Rattle.tables.specs.Config.{and_then, another_column, columns_behind, 
 
 use crate::column::Column;
 use crate::config_fault::Member;
-use crate::config_member::{identity_in, is_among, kind_in, name_in, names_in, oid_in, unless_empty};
+use crate::config_member::{
+    identity_in, is_among, kind_in, name_in, names_in, oid_in, unless_empty,
+};
 use crate::table::Table;
 use frames::{Items, Text};
 use std::alloc::{AllocError, Global};
@@ -89,7 +91,11 @@ fn key_at(alloc: Global, table: &Value) -> Result<Option<Items<Text>>, AllocErro
     }
 }
 
-fn columns_at(alloc: Global, key: &[Text], table: &Value) -> Result<Option<Items<Column>>, AllocError>
+fn columns_at(
+    alloc: Global,
+    key: &[Text],
+    table: &Value,
+) -> Result<Option<Items<Column>>, AllocError>
     ensures { IfOk result (λ columns. columns ≡ and_then (get (codes "columns") (view table.now)) (columns_in key.now)) }
 {
     match table.get("columns") {
@@ -121,7 +127,11 @@ fn has_others(table: &Value) -> bool
 }
 
 #[tactic(auto, unfolding(crate::specs::Config::columns_in))]
-fn columns_in(alloc: Global, key: &[Text], value: &Value) -> Result<Option<Items<Column>>, AllocError>
+fn columns_in(
+    alloc: Global,
+    key: &[Text],
+    value: &Value,
+) -> Result<Option<Items<Column>>, AllocError>
     ensures { IfOk result (λ columns. columns ≡ columns_in key.now (view value.now)) }
 {
     match value.as_array() {
@@ -130,7 +140,11 @@ fn columns_in(alloc: Global, key: &[Text], value: &Value) -> Result<Option<Items
     }
 }
 
-fn columns_of(alloc: Global, key: &[Text], values: &[Value]) -> Result<Option<Items<Column>>, AllocError>
+fn columns_of(
+    alloc: Global,
+    key: &[Text],
+    values: &[Value],
+) -> Result<Option<Items<Column>>, AllocError>
     ensures { IfOk result (λ columns. columns ≡ columns_behind key.now [] (items_view values.now)) }
 {
     let mut columns = Vec::new(alloc);
@@ -147,7 +161,12 @@ fn columns_of(alloc: Global, key: &[Text], values: &[Value]) -> Result<Option<It
 }
 
 #[tactic(auto, unfolding(crate::specs::Config::another_column))]
-fn another_column(alloc: Global, key: &[Text], columns: &[Column], value: &Value) -> Result<Option<Column>, AllocError>
+fn another_column(
+    alloc: Global,
+    key: &[Text],
+    columns: &[Column],
+    value: &Value,
+) -> Result<Option<Column>, AllocError>
     ensures { IfOk result (λ column. column ≡ another_column key.now columns.now (view value.now)) }
 {
     let Some((name, kind)) = pair_in(value) else {
