@@ -4,6 +4,7 @@
 //! each line; a file of schedules has what each of them prints. The head of each file tells its form.
 #![tactic(auto)]
 
+mod catalog_text;
 mod event_line;
 mod expanded;
 mod field;

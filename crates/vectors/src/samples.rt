@@ -1,5 +1,6 @@
 //! Files of samples, one on each line.
 
+use crate::catalog_text::catalog_answer;
 use crate::event_line::event_answer;
 use crate::field::field_answer;
 use crate::framing::{back_answer, front_answer};
@@ -75,6 +76,7 @@ fn unless_said(answer: Answer, sample: Sample<'_>) -> Option<Answer> {
 
 fn answer_of(alloc: Global, sample: Sample<'_>) -> Result<Answer> {
     match sample.call {
+        "catalog" => catalog_answer(alloc, sample.given),
         "event" => event_answer(alloc, sample.given),
         "text" => text_answer(alloc, sample.given),
         "code" => code_answer(alloc, sample.given),
