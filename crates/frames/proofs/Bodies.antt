@@ -1,65 +1,72 @@
 -- The frames of each side are read as they are spelled.
-use Rattle.std.proofs.Common.{◌≡◌, ℕ, Bool, true, false, cond, eqb, List, Some, None, Ok, Err, refl, sym, subst}
-use Rattle.std.proofs.lemmas.Bool.{eqb-true}
+use Rattle.std.proofs.Common.{◌≡◌, ℕ, false, List, [], Result, Ok, refl, sym, ap, subst, ◌∙◌, arith}
+use Rattle.std.proofs.lemmas.List.{append-nil}
+use Rattle.std.specs.Str.{is_utf8}
 use Rattle.frames.specs.declared.fault.FrameFault.{FrameFault}
-use Rattle.frames.specs.declared.fault.FrameFault.TheVariants.{UnknownType}
+use Rattle.frames.specs.declared.copy_data.CopyData.{CopyData}
 use Rattle.frames.specs.declared.copy_data.TheConstants.{COPY_DATA}
+use Rattle.frames.specs.declared.copy_done.TheConstants.{COPY_DONE}
+use Rattle.frames.specs.declared.copy_fail.TheConstants.{COPY_FAIL}
+use Rattle.frames.specs.declared.query.TheConstants.{QUERY, QUERY_LIMIT}
+use Rattle.frames.specs.declared.terminate.TheConstants.{TERMINATE}
 use Rattle.frames.specs.declared.frame.TheConstants.{FRAME_LIMIT}
 use Rattle.frames.specs.declared.front.Front.{Front}
 use Rattle.frames.specs.declared.front.Front.TheVariants as fronts
 use Rattle.frames.specs.declared.back.Back.{Back}
 use Rattle.frames.specs.declared.back.Back.TheVariants as backs
-use Rattle.frames.specs.Front.{front_kind, front_body, front_limit, front_at, FitsFront}
-use Rattle.frames.specs.Back.{back_kind, back_body, back_limit, back_at, FitsBack}
-use Rattle.frames.proofs.Codec.{IsBytes, ok_is, done}
+use Rattle.frames.specs.Fields.{string, has_zero}
+use Rattle.frames.specs.Body.{checked, always, nothing_at, text_at}
+use Rattle.frames.specs.CopyData.{copy_data, copy_data_at}
+use Rattle.frames.specs.Front.{front_kind, front_body, front_limit, front_at, IsShapedFront, is_front_text}
+use Rattle.frames.specs.Back.{back_kind, back_body, back_limit, back_at, IsShapedBack, is_back_text}
+use Rattle.frames.proofs.Codec.{IsBytes, Takes, ok_is, done}
+use Rattle.frames.proofs.Numbers.{string_codec, nothing_codec}
+use Rattle.frames.specs.Steps.{◌>>=◌}
+use Rattle.frames.proofs.Cases.{Cases, Body, body_of_codec, case, no_case, whole_again, made}
 use Rattle.frames.proofs.Frames.{AreBodies}
 
-pub front_bodies : AreBodies front_limit front_kind front_body FitsFront front_at
-front_bodies = record { takes = takes; again = again; read = read }
+-- all bytes are those of CopyData, so nothing stands behind it
+copy_data_body : Body copy_data_at copy_data (λ _. Unit {0})
+copy_data_body = record { takes = takes; again = λ m fits. refl }
   where
-    Taken : ℕ → List ℕ → Front → Type 0
-    Taken kind body f = (front_kind f ≡ kind) × (front_body f ≡ body) × FitsFront f
+    takes : (bytes : List ℕ) (m : CopyData) (rest : List ℕ) → IsBytes bytes → copy_data_at bytes ≡ Ok (m, rest) → Takes bytes (copy_data m) rest × Unit {0}
+    takes bytes m rest fits e =
+        let read : CopyData × List ℕ = (record { bytes = bytes }, []) in
+        let P : CopyData × List ℕ → Type 0 = λ y. Takes bytes (copy_data y.0) y.1 × Unit {0} in
+        subst P (ok_is (Unit {0}) read (m, rest) e) (record { parts = sym (append-nil bytes); rest_fits = λ i. omega arith }, tt)
 
-    by_kind : (kind : ℕ) (body : List ℕ) (f : Front) → (b : Bool) → (b ≡ true → kind ≡ COPY_DATA) → cond b (Ok (fronts.CopyData (record { bytes = body }))) (Err UnknownType) ≡ done FrameFault f → Taken kind body f
-    by_kind kind body f true is e =
-        let P : Front → Type 0 = λ g. Taken kind body g in
-        subst P (ok_is FrameFault (fronts.CopyData (record { bytes = body })) f e) (sym (is refl), refl, tt)
-    by_kind kind body f false is e = absurd cc
+text_body : Body text_at string (λ text. has_zero text ≡ false)
+text_body = body_of_codec (string_codec tt)
 
-    takes : (kind : ℕ) (body : List ℕ) (f : Front) → IsBytes body → front_at kind body ≡ Ok f → Taken kind body f
-    takes kind body f fits e = by_kind kind body f (eqb kind COPY_DATA) (λ is. eqb-true kind COPY_DATA is) e
+empty_body : Body nothing_at (λ _. []) (λ _. Unit {0})
+empty_body = body_of_codec nothing_codec
 
-    again : (f : Front) → FitsFront f → front_at (front_kind f) (front_body f) ≡ Ok f
-    again (fronts.CopyData m) fits = refl
+front_cases : Cases front_kind front_body IsShapedFront is_front_text front_limit front_at
+front_cases =
+    case QUERY QUERY_LIMIT text_body is_utf8 (λ text. fronts.Query (record { text = text })) (λ text fits. (refl, refl, fits)) (λ _. refl) (
+    case TERMINATE FRAME_LIMIT empty_body always (λ _. fronts.Terminate) (λ _ _. (refl, refl, tt)) (λ _. refl) (
+    case COPY_DATA FRAME_LIMIT copy_data_body always (λ m. fronts.CopyData m) (λ _ _. (refl, refl, tt)) (λ _. refl) (
+    case COPY_DONE FRAME_LIMIT empty_body always (λ _. fronts.CopyDone) (λ _ _. (refl, refl, tt)) (λ _. refl) (
+    case COPY_FAIL FRAME_LIMIT text_body is_utf8 (λ reason. fronts.CopyFail (record { reason = reason })) (λ reason fits. (refl, refl, fits)) (λ _. refl) (
+    no_case front_kind front_body IsShapedFront is_front_text)))))
 
-    by_limit : (kind most : ℕ) (body : List ℕ) → (b : Bool) → cond b (Some FRAME_LIMIT) None ≡ Some most → (f : Front) × (cond b (Ok (fronts.CopyData (record { bytes = body }))) (Err UnknownType) ≡ done FrameFault f)
-    by_limit kind most body true allowed = (fronts.CopyData (record { bytes = body }), refl)
-    by_limit kind most body false allowed = absurd cc
+front_again : (f : Front) → IsShapedFront f → front_at (front_kind f) (front_body f) ≡ checked is_front_text f
+front_again (fronts.Query m) shaped = ap (λ (r : Result (List ℕ) FrameFault). r >>= λ text. done FrameFault (fronts.Query (record { text = text }))) (whole_again text_body is_utf8 m.text shaped) ∙ made (λ text. fronts.Query (record { text = text })) (is_utf8 m.text) m.text
+front_again fronts.Terminate shaped = refl
+front_again (fronts.CopyData m) shaped = refl
+front_again fronts.CopyDone shaped = refl
+front_again (fronts.CopyFail m) shaped = ap (λ (r : Result (List ℕ) FrameFault). r >>= λ reason. done FrameFault (fronts.CopyFail (record { reason = reason }))) (whole_again text_body is_utf8 m.reason shaped) ∙ made (λ reason. fronts.CopyFail (record { reason = reason })) (is_utf8 m.reason) m.reason
 
-    read : (kind most : ℕ) (body : List ℕ) → front_limit kind ≡ Some most → (f : Front) × (front_at kind body ≡ Ok f)
-    read kind most body allowed = by_limit kind most body (eqb kind COPY_DATA) allowed
+pub front_bodies : AreBodies front_limit front_kind front_body IsShapedFront is_front_text front_at
+front_bodies = record { cases = front_cases; again = front_again }
 
-pub back_bodies : AreBodies back_limit back_kind back_body FitsBack back_at
-back_bodies = record { takes = takes; again = again; read = read }
-  where
-    Taken : ℕ → List ℕ → Back → Type 0
-    Taken kind body f = (back_kind f ≡ kind) × (back_body f ≡ body) × FitsBack f
+back_cases : Cases back_kind back_body IsShapedBack is_back_text back_limit back_at
+back_cases =
+    case COPY_DATA FRAME_LIMIT copy_data_body always (λ m. backs.CopyData m) (λ _ _. (refl, refl, tt)) (λ _. refl) (
+    no_case back_kind back_body IsShapedBack is_back_text)
 
-    by_kind : (kind : ℕ) (body : List ℕ) (f : Back) → (b : Bool) → (b ≡ true → kind ≡ COPY_DATA) → cond b (Ok (backs.CopyData (record { bytes = body }))) (Err UnknownType) ≡ done FrameFault f → Taken kind body f
-    by_kind kind body f true is e =
-        let P : Back → Type 0 = λ g. Taken kind body g in
-        subst P (ok_is FrameFault (backs.CopyData (record { bytes = body })) f e) (sym (is refl), refl, tt)
-    by_kind kind body f false is e = absurd cc
+back_again : (f : Back) → IsShapedBack f → back_at (back_kind f) (back_body f) ≡ checked is_back_text f
+back_again (backs.CopyData m) shaped = refl
 
-    takes : (kind : ℕ) (body : List ℕ) (f : Back) → IsBytes body → back_at kind body ≡ Ok f → Taken kind body f
-    takes kind body f fits e = by_kind kind body f (eqb kind COPY_DATA) (λ is. eqb-true kind COPY_DATA is) e
-
-    again : (f : Back) → FitsBack f → back_at (back_kind f) (back_body f) ≡ Ok f
-    again (backs.CopyData m) fits = refl
-
-    by_limit : (kind most : ℕ) (body : List ℕ) → (b : Bool) → cond b (Some FRAME_LIMIT) None ≡ Some most → (f : Back) × (cond b (Ok (backs.CopyData (record { bytes = body }))) (Err UnknownType) ≡ done FrameFault f)
-    by_limit kind most body true allowed = (backs.CopyData (record { bytes = body }), refl)
-    by_limit kind most body false allowed = absurd cc
-
-    read : (kind most : ℕ) (body : List ℕ) → back_limit kind ≡ Some most → (f : Back) × (back_at kind body ≡ Ok f)
-    read kind most body allowed = by_limit kind most body (eqb kind COPY_DATA) allowed
+pub back_bodies : AreBodies back_limit back_kind back_body IsShapedBack is_back_text back_at
+back_bodies = record { cases = back_cases; again = back_again }

@@ -3,6 +3,7 @@ pub mod Steps
 pub mod Putting
 pub mod Frame
 pub mod Raw
+pub mod Body
 pub mod CopyData
 pub mod Front
 pub mod Back

@@ -1,9 +1,9 @@
 //! The frames that the server sends: the enum over them, its reader and its writer.
 
 ghost use Rattle.std.specs.Prelude.{◌≡◌, ◌<◌, ◌≤◌, ◌++◌, List, ℕ, length, take, Ok, Err, Some, None, IfOk, IfErr, IfSome, OnOk, OnErr};
-ghost use Rattle.frames.specs.Frame.{FitsLength, frame, Gives, StandsAt, IsWhole, raw_at};
+ghost use Rattle.frames.specs.Frame.{FitsLength, frame, Gives, IsWhole, raw_at};
 ghost use Rattle.frames.specs.Putting.{Puts};
-ghost use Rattle.frames.specs.Back.{back_kind, back_body, back_limit, back_at, framed_back, SpellsBack, IsShortBack};
+ghost use Rattle.frames.specs.Back.{back_kind, back_body, back_limit, back_at, framed_back, SpellsBack, IsShortBack, IsBackFault};
 
 use crate::copy_data::{COPY_DATA, CopyData, copy_data_len, copy_data_of, put_copy_data};
 use crate::cursor::Cursor;
@@ -35,7 +35,7 @@ pub fn read_back(alloc: Global, bytes: &[u8]) -> Result<Option<(Back, usize)>, F
     ensures waits { (text more : List ℕ) (f : Back) → SpellsBack text f → IsShortBack f → text ≡ bytes.now ++ more
         → length bytes.now < length text → result ≡ Ok None }
     // A fault stands in the bytes.
-    ensures fault { IfErr result (λ e. StandsAt back_limit e bytes.now) }
+    ensures fault { IfErr result (λ e. IsBackFault e bytes.now) }
     // Which fault it is, in the order in which the bytes are judged.
     ensures exact { Gives result (framed_back bytes.now) }
 {

@@ -1,0 +1,36 @@
+-- A body that is read whole: first its parts, one behind the other, with nothing left over, and then its texts.
+use Rattle.std.specs.Prelude.{ℕ, Bool, true, List, [], ◌∷◌, Option, Result, Ok, Err, if◌then◌else◌}
+use Rattle.std.specs.Option.{ok_or}
+use Rattle.frames.specs.Fields.{string_at}
+use Rattle.frames.specs.Steps.{◌>>=◌}
+use Rattle.frames.specs.declared.fault.FrameFault.{FrameFault}
+use Rattle.frames.specs.declared.fault.FrameFault.TheVariants.{BadBody, NotUtf8}
+
+-- A part of a body, with what follows it. It is there or it isn't, and there is no second way to fail.
+abbrev pub there : {X : Type 0} → Option X → Result X (Unit {0})
+there o = ok_or o tt
+
+-- a body of nothing
+abbrev pub nothing_at : List ℕ → Result (Unit {0} × List ℕ) (Unit {0})
+nothing_at bytes = Ok (tt, bytes)
+
+-- a body of one text
+abbrev pub text_at : List ℕ → Result (List ℕ × List ℕ) (Unit {0})
+text_at bytes = there (string_at bytes)
+
+-- nothing is left over
+abbrev pub ended : List ℕ → Result (Unit {0}) FrameFault
+ended [] = Ok tt
+ended (b ∷ bytes) = Err BadBody
+
+-- the texts are UTF-8
+abbrev pub checked : {X : Type 0} → (X → Bool) → X → Result X FrameFault
+checked is_text x = if is_text x then Ok x else Err NotUtf8
+
+abbrev pub whole : {X : Type 0} → (X → Bool) → Result (X × List ℕ) (Unit {0}) → Result X FrameFault
+whole is_text (Ok x) = ended x.1 >>= λ _. checked is_text x.0
+whole is_text (Err u) = Err BadBody
+
+-- for what has no text
+abbrev pub always : {X : Type 0} → X → Bool
+always x = true
