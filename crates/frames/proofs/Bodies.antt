@@ -3,6 +3,7 @@ use Rattle.std.proofs.Common.{◌≡◌, ℕ, false, List, [], Result, Ok, refl,
 use Rattle.std.proofs.lemmas.List.{append-nil}
 use Rattle.std.specs.Str.{is_utf8}
 use Rattle.frames.specs.declared.fault.FrameFault.{FrameFault}
+use Rattle.frames.specs.declared.fault.FrameFault.TheVariants.{UnknownType}
 use Rattle.frames.specs.declared.copy_data.CopyData.{CopyData}
 use Rattle.frames.specs.declared.copy_data.TheConstants.{COPY_DATA}
 use Rattle.frames.specs.declared.copy_done.TheConstants.{COPY_DONE}
@@ -48,7 +49,7 @@ front_cases =
     case COPY_DATA FRAME_LIMIT copy_data_body always (λ m. fronts.CopyData m) (λ _ _. (refl, refl, tt)) (λ _. refl) (
     case COPY_DONE FRAME_LIMIT empty_body always (λ _. fronts.CopyDone) (λ _ _. (refl, refl, tt)) (λ _. refl) (
     case COPY_FAIL FRAME_LIMIT text_body is_utf8 (λ reason. fronts.CopyFail (record { reason = reason })) (λ reason fits. (refl, refl, fits)) (λ _. refl) (
-    no_case front_kind front_body IsShapedFront is_front_text)))))
+    no_case front_kind front_body IsShapedFront is_front_text UnknownType)))))
 
 front_again : (f : Front) → IsShapedFront f → front_at (front_kind f) (front_body f) ≡ checked is_front_text f
 front_again (fronts.Query m) shaped = ap (λ (r : Result (List ℕ) FrameFault). r >>= λ text. done FrameFault (fronts.Query (record { text = text }))) (whole_again text_body is_utf8 m.text shaped) ∙ made (λ text. fronts.Query (record { text = text })) (is_utf8 m.text) m.text
@@ -63,7 +64,7 @@ front_bodies = record { cases = front_cases; again = front_again }
 back_cases : Cases back_kind back_body IsShapedBack is_back_text back_limit back_at
 back_cases =
     case COPY_DATA FRAME_LIMIT copy_data_body always (λ m. backs.CopyData m) (λ _ _. (refl, refl, tt)) (λ _. refl) (
-    no_case back_kind back_body IsShapedBack is_back_text)
+    no_case back_kind back_body IsShapedBack is_back_text UnknownType)
 
 back_again : (f : Back) → IsShapedBack f → back_at (back_kind f) (back_body f) ≡ checked is_back_text f
 back_again (backs.CopyData m) shaped = refl

@@ -7,7 +7,7 @@ use Rattle.frames.specs.Steps.{◌>>=◌}
 use Rattle.frames.specs.Body.{ended, checked, whole}
 use Rattle.frames.specs.Frame.{HasBody}
 use Rattle.frames.specs.declared.fault.FrameFault.{FrameFault}
-use Rattle.frames.specs.declared.fault.FrameFault.TheVariants.{UnknownType, BadBody, NotUtf8}
+use Rattle.frames.specs.declared.fault.FrameFault.TheVariants.{BadBody, NotUtf8}
 use Rattle.frames.proofs.Codec.{IsBytes, Takes, Codec, bind_ok, ok_is, done}
 
 -- what a value is refused for by its body
@@ -90,8 +90,8 @@ pub record Cases {F : Type 0} (kind_of : F → ℕ) (body_of : F → List ℕ) (
       → (e ≡ BadBody) ⊎ ((e ≡ NotUtf8) × (f : F) × HasBody kind_of body_of Shaped kind body f × (is_text f ≡ false))
 
 -- no type byte is left
-pub no_case : {F : Type 0} (kind_of : F → ℕ) (body_of : F → List ℕ) (Shaped : F → Type 0) (is_text : F → Bool) → Cases kind_of body_of Shaped is_text (λ _. None) (λ _ _. Err UnknownType)
-no_case kind_of body_of Shaped is_text = record { takes = λ kind body f fits e. absurd cc; fails = λ kind most body e fits allowed is. absurd cc }
+pub no_case : {F : Type 0} (kind_of : F → ℕ) (body_of : F → List ℕ) (Shaped : F → Type 0) (is_text : F → Bool) (unknown : FrameFault) → Cases kind_of body_of Shaped is_text (λ _. None) (λ _ _. Err unknown)
+no_case kind_of body_of Shaped is_text unknown = record { takes = λ kind body f fits e. absurd cc; fails = λ kind most body e fits allowed is. absurd cc }
 
 not_made : {A F : Type 0} (r : Result A FrameFault) (make : A → F) (e : FrameFault) → (r >>= λ a. done FrameFault (make a)) ≡ Err e → r ≡ Err e
 not_made (Ok x) make e is = absurd cc

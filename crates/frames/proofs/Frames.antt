@@ -18,25 +18,25 @@ use Rattle.frames.proofs.Cases.{Cases}
 
 -- ---- steps
 
-went_on : {A E : Type 0} (b : Bool) (d : E) (r : Result A E) (y : A) → cond b (Err d) r ≡ Ok y → (b ≡ false) × (r ≡ Ok y)
+pub went_on : {A E : Type 0} (b : Bool) (d : E) (r : Result A E) (y : A) → cond b (Err d) r ≡ Ok y → (b ≡ false) × (r ≡ Ok y)
 went_on true d r y e = absurd cc
 went_on false d r y e = (refl, e)
 
-mapped : {A B : Type 0} (f : A → B) (o : Option A) (y : B) → option_map f o ≡ Some y → (x : A) × (o ≡ Some x) × (f x ≡ y)
+pub mapped : {A B : Type 0} (f : A → B) (o : Option A) (y : B) → option_map f o ≡ Some y → (x : A) × (o ≡ Some x) × (f x ≡ y)
 mapped f None y e = absurd cc
 mapped f (Some x) y e = (x, refl, cc)
 
-abbrev failed : (F : Type 0) → FrameFault → Result (Option (F × ℕ)) FrameFault
+abbrev pub failed : (F : Type 0) → FrameFault → Result (Option (F × ℕ)) FrameFault
 failed F e = Err e
 
-err_is : {A E : Type 0} (x : Result A E) (d e : E) → x ≡ Err d → x ≡ Err e → d ≡ e
+pub err_is : {A E : Type 0} (x : Result A E) (d e : E) → x ≡ Err d → x ≡ Err e → d ≡ e
 err_is x d e p q = cc
 
 -- a number that stands at the front
-number_there : (n : ℕ) (rest : List ℕ) → n < 2 ^ 32 → number_at w32 (int32 n ++ rest) ≡ Some (n, rest)
+pub number_there : (n : ℕ) (rest : List ℕ) → n < 2 ^ 32 → number_at w32 (int32 n ++ rest) ≡ Some (n, rest)
 number_there n rest lt = found_some (number_at w32 (int32 n ++ rest)) UnknownType (n, rest) ((number32 UnknownType).again n rest lt)
 
-bytes_there : (text rest : List ℕ) → bytes_at (length text) (text ++ rest) ≡ Some (text, rest)
+pub bytes_there : (text rest : List ℕ) → bytes_at (length text) (text ++ rest) ≡ Some (text, rest)
 bytes_there text rest = found_some (bytes_at (length text) (text ++ rest)) UnknownType (text, rest) ((bytes_codec UnknownType (length text)).again text rest refl)
 
 -- ---- a frame at the front
@@ -293,43 +293,45 @@ is_only {F} {limit} {kind_of} {body_of} {Shaped} {is_text} {of} bodies bytes r g
         let size : 5 + length (body_of f) ≡ length text = sym (length-frame (kind_of f) (body_of f)) ∙ ap length (sym spells.text) in
         rw (whole, raw, read_again bodies f spells.in_range, size) refl
 
-pub is_waiting : {F : Type 0} {limit : ℕ → Option ℕ} {kind_of : F → ℕ} {body_of : F → List ℕ} {Shaped : F → Type 0} {is_text : F → Bool} {of : ℕ → List ℕ → Result F FrameFault} → AreBodies limit kind_of body_of Shaped is_text of
-    → (bytes : List ℕ) (r : Result (Option (F × ℕ)) FrameFault) → Gives r (framed_at limit of bytes) → (r ≡ Err Memory → IsWhole (raw_at limit bytes))
-    → (text more : List ℕ) (f : F) → SpellsFrame kind_of body_of (Fits Shaped is_text) text f → IsShort limit kind_of body_of f → text ≡ bytes ++ more → length bytes < length text → r ≡ Ok None
-is_waiting {F} {limit} {kind_of} {body_of} {Shaped} {is_text} {of} bodies bytes r given memory text more f spells short parts less =
-    by_answer r given memory (by_limit (limit (kind_of f)) refl short)
+-- where the raw reading waits, so does the call
+pub still_waits : {F : Type 0} (raw : Result (Option ((ℕ × List ℕ) × ℕ)) FrameFault) (of : Option ((ℕ × List ℕ) × ℕ) → Result (Option (F × ℕ)) FrameFault) (r : Result (Option (F × ℕ)) FrameFault)
+    → Gives r (raw >>= of) → (r ≡ Err Memory → IsWhole raw) → of None ≡ Ok None → raw ≡ Ok None → r ≡ Ok None
+still_waits {F} raw of r given memory nothing none = by_answer r given memory
   where
-    waiting : Result (Option ((ℕ × List ℕ) × ℕ)) FrameFault
-    waiting = Ok None
-
-    by_limit : (o : Option ℕ) → limit (kind_of f) ≡ o → IsSomeAnd o (λ most. 4 + length (body_of f) ≤ most) → raw_at limit bytes ≡ Ok None
-    by_limit None none short = absurd short
-    by_limit (Some most) allowed short =
-        raw_waits limit (kind_of f) most (body_of f) bytes more allowed short spells.fits_length (sym spells.text ∙ parts)
-        (omega (arith, length-frame (kind_of f) (body_of f), ap length spells.text))
+    read : (raw >>= of) ≡ Ok None
+    read = rw none nothing
 
     none_whole : (x : Result (Option ((ℕ × List ℕ) × ℕ)) FrameFault) → x ≡ Ok None → IsWhole x → ⊥
     none_whole (Ok None) is whole = whole
     none_whole (Ok (Some y)) is whole = absurd cc
     none_whole (Err d) is whole = whole
 
-    by_fault : (e : FrameFault) → Fails {Y = Option (F × ℕ)} e (Ok None) → (failed F e ≡ Err Memory → IsWhole (raw_at limit bytes)) → raw_at limit bytes ≡ Ok None → failed F e ≡ Ok None
-    by_fault BadLength given memory none = absurd cc
-    by_fault BadVersion given memory none = absurd cc
-    by_fault UnknownType given memory none = absurd cc
-    by_fault BadBody given memory none = absurd cc
-    by_fault NotUtf8 given memory none = absurd cc
-    by_fault TooLong given memory none = absurd cc
-    by_fault Memory given memory none = absurd (none_whole (raw_at limit bytes) none (memory refl))
+    by_fault : (e : FrameFault) → Fails {Y = Option (F × ℕ)} e (Ok None) → (failed F e ≡ Err Memory → IsWhole raw) → failed F e ≡ Ok None
+    by_fault BadLength given memory = absurd cc
+    by_fault BadVersion given memory = absurd cc
+    by_fault UnknownType given memory = absurd cc
+    by_fault BadBody given memory = absurd cc
+    by_fault NotUtf8 given memory = absurd cc
+    by_fault TooLong given memory = absurd cc
+    by_fault Memory given memory = absurd (none_whole raw none (memory refl))
 
-    by_answer : (r : Result (Option (F × ℕ)) FrameFault) → Gives r (framed_at limit of bytes) → (r ≡ Err Memory → IsWhole (raw_at limit bytes)) → raw_at limit bytes ≡ Ok None → r ≡ Ok None
-    by_answer (Ok o) given memory none =
-        let read : framed_at limit of bytes ≡ Ok None = rw none refl in
-        sym given ∙ read
-    by_answer (Err e) given memory none =
-        let read : framed_at limit of bytes ≡ Ok None = rw none refl in
+    by_answer : (r : Result (Option (F × ℕ)) FrameFault) → Gives r (raw >>= of) → (r ≡ Err Memory → IsWhole raw) → r ≡ Ok None
+    by_answer (Ok o) given memory = sym given ∙ read
+    by_answer (Err e) given memory =
         let P : Result (Option (F × ℕ)) FrameFault → Type 0 = λ x. Fails e x in
-        by_fault e (subst P read given) memory none
+        by_fault e (subst P read given) memory
+
+pub is_waiting : {F : Type 0} {limit : ℕ → Option ℕ} {kind_of : F → ℕ} {body_of : F → List ℕ} {Shaped : F → Type 0} {is_text : F → Bool} {of : ℕ → List ℕ → Result F FrameFault} → AreBodies limit kind_of body_of Shaped is_text of
+    → (bytes : List ℕ) (r : Result (Option (F × ℕ)) FrameFault) → Gives r (framed_at limit of bytes) → (r ≡ Err Memory → IsWhole (raw_at limit bytes))
+    → (text more : List ℕ) (f : F) → SpellsFrame kind_of body_of (Fits Shaped is_text) text f → IsShort limit kind_of body_of f → text ≡ bytes ++ more → length bytes < length text → r ≡ Ok None
+is_waiting {F} {limit} {kind_of} {body_of} {Shaped} {is_text} {of} bodies bytes r given memory text more f spells short parts less =
+    still_waits (raw_at limit bytes) (λ raw. whole_of of raw) r given memory refl (by_limit (limit (kind_of f)) refl short)
+  where
+    by_limit : (o : Option ℕ) → limit (kind_of f) ≡ o → IsSomeAnd o (λ most. 4 + length (body_of f) ≤ most) → raw_at limit bytes ≡ Ok None
+    by_limit None none short = absurd short
+    by_limit (Some most) allowed short =
+        raw_waits limit (kind_of f) most (body_of f) bytes more allowed short spells.fits_length (sym spells.text ∙ parts)
+        (omega (arith, length-frame (kind_of f) (body_of f), ap length spells.text))
 
 pub is_fault : {F : Type 0} {limit : ℕ → Option ℕ} {kind_of : F → ℕ} {body_of : F → List ℕ} {Shaped : F → Type 0} {is_text : F → Bool} {of : ℕ → List ℕ → Result F FrameFault} → AreBodies limit kind_of body_of Shaped is_text of
     → (bytes : List ℕ) (r : Result (Option (F × ℕ)) FrameFault) → IsBytes bytes → Gives r (framed_at limit of bytes) → (r ≡ Err Memory → IsWhole (raw_at limit bytes))

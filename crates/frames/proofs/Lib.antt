@@ -4,5 +4,7 @@ pub mod Numbers
 pub mod Loop
 pub mod Putting
 pub mod Cases
+pub mod Lists
 pub mod Frames
 pub mod Bodies
+pub mod Startups

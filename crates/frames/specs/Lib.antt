@@ -5,5 +5,7 @@ pub mod Frame
 pub mod Raw
 pub mod Body
 pub mod CopyData
+pub mod Parameter
+pub mod Startup
 pub mod Front
 pub mod Back

@@ -6,3 +6,7 @@ use Rattle.frames.specs.declared.fault.FrameFault.{FrameFault}
 abbrev pub lent : Result (Option (Bor (List ℕ) × ℕ)) FrameFault → Result (Option (List ℕ × ℕ)) FrameFault
 lent (Ok found) = Ok (option_map (λ body. (body.0.now, body.1)) found)
 lent (Err e) = Err e
+
+abbrev pub lent_startup : Result (Option ((ℕ × Bor (List ℕ)) × ℕ)) FrameFault → Result (Option ((ℕ × List ℕ) × ℕ)) FrameFault
+lent_startup (Ok found) = Ok (option_map (λ raw. ((raw.0.0, raw.0.1.now), raw.1)) found)
+lent_startup (Err e) = Err e

@@ -11,8 +11,11 @@ mod fault;
 mod frame;
 mod front;
 mod items;
+mod list;
+mod parameter;
 mod put;
 mod query;
+mod startup;
 mod terminate;
 mod text;
 
@@ -25,7 +28,12 @@ pub use fault::FrameFault;
 pub use frame::FRAME_LIMIT;
 pub use front::{Front, no_front_begins_another, read_front, write_front};
 pub use items::Items;
+pub use parameter::Parameter;
 pub use put::{put_byte, put_bytes, put_int16, put_int32, put_int64, put_string};
 pub use query::{QUERY, QUERY_LIMIT, Query};
+pub use startup::{
+    CANCEL_REQUEST, GSS_REQUEST, PROTOCOL_VERSION, SSL_REQUEST, STARTUP_LIMIT, Startup,
+    no_startup_begins_another, read_startup,
+};
 pub use terminate::TERMINATE;
 pub use text::Text;
