@@ -6,7 +6,7 @@ use Rattle.std.proofs.lemmas.Bool.{eqb-true}
 use Rattle.std.proofs.lemmas.List.{length-append}
 use Rattle.std.proofs.lemmas.List.Concat.{flat_map-cons}
 use Rattle.frames.specs.Steps.{◌>>=◌, repeat_at, next_at, go_on, until_at, closed}
-use Rattle.frames.specs.Body.{ended, checked, checked_at, passed, whole, starts, GivesAt}
+use Rattle.frames.specs.Body.{ended, checked, checked_at, passed, passed_over, whole, always, starts, GivesAt}
 use Rattle.frames.specs.Frame.{Fails, Gives}
 use Rattle.frames.specs.declared.fault.FrameFault.{FrameFault}
 use Rattle.frames.specs.declared.fault.FrameFault.TheVariants.{BadLength, BadVersion, UnknownType, BadBody, NotUtf8, TooLong, Memory}
@@ -210,6 +210,20 @@ until_repeats {A} is_text f (suc n) bytes xs rest e =
         let P : List A × List ℕ → Type 0 = λ y. repeat_at (Judged is_text f) (length y.0) bytes ≡ checked_at (list_all is_text) (Ok (y.0, 0 ∷ y.1)) in
         subst P (ok_is (Unit {0}) made (xs, rest) b.2) (first_and_others is_text f (length b.0.0) bytes x after b.0.0 (0 ∷ b.0.1) (next_some f bytes x after next).0 (inner b.0.0 b.0.1 b.1))
 
+pub repeat_repeats : {A : Type 0} (is_text : A → Bool) (f : Reader A) (n : ℕ) (bytes : List ℕ) (xs : List A) (rest : List ℕ) → repeat_at f n bytes ≡ Ok (xs, rest)
+    → repeat_at (Judged is_text f) n bytes ≡ checked_at (list_all is_text) (Ok (xs, rest))
+unfolding repeat_at
+repeat_repeats {A} is_text f zero bytes xs rest e =
+    let read : List A × List ℕ = ([], bytes) in
+    let P : List A × List ℕ → Type 0 = λ y. repeat_at (Judged is_text f) 0 bytes ≡ checked_at (list_all is_text) (Ok y) in
+    subst P (ok_is (Unit {0}) read (xs, rest) e) refl
+repeat_repeats {A} is_text f (suc n) bytes xs rest e =
+    let a = bind_ok (f bytes) (λ first. repeat_at f n first.1 >>= λ others. Ok (first.0 ∷ others.0, others.1)) (xs, rest) e in
+    let b = bind_ok (repeat_at f n a.0.1) (λ others. Ok (a.0.0 ∷ others.0, others.1)) (xs, rest) a.2 in
+    let made : List A × List ℕ = (a.0.0 ∷ b.0.0, b.0.1) in
+    let P : List A × List ℕ → Type 0 = λ y. repeat_at (Judged is_text f) (suc n) bytes ≡ checked_at (list_all is_text) (Ok y) in
+    subst P (ok_is (Unit {0}) made (xs, rest) b.2) (first_and_others is_text f n bytes a.0.0 a.0.1 b.0.0 b.0.1 a.1 (repeat_repeats is_text f n a.0.1 b.0.0 b.0.1 b.1))
+
 -- what a reader answers, without where it stands
 pub forget_place : {X : Type 0} (is_text : X → Bool) (r : Result X FrameFault) (x : X) (place after : List ℕ) → GivesAt r place (checked_at is_text (Ok (x, after))) → Gives r (checked is_text x)
 forget_place {X} is_text r x place after given = by_test (is_text x) r given
@@ -258,6 +272,112 @@ are_listed {A} is_text f n count bytes rest place r counted end given = by_read 
         let P : Result (List A × List ℕ) FrameFault → Type 0 = λ read. GivesAt r place read in
         rw no_more (forget_place (list_all is_text) r xs place (0 ∷ tail) (subst P again given))
     by_read (Err u) is counted = absurd cc
+
+pub are_counted : {A : Type 0} (is_text : A → Bool) (f : Reader A) (n : ℕ) (bytes rest place : List ℕ) (r : Result (List A) FrameFault)
+    → passed_over (repeat_at f n bytes) ≡ Ok (tt, rest) → ended rest ≡ Ok tt → GivesAt r place (repeat_at (Judged is_text f) n bytes) → Gives r (whole (list_all is_text) (repeat_at f n bytes))
+are_counted {A} is_text f n bytes rest place r over end given = by_read (repeat_at f n bytes) refl over
+  where
+    at_end : (rest : List ℕ) → ended rest ≡ Ok tt → rest ≡ []
+    at_end [] is = refl
+    at_end (b ∷ bytes) is = absurd cc
+
+    by_read : (u : Result (List A × List ℕ) (Unit {0})) → repeat_at f n bytes ≡ u → passed_over u ≡ Ok (tt, rest) → Gives r (whole (list_all is_text) u)
+    by_read (Ok (xs, tail)) is over =
+        let no_more : tail ≡ [] = (same_pair tt tt tail rest over).1 ∙ at_end rest end in
+        let P : Result (List A × List ℕ) FrameFault → Type 0 = λ read. GivesAt r place read in
+        rw no_more (forget_place (list_all is_text) r xs place tail (subst P (repeat_repeats is_text f n bytes xs tail is) given))
+    by_read (Err u) is over = absurd cc
+
+-- ---- one more passed over
+
+pub passes_on : {A : Type 0} (f : Reader A) (count i : ℕ) (bytes rest : List ℕ) (total : Result (Unit {0} × List ℕ) FrameFault) → i < count → passed_over (f bytes) ≡ Ok (tt, rest)
+    → passed_over (repeat_at f (count - i) bytes) ≡ total → passed_over (repeat_at f (count - (i + 1)) rest) ≡ total
+unfolding repeat_at
+passes_on {A} f count i bytes rest total lt over so_far =
+    let k = one_less count i lt in
+    let one : passed_over (repeat_at f (count - i) bytes) ≡ passed_over (repeat_at f (count - (i + 1)) rest) = rw k (by_first (f bytes) over) in
+    sym one ∙ so_far
+  where
+    longer : (x : A) (r : Result (List A × List ℕ) (Unit {0})) → passed_over (r >>= λ others. Ok (x ∷ others.0, others.1)) ≡ passed_over r
+    longer x (Ok y) = refl
+    longer x (Err u) = refl
+
+    by_first : (r : Result (A × List ℕ) (Unit {0})) → passed_over r ≡ Ok (tt, rest)
+        → passed_over (r >>= λ first. repeat_at f (count - (i + 1)) first.1 >>= λ others. Ok (first.0 ∷ others.0, others.1)) ≡ passed_over (repeat_at f (count - (i + 1)) rest)
+    by_first (Ok (x, tail)) is =
+        let same : tail ≡ rest = (same_pair tt tt tail rest is).1 in
+        rw same (longer x (repeat_at f (count - (i + 1)) rest))
+    by_first (Err u) is = absurd cc
+
+pub passing_fails : {A : Type 0} (d : FrameFault) (f : Reader A) (count i : ℕ) (bytes : List ℕ) (total : Result (Unit {0} × List ℕ) FrameFault) → i < count → Fails d (passed_over (f bytes))
+    → passed_over (repeat_at f (count - i) bytes) ≡ total → Fails d total
+unfolding repeat_at
+passing_fails {A} d f count i bytes total lt failed so_far =
+    let P : Result (Unit {0} × List ℕ) FrameFault → Type 0 = λ r. Fails d r in
+    let k = one_less count i lt in
+    let one : Fails d (passed_over (repeat_at f (count - i) bytes)) = rw k (by_first d (f bytes) failed) in
+    subst P so_far one
+  where
+    by_first : (d : FrameFault) (r : Result (A × List ℕ) (Unit {0})) → Fails d (passed_over r)
+        → Fails d (passed_over (r >>= λ first. repeat_at f (count - (i + 1)) first.1 >>= λ others. Ok (first.0 ∷ others.0, others.1)))
+    by_first BadLength (Ok x) is = absurd cc
+    by_first BadVersion (Ok x) is = absurd cc
+    by_first UnknownType (Ok x) is = absurd cc
+    by_first BadBody (Ok x) is = absurd cc
+    by_first NotUtf8 (Ok x) is = absurd cc
+    by_first TooLong (Ok x) is = absurd cc
+    by_first Memory (Ok x) is = tt
+    by_first d (Err u) is = is
+
+pub all_passed : {A : Type 0} (f : Reader A) (count i : ℕ) (bytes : List ℕ) (total : Result (Unit {0} × List ℕ) FrameFault) → count ≤ i
+    → passed_over (repeat_at f (count - i) bytes) ≡ total → total ≡ Ok (tt, bytes)
+unfolding repeat_at
+all_passed f count i bytes total le so_far =
+    let k : count - i ≡ 0 = omega arith in
+    let one : passed_over (repeat_at f (count - i) bytes) ≡ Ok (tt, bytes) = rw k refl in
+    sym so_far ∙ one
+
+bad : (A B : Type 0) (d : FrameFault) → Fails {Y = A} d (Err BadBody) → Fails {Y = B} d (Err BadBody)
+bad A B BadLength is = absurd cc
+bad A B BadVersion is = absurd cc
+bad A B UnknownType is = absurd cc
+bad A B BadBody is = refl
+bad A B NotUtf8 is = absurd cc
+bad A B TooLong is = absurd cc
+bad A B Memory is = tt
+
+-- a fault of a part is one of the whole
+pub part_fails : {A B : Type 0} (test : A → Bool) (other : B → Bool) (r : Result (A × List ℕ) (Unit {0})) (make : A → B) (d : FrameFault) → ((x : A) → other (make x) ≡ test x) → Fails d (whole test r) → Fails d (whole other (r >>= λ x. Ok (make x.0, x.1)))
+part_fails {A} {B} test other (Ok (x, [])) make d same failed =
+    rw (same x) (by_test d (test x) failed)
+  where
+    by_test : (d : FrameFault) (t : Bool) → Fails d (cond t (done FrameFault x) (Err NotUtf8)) → Fails d (cond t (done FrameFault (make x)) (Err NotUtf8))
+    by_test BadLength true is = absurd cc
+    by_test BadVersion true is = absurd cc
+    by_test UnknownType true is = absurd cc
+    by_test BadBody true is = absurd cc
+    by_test NotUtf8 true is = absurd cc
+    by_test TooLong true is = absurd cc
+    by_test Memory true is = tt
+    by_test BadLength false is = absurd cc
+    by_test BadVersion false is = absurd cc
+    by_test UnknownType false is = absurd cc
+    by_test BadBody false is = absurd cc
+    by_test NotUtf8 false is = refl
+    by_test TooLong false is = absurd cc
+    by_test Memory false is = tt
+part_fails {A} {B} test other (Ok (x, b ∷ bytes)) make d same failed = bad A B d failed
+part_fails {A} {B} test other (Err u) make d same failed = bad A B d failed
+
+-- what has no text is never refused for one
+pub untested : {A : Type 0} (read : Result (List A × List ℕ) (Unit {0})) → whole (list_all always) read ≡ whole always read
+untested {A} (Ok (xs, [])) = rw (all_pass xs) refl
+  where
+    all_pass : (ys : List A) → list_all always ys ≡ true
+    all_pass [] = refl
+    all_pass (y ∷ ys) = all_pass ys
+untested (Ok (xs, b ∷ bytes)) = refl
+untested (Err u) = refl
 
 -- ---- the spelling of a list
 

@@ -10,8 +10,9 @@ use Rattle.frames.specs.Fields.{int32, string, has_zero, bytes_at, number_at}
 use Rattle.frames.specs.Steps.{◌>>=◌, closed}
 use Rattle.frames.specs.Body.{checked, always, nothing_at, starts}
 use Rattle.frames.specs.Frame.{Fits, HasBody, Fails, Gives, whole_of, IsWhole}
+use Rattle.frames.specs.Plain.{backend_key, backend_key_at}
 use Rattle.frames.specs.Parameter.{parameter, parameter_at, is_empty, FitsParameter, is_parameter_text}
-use Rattle.frames.specs.Startup.{startup, startup_number, startup_body, IsShapedStartup, is_startup_text, SpellsStartup, startup_limit, is_length, lengthy, numbered, numbered_at, headed_at, raw_startup, cancel_at, parameters_at, startup_at, framed_startup, IsStartupFault}
+use Rattle.frames.specs.Startup.{startup, startup_number, startup_body, IsShapedStartup, is_startup_text, SpellsStartup, startup_limit, is_length, lengthy, numbered, numbered_at, headed_at, raw_startup, parameters_at, startup_at, framed_startup, IsStartupFault}
 use Rattle.frames.specs.declared.parameter.Parameter.{Parameter}
 use Rattle.frames.specs.declared.startup.Startup.{Startup}
 use Rattle.frames.specs.declared.startup.Startup.TheVariants.{Session, Ssl, Gss, Cancel}
@@ -26,7 +27,7 @@ use Rattle.frames.proofs.Frames.{went_on, mapped, failed, number_there, bytes_th
 
 -- ---- bodies
 
-parameter_codec : Codec parameter_at parameter (λ p. (has_zero p.name ≡ false) × (has_zero p.value ≡ false))
+pub parameter_codec : Codec parameter_at parameter (λ p. (has_zero p.name ≡ false) × (has_zero p.value ≡ false))
 unfolding parameter_at
 parameter_codec = codec_of (
     field (string_codec tt) (λ (p : Parameter). p.name) _ _ _ _ (λ name.
@@ -67,14 +68,14 @@ session_body =
       again = λ ps fits. b.again ps (all_named ps fits);
     }
 
-cancel_codec : Codec cancel_at (λ m. int32 m.0 ++ int32 m.1) (λ m. (m.0 < 2 ^ 32) × (m.1 < 2 ^ 32))
-unfolding cancel_at
-cancel_codec = codec_of (
+pub key_codec : Codec backend_key_at backend_key (λ m. (m.0 < 2 ^ 32) × (m.1 < 2 ^ 32))
+unfolding backend_key_at
+key_codec = codec_of (
     field (number32 tt) (λ (m : ℕ × ℕ). m.0) _ _ _ _ (λ process.
     last_field (number32 tt) (λ (m : ℕ × ℕ). m.1) _ (λ key. (process, key))
     (λ _. refl) (λ _ _. (refl, tt)) (λ m known. rw (← known.0) refl)))
 
-empty_body : Body nothing_at (λ _. []) (λ _. Unit {0})
+pub empty_body : Body nothing_at (λ _. []) (λ _. Unit {0})
 empty_body = body_of_codec nothing_codec
 
 startup_cases : Cases startup_number startup_body IsShapedStartup is_startup_text startup_limit startup_at
@@ -82,7 +83,7 @@ startup_cases =
     case PROTOCOL_VERSION STARTUP_LIMIT session_body (list_all is_parameter_text) (λ ps. Session ps) (λ _ fits. (refl, refl, fits)) (λ _. refl) (
     case SSL_REQUEST 8 empty_body always (λ _. Ssl) (λ _ _. (refl, refl, tt)) (λ _. refl) (
     case GSS_REQUEST 8 empty_body always (λ _. Gss) (λ _ _. (refl, refl, tt)) (λ _. refl) (
-    case CANCEL_REQUEST 16 (body_of_codec cancel_codec) always (λ m. Cancel m.0 m.1) (λ _ fits. (refl, refl, fits)) (λ _. refl) (
+    case CANCEL_REQUEST 16 (body_of_codec key_codec) always (λ m. Cancel m.0 m.1) (λ _ fits. (refl, refl, fits)) (λ _. refl) (
     no_case startup_number startup_body IsShapedStartup is_startup_text BadVersion))))
 
 startup_again : (f : Startup) → IsShapedStartup f → startup_at (startup_number f) (startup_body f) ≡ checked is_startup_text f
@@ -91,7 +92,7 @@ startup_again Ssl shaped = refl
 startup_again Gss shaped = refl
 startup_again (Cancel p k) shaped =
     let m : ℕ × ℕ = (p, k) in
-    ap (λ (r : Result (ℕ × ℕ) FrameFault). r >>= λ x. done FrameFault (Cancel x.0 x.1)) (whole_again (body_of_codec cancel_codec) always m shaped)
+    ap (λ (r : Result (ℕ × ℕ) FrameFault). r >>= λ x. done FrameFault (Cancel x.0 x.1)) (whole_again (body_of_codec key_codec) always m shaped)
 
 read_again : (f : Startup) → Fits IsShapedStartup is_startup_text f → startup_at (startup_number f) (startup_body f) ≡ Ok f
 read_again f fits = startup_again f fits.0 ∙ rw fits.1 refl

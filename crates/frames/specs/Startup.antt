@@ -12,8 +12,9 @@ use Rattle.frames.specs.declared.fault.FrameFault.{FrameFault}
 use Rattle.frames.specs.declared.fault.FrameFault.TheVariants.{BadLength, BadVersion, UnknownType, BadBody, NotUtf8, TooLong, Memory}
 use Rattle.frames.specs.Fields.{int32, number_at, bytes_at}
 use Rattle.frames.specs.Steps.{◌>>=◌, until_at, closed}
-use Rattle.frames.specs.Body.{whole, always, there, nothing_at}
+use Rattle.frames.specs.Body.{whole, always, nothing_at}
 use Rattle.frames.specs.Frame.{Fits, HasBody, whole_of}
+use Rattle.frames.specs.Plain.{backend_key, backend_key_at}
 use Rattle.frames.specs.Parameter.{parameter, FitsParameter, is_parameter_text, parameter_at}
 
 -- ---- How a startup is spelled.
@@ -26,7 +27,7 @@ startup_number (Cancel process key) = CANCEL_REQUEST
 
 abbrev pub startup_body : Startup → List ℕ
 startup_body (Session parameters) = closed parameter parameters
-startup_body (Cancel process key) = int32 process ++ int32 key
+startup_body (Cancel process key) = backend_key (process, key)
 startup_body _ = []
 
 abbrev pub startup : ℕ → List ℕ → List ℕ
@@ -83,12 +84,6 @@ headed_at (Some n) =
 abbrev pub raw_startup : List ℕ → Result (Option ((ℕ × List ℕ) × ℕ)) FrameFault
 raw_startup bytes = headed_at (number_at w32 bytes)
 
-unfoldable pub cancel_at : List ℕ → Result ((ℕ × ℕ) × List ℕ) (Unit {0})
-cancel_at bytes = do
-  process ← there (number_at w32 bytes)
-  key ← there (number_at w32 process.1)
-  Ok ((process.0, key.0), key.1)
-
 abbrev pub parameters_at : List ℕ → Result (List Parameter × List ℕ) (Unit {0})
 parameters_at body = until_at tt parameter_at (length body) body
 
@@ -98,7 +93,7 @@ startup_at number body =
     if number == PROTOCOL_VERSION then (whole (list_all is_parameter_text) (parameters_at body) >>= λ parameters. Ok (Session parameters))
     else if number == SSL_REQUEST then (whole always (nothing_at body) >>= λ _. Ok Ssl)
     else if number == GSS_REQUEST then (whole always (nothing_at body) >>= λ _. Ok Gss)
-    else if number == CANCEL_REQUEST then (whole always (cancel_at body) >>= λ m. Ok (Cancel m.0 m.1))
+    else if number == CANCEL_REQUEST then (whole always (backend_key_at body) >>= λ m. Ok (Cancel m.0 m.1))
     else Err BadVersion
 
 abbrev pub framed_startup : List ℕ → Result (Option (Startup × ℕ)) FrameFault

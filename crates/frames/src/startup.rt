@@ -1,12 +1,12 @@
 //! Startups: what a client sends before any frame, and their reader.
 
 ghost use Rattle.std.specs.Prelude.{◌≡◌, ◌≢◌, ◌<◌, ◌≤◌, ◌++◌, List, ℕ, length, take, Result, Ok, Err, Some, None, IfOk, IfErr, IfSome};
-ghost use Rattle.frames.specs.Body.{whole, always};
 ghost use Rattle.frames.specs.Frame.{Gives, IsWhole};
 ghost use Rattle.frames.specs.Raw.{lent_startup};
-ghost use Rattle.frames.specs.Startup.{SpellsStartup, IsStartupFault, startup_limit, startup_at, cancel_at, lengthy, raw_startup, framed_startup};
+ghost use Rattle.frames.specs.Startup.{SpellsStartup, IsStartupFault, startup_limit, startup_at, lengthy, raw_startup, framed_startup};
 
-use crate::body::{end_of, nothing_of};
+use crate::backend_key_data::backend_key_of;
+use crate::body::nothing_of;
 use crate::cursor::Cursor;
 use crate::fault::FrameFault;
 use crate::items::Items;
@@ -138,22 +138,11 @@ fn whole_of(alloc: Global, number: u32, body: &[u8]) -> Result<Startup, FrameFau
             Ok(Startup::Gss)
         }
         CANCEL_REQUEST => {
-            let (process, key) = cancel_of(body)?;
+            let (process, key) = backend_key_of(body)?;
             Ok(Startup::Cancel(process, key))
         }
         _ => Err(FrameFault::BadVersion),
     }
-}
-
-#[tactic(auto, unfolding(crate::specs::Startup::cancel_at))]
-fn cancel_of(body: &[u8]) -> Result<(u32, u32), FrameFault>
-    ensures { Gives result (whole always (cancel_at body.now)) }
-{
-    let mut cursor = Cursor::new(body);
-    let process = cursor.u32().ok_or(FrameFault::BadBody)?;
-    let key = cursor.u32().ok_or(FrameFault::BadBody)?;
-    end_of(&cursor)?;
-    Ok((process, key))
 }
 
 /// The law of the grammar: of two startups whose spellings begin the same bytes, one is the other.
