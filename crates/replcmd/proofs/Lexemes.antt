@@ -73,7 +73,7 @@ word_again (b ∷ w) rest each end =
 abbrev two : List ℕ → List ℕ → List ℕ × List ℕ
 two n rest = (n, rest)
 
-abbrev found : List ℕ → List ℕ → Option (List ℕ × List ℕ)
+abbrev pub found : List ℕ → List ℕ → Option (List ℕ × List ℕ)
 found n rest = Some (n, rest)
 
 same_found : (a b c d : List ℕ) → found a b ≡ found c d → (a ≡ c) × (b ≡ d)
@@ -375,6 +375,15 @@ unclosed_ends b bytes word after rest n v true q r e = open_ends (λ m. Quoted m
 unclosed_ends b bytes word after rest n v false true r e = open_ends (λ m. Value m) v rest (λ m is. absurd cc) e
 unclosed_ends b bytes word after rest n v false false true e = absurd (let no = (same_token (Mark b) bytes Unclosed rest e).0 in cc)
 unclosed_ends b bytes word after rest n v false false false e = absurd (let no = (same_token (Word word) after Unclosed rest e).0 in cc)
+
+pub unclosed_at_end : (text rest : List ℕ) → token_at text ≡ token_found Unclosed rest → rest ≡ []
+unfolding token_at
+unclosed_at_end text rest e = by_front (after_blanks text) e
+  where
+    by_front : (bytes : List ℕ) → token_from bytes ≡ token_found Unclosed rest → rest ≡ []
+    by_front [] e = absurd cc
+    by_front (b ∷ bytes) e =
+        unclosed_ends b bytes (word_of (b ∷ bytes)) (after_word (b ∷ bytes)) rest (quoted_at false NAME_QUOTE bytes) (quoted_at false VALUE_QUOTE bytes) (eqb b NAME_QUOTE) (eqb b VALUE_QUOTE) (is_mark b) e
 
 unclosed_smaller : (text rest : List ℕ) → token_at text ≡ token_found Unclosed rest → length rest < length text
 unfolding token_at
