@@ -7,7 +7,7 @@ ghost use Rattle.std.specs.Str.{IsUtf8};
 ghost use Rattle.replcmd.specs.Lexing.{after_blanks, word_of, after_word, in_front, quoted_at, closed, token_from, token_at, Lexes, lent, lent_text};
 
 use crate::name::Name;
-use crate::token::{NAME_QUOTE, Token, VALUE_QUOTE};
+use crate::token::{CLOSE, COMMA, NAME_QUOTE, OPEN, SEMICOLON, Token, VALUE_QUOTE};
 use std::alloc::{AllocError, Global};
 
 fn is_blank(b: u8) -> bool
@@ -19,7 +19,7 @@ fn is_blank(b: u8) -> bool
 fn is_mark(b: u8) -> bool
     ensures { result ≡ is_mark b }
 {
-    b == b'(' || b == b')' || b == b',' || b == b';'
+    b == OPEN || b == CLOSE || b == COMMA || b == SEMICOLON
 }
 
 fn is_plain(b: u8) -> bool
