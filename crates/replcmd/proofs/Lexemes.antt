@@ -1,5 +1,5 @@
 -- The tokens that are read from a text are those that it spells.
-use Rattle.std.proofs.Common.{◌≡◌, ◌≢◌, ℕ, ◌<◌, Bool, true, false, cond, eqb, List, [], ◌∷◌, ◌++◌, length, Option, Some, None, refl, sym, ap, subst, ◌∙◌, append_assoc, arith}
+use Rattle.std.proofs.Common.{◌≡◌, ◌≢◌, ℕ, zero, suc, ◌<◌, Bool, true, false, cond, eqb, List, [], ◌∷◌, ◌++◌, length, Option, Some, None, refl, sym, ap, subst, ◌∙◌, append_assoc, arith}
 use Rattle.std.specs.Prelude.{◌||◌, not}
 use Rattle.std.proofs.lemmas.Bool.{eqb-true, eq-eqb}
 use Rattle.std.proofs.lemmas.Bool.Decides.{nat_tests}
@@ -10,11 +10,11 @@ use Rattle.replcmd.specs.declared.token.TheConstants.{NAME_QUOTE, VALUE_QUOTE}
 use Rattle.replcmd.specs.Tokens.{is_blank, is_mark, is_plain, doubled, spelled, Each, begins, IsWhole, StartsWith, Spells}
 use Rattle.replcmd.specs.Lexing.{after_blanks, word_of, after_word, in_front, quoted_at, closed, token_from, token_at, Lexes}
 
-if_true : {A : Type 0} (t : Bool) (x y : A) → t ≡ true → cond t x y ≡ x
+pub if_true : {A : Type 0} (t : Bool) (x y : A) → t ≡ true → cond t x y ≡ x
 if_true true x y is = refl
 if_true false x y is = absurd cc
 
-if_false : {A : Type 0} (t : Bool) (x y : A) → t ≡ false → cond t x y ≡ y
+pub if_false : {A : Type 0} (t : Bool) (x y : A) → t ≡ false → cond t x y ≡ y
 if_false true x y is = absurd cc
 if_false false x y is = refl
 
@@ -73,7 +73,7 @@ word_again (b ∷ w) rest each end =
 abbrev two : List ℕ → List ℕ → List ℕ × List ℕ
 two n rest = (n, rest)
 
-abbrev found : List ℕ → List ℕ → Option (List ℕ × List ℕ)
+abbrev pub found : List ℕ → List ℕ → Option (List ℕ × List ℕ)
 found n rest = Some (n, rest)
 
 same_found : (a b c d : List ℕ) → found a b ≡ found c d → (a ≡ c) × (b ≡ d)
@@ -161,15 +161,15 @@ token_found token rest = Some (token, rest)
 abbrev both_of : Token → List ℕ → Token × List ℕ
 both_of token rest = (token, rest)
 
-same_token : (a : Token) (x : List ℕ) (b : Token) (y : List ℕ) → token_found a x ≡ token_found b y → (a ≡ b) × (x ≡ y)
+pub same_token : (a : Token) (x : List ℕ) (b : Token) (y : List ℕ) → token_found a x ≡ token_found b y → (a ≡ b) × (x ≡ y)
 same_token a x b y e =
     let both : both_of a x ≡ both_of b y = cc in
     (ap (λ (p : Token × List ℕ). p.0) both, ap (λ (p : Token × List ℕ). p.1) both)
 
 -- what stands at the front, behind the blanks
-record Front (bytes : List ℕ) (token : Token) (rest : List ℕ) : Type 0 where
-  parts : bytes ≡ spelled token ++ rest
-  whole : IsWhole token rest
+pub record Front (bytes : List ℕ) (token : Token) (rest : List ℕ) : Type 0 where
+  pub parts : bytes ≡ spelled token ++ rest
+  pub whole : IsWhole token rest
 
 same_front : (bytes : List ℕ) (a : Token) (x : List ℕ) (b : Token) (y : List ℕ) → token_found a x ≡ token_found b y → Front bytes a x → Front bytes b y
 same_front bytes a x b y e front =
@@ -227,7 +227,7 @@ by_name b bytes token rest some no_blank true is e =
     subst (λ (t : Token). Front (b ∷ bytes) t rest) x.2 (record { parts = front.0; whole = front.1 })
 by_name b bytes token rest some no_blank false is e = by_value b bytes token rest some no_blank is (eqb b VALUE_QUOTE) refl e
 
-front_takes : (bytes : List ℕ) (token : Token) (rest : List ℕ) → begins is_blank bytes ≡ false → token_from bytes ≡ token_found token rest → token ≢ Unclosed → Front bytes token rest
+pub front_takes : (bytes : List ℕ) (token : Token) (rest : List ℕ) → begins is_blank bytes ≡ false → token_from bytes ≡ token_found token rest → token ≢ Unclosed → Front bytes token rest
 front_takes [] token rest end e some = absurd cc
 front_takes (b ∷ bytes) token rest end e some = by_name b bytes token rest some end (eqb b NAME_QUOTE) refl e
 
@@ -253,9 +253,9 @@ mark_none : (b : ℕ) → is_mark b ≡ true → (is_blank b ≡ false) × (eqb 
 mark_none b is = (grind (arith, nat_tests), grind (arith, nat_tests), grind (arith, nat_tests))
 
 -- what stands behind the blanks, and is read there
-record Reads (bytes : List ℕ) (token : Token) (rest : List ℕ) : Type 0 where
-  begins_so : begins is_blank bytes ≡ false
-  read : token_from bytes ≡ token_found token rest
+pub record Reads (bytes : List ℕ) (token : Token) (rest : List ℕ) : Type 0 where
+  pub begins_so : begins is_blank bytes ≡ false
+  pub read : token_from bytes ≡ token_found token rest
 
 word_reads : (w rest : List ℕ) → IsWhole (Word w) rest → Reads (w ++ rest) (Word w) rest
 word_reads [] rest whole = absurd (let no = whole.0 in cc)
@@ -288,7 +288,7 @@ value_reads v rest whole =
     ap (quoted_at false VALUE_QUOTE) (append_assoc (doubled VALUE_QUOTE v) (VALUE_QUOTE ∷ []) rest) ∙ quoted_again VALUE_QUOTE v rest whole in
     record { begins_so = refl; read = ap (λ (o : Option (List ℕ × List ℕ)). Some (closed (λ m. Value m) o)) behind }
 
-token_reads : (token : Token) (rest : List ℕ) → IsWhole token rest → Reads (spelled token ++ rest) token rest
+pub token_reads : (token : Token) (rest : List ℕ) → IsWhole token rest → Reads (spelled token ++ rest) token rest
 token_reads (Word w) rest whole = word_reads w rest whole
 token_reads (Quoted n) rest whole = quoted_reads n rest whole
 token_reads (Value v) rest whole = value_reads v rest whole
@@ -376,6 +376,15 @@ unclosed_ends b bytes word after rest n v false true r e = open_ends (λ m. Valu
 unclosed_ends b bytes word after rest n v false false true e = absurd (let no = (same_token (Mark b) bytes Unclosed rest e).0 in cc)
 unclosed_ends b bytes word after rest n v false false false e = absurd (let no = (same_token (Word word) after Unclosed rest e).0 in cc)
 
+pub unclosed_at_end : (text rest : List ℕ) → token_at text ≡ token_found Unclosed rest → rest ≡ []
+unfolding token_at
+unclosed_at_end text rest e = by_front (after_blanks text) e
+  where
+    by_front : (bytes : List ℕ) → token_from bytes ≡ token_found Unclosed rest → rest ≡ []
+    by_front [] e = absurd cc
+    by_front (b ∷ bytes) e =
+        unclosed_ends b bytes (word_of (b ∷ bytes)) (after_word (b ∷ bytes)) rest (quoted_at false NAME_QUOTE bytes) (quoted_at false VALUE_QUOTE bytes) (eqb b NAME_QUOTE) (eqb b VALUE_QUOTE) (is_mark b) e
+
 unclosed_smaller : (text rest : List ℕ) → token_at text ≡ token_found Unclosed rest → length rest < length text
 unfolding token_at
 unclosed_smaller text rest e = by_front (after_blanks text) (blanks_take text) e
@@ -393,3 +402,18 @@ token_smaller text (Word w) rest e = starts_smaller text (Word w) rest (token_ta
 token_smaller text (Quoted n) rest e = starts_smaller text (Quoted n) rest (token_takes text (Quoted n) rest e (λ is. absurd cc))
 token_smaller text (Value v) rest e = starts_smaller text (Value v) rest (token_takes text (Value v) rest e (λ is. absurd cc))
 token_smaller text (Mark b) rest e = starts_smaller text (Mark b) rest (token_takes text (Mark b) rest e (λ is. absurd cc))
+
+-- each text has one
+lexed_within : (n : ℕ) (text : List ℕ) → length text < n → (tokens : List Token) × Lexes text tokens
+lexed_within zero text lt = absurd (omega arith)
+lexed_within (suc n) text lt = by_token (token_at text) refl (λ rest less. lexed_within n rest less)
+  where
+    by_token : (o : Option (Token × List ℕ)) → token_at text ≡ o → ((rest : List ℕ) → length rest < n → (tokens : List Token) × Lexes rest tokens) → (tokens : List Token) × Lexes text tokens
+    by_token None e inner = ([], e)
+    by_token (Some t) e inner =
+        let less = token_smaller text t.0 t.1 e in
+        let others = inner t.1 (omega arith) in
+        (t.0 ∷ others.0, (t.1, e, others.1))
+
+pub lexed : (text : List ℕ) → (tokens : List Token) × Lexes text tokens
+lexed text = lexed_within (suc (length text)) text (omega arith)

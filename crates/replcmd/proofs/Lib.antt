@@ -1,2 +1,10 @@
 pub mod Halves
 pub mod Lexemes
+pub mod Texts
+pub mod Keywords
+pub mod Places
+pub mod Lists
+pub mod Readers
+pub mod PublicationNames
+pub mod Options
+pub mod Sentences

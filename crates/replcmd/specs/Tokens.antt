@@ -4,7 +4,7 @@ use Rattle.std.specs.Prelude.{◌≡◌, ℕ, ◌==◌, List, [], ◌∷◌, ◌
 use Rattle.std.specs.List.{AllByRecursion}
 use Rattle.replcmd.specs.declared.token.Token.{Token}
 use Rattle.replcmd.specs.declared.token.Token.TheVariants.{Word, Quoted, Value, Mark, Unclosed}
-use Rattle.replcmd.specs.declared.token.TheConstants.{NAME_QUOTE, VALUE_QUOTE}
+use Rattle.replcmd.specs.declared.token.TheConstants.{NAME_QUOTE, VALUE_QUOTE, OPEN, CLOSE, COMMA, SEMICOLON}
 
 -- spaces, tabs and line ends
 abbrev pub is_blank : ℕ → Bool
@@ -12,7 +12,7 @@ is_blank b = b == 32 || (b == 9 || (b == 10 || b == 13))
 
 -- brackets, comma and semicolon
 abbrev pub is_mark : ℕ → Bool
-is_mark b = b == 40 || (b == 41 || (b == 44 || b == 59))
+is_mark b = b == OPEN || (b == CLOSE || (b == COMMA || b == SEMICOLON))
 
 -- what may stand in a word
 abbrev pub is_plain : ℕ → Bool

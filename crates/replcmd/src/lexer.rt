@@ -1,12 +1,13 @@
 //! From the text of a command to its tokens.
 
-ghost use Rattle.std.specs.Prelude.{◌≡◌, ◌≤◌, ◌∷◌, [], IfOk, IfSome, Some, MatchOption, length, false};
+ghost use Rattle.std.specs.Prelude.{◌≡◌, ◌<◌, ◌≤◌, ◌∷◌, [], IfOk, IfSome, Some, MatchOption, option_map, length, false};
 ghost use Rattle.replcmd.specs.declared.token.Token.TheVariants.{Quoted, Value};
 ghost use Rattle.replcmd.specs.Tokens.{is_blank, is_mark, is_plain};
-ghost use Rattle.replcmd.specs.Lexing.{after_blanks, word_of, after_word, in_front, quoted_at, closed, token_at, Lexes, lent, lent_text};
+ghost use Rattle.std.specs.Str.{IsUtf8};
+ghost use Rattle.replcmd.specs.Lexing.{after_blanks, word_of, after_word, in_front, quoted_at, closed, token_from, token_at, Lexes, lent, lent_text};
 
 use crate::name::Name;
-use crate::token::{NAME_QUOTE, Token, VALUE_QUOTE};
+use crate::token::{CLOSE, COMMA, NAME_QUOTE, OPEN, SEMICOLON, Token, VALUE_QUOTE};
 use std::alloc::{AllocError, Global};
 
 fn is_blank(b: u8) -> bool
@@ -18,7 +19,7 @@ fn is_blank(b: u8) -> bool
 fn is_mark(b: u8) -> bool
     ensures { result ≡ is_mark b }
 {
-    b == b'(' || b == b')' || b == b',' || b == b';'
+    b == OPEN || b == CLOSE || b == COMMA || b == SEMICOLON
 }
 
 fn is_plain(b: u8) -> bool
@@ -40,20 +41,36 @@ fn after_blanks(text: &[u8]) -> &[u8]
     rest
 }
 
+/// The name of bytes that are text, as the pieces of a text between quotes, marks and blanks are.
+fn name_of(bytes: Vec<u8>) -> Name
+    requires { IsUtf8 bytes.items }
+    ensures { result ≡ bytes.items }
+{
+    Name::new(String::from_utf8(bytes).unwrap())
+}
+
 /// The word at the front, and what follows it.
 fn word_of(alloc: Global, text: &[u8]) -> Result<(Name, &[u8]), AllocError>
+    requires { IsUtf8 text.now }
     ensures { IfOk result (λ x. (x.0 ≡ word_of text.now) × (x.1.now ≡ after_word text.now)) }
+{
+    let (bytes, rest) = word_bytes(alloc, text)?;
+    Ok((name_of(bytes), rest))
+}
+
+fn word_bytes(alloc: Global, text: &[u8]) -> Result<(Vec<u8>, &[u8]), AllocError>
+    ensures { IfOk result (λ x. (x.0.items ≡ word_of text.now) × (x.1.now ≡ after_word text.now)) }
 {
     let mut found = Vec::new(alloc);
     let mut rest = text;
     while let Some((b, tail)) = rest.split_first() {
         if !is_plain(*b) {
-            return Ok((Name::new(found), rest));
+            return Ok((found, rest));
         }
         found.push(*b)?;
         rest = tail;
     }
-    Ok((Name::new(found), rest))
+    Ok((found, rest))
 }
 
 /// Where a quoted text goes on behind this byte: a quote goes on behind the second of two, and else closes the text.
@@ -71,13 +88,28 @@ fn goes_on(quote: u8, b: u8, tail: &[u8]) -> Option<&[u8]>
 
 /// The text up to the closing quote, and what follows that; None where no quote closes it.
 fn quoted_of(alloc: Global, quote: u8, text: &[u8]) -> Result<Option<(Name, &[u8])>, AllocError>
+    requires ascii { quote < 128 }
+    requires utf8 { IsUtf8 text.now }
     ensures { IfOk result (λ x. lent_text x ≡ quoted_at false quote text.now) }
+{
+    let Some((bytes, rest)) = quoted_bytes(alloc, quote, text)? else {
+        return Ok(None);
+    };
+    Ok(Some((name_of(bytes), rest)))
+}
+
+fn quoted_bytes(
+    alloc: Global,
+    quote: u8,
+    text: &[u8],
+) -> Result<Option<(Vec<u8>, &[u8])>, AllocError>
+    ensures { IfOk result (λ x. option_map (λ y. (y.0.items, y.1.now)) x ≡ quoted_at false quote text.now) }
 {
     let mut found = Vec::new(alloc);
     let mut rest = text;
     while let Some((b, tail)) = rest.split_first() {
         let Some(more) = goes_on(quote, *b, tail) else {
-            return Ok(Some((Name::new(found), tail)));
+            return Ok(Some((found, tail)));
         };
         found.push(*b)?;
         rest = more;
@@ -87,6 +119,7 @@ fn quoted_of(alloc: Global, quote: u8, text: &[u8]) -> Result<Option<(Name, &[u8
 
 /// The token of a name in quotes, where its first quote was read.
 fn quoted_name(alloc: Global, text: &[u8]) -> Result<(Token, &[u8]), AllocError>
+    requires { IsUtf8 text.now }
     ensures { IfOk result (λ x. (x.0, x.1.now) ≡ closed (λ n. Quoted n) (quoted_at false NAME_QUOTE text.now)) }
 {
     let Some((name, rest)) = quoted_of(alloc, NAME_QUOTE, text)? else {
@@ -97,6 +130,7 @@ fn quoted_name(alloc: Global, text: &[u8]) -> Result<(Token, &[u8]), AllocError>
 
 /// The token of a value in quotes, where its first quote was read.
 fn quoted_value(alloc: Global, text: &[u8]) -> Result<(Token, &[u8]), AllocError>
+    requires { IsUtf8 text.now }
     ensures { IfOk result (λ x. (x.0, x.1.now) ≡ closed (λ v. Value v) (quoted_at false VALUE_QUOTE text.now)) }
 {
     let Some((value, rest)) = quoted_of(alloc, VALUE_QUOTE, text)? else {
@@ -115,9 +149,20 @@ fn nothing_of(text: &[u8]) -> &[u8]
 /// The first token, and what follows it; None where only blanks are left.
 #[tactic(auto, unfolding(crate::specs::Lexing::token_at))]
 fn token_of(alloc: Global, text: &[u8]) -> Result<Option<(Token, &[u8])>, AllocError>
+    requires { IsUtf8 text.now }
     ensures { IfOk result (λ x. lent x ≡ token_at text.now) }
 {
-    let text = after_blanks(text);
+    token_at_front(alloc, after_blanks(text))
+}
+
+/// The token that begins at once, with no blanks before it.
+pub(crate) fn token_at_front(
+    alloc: Global,
+    text: &[u8],
+) -> Result<Option<(Token, &[u8])>, AllocError>
+    requires { IsUtf8 text.now }
+    ensures { IfOk result (λ x. lent x ≡ token_from text.now) }
+{
     let Some((b, tail)) = text.split_first() else {
         return Ok(None);
     };
@@ -136,6 +181,7 @@ fn token_of(alloc: Global, text: &[u8]) -> Result<Option<(Token, &[u8])>, AllocE
 
 /// The tokens of a text, one behind the other.
 pub(crate) fn tokens_of(alloc: Global, text: &[u8]) -> Result<Vec<Token>, AllocError>
+    requires { IsUtf8 text.now }
     ensures { IfOk result (λ tokens. Lexes text.now tokens.items) }
 {
     let mut tokens = Vec::new(alloc);

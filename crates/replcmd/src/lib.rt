@@ -1,12 +1,26 @@
 //! The texts of the replication protocol: positions of the log, and the commands that a client sends.
 #![tactic(auto)]
 
+mod command;
+mod create;
+mod drop_slot;
 mod fault;
+mod identify;
 mod lexer;
 mod name;
+mod names;
 mod position;
+mod publications;
+mod setting;
+mod start;
 mod token;
+mod tokens;
+mod verb;
+mod words;
 
+pub use command::{Command, parse_command};
 pub use fault::CmdFault;
 pub use name::Name;
+pub use names::Names;
 pub use position::{parse_position, write_position};
+pub use words::MOST_SLOT_NAME_BYTES;

@@ -1,35 +1,62 @@
-//! The names and values in commands: bytes that contracts see as a list.
+//! The names and values in commands: texts that contracts see as their bytes.
 
+ghost use Rattle.std.specs.Prelude.{◌≡◌, IfOk, map, string_bytes};
+ghost use Rattle.std.specs.Char.{to_ascii_lowercase};
+ghost use Rattle.std.specs.Str.{IsUtf8};
+
+use std::alloc::{AllocError, Global};
 use std::cmp::PartialEq;
 use std::marker::Model;
 
-/// The bytes of a name or a value of a command. Contracts see them as a list.
+/// A name or a value of a command. Contracts see its bytes. It is made of a `String` by `new` and gives it back by
+/// `into_string`, both without taking memory.
 #[derive(Debug, Drop)]
 pub struct Name {
-    bytes: Vec<u8>,
+    string: String,
 }
 
 impl Model for Name {
-    ghost use Rattle.std.specs.Prelude.{List, ℕ};
+    ghost use Rattle.std.specs.Prelude.{List, ℕ, string_bytes};
 
     ghost Value = { List ℕ };
 
-    ghost view = { λ n. n.bytes.items };
+    ghost view = { λ n. string_bytes n.string };
 }
 
 impl Name {
-    ghost use Rattle.std.specs.Prelude.{◌≡◌};
-
-    pub fn new(bytes: Vec<u8>) -> Self
-        ensures { result ≡ bytes.items }
+    pub fn new(string: String) -> Self
+        ensures { result ≡ string_bytes string }
     {
-        Name { bytes }
+        Name { string }
     }
 
-    pub fn as_slice(&self) -> &[u8]
-        ensures { result.now ≡ self.now }
+    pub fn copy(&self, alloc: Global) -> Result<Self, AllocError>
+        ensures { IfOk result (λ n. n ≡ self.now) }
     {
-        self.bytes.as_slice()
+        Ok(Name::new(String::from_str(alloc, self.as_str())?))
+    }
+
+    /// The name in lower case, as bare names are meant.
+    pub(crate) fn folded(&self, alloc: Global) -> Result<Self, AllocError>
+        ensures { IfOk result (λ n. n ≡ map to_ascii_lowercase self.now) }
+    {
+        let mut string = String::from_str(alloc, self.as_str())?;
+        string.make_ascii_lowercase();
+        Ok(Name::new(string))
+    }
+
+    pub fn as_str(&self) -> &str
+        ensures value { result.now ≡ self.now }
+        ensures utf8 { IsUtf8 result.now }
+    {
+        self.string.as_str()
+    }
+
+    pub fn into_string(self) -> String
+        ensures { string_bytes result ≡ self }
+    {
+        let Name { string } = self;
+        string
     }
 }
 
@@ -43,6 +70,6 @@ impl PartialEq for Name {
     ghost laws = { partial_equiv_from_equiv nat_list_eq_equiv };
 
     fn eq(&self, other: &Name) -> bool {
-        self.as_slice() == other.as_slice()
+        self.as_str() == other.as_str()
     }
 }

@@ -3,6 +3,7 @@
 ghost use Rattle.std.specs.Prelude.{◌≡◌, ℕ, Ok, Err, IfOk, IfErr, MatchOption, string_bytes};
 ghost use Rattle.std.specs.Str.Parse.{digits_value};
 ghost use Rattle.replcmd.specs.Position.{IsHalf, SpellsPosition, printed};
+ghost use Rattle.replcmd.specs.Reading.{position_of};
 
 use crate::fault::CmdFault;
 use std::alloc::{AllocError, Global};
@@ -17,6 +18,14 @@ pub fn parse_position(text: &str) -> Result<u64, CmdFault>
     let upper = half(upper).ok_or(CmdFault::BadPosition)?;
     let lower = half(lower).ok_or(CmdFault::BadPosition)?;
     Ok(upper as u64 * (1 << 32) + lower as u64)
+}
+
+/// The position that the text spells, if it spells one.
+#[tactic(auto, using(crate::proofs::Places::position_told))]
+pub(crate) fn position_of(text: &str) -> Option<u64>
+    ensures { result ≡ position_of text.now }
+{
+    parse_position(text).ok()
 }
 
 /// The 32 bits that 1 to 8 hexadecimal digits spell.

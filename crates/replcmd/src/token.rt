@@ -7,6 +7,15 @@ pub(crate) const NAME_QUOTE: u8 = b'"';
 
 pub(crate) const VALUE_QUOTE: u8 = b'\'';
 
+/// The marks.
+pub(crate) const OPEN: u8 = b'(';
+
+pub(crate) const CLOSE: u8 = b')';
+
+pub(crate) const COMMA: u8 = b',';
+
+pub(crate) const SEMICOLON: u8 = b';';
+
 /// A token. Quoted texts are held as they are meant, with single quotes for doubled ones.
 #[derive(Debug, Drop, PartialEq)]
 pub(crate) enum Token {

@@ -1,0 +1,8 @@
+use Rattle.std.proofs.Common.{◌≡◌, None, false, length}
+use Rattle.std.specs.Vec.Iter.{into_iter_items, into_iter_len}
+use Rattle.replcmd.specs.Reading.{gathered}
+use Rattle.replcmd.proofs.setting.gathered.Given as goal
+
+abbrev pub invariant-loop-setting : goal.invariant-loop-setting
+invariant-loop-setting l = (gathered l.version l.publications (into_iter_items l.setting-iterator) ≡ gathered false None (into_iter_items l.initial.setting-iterator))
+    × (into_iter_len l.setting-iterator ≡ length (into_iter_items l.setting-iterator))

@@ -1,0 +1,10 @@
+use Rattle.std.proofs.Common.{length}
+use Rattle.replcmd.specs.Reading.{setting_at, more_settings, settings_at}
+use Rattle.replcmd.proofs.Lists.{Going}
+use Rattle.replcmd.proofs.setting.settings_of.Given as goal
+
+abbrev pub invariant-loop-settings : goal.invariant-loop-settings
+invariant-loop-settings l = Going setting_at more_settings l.settings.items l.tokens (settings_at l.initial.tokens)
+
+abbrev pub decreases-loop-settings : goal.decreases-loop-settings
+decreases-loop-settings l = length l.tokens

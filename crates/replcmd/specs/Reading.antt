@@ -1,0 +1,290 @@
+-- Reading a command token by token, up to its leftmost fault. What concerns the list of options as a whole is judged
+-- behind all else.
+use Rattle.std.specs.Prelude.{◌≡◌, ℕ, zero, suc, ◌+◌, ◌*◌, ◌^◌, ◌==◌, nat_lt, nat_le, List, [], ◌∷◌, length, Option, Some, None, Result, Ok, Err, Bool, true, false, ◌||◌, ◌&&◌, if◌then◌else◌, codes}
+use Rattle.std.specs.Borrow.{Bor}
+use Rattle.std.specs.declared.vec.Vec.{Vec}
+use Rattle.std.specs.declared.alloc.Global.{Global}
+use Rattle.std.specs.Option.{ok_or, option_map, option_and_then, is_some}
+use Rattle.std.specs.List.{list_all}
+use Rattle.std.specs.Char.{digit_value}
+use Rattle.std.specs.Str.{bytes_eq}
+use Rattle.std.specs.Str.Parse.{digits_value}
+use Rattle.replcmd.specs.declared.fault.CmdFault.{CmdFault}
+use Rattle.replcmd.specs.declared.fault.CmdFault.TheVariants.{Syntax, BadName, BadPosition, Unsupported, BadOption, Memory}
+use Rattle.replcmd.specs.declared.token.Token.{Token}
+use Rattle.replcmd.specs.declared.token.Token.TheVariants.{Word, Quoted, Value, Mark, Unclosed}
+use Rattle.replcmd.specs.declared.token.TheConstants.{OPEN, CLOSE, COMMA, SEMICOLON}
+use Rattle.replcmd.specs.declared.verb.Verb.{Verb}
+use Rattle.replcmd.specs.declared.verb.Verb.TheVariants as verb
+use Rattle.replcmd.specs.declared.setting.Setting.{Setting}
+use Rattle.replcmd.specs.declared.setting.Setting.TheVariants.{Version, Publications}
+use Rattle.replcmd.specs.declared.command.Command.{Command}
+use Rattle.replcmd.specs.declared.command.Command.TheVariants.{Identify, Create, Start, Drop}
+use Rattle.replcmd.specs.Lexing.{token_from, Lexes}
+use Rattle.replcmd.specs.Words.{lower, is_keyword, is_bare, is_slot_name}
+
+infixl 10 ◌>>=◌
+abbrev pub ◌>>=◌ : {A B : Type 0} → Result A CmdFault → (A → Result B CmdFault) → Result B CmdFault
+(Ok x) >>= f = f x
+(Err e) >>= f = Err e
+
+-- ---- single tokens
+
+abbrev pub name_of : Token → Option (List ℕ)
+name_of (Word w) = if is_bare w then Some (lower w) else None
+name_of (Quoted n) = Some n
+name_of _ = None
+
+abbrev pub name_at : List Token → Result (List ℕ × List Token) CmdFault
+name_at [] = Err Syntax
+name_at (token ∷ tokens) = ok_or (name_of token) Syntax >>= λ name. Ok (name, tokens)
+
+unfoldable pub slot_at : List Token → Result (List ℕ × List Token) CmdFault
+slot_at tokens = name_at tokens >>= λ name. if is_slot_name name.0 then Ok name else Err BadName
+
+abbrev pub value_at : List Token → Result (List ℕ × List Token) CmdFault
+value_at (Value v ∷ tokens) = Ok (v, tokens)
+value_at _ = Err Syntax
+
+-- the mark, where it stands at the front
+abbrev pub past_mark : ℕ → List Token → Bool × List Token
+past_mark mark (Mark m ∷ tokens) = if m == mark then (true, tokens) else (false, Mark m ∷ tokens)
+past_mark mark tokens = (false, tokens)
+
+abbrev pub begins_with_name : List Token → Bool
+begins_with_name [] = false
+begins_with_name (token ∷ tokens) = is_some (name_of token)
+
+-- ---- keywords
+
+-- the keyword, where it stands at the front
+abbrev pub past_word : List ℕ → List Token → Bool × List Token
+past_word keyword (Word w ∷ tokens) = if is_keyword keyword w then (true, tokens) else (false, Word w ∷ tokens)
+past_word keyword tokens = (false, tokens)
+
+unfoldable pub verb_of : List ℕ → Option Verb
+verb_of word =
+    if is_keyword (codes "IDENTIFY_SYSTEM") word then Some verb.Identify
+    else if is_keyword (codes "CREATE_REPLICATION_SLOT") word then Some verb.Create
+    else if is_keyword (codes "DROP_REPLICATION_SLOT") word then Some verb.Drop
+    else if is_keyword (codes "START_REPLICATION") word then Some verb.Start
+    else None
+
+abbrev pub verb_at : List Token → Result (Verb × List Token) CmdFault
+verb_at (Word w ∷ tokens) = ok_or (verb_of w) Syntax >>= λ v. Ok (v, tokens)
+verb_at _ = Err Syntax
+
+-- the words of what is left out of each command
+unfoldable pub is_left_out : Verb → List ℕ → Bool
+is_left_out verb.Identify word = false
+is_left_out verb.Create word =
+    is_keyword (codes "TEMPORARY") word || (is_keyword (codes "PHYSICAL") word
+    || (is_keyword (codes "EXPORT_SNAPSHOT") word || (is_keyword (codes "USE_SNAPSHOT") word || is_keyword (codes "TWO_PHASE") word)))
+is_left_out verb.Drop word = is_keyword (codes "WAIT") word
+is_left_out verb.Start word = is_keyword (codes "PHYSICAL") word
+
+-- the fault of a token where another one must stand
+abbrev pub unexpected : Verb → List Token → CmdFault
+unexpected v (Word w ∷ tokens) = if is_left_out v w then Unsupported else Syntax
+unexpected v _ = Syntax
+
+unfoldable pub keyword_at : Verb → List ℕ → List Token → Result (List Token) CmdFault
+keyword_at v keyword (Word w ∷ tokens) = if is_keyword keyword w then Ok tokens else Err (unexpected v (Word w ∷ tokens))
+keyword_at v keyword tokens = Err (unexpected v tokens)
+
+-- the end, with one semicolon or none
+abbrev pub nothing_at : List Token → Result (Unit {0}) CmdFault
+nothing_at [] = Ok tt
+nothing_at (token ∷ tokens) = Err Syntax
+
+unfoldable pub end_at : Verb → List Token → Result (Unit {0}) CmdFault
+end_at v [] = Ok tt
+end_at v (Mark m ∷ tokens) = if m == SEMICOLON then nothing_at tokens else Err Syntax
+end_at v tokens = Err (unexpected v tokens)
+
+-- ---- positions
+
+-- the texts on both sides of the first slash
+abbrev pub halves_of : List ℕ → Option (List ℕ × List ℕ)
+halves_of [] = None
+halves_of (b ∷ bytes) = if b == 47 then Some ([], bytes) else option_map (λ halves. (b ∷ halves.0, halves.1)) (halves_of bytes)
+
+abbrev pub is_half : List ℕ → Bool
+is_half text = nat_lt 0 (length text) && (nat_le (length text) 8 && list_all (λ b. nat_lt (digit_value b) 16) text)
+
+unfoldable pub position_of : List ℕ → Option ℕ
+position_of text = option_and_then (λ halves. if is_half halves.0 && is_half halves.1 then Some (digits_value 16 halves.0 * 2 ^ 32 + digits_value 16 halves.1) else None) (halves_of text)
+
+unfoldable pub position_at : List Token → Result (ℕ × List Token) CmdFault
+position_at (Word w ∷ tokens) = ok_or (position_of w) BadPosition >>= λ n. Ok (n, tokens)
+position_at _ = Err Syntax
+
+-- ---- what is in a list with commas
+
+-- `item` reads one, and `more` tells whether another follows; no list is longer than its text
+unfoldable pub separated : {S X : Type 0} → (S → Result (X × S) CmdFault) → (S → Result (Bool × S) CmdFault) → ℕ → S → Result (List X × S) CmdFault
+separated item more zero s = Err Syntax
+separated item more (suc n) s = do
+  first ← item s
+  goes ← more first.1
+  if goes.0 then (separated item more n goes.1 >>= λ others. Ok (first.0 ∷ others.0, others.1)) else Ok (first.0 ∷ [], goes.1)
+
+-- ---- publications
+
+unfoldable pub front_name : List ℕ → Result (List ℕ × List ℕ) CmdFault
+front_name text = do
+  token ← ok_or (token_from text) BadOption
+  name ← ok_or (name_of token.0) BadOption
+  Ok (name, token.1)
+
+abbrev pub more_names : List ℕ → Result (Bool × List ℕ) CmdFault
+more_names [] = Ok (false, [])
+more_names (b ∷ bytes) = if b == COMMA then Ok (true, bytes) else Err BadOption
+
+unfoldable pub names_of : List ℕ → Result (List (List ℕ)) CmdFault
+names_of text = separated front_name more_names (suc (length text)) text >>= λ names. Ok names.0
+
+-- ---- options
+
+abbrev pub version_at : List Token → Result (Setting × List Token) CmdFault
+version_at tokens = value_at tokens >>= λ value. if bytes_eq value.0 (codes "1") then Ok (Version, value.1) else Err BadOption
+
+abbrev pub publications_at : List Token → Result (Setting × List Token) CmdFault
+publications_at tokens = value_at tokens >>= λ value. names_of value.0 >>= λ names. Ok (Publications names, value.1)
+
+unfoldable pub setting_at : List Token → Result (Setting × List Token) CmdFault
+setting_at tokens = name_at tokens >>= λ name.
+    if bytes_eq name.0 (codes "proto_version") then version_at name.1
+    else if bytes_eq name.0 (codes "publication_names") then publications_at name.1
+    else Err BadOption
+
+abbrev pub more_settings : List Token → Result (Bool × List Token) CmdFault
+more_settings (Mark m ∷ tokens) = if m == COMMA then Ok (true, tokens) else if m == CLOSE then Ok (false, tokens) else Err Syntax
+more_settings _ = Err Syntax
+
+unfoldable pub settings_at : List Token → Result (List Setting × List Token) CmdFault
+settings_at tokens = separated setting_at more_settings (suc (length tokens)) tokens
+
+-- An absent list has no options, and so has an empty one.
+abbrev pub in_brackets : Bool × List Token → Result (List Setting × List Token) CmdFault
+in_brackets (true, tokens) = Ok ([], tokens)
+in_brackets (false, tokens) = settings_at tokens
+
+abbrev pub if_open : Bool × List Token → Result (List Setting × List Token) CmdFault
+if_open (true, tokens) = in_brackets (past_mark CLOSE tokens)
+if_open (false, tokens) = Ok ([], tokens)
+
+unfoldable pub options_at : List Token → Result (List Setting × List Token) CmdFault
+options_at tokens = if_open (past_mark OPEN tokens)
+
+-- each option once: whether the version was told, and which publications
+abbrev pub gathered : Bool → Option (List (List ℕ)) → List Setting → Result (List (List ℕ)) CmdFault
+gathered version names [] = if version then ok_or names BadOption else Err BadOption
+gathered version names (Version ∷ settings) = if version then Err BadOption else gathered true names settings
+gathered version names (Publications chosen ∷ settings) = if is_some names then Err BadOption else gathered version (Some chosen) settings
+
+-- ---- commands
+
+abbrev pub identify_at : List Token → Result Command CmdFault
+identify_at tokens = end_at verb.Identify tokens >>= λ end. Ok Identify
+
+unfoldable pub plugin_at : List Token → Result (List Token) CmdFault
+plugin_at tokens = name_at tokens >>= λ name. if bytes_eq name.0 (codes "pgoutput") then Ok name.1 else Err Unsupported
+
+-- the fault of what stands where an option of a slot must stand
+abbrev pub other_option : List Token → CmdFault
+other_option tokens = if begins_with_name tokens then Unsupported else Syntax
+
+-- the bracket that closes the one option, or a comma and another option
+abbrev pub slot_bracket_at : List Token → Result (List Token) CmdFault
+slot_bracket_at (Mark m ∷ tokens) = if m == COMMA then Err (other_option tokens) else if m == CLOSE then Ok tokens else Err Syntax
+slot_bracket_at _ = Err Syntax
+
+abbrev pub snapshot_value_at : List Token → Result (List Token) CmdFault
+snapshot_value_at tokens = value_at tokens >>= λ value. if bytes_eq value.0 (codes "nothing") then slot_bracket_at value.1 else Err Unsupported
+
+abbrev pub if_snapshot : Bool × List Token → Result (List Token) CmdFault
+if_snapshot (true, tokens) = snapshot_value_at tokens
+if_snapshot (false, tokens) = Err (other_option tokens)
+
+unfoldable pub snapshot_at : List Token → Result (List Token) CmdFault
+snapshot_at tokens = if_snapshot (past_word (codes "SNAPSHOT") tokens)
+
+abbrev pub ending_from : Bool × List Token → Result (List Token) CmdFault
+ending_from (true, tokens) = snapshot_at tokens
+ending_from (false, tokens) = Ok (past_word (codes "NOEXPORT_SNAPSHOT") tokens).1
+
+unfoldable pub ending_at : List Token → Result (List Token) CmdFault
+ending_at tokens = ending_from (past_mark OPEN tokens)
+
+unfoldable pub create_at : List Token → Result Command CmdFault
+create_at tokens = do
+  slot ← slot_at tokens
+  logical ← keyword_at verb.Create (codes "LOGICAL") slot.1
+  plugin ← plugin_at logical
+  ending ← ending_at plugin
+  end ← end_at verb.Create ending
+  Ok (Create slot.0)
+
+unfoldable pub drop_at : List Token → Result Command CmdFault
+drop_at tokens = do
+  slot ← slot_at tokens
+  end ← end_at verb.Drop slot.1
+  Ok (Drop slot.0)
+
+unfoldable pub start_at : List Token → Result Command CmdFault
+start_at tokens = do
+  word ← keyword_at verb.Start (codes "SLOT") tokens
+  slot ← slot_at word
+  logical ← keyword_at verb.Start (codes "LOGICAL") slot.1
+  position ← position_at logical
+  settings ← options_at position.1
+  end ← end_at verb.Start settings.1
+  publications ← gathered false None settings.0
+  Ok (Start slot.0 position.0 publications)
+
+abbrev pub body_at : Verb → List Token → Result Command CmdFault
+body_at verb.Identify tokens = identify_at tokens
+body_at verb.Create tokens = create_at tokens
+body_at verb.Drop tokens = drop_at tokens
+body_at verb.Start tokens = start_at tokens
+
+unfoldable pub command_at : List Token → Result Command CmdFault
+command_at tokens = verb_at tokens >>= λ v. body_at v.0 v.1
+
+-- ---- A call that answers what reading gives, unless memory ran out.
+
+abbrev pub Fails : {Y : Type 0} → CmdFault → Result Y CmdFault → Type 0
+Fails Memory read = Unit {0}
+Fails e read = read ≡ Err e
+
+abbrev pub Answers : {X : Type 0} → Result X CmdFault → Result X CmdFault → Type 0
+Answers (Ok x) read = read ≡ Ok x
+Answers (Err e) read = Fails e read
+
+-- the same of calls that go on from what they read to the rest: one that gives a value, a name that is lent, items in a
+-- vector, or a name with the text that follows it
+abbrev pub Gives : {X S : Type 0} → Result X CmdFault → S → Result (X × S) CmdFault → Type 0
+Gives (Ok x) rest read = read ≡ Ok (x, rest)
+Gives (Err e) rest read = Fails e read
+
+abbrev pub GivesLent : {S : Type 0} → Result (Bor (List ℕ)) CmdFault → S → Result (List ℕ × S) CmdFault → Type 0
+GivesLent (Ok x) rest read = read ≡ Ok (x.now, rest)
+GivesLent (Err e) rest read = Fails e read
+
+abbrev pub GivesItems : {X S : Type 0} → Result (Vec X Global) CmdFault → S → Result (List X × S) CmdFault → Type 0
+GivesItems (Ok x) rest read = read ≡ Ok (x.items, rest)
+GivesItems (Err e) rest read = Fails e read
+
+abbrev pub LendsName : Result (List ℕ × Bor (List ℕ)) CmdFault → Result (List ℕ × List ℕ) CmdFault → Type 0
+LendsName (Ok x) read = read ≡ Ok (x.0, x.1.now)
+LendsName (Err e) read = Fails e read
+
+-- and one that gives nothing but moves on
+abbrev pub Moves : {S : Type 0} → Result (Unit {0}) CmdFault → S → Result S CmdFault → Type 0
+Moves (Ok u) rest read = read ≡ Ok rest
+Moves (Err e) rest read = Fails e read
+
+-- A call that answers what the reading of a text's tokens gives. A text has one list of tokens.
+abbrev pub Tells : List ℕ → Result Command CmdFault → Type 0
+Tells text result = (tokens : List Token) × Lexes text tokens × Answers result (command_at tokens)

@@ -1,0 +1,76 @@
+//! The commands of the replication protocol, and their reader.
+
+ghost use Rattle.std.specs.Prelude.{◌≡◌, List, Ok, IfOk};
+ghost use Rattle.replcmd.specs.Grammar.{SpellsCommand};
+ghost use Rattle.replcmd.specs.declared.token.Token.{Token};
+ghost use Rattle.replcmd.specs.Lexing.{Lexes};
+ghost use Rattle.replcmd.specs.Reading.{Answers, Tells, command_at};
+
+use crate::create::create_of;
+use crate::drop_slot::drop_of;
+use crate::fault::CmdFault;
+use crate::identify::identify_of;
+use crate::lexer::tokens_of;
+use crate::name::Name;
+use crate::names::Names;
+use crate::start::start_of;
+use crate::token::Token;
+use crate::tokens::Tokens;
+use crate::verb::Verb;
+use std::alloc::Global;
+
+/// A command of the streaming replication protocol (PostgreSQL 15, 55.4).
+#[derive(Debug, Drop, PartialEq)]
+pub enum Command {
+    /// `IDENTIFY_SYSTEM`
+    Identify,
+    /// `CREATE_REPLICATION_SLOT slot LOGICAL pgoutput`
+    Create {
+        slot: Name,
+    },
+    /// `START_REPLICATION SLOT slot LOGICAL at (proto_version '1', publication_names 'publications')`
+    Start {
+        slot: Name,
+        at: u64,
+        publications: Names,
+    },
+    /// `DROP_REPLICATION_SLOT slot`
+    Drop {
+        slot: Name,
+    },
+}
+
+/// The command that the text spells, all of it.
+///
+/// The leftmost fault is answered: C1 where the words are none of a command, C2 at a name that no slot can have, C3 at a
+/// word that is no position, C4 at what is left out here, C5 at an option or a value that isn't known; and behind all
+/// those C5 where an option stands twice or is missing. Or C6, out of memory.
+pub fn parse_command(alloc: Global, text: &str) -> Result<Command, CmdFault>
+    // What is read is spelled so.
+    ensures found { IfOk result (λ c. SpellsCommand text.now c) }
+    // What is spelled is read, unless memory runs out.
+    ensures only { (c : Command) → SpellsCommand text.now c → Answers result (Ok c) }
+    // Which fault it is, in the order in which the tokens are judged.
+    ensures exact { Tells text.now result }
+{
+    command_of(alloc, text)
+}
+
+fn command_of(alloc: Global, text: &str) -> Result<Command, CmdFault>
+    ensures { Tells text.now result }
+{
+    let tokens = tokens_of(alloc, text.as_bytes())?;
+    whole(alloc, Tokens::new(tokens.as_slice()))
+}
+
+#[tactic(auto, unfolding(crate::specs::Reading::command_at))]
+fn whole(alloc: Global, mut tokens: Tokens<'_>) -> Result<Command, CmdFault>
+    ensures { Answers result (command_at tokens.entry) }
+{
+    match tokens.verb()? {
+        Verb::Identify => identify_of(&mut tokens),
+        Verb::Create => create_of(alloc, &mut tokens),
+        Verb::Drop => drop_of(alloc, &mut tokens),
+        Verb::Start => start_of(alloc, &mut tokens),
+    }
+}

@@ -1,0 +1,20 @@
+//! IDENTIFY_SYSTEM.
+
+ghost use Rattle.replcmd.specs.Reading.{Answers, identify_at};
+
+use crate::command::Command;
+use crate::fault::CmdFault;
+use crate::tokens::Tokens;
+use crate::verb::Verb;
+
+/// Nothing follows the first word (PostgreSQL 15, 55.4).
+///
+/// ```text
+/// IDENTIFY_SYSTEM
+/// ```
+pub(crate) fn identify_of(tokens: &mut Tokens<'_>) -> Result<Command, CmdFault>
+    ensures { Answers result (identify_at tokens.old) }
+{
+    tokens.end(Verb::Identify)?;
+    Ok(Command::Identify)
+}

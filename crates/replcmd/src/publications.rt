@@ -1,0 +1,44 @@
+//! The value of publication_names: the names of publications with commas between them.
+
+ghost use Rattle.std.specs.Prelude.{◌≡◌};
+ghost use Rattle.std.specs.Str.{IsUtf8};
+ghost use Rattle.replcmd.specs.Reading.{Answers, LendsName, front_name, names_of};
+
+use crate::fault::CmdFault;
+use crate::lexer::token_at_front;
+use crate::name::Name;
+use crate::names::Names;
+use crate::token::COMMA;
+use crate::tokens::name_of;
+use std::alloc::Global;
+
+/// The names that the text spells, one at least; C5 where it spells none.
+#[tactic(auto, unfolding(crate::specs::Reading::names_of))]
+pub(crate) fn names_of(alloc: Global, text: &str) -> Result<Names, CmdFault>
+    ensures { Answers result (names_of text.now) }
+{
+    let mut names = Vec::new(alloc);
+    let mut place = text.as_bytes();
+    loop {
+        let (name, behind) = front_name(alloc, place)?;
+        names.push(name)?;
+        let Some((b, rest)) = behind.split_first() else {
+            return Ok(Names::new(names));
+        };
+        if *b != COMMA {
+            return Err(CmdFault::BadOption);
+        }
+        place = rest;
+    }
+}
+
+/// The name at the front, and what follows it.
+#[tactic(auto, unfolding(crate::specs::Reading::front_name))]
+fn front_name(alloc: Global, text: &[u8]) -> Result<(Name, &[u8]), CmdFault>
+    requires { IsUtf8 text.now }
+    ensures { LendsName result (front_name text.now) }
+{
+    let (token, rest) = token_at_front(alloc, text)?.ok_or(CmdFault::BadOption)?;
+    let name = name_of(alloc, &token)?.ok_or(CmdFault::BadOption)?;
+    Ok((name, rest))
+}

@@ -1,0 +1,33 @@
+//! START_REPLICATION.
+
+ghost use Rattle.replcmd.specs.Reading.{Answers, start_at};
+
+use crate::command::Command;
+use crate::fault::CmdFault;
+use crate::setting::{gathered, options_of};
+use crate::tokens::Tokens;
+use crate::verb::Verb;
+use std::alloc::Global;
+
+/// What follows the first word (PostgreSQL 15, 55.4). The options stand in any order, each once.
+///
+/// ```text
+/// START_REPLICATION SLOT slot LOGICAL position ( option 'value' [, ...] )
+/// ```
+#[tactic(auto, unfolding(crate::specs::Reading::start_at))]
+pub(crate) fn start_of(alloc: Global, tokens: &mut Tokens<'_>) -> Result<Command, CmdFault>
+    ensures { Answers result (start_at tokens.old) }
+{
+    tokens.keyword(Verb::Start, "SLOT")?;
+    let slot = tokens.slot(alloc)?;
+    tokens.keyword(Verb::Start, "LOGICAL")?;
+    let at = tokens.position()?;
+    let settings = options_of(alloc, tokens)?;
+    tokens.end(Verb::Start)?;
+    let publications = gathered(settings)?;
+    Ok(Command::Start {
+        slot,
+        at,
+        publications,
+    })
+}

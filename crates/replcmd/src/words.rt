@@ -1,0 +1,47 @@
+//! What a word or a name may be.
+
+ghost use Rattle.std.specs.Prelude.{◌≡◌};
+ghost use Rattle.std.specs.List.{list_all};
+ghost use Rattle.replcmd.specs.Words.{is_keyword, is_later, is_bare, is_slot_byte, is_slot_name};
+
+/// The longest name of a slot, in bytes.
+pub const MOST_SLOT_NAME_BYTES: usize = 63;
+
+/// Whether the word is this keyword, in either case.
+#[tactic(auto, using(crate::proofs::Keywords::keyword_tested))]
+pub(crate) fn is_keyword(keyword: &str, word: &str) -> bool
+    ensures { result ≡ is_keyword keyword.now word.now }
+{
+    word.eq_ignore_ascii_case(keyword)
+}
+
+/// Whether the word is a bare name: a letter or an underscore, and then letters, digits, underscores or dollar signs.
+pub(crate) fn is_bare(word: &str) -> bool
+    ensures { result ≡ is_bare word.now }
+{
+    match word.as_bytes().split_first() {
+        Some((first, later)) => (first.is_ascii_alphabetic() || *first == b'_') && are_later(later),
+        None => false,
+    }
+}
+
+fn are_later(bytes: &[u8]) -> bool
+    ensures { result ≡ list_all is_later bytes.now }
+{
+    bytes
+        .iter()
+        .all(|b| b.is_ascii_alphanumeric() || *b == b'_' || *b == b'$')
+}
+
+/// Whether the name is one of a slot: 1 to 63 lower-case letters, digits and underscores.
+pub(crate) fn is_slot_name(name: &str) -> bool
+    ensures { result ≡ is_slot_name name.now }
+{
+    !name.is_empty() && name.len() <= MOST_SLOT_NAME_BYTES && are_slot_bytes(name.as_bytes())
+}
+
+fn are_slot_bytes(bytes: &[u8]) -> bool
+    ensures { result ≡ list_all is_slot_byte bytes.now }
+{
+    bytes.iter().all(|b| b.is_ascii_lowercase() || b.is_ascii_digit() || *b == b'_')
+}
