@@ -8,6 +8,7 @@ mod catalog_text;
 mod event_line;
 mod expanded;
 mod field;
+mod frame_text;
 mod framing;
 mod given;
 mod message;

@@ -3,7 +3,7 @@
 use crate::catalog_text::catalog_answer;
 use crate::event_line::event_answer;
 use crate::field::field_answer;
-use crate::framing::{back_answer, front_answer};
+use crate::framing::{back_answer, front_answer, startup_answer};
 use crate::given::Given;
 use crate::message::logical_answer;
 use crate::report::Report;
@@ -86,6 +86,7 @@ fn answer_of(alloc: Global, sample: Sample<'_>) -> Result<Answer> {
 
 fn bytes_answer(alloc: Global, call: &str, given: &Given) -> Result<Answer> {
     match call {
+        "read_startup" => startup_answer(alloc, given),
         "read_front" => front_answer(alloc, given),
         "read_back" => back_answer(alloc, given),
         "read_logical" => logical_answer(alloc, given.all()),

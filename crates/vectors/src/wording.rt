@@ -14,7 +14,9 @@ pub fn word_answer(alloc: Global, bytes: &[u8]) -> Result<Answer> {
     let Some((frame, size)) = read_back(alloc, bytes)? else {
         return Ok(Answer::Meaning("waits".to_string(alloc)?));
     };
-    let Back::CopyData(data) = frame;
+    let Back::CopyData(data) = frame else {
+        bail!("is no CopyData");
+    };
     ensure!(size == bytes.len(), "takes {size} bytes");
     match shown_body(alloc, data.bytes.as_slice())? {
         Some(meaning) => Ok(Answer::Meaning(meaning)),
