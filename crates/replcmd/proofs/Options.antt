@@ -15,7 +15,6 @@ use Rattle.replcmd.specs.declared.setting.Setting.{Setting}
 use Rattle.replcmd.specs.declared.setting.Setting.TheVariants.{Version, Publications}
 use Rattle.replcmd.specs.Grammar.{Part, Keyword, Named, At, Quote, Chosen, Sign, IsPart, IsEnd, Follows, option_name, IsValue, is_version, publications_of, AreSettings, setting_parts}
 use Rattle.replcmd.specs.Reading.{◌>>=◌, name_of, name_at, value_at, past_mark, names_of, version_at, publications_at, setting_at, more_settings, settings_at, in_brackets, if_open, options_at, gathered, separated}
-use Rattle.replcmd.proofs.Lexemes.{if_true, if_false}
 use Rattle.replcmd.proofs.Lists.{found, same_found, bind_ok, Shortens, Lists, lists_take, lists_again}
 use Rattle.replcmd.proofs.PublicationNames.{names_take, names_again}
 use Rattle.replcmd.proofs.Readers.{bytes_same, same_bytes, name_follows, name_reads, value_follows, passed, mark_is, mark_stays, mark_passed}

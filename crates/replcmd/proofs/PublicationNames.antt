@@ -17,7 +17,8 @@ use Rattle.replcmd.specs.Lexing.{after_blanks, word_of, after_word, quoted_at, c
 use Rattle.replcmd.specs.Words.{is_first, is_later, is_bare, IsName}
 use Rattle.replcmd.specs.Publications.{SpellsNames}
 use Rattle.replcmd.specs.Reading.{◌>>=◌, name_of, front_name, more_names, names_of, separated}
-use Rattle.replcmd.proofs.Lexemes.{if_true, if_false, blanks_again, token_found, same_token, Front, front_takes, token_reads, token_smaller}
+use Rattle.replcmd.proofs.Pieces.{if_true, if_false, blanks_again}
+use Rattle.replcmd.proofs.Lexemes.{token_found, same_token, Front, front_takes, token_reads, token_smaller}
 use Rattle.replcmd.proofs.Lists.{found, same_found, bind_ok, Shortens, Lists, lists_take, lists_again}
 use Rattle.replcmd.proofs.Readers.{name_is, is_name}
 use Rattle.replcmd.proofs.Texts.{rest_is_text}

@@ -11,6 +11,8 @@ mod name;
 mod names;
 mod position;
 mod publications;
+#[cfg(test)]
+mod samples;
 mod setting;
 mod start;
 mod token;
