@@ -8,7 +8,7 @@ use Rattle.replcmd.specs.declared.token.Token.{Token}
 use Rattle.replcmd.specs.declared.token.Token.TheVariants.{Word, Quoted, Value, Mark, Unclosed}
 use Rattle.replcmd.specs.declared.token.TheConstants.{NAME_QUOTE, VALUE_QUOTE}
 use Rattle.replcmd.specs.Tokens.{is_blank, is_mark, is_plain, doubled, spelled, Each, begins, IsWhole, StartsWith, Spells}
-use Rattle.replcmd.specs.Lexing.{after_blanks, word_of, after_word, in_front, quoted_at, closed, token_from, token_at, Lexes}
+use Rattle.replcmd.specs.Lexing.{after_blanks, word_of, after_word, quoted_at, closed, token_from, token_at, Lexes}
 use Rattle.replcmd.proofs.Pieces.{if_true, if_false, BlanksTaken, blanks_take, blanks_end, blanks_again, word_takes, word_again, found, quoted_takes, quoted_again}
 
 -- ---- tokens

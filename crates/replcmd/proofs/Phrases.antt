@@ -1,10 +1,9 @@
 -- The first word of a command, and the plugin and the endings of CREATE_REPLICATION_SLOT.
-use Rattle.std.proofs.Common.{◌≡◌, ℕ, Bool, true, false, cond, eqb, List, [], ◌∷◌, Option, Some, None, Result, Ok, Err, refl, sym, ap, subst, ◌∙◌}
+use Rattle.std.proofs.Common.{◌≡◌, ℕ, Bool, true, false, cond, eqb, List, [], ◌∷◌, Option, Some, None, Ok, Err, refl, sym, ap, subst, ◌∙◌}
 use Rattle.std.specs.Prelude.{codes}
 use Rattle.std.specs.Option.{ok_or}
 use Rattle.std.specs.Str.{bytes_eq}
 use Rattle.std.proofs.lemmas.Bool.{eqb-true}
-use Rattle.replcmd.specs.declared.fault.CmdFault.{CmdFault}
 use Rattle.replcmd.specs.declared.fault.CmdFault.TheVariants.{Syntax, Unsupported}
 use Rattle.replcmd.specs.declared.token.Token.{Token}
 use Rattle.replcmd.specs.declared.token.Token.TheVariants.{Word, Quoted, Value, Mark, Unclosed}

@@ -10,6 +10,7 @@ use Rattle.replcmd.specs.declared.verb.Verb.TheVariants as verb
 use Rattle.replcmd.specs.declared.setting.Setting.{Setting}
 use Rattle.replcmd.specs.declared.command.Command.{Command}
 use Rattle.replcmd.specs.declared.command.Command.TheVariants.{Identify, Create, Start, Drop}
+use Rattle.replcmd.specs.Lexing.{Lexes}
 use Rattle.replcmd.specs.Words.{is_slot_name}
 use Rattle.replcmd.specs.Grammar.{Part, Keyword, Named, At, Quote, Chosen, Sign, IsPart, IsEnd, Follows, AreSettings, setting_parts, create_parts, IsEnding, start_parts, Says, SpellsCommand}
 use Rattle.replcmd.specs.Reading.{◌>>=◌, slot_at, verb_at, keyword_at, end_at, position_at, options_at, gathered, identify_at, plugin_at, ending_at, create_at, drop_at, start_at, body_at, command_at, Answers, Tells}
@@ -197,8 +198,18 @@ is_found text (Ok c) tells =
     (tells.0, lexes_spells text tells.0 (said_closed tells.0 c says) tells.1, says)
 is_found text (Err e) tells = tt
 
+-- what is spelled is read, whichever tokens were read of the text
+spelled_read : (text : List ℕ) (c : Command) → SpellsCommand text c → (tokens : List Token) → Lexes text tokens → command_at tokens ≡ Ok c
+spelled_read text c spells tokens lexes =
+    let same : tokens ≡ spells.0 = lexes_once text tokens spells.0 lexes (spells_lexes text spells.0 spells.1) in
+    ap command_at same ∙ says_command spells.0 c spells.2
+
+pub one_command : (text : List ℕ) (c d : Command) → SpellsCommand text c → SpellsCommand text d → c ≡ d
+one_command text c d first second =
+    let lexes = spells_lexes text first.0 first.1 in
+    let one : command_at first.0 ≡ Ok c = spelled_read text c first first.0 lexes in
+    let other : command_at first.0 ≡ Ok d = spelled_read text d second first.0 lexes in
+    cc
+
 pub is_only : (text : List ℕ) (result : Result Command CmdFault) → Tells text result → (c : Command) → SpellsCommand text c → Answers result (Ok c)
-is_only text result tells c spells =
-    let same : tells.0 ≡ spells.0 = lexes_once text tells.0 spells.0 tells.1 (spells_lexes text spells.0 spells.1) in
-    let read : command_at tells.0 ≡ Ok c = ap command_at same ∙ says_command spells.0 c spells.2 in
-    subst (λ (r : Result Command CmdFault). Answers result r) read tells.2
+is_only text result tells c spells = subst (λ (r : Result Command CmdFault). Answers result r) (spelled_read text c spells tells.0 tells.1) tells.2
