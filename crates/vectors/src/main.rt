@@ -5,6 +5,7 @@
 #![tactic(auto)]
 
 mod catalog_text;
+mod command_text;
 mod event_line;
 mod expanded;
 mod field;
