@@ -1,5 +1,7 @@
 //! Logical messages: what is read is written again as it stood.
 
+ghost use Rattle.pgoutput.specs.Logical.{IsShort};
+
 use crate::sample::Answer;
 use crate::shown::{Position, Quoted};
 use anyhow::{Result, ensure};
@@ -14,7 +16,9 @@ pub fn logical_answer(alloc: Global, bytes: &[u8]) -> Result<Answer> {
     }
 }
 
-fn meaning(alloc: Global, message: &Logical, bytes: &[u8]) -> Result<String> {
+fn meaning(alloc: Global, message: &Logical, bytes: &[u8]) -> Result<String>
+    requires { IsShort message.now }
+{
     let mut out = BytesMut::new(alloc);
     write_logical(message, &mut out)?;
     ensure!(out.as_slice() == bytes, "is written in another way");
