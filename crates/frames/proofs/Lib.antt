@@ -1,7 +1,11 @@
 pub mod Texts
 pub mod Codec
 pub mod Numbers
+pub mod Lengths
 pub mod Loop
 pub mod Putting
+pub mod Cases
+pub mod Lists
 pub mod Frames
+pub mod Startups
 pub mod Bodies

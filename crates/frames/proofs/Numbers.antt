@@ -262,6 +262,13 @@ signed64 d = converted (number64 d) (cast_signed w64) (cast_unsigned w64) (FitsS
     (λ n lt. of_z-to_z w64 n lt)
     (λ z fits. to_z-of_z w64 z fits)
 
+pub signed16 : {E : Type 0} (d : E) → Codec (λ bytes. ok_or (number_at w16 bytes) d >>= λ n. Ok (cast_signed w16 n.0, n.1)) (λ z. int16 (cast_unsigned w16 z)) (FitsSigned w16)
+signed16 d = converted (number16 d) (cast_signed w16) (cast_unsigned w16) (FitsSigned w16)
+    (λ n lt. sfits_to_z (record { fits = lt }))
+    (λ z fits. Fits-lt-pow (Fits-of_z fits))
+    (λ n lt. of_z-to_z w16 n lt)
+    (λ z fits. to_z-of_z w16 z fits)
+
 pub signed32 : {E : Type 0} (d : E) → Codec (λ bytes. ok_or (number_at w32 bytes) d >>= λ n. Ok (cast_signed w32 n.0, n.1)) (λ z. int32 (cast_unsigned w32 z)) (FitsSigned w32)
 signed32 d = converted (number32 d) (cast_signed w32) (cast_unsigned w32) (FitsSigned w32)
     (λ n lt. sfits_to_z (record { fits = lt }))

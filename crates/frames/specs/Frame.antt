@@ -1,12 +1,12 @@
 -- What all regular frames have in common (PostgreSQL 15, 55.1.1 and 55.7): one type byte, a length of four bytes that
 -- counts itself and not the type byte, and the body. The length is read as an unsigned number.
-use Rattle.std.specs.Prelude.{◌≡◌, ℕ, ◌+◌, ◌-◌, ◌^◌, ◌<◌, ◌≤◌, List, [], ◌∷◌, ◌++◌, length, Option, Some, None, option_map, IsSomeAnd, Result, Ok, Err, nat_lt, if◌then◌else◌}
+use Rattle.std.specs.Prelude.{◌≡◌, ℕ, ◌+◌, ◌-◌, ◌^◌, ◌<◌, ◌≤◌, List, [], ◌∷◌, ◌++◌, length, Option, Some, None, option_map, IsSomeAnd, Result, Ok, Err, nat_lt, Bool, false, true, if◌then◌else◌}
 use Rattle.std.specs.Option.{ok_or}
 use Rattle.std.specs.Int.{w32}
 use Rattle.frames.specs.Fields.{int32, bytes_at, number_at}
 use Rattle.frames.specs.Steps.{◌>>=◌}
 use Rattle.frames.specs.declared.fault.FrameFault.{FrameFault}
-use Rattle.frames.specs.declared.fault.FrameFault.TheVariants.{BadLength, UnknownType, TooLong, Memory}
+use Rattle.frames.specs.declared.fault.FrameFault.TheVariants.{BadLength, BadVersion, UnknownType, BadBody, NotUtf8, TooLong, Memory}
 
 abbrev pub frame : ℕ → List ℕ → List ℕ
 frame kind body = kind ∷ (int32 (4 + length body) ++ body)
@@ -15,9 +15,13 @@ frame kind body = kind ∷ (int32 (4 + length body) ++ body)
 abbrev pub FitsLength : List ℕ → Type 0
 FitsLength body = 4 + length body < 2 ^ 32
 
+-- what can be spelled: the shape is right, and the texts are UTF-8
+abbrev pub Fits : {F : Type 0} → (F → Type 0) → (F → Bool) → F → Type 0
+Fits Shaped is_text f = Shaped f × (is_text f ≡ true)
+
 -- The bytes are the one spelling of the frame f, where its frames have these type bytes, bodies and ranges.
-pub record SpellsFrame {F : Type 0} (kind_of : F → ℕ) (body_of : F → List ℕ) (Fits : F → Type 0) (bytes : List ℕ) (f : F) : Type 0 where
-  pub in_range : Fits f
+pub record SpellsFrame {F : Type 0} (kind_of : F → ℕ) (body_of : F → List ℕ) (InRange : F → Type 0) (bytes : List ℕ) (f : F) : Type 0 where
+  pub in_range : InRange f
   pub fits_length : FitsLength (body_of f)
   pub text : bytes ≡ frame (kind_of f) (body_of f)
 
@@ -74,18 +78,25 @@ IsWhole (Err e) = ⊥
 
 -- ---- Where a fault stands.
 
+-- f has this type byte and this body, whether its texts are UTF-8 or not
+abbrev pub HasBody : {F : Type 0} → (F → ℕ) → (F → List ℕ) → (F → Type 0) → ℕ → List ℕ → F → Type 0
+HasBody kind_of body_of Shaped kind body f = (kind_of f ≡ kind) × (body_of f ≡ body) × Shaped f
+
 -- the bytes begin with a type byte whose frames have a limit, and this length field
 abbrev pub BeginsWith : (ℕ → Option ℕ) → List ℕ → (ℕ → ℕ → Type 0) → Type 0
 BeginsWith limit bytes Holds = (kind most n : ℕ) × (rest : List ℕ) × (limit kind ≡ Some most) × (n < 2 ^ 32) × (bytes ≡ kind ∷ (int32 n ++ rest)) × Holds most n
 
--- a whole frame within its limit stands at the front
-abbrev pub HoldsFrame : (ℕ → Option ℕ) → List ℕ → Type 0
-HoldsFrame limit bytes = (kind most : ℕ) × (body rest : List ℕ) × (limit kind ≡ Some most) × (4 + length body ≤ most) × (bytes ≡ frame kind body ++ rest)
+-- a type byte with a limit, a length within it, and a body of this kind stand at the front
+abbrev pub HoldsBody : (ℕ → Option ℕ) → List ℕ → (ℕ → List ℕ → Type 0) → Type 0
+HoldsBody limit bytes Holds = (kind most : ℕ) × (body rest : List ℕ) × (limit kind ≡ Some most) × (4 + length body ≤ most) × (bytes ≡ frame kind body ++ rest) × Holds kind body
 
--- No body of today's frames can be bad, and no regular frame has a version.
-abbrev pub StandsAt : (ℕ → Option ℕ) → FrameFault → List ℕ → Type 0
-StandsAt limit UnknownType bytes = (kind : ℕ) × (rest : List ℕ) × (bytes ≡ kind ∷ rest) × (limit kind ≡ None)
-StandsAt limit BadLength bytes = BeginsWith limit bytes (λ most n. n < 4)
-StandsAt limit TooLong bytes = BeginsWith limit bytes (λ most n. most < n)
-StandsAt limit Memory bytes = HoldsFrame limit bytes
-StandsAt limit _ bytes = ⊥
+-- A bad body is no frame's, whatever its texts; one that isn't UTF-8 is that of a frame but for its texts. No regular
+-- frame has a version.
+abbrev pub StandsAt : {F : Type 0} → (ℕ → Option ℕ) → (F → ℕ) → (F → List ℕ) → (F → Type 0) → (F → Bool) → FrameFault → List ℕ → Type 0
+StandsAt limit kind_of body_of Shaped is_text UnknownType bytes = (kind : ℕ) × (rest : List ℕ) × (bytes ≡ kind ∷ rest) × (limit kind ≡ None)
+StandsAt limit kind_of body_of Shaped is_text BadLength bytes = BeginsWith limit bytes (λ most n. n < 4)
+StandsAt limit kind_of body_of Shaped is_text TooLong bytes = BeginsWith limit bytes (λ most n. most < n)
+StandsAt {F} limit kind_of body_of Shaped is_text BadBody bytes = HoldsBody limit bytes (λ kind body. (f : F) → HasBody kind_of body_of Shaped kind body f → ⊥)
+StandsAt {F} limit kind_of body_of Shaped is_text NotUtf8 bytes = HoldsBody limit bytes (λ kind body. (f : F) × HasBody kind_of body_of Shaped kind body f × (is_text f ≡ false))
+StandsAt limit kind_of body_of Shaped is_text Memory bytes = HoldsBody limit bytes (λ kind body. Unit {0})
+StandsAt limit kind_of body_of Shaped is_text BadVersion bytes = ⊥

@@ -3,6 +3,13 @@ pub mod Steps
 pub mod Putting
 pub mod Frame
 pub mod Raw
+pub mod Body
+pub mod Plain
+pub mod RowDescription
+pub mod DataRow
+pub mod ErrorResponse
 pub mod CopyData
+pub mod Parameter
+pub mod Startup
 pub mod Front
 pub mod Back

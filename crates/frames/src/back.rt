@@ -1,14 +1,30 @@
 //! The frames that the server sends: the enum over them, its reader and its writer.
 
 ghost use Rattle.std.specs.Prelude.{◌≡◌, ◌<◌, ◌≤◌, ◌++◌, List, ℕ, length, take, Ok, Err, Some, None, IfOk, IfErr, IfSome, OnOk, OnErr};
-ghost use Rattle.frames.specs.Frame.{FitsLength, frame, Gives, StandsAt, IsWhole, raw_at};
+ghost use Rattle.frames.specs.Frame.{FitsLength, frame, Gives, IsWhole, raw_at};
 ghost use Rattle.frames.specs.Putting.{Puts};
-ghost use Rattle.frames.specs.Back.{back_kind, back_body, back_limit, back_at, framed_back, SpellsBack, IsShortBack};
+ghost use Rattle.frames.specs.Back.{back_kind, back_body, back_limit, back_at, list_at, framed_back, SpellsBack, IsShortBack, IsBackFault, HasCounts};
 
+use crate::authentication_ok::{AUTHENTICATION, authentication_of};
+use crate::backend_key_data::{BACKEND_KEY_DATA, BackendKeyData, backend_key_of, put_backend_key};
+use crate::body::{nothing_of, only_text};
+use crate::command_complete::{COMMAND_COMPLETE, CommandComplete};
+use crate::copy_both_response::{COPY_BOTH_RESPONSE, CopyBothResponse, copy_both_of};
 use crate::copy_data::{COPY_DATA, CopyData, copy_data_len, copy_data_of, put_copy_data};
+use crate::copy_done::COPY_DONE;
 use crate::cursor::Cursor;
+use crate::data_row::{DATA_ROW, DataRow, data_row_of};
+use crate::error_response::{ERROR_RESPONSE, ErrorResponse};
 use crate::fault::FrameFault;
 use crate::frame::{FRAME_LIMIT, body_of, put_head};
+use crate::list::{counted_of, items_len, listed, put_closed, put_counted};
+use crate::parameter::Parameter;
+use crate::parameter_status::{
+    PARAMETER_STATUS, parameter_len, parameter_status_of, put_parameter,
+};
+use crate::put::{put_byte, put_int32, put_string};
+use crate::ready_for_query::{READY_FOR_QUERY, Status, ready_of};
+use crate::row_description::{ROW_DESCRIPTION, RowDescription};
 use bytes::BytesMut;
 use std::alloc::{AllocError, Global};
 
@@ -18,7 +34,17 @@ use std::alloc::{AllocError, Global};
 /// wait for more bytes, and `Some` is a frame and the count of bytes to drop from the front.
 #[derive(Debug, Drop, PartialEq)]
 pub enum Back {
+    AuthenticationOk,
+    ParameterStatus(Parameter),
+    BackendKeyData(BackendKeyData),
+    ReadyForQuery(Status),
+    CommandComplete(CommandComplete),
+    RowDescription(RowDescription),
+    DataRow(DataRow),
+    ErrorResponse(ErrorResponse),
+    CopyBothResponse(CopyBothResponse),
     CopyData(CopyData),
+    CopyDone,
 }
 
 /// The frame at the front of the bytes, and how many of them it takes; None while it isn't there whole.
@@ -35,7 +61,7 @@ pub fn read_back(alloc: Global, bytes: &[u8]) -> Result<Option<(Back, usize)>, F
     ensures waits { (text more : List ℕ) (f : Back) → SpellsBack text f → IsShortBack f → text ≡ bytes.now ++ more
         → length bytes.now < length text → result ≡ Ok None }
     // A fault stands in the bytes.
-    ensures fault { IfErr result (λ e. StandsAt back_limit e bytes.now) }
+    ensures fault { IfErr result (λ e. IsBackFault e bytes.now) }
     // Which fault it is, in the order in which the bytes are judged.
     ensures exact { Gives result (framed_back bytes.now) }
 {
@@ -61,23 +87,76 @@ fn limit_of(kind: u8) -> Option<u32>
     ensures { result ≡ back_limit kind }
 {
     match kind {
-        COPY_DATA => Some(FRAME_LIMIT),
+        AUTHENTICATION
+        | PARAMETER_STATUS
+        | BACKEND_KEY_DATA
+        | READY_FOR_QUERY
+        | COMMAND_COMPLETE
+        | ROW_DESCRIPTION
+        | DATA_ROW
+        | ERROR_RESPONSE
+        | COPY_BOTH_RESPONSE
+        | COPY_DATA
+        | COPY_DONE => Some(FRAME_LIMIT),
         _ => None,
     }
 }
 
+#[tactic(auto, unfolding(crate::specs::Back::back_at))]
 fn whole_of(alloc: Global, kind: u8, body: &[u8]) -> Result<Back, FrameFault>
     ensures { Gives result (back_at kind body.now) }
 {
     match kind {
+        AUTHENTICATION => {
+            authentication_of(body)?;
+            Ok(Back::AuthenticationOk)
+        }
+        PARAMETER_STATUS => Ok(Back::ParameterStatus(parameter_status_of(alloc, body)?)),
+        BACKEND_KEY_DATA => {
+            let (process, key) = backend_key_of(body)?;
+            Ok(Back::BackendKeyData(BackendKeyData { process, key }))
+        }
+        READY_FOR_QUERY => Ok(Back::ReadyForQuery(ready_of(body)?)),
+        COMMAND_COMPLETE => {
+            let tag = only_text(alloc, body)?;
+            Ok(Back::CommandComplete(CommandComplete { tag }))
+        }
+        COPY_BOTH_RESPONSE => Ok(Back::CopyBothResponse(copy_both_of(alloc, body)?)),
         COPY_DATA => Ok(Back::CopyData(copy_data_of(alloc, body)?)),
+        COPY_DONE => {
+            nothing_of(body)?;
+            Ok(Back::CopyDone)
+        }
+        _ => list_of(alloc, kind, body),
+    }
+}
+
+/// The frames that are a list.
+#[tactic(auto, unfolding(crate::specs::Back::list_at))]
+fn list_of(alloc: Global, kind: u8, body: &[u8]) -> Result<Back, FrameFault>
+    ensures { Gives result (list_at kind body.now) }
+{
+    match kind {
+        ROW_DESCRIPTION => {
+            let columns = counted_of(alloc, &mut Cursor::new(body))?;
+            Ok(Back::RowDescription(RowDescription { columns }))
+        }
+        DATA_ROW => {
+            let values = data_row_of(alloc, body)?;
+            Ok(Back::DataRow(DataRow { values }))
+        }
+        ERROR_RESPONSE => {
+            let fields = listed(alloc, body)?;
+            Ok(Back::ErrorResponse(ErrorResponse { fields }))
+        }
         _ => Err(FrameFault::UnknownType),
     }
 }
 
 /// Adds the frame at the end of `out`; refused, adds nothing.
 pub fn write_back(message: &Back, out: &mut BytesMut) -> Result<(), AllocError>
-    requires { FitsLength (back_body message.now) }
+    requires length { FitsLength (back_body message.now) }
+    requires counts { HasCounts message.now }
     ensures ok { OnOk result (out.new.items ≡ out.old.items ++ frame (back_kind message.now) (back_body message.now)) }
     ensures err { OnErr result (out.new.items ≡ out.old.items) }
 {
@@ -91,12 +170,34 @@ pub fn write_back(message: &Back, out: &mut BytesMut) -> Result<(), AllocError>
 
 #[tactic(auto, using(crate::proofs::Putting::in_place))]
 fn put_back(out: &mut BytesMut, message: &Back) -> Result<(), AllocError>
-    requires { FitsLength (back_body message.now) }
+    requires length { FitsLength (back_body message.now) }
+    requires counts { HasCounts message.now }
     ensures { Puts result out.old.items out.new.items (frame (back_kind message.now) (back_body message.now)) }
 {
     put_head(out, kind_of(message), body_len(message))?;
+    put_body(out, message)
+}
+
+#[tactic(auto, using(crate::proofs::Putting::in_place))]
+fn put_body(out: &mut BytesMut, message: &Back) -> Result<(), AllocError>
+    requires { HasCounts message.now }
+    ensures { Puts result out.old.items out.new.items (back_body message.now) }
+{
     match message {
+        Back::AuthenticationOk => put_int32(out, 0),
+        Back::ParameterStatus(status) => put_parameter(out, status),
+        Back::BackendKeyData(data) => put_backend_key(out, data),
+        Back::ReadyForQuery(status) => put_byte(out, status.letter()),
+        Back::CommandComplete(complete) => put_string(out, complete.tag.as_str()),
+        Back::RowDescription(description) => put_counted(out, description.columns.as_slice()),
+        Back::DataRow(row) => put_counted(out, row.values.as_slice()),
+        Back::ErrorResponse(response) => put_closed(out, response.fields.as_slice()),
+        Back::CopyBothResponse(response) => {
+            put_byte(out, response.format)?;
+            put_counted(out, response.formats.as_slice())
+        }
         Back::CopyData(data) => put_copy_data(out, data),
+        Back::CopyDone => Ok(()),
     }
 }
 
@@ -104,15 +205,37 @@ fn kind_of(message: &Back) -> u8
     ensures { result ≡ back_kind message.now }
 {
     match message {
+        Back::AuthenticationOk => AUTHENTICATION,
+        Back::ParameterStatus(_) => PARAMETER_STATUS,
+        Back::BackendKeyData(_) => BACKEND_KEY_DATA,
+        Back::ReadyForQuery(_) => READY_FOR_QUERY,
+        Back::CommandComplete(_) => COMMAND_COMPLETE,
+        Back::RowDescription(_) => ROW_DESCRIPTION,
+        Back::DataRow(_) => DATA_ROW,
+        Back::ErrorResponse(_) => ERROR_RESPONSE,
+        Back::CopyBothResponse(_) => COPY_BOTH_RESPONSE,
         Back::CopyData(_) => COPY_DATA,
+        Back::CopyDone => COPY_DONE,
     }
 }
 
+#[tactic(auto, using(crate::proofs::Lengths::body_lengths))]
 fn body_len(message: &Back) -> usize
+    requires { FitsLength (back_body message.now) }
     ensures { result ≡ length (back_body message.now) }
 {
     match message {
+        Back::AuthenticationOk => 4,
+        Back::ParameterStatus(status) => parameter_len(status),
+        Back::BackendKeyData(_) => 8,
+        Back::ReadyForQuery(_) => 1,
+        Back::CommandComplete(complete) => complete.tag.as_str().len() + 1,
+        Back::RowDescription(description) => 2 + items_len(description.columns.as_slice()),
+        Back::DataRow(row) => 2 + items_len(row.values.as_slice()),
+        Back::ErrorResponse(response) => items_len(response.fields.as_slice()) + 1,
+        Back::CopyBothResponse(response) => 3 + items_len(response.formats.as_slice()),
         Back::CopyData(data) => copy_data_len(data),
+        Back::CopyDone => 0,
     }
 }
 

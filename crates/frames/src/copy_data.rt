@@ -3,6 +3,7 @@
 ghost use Rattle.std.specs.Prelude.{◌≡◌, length};
 ghost use Rattle.frames.specs.Frame.{Gives};
 ghost use Rattle.frames.specs.Putting.{Puts};
+ghost use Rattle.frames.specs.Body.{whole, always};
 ghost use Rattle.frames.specs.CopyData.{copy_data, copy_data_at};
 
 use crate::fault::FrameFault;
@@ -27,7 +28,7 @@ pub struct CopyData {
 }
 
 pub(crate) fn copy_data_of(alloc: Global, body: &[u8]) -> Result<CopyData, FrameFault>
-    ensures { Gives result (copy_data_at body.now) }
+    ensures { Gives result (whole always (copy_data_at body.now)) }
 {
     let bytes = Vec::from_slice(alloc, body)?;
     Ok(CopyData {

@@ -1,14 +1,20 @@
 //! The frames that a client sends: the enum over them, its reader and its writer.
 
 ghost use Rattle.std.specs.Prelude.{◌≡◌, ◌<◌, ◌≤◌, ◌++◌, List, ℕ, length, take, Ok, Err, Some, None, IfOk, IfErr, IfSome, OnOk, OnErr};
-ghost use Rattle.frames.specs.Frame.{FitsLength, frame, Gives, StandsAt, IsWhole, raw_at};
+ghost use Rattle.frames.specs.Frame.{FitsLength, frame, Gives, IsWhole, raw_at};
 ghost use Rattle.frames.specs.Putting.{Puts};
-ghost use Rattle.frames.specs.Front.{front_kind, front_body, front_limit, front_at, framed_front, SpellsFront, IsShortFront};
+ghost use Rattle.frames.specs.Front.{front_kind, front_body, front_limit, front_at, framed_front, SpellsFront, IsShortFront, IsFrontFault};
 
+use crate::body::{nothing_of, only_text};
 use crate::copy_data::{COPY_DATA, CopyData, copy_data_len, copy_data_of, put_copy_data};
+use crate::copy_done::COPY_DONE;
+use crate::copy_fail::{COPY_FAIL, CopyFail};
 use crate::cursor::Cursor;
 use crate::fault::FrameFault;
 use crate::frame::{FRAME_LIMIT, body_of, put_head};
+use crate::put::put_string;
+use crate::query::{QUERY, QUERY_LIMIT, Query};
+use crate::terminate::TERMINATE;
 use bytes::BytesMut;
 use std::alloc::{AllocError, Global};
 
@@ -18,7 +24,11 @@ use std::alloc::{AllocError, Global};
 /// from the front, and a fault is the connection's end. `write_front` is its converse.
 #[derive(Debug, Drop, PartialEq)]
 pub enum Front {
+    Query(Query),
+    Terminate,
     CopyData(CopyData),
+    CopyDone,
+    CopyFail(CopyFail),
 }
 
 /// The frame at the front of the bytes, and how many of them it takes; None while it isn't there whole.
@@ -35,7 +45,7 @@ pub fn read_front(alloc: Global, bytes: &[u8]) -> Result<Option<(Front, usize)>,
     ensures waits { (text more : List ℕ) (f : Front) → SpellsFront text f → IsShortFront f → text ≡ bytes.now ++ more
         → length bytes.now < length text → result ≡ Ok None }
     // A fault stands in the bytes.
-    ensures fault { IfErr result (λ e. StandsAt front_limit e bytes.now) }
+    ensures fault { IfErr result (λ e. IsFrontFault e bytes.now) }
     // Which fault it is, in the order in which the bytes are judged.
     ensures exact { Gives result (framed_front bytes.now) }
 {
@@ -61,7 +71,8 @@ fn limit_of(kind: u8) -> Option<u32>
     ensures { result ≡ front_limit kind }
 {
     match kind {
-        COPY_DATA => Some(FRAME_LIMIT),
+        QUERY => Some(QUERY_LIMIT),
+        TERMINATE | COPY_DATA | COPY_DONE | COPY_FAIL => Some(FRAME_LIMIT),
         _ => None,
     }
 }
@@ -70,7 +81,23 @@ fn whole_of(alloc: Global, kind: u8, body: &[u8]) -> Result<Front, FrameFault>
     ensures { Gives result (front_at kind body.now) }
 {
     match kind {
+        QUERY => {
+            let text = only_text(alloc, body)?;
+            Ok(Front::Query(Query { text }))
+        }
+        TERMINATE => {
+            nothing_of(body)?;
+            Ok(Front::Terminate)
+        }
         COPY_DATA => Ok(Front::CopyData(copy_data_of(alloc, body)?)),
+        COPY_DONE => {
+            nothing_of(body)?;
+            Ok(Front::CopyDone)
+        }
+        COPY_FAIL => {
+            let reason = only_text(alloc, body)?;
+            Ok(Front::CopyFail(CopyFail { reason }))
+        }
         _ => Err(FrameFault::UnknownType),
     }
 }
@@ -96,7 +123,10 @@ fn put_front(out: &mut BytesMut, message: &Front) -> Result<(), AllocError>
 {
     put_head(out, kind_of(message), body_len(message))?;
     match message {
+        Front::Query(query) => put_string(out, query.text.as_str()),
         Front::CopyData(data) => put_copy_data(out, data),
+        Front::CopyFail(fail) => put_string(out, fail.reason.as_str()),
+        Front::Terminate | Front::CopyDone => Ok(()),
     }
 }
 
@@ -104,7 +134,11 @@ fn kind_of(message: &Front) -> u8
     ensures { result ≡ front_kind message.now }
 {
     match message {
+        Front::Query(_) => QUERY,
+        Front::Terminate => TERMINATE,
         Front::CopyData(_) => COPY_DATA,
+        Front::CopyDone => COPY_DONE,
+        Front::CopyFail(_) => COPY_FAIL,
     }
 }
 
@@ -112,7 +146,10 @@ fn body_len(message: &Front) -> usize
     ensures { result ≡ length (front_body message.now) }
 {
     match message {
+        Front::Query(query) => query.text.as_str().len() + 1,
         Front::CopyData(data) => copy_data_len(data),
+        Front::CopyFail(fail) => fail.reason.as_str().len() + 1,
+        Front::Terminate | Front::CopyDone => 0,
     }
 }
 

@@ -11,8 +11,6 @@ mod name;
 mod names;
 mod position;
 mod publications;
-#[cfg(test)]
-mod samples;
 mod setting;
 mod start;
 mod token;

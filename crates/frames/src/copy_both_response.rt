@@ -1,0 +1,83 @@
+//! CopyBothResponse, the beginning of copy mode in both directions: its type, its reader and its writer.
+
+ghost use Rattle.std.specs.Prelude.{◌≡◌, length};
+ghost use Rattle.frames.specs.Fields.{int16};
+ghost use Rattle.frames.specs.Body.{GivesAt, checked_at, passed_over, whole, always};
+ghost use Rattle.frames.specs.Frame.{Gives};
+ghost use Rattle.frames.specs.Plain.{counted_at, format_at, copy_both_at};
+ghost use Rattle.frames.specs.Putting.{Puts};
+
+use crate::cursor::Cursor;
+use crate::fault::FrameFault;
+use crate::items::Items;
+use crate::list::{Field, Put, counted_of};
+use crate::put::put_int16;
+use bytes::BytesMut;
+use std::alloc::{AllocError, Global};
+
+/// The type byte of CopyBothResponse.
+pub const COPY_BOTH_RESPONSE: u8 = b'W';
+
+/// CopyBothResponse (PostgreSQL 15, 55.7): the format of the stream, 0 for text, and that of each column. Replication
+/// has no columns.
+///
+/// ```text
+/// Byte1('W') | Int32 length, itself counted | Int8 format | Int16 count | each: Int16 format
+/// ```
+#[derive(Debug, Drop, PartialEq)]
+pub struct CopyBothResponse {
+    pub format: u8,
+    pub formats: Items<u16>,
+}
+
+impl Field for u16 {
+    ghost use Rattle.frames.specs.Body.{always};
+    ghost use Rattle.frames.specs.Plain.{format_at};
+
+    ghost field_at = { format_at };
+
+    ghost is_text = { always };
+
+    fn pass(cursor: &mut Cursor<'_>) -> Result<(), FrameFault> {
+        cursor.u16().ok_or(FrameFault::BadBody)?;
+        Ok(())
+    }
+
+    fn read(_alloc: Global, cursor: &mut Cursor<'_>) -> Result<Self, FrameFault> {
+        cursor.u16().ok_or(FrameFault::BadBody)
+    }
+}
+
+impl Put for u16 {
+    ghost use Rattle.frames.specs.Fields.{int16};
+
+    ghost spelled = { int16 };
+
+    ghost is_short = { λ _. Unit {0} };
+
+    #[tactic(auto, unfolding(crate::specs::Fields::int16))]
+    fn len(&self) -> usize {
+        2
+    }
+
+    fn put(&self, out: &mut BytesMut) -> Result<(), AllocError> {
+        put_int16(out, *self)
+    }
+}
+
+#[tactic(auto, using(crate::proofs::Lists::untested))]
+fn formats_of(alloc: Global, cursor: &mut Cursor<'_>) -> Result<Items<u16>, FrameFault>
+    ensures { Gives result (whole always (counted_at format_at cursor.old)) }
+{
+    counted_of(alloc, cursor)
+}
+
+#[tactic(auto, unfolding(crate::specs::Plain::copy_both_at))]
+pub(crate) fn copy_both_of(alloc: Global, body: &[u8]) -> Result<CopyBothResponse, FrameFault>
+    ensures { Gives result (whole always (copy_both_at body.now)) }
+{
+    let mut cursor = Cursor::new(body);
+    let format = cursor.u8().ok_or(FrameFault::BadBody)?;
+    let formats = formats_of(alloc, &mut cursor)?;
+    Ok(CopyBothResponse { format, formats })
+}

@@ -1,0 +1,16 @@
+//! CopyFail, the end of copy mode by a client that couldn't go on: its type.
+
+use crate::text::Text;
+
+/// The type byte of CopyFail.
+pub const COPY_FAIL: u8 = b'f';
+
+/// CopyFail (PostgreSQL 15, 55.7).
+///
+/// ```text
+/// Byte1('f') | Int32 length, itself counted | String reason
+/// ```
+#[derive(Debug, Drop, PartialEq)]
+pub struct CopyFail {
+    pub reason: Text,
+}

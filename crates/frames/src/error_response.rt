@@ -1,0 +1,81 @@
+//! ErrorResponse, why a command or a session was refused: its type, its reader and its writer.
+
+ghost use Rattle.std.specs.Prelude.{◌≡◌, length};
+ghost use Rattle.frames.specs.Body.{GivesAt, checked_at, passed_over};
+ghost use Rattle.frames.specs.Putting.{Puts};
+ghost use Rattle.frames.specs.ErrorResponse.{error_field, error_field_at, is_error_text};
+
+use crate::body::text_of;
+use crate::cursor::Cursor;
+use crate::fault::FrameFault;
+use crate::items::Items;
+use crate::list::{Field, Put};
+use crate::put::{put_byte, put_string};
+use crate::text::Text;
+use bytes::BytesMut;
+use std::alloc::{AllocError, Global};
+
+/// The type byte of ErrorResponse.
+pub const ERROR_RESPONSE: u8 = b'E';
+
+/// ErrorResponse (PostgreSQL 15, 55.7).
+///
+/// ```text
+/// Byte1('E') | Int32 length, itself counted | each field | Byte1(0)
+/// ```
+#[derive(Debug, Drop, PartialEq)]
+pub struct ErrorResponse {
+    pub fields: Items<ErrorField>,
+}
+
+/// A field of an error; what the codes mean is told in 55.8. The code is never zero.
+///
+/// ```text
+/// Byte1 code | String text
+/// ```
+#[derive(Debug, Drop, PartialEq)]
+pub struct ErrorField {
+    pub code: u8,
+    pub text: Text,
+}
+
+impl Field for ErrorField {
+    ghost use Rattle.frames.specs.ErrorResponse.{error_field_at, is_error_text};
+
+    ghost field_at = { error_field_at };
+
+    ghost is_text = { is_error_text };
+
+    #[tactic(auto, unfolding(crate::specs::ErrorResponse::error_field_at))]
+    fn pass(cursor: &mut Cursor<'_>) -> Result<(), FrameFault> {
+        cursor.u8().ok_or(FrameFault::BadBody)?;
+        cursor.cstr().ok_or(FrameFault::BadBody)?;
+        Ok(())
+    }
+
+    #[tactic(auto, unfolding(crate::specs::ErrorResponse::error_field_at))]
+    fn read(alloc: Global, cursor: &mut Cursor<'_>) -> Result<Self, FrameFault> {
+        let code = cursor.u8().ok_or(FrameFault::BadBody)?;
+        let text = cursor.cstr().ok_or(FrameFault::BadBody)?;
+        let text = text_of(alloc, text)?;
+        Ok(ErrorField { code, text })
+    }
+}
+
+impl Put for ErrorField {
+    ghost use Rattle.frames.specs.ErrorResponse.{error_field};
+
+    ghost spelled = { error_field };
+
+    ghost is_short = { λ _. Unit {0} };
+
+    fn len(&self) -> usize {
+        self.text.as_str().len() + 2
+    }
+
+    #[tactic(auto, using(crate::proofs::Putting::in_place))]
+    fn put(&self, out: &mut BytesMut) -> Result<(), AllocError> {
+        put_byte(out, self.code)?;
+        put_string(out, self.text.as_str())
+    }
+}

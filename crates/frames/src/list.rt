@@ -1,0 +1,188 @@
+//! Lists in bodies: what an item must tell to be passed over, read and written in one. A list is passed over whole before
+//! it is read, so that a fault of its shape is found before one of its texts.
+
+ghost use Rattle.std.specs.Prelude.{◌≡◌, ◌^◌, ◌<◌, ◌++◌, length, is_none};
+ghost use Rattle.std.specs.List.{list_all, flat_map, AllByRecursion};
+ghost use Rattle.frames.specs.Steps.{repeat_at, next_at, until_at, closed};
+ghost use Rattle.frames.specs.Plain.{counted, counted_at};
+ghost use Rattle.frames.specs.Putting.{Puts};
+ghost use Rattle.frames.specs.Body.{GivesAt, checked_at, passed, passed_over, whole};
+ghost use Rattle.frames.specs.Frame.{Gives};
+
+use crate::body::end_of;
+use crate::cursor::Cursor;
+use crate::fault::FrameFault;
+use crate::items::Items;
+use crate::put::{put_byte, put_int16};
+use bytes::BytesMut;
+use std::alloc::{AllocError, Global};
+
+/// What stands in a list, as it is read.
+pub(crate) trait Field: Sized {
+    ghost use Rattle.std.specs.Prelude.{List, ℕ, Bool, Result};
+
+    ghost field_at: { List ℕ → Result (Self × List ℕ) (Unit {0}) };
+
+    ghost is_text: { Self → Bool };
+
+    /// Moves past one, whether its texts are UTF-8 or not.
+    fn pass(cursor: &mut Cursor<'_>) -> Result<(), FrameFault>
+        ensures { GivesAt result cursor.new (passed_over (field_at cursor.old)) };
+
+    fn read(alloc: Global, cursor: &mut Cursor<'_>) -> Result<Self, FrameFault>
+        ensures { GivesAt result cursor.new (checked_at is_text (field_at cursor.old)) };
+}
+
+/// As many as the count says.
+fn items_of<T: Field + Drop>(
+    alloc: Global,
+    cursor: &mut Cursor<'_>,
+    count: usize,
+) -> Result<Items<T>, FrameFault>
+    ensures { GivesAt result cursor.new (repeat_at (λ bytes. checked_at T.is_text (T.field_at bytes)) count cursor.old) }
+{
+    let mut items = Vec::new(alloc);
+    for _ in 0..count {
+        let item = T::read(alloc, cursor)?;
+        items.push(item)?;
+    }
+    Ok(Items::new(items))
+}
+
+/// Moves past one more, or past the zero byte that ends them, which it answers.
+#[tactic(auto, unfolding(crate::specs::Steps::next_at))]
+fn pass_next<T: Field>(cursor: &mut Cursor<'_>) -> Result<bool, FrameFault>
+    ensures { GivesAt result cursor.new (passed is_none (next_at tt T.field_at cursor.old)) }
+{
+    match cursor.rest().first() {
+        None => Err(FrameFault::BadBody),
+        Some(0) => {
+            let _zero = cursor.u8();
+            Ok(true)
+        }
+        Some(_) => {
+            T::pass(cursor)?;
+            Ok(false)
+        }
+    }
+}
+
+/// How many stand before the zero byte that ends them; moves past it.
+fn count_of<T: Field>(cursor: &mut Cursor<'_>, limit: usize) -> Result<usize, FrameFault>
+    ensures { GivesAt result cursor.new (passed length (until_at tt T.field_at limit cursor.old)) }
+{
+    for count in 0..limit {
+        if pass_next::<T>(cursor)? {
+            return Ok(count);
+        }
+    }
+    Err(FrameFault::BadBody)
+}
+
+/// The items of a body, up to the zero byte that ends both.
+pub(crate) fn listed<T: Field + Drop>(alloc: Global, body: &[u8]) -> Result<Items<T>, FrameFault>
+    ensures { Gives result (whole (list_all T.is_text) (until_at tt T.field_at (length body.now) body.now)) }
+{
+    let mut cursor = Cursor::new(body);
+    let count = count_of::<T>(&mut cursor, body.len())?;
+    end_of(&cursor)?;
+    items_of(alloc, &mut Cursor::new(body), count)
+}
+
+/// Moves past as many as the count says.
+fn pass_items<T: Field>(cursor: &mut Cursor<'_>, count: usize) -> Result<(), FrameFault>
+    ensures { GivesAt result cursor.new (passed_over (repeat_at T.field_at count cursor.old)) }
+{
+    for _ in 0..count {
+        T::pass(cursor)?;
+    }
+    Ok(())
+}
+
+/// A count, and that many items, with which the body ends.
+pub(crate) fn counted_of<T: Field + Drop>(
+    alloc: Global,
+    cursor: &mut Cursor<'_>,
+) -> Result<Items<T>, FrameFault>
+    ensures { Gives result (whole (list_all T.is_text) (counted_at T.field_at cursor.old)) }
+{
+    let count = cursor.u16().ok_or(FrameFault::BadBody)?;
+    if count >= 1 << 15 {
+        return Err(FrameFault::BadBody);
+    }
+    ending_of(alloc, cursor.rest(), count as usize)
+}
+
+fn ending_of<T: Field + Drop>(
+    alloc: Global,
+    bytes: &[u8],
+    count: usize,
+) -> Result<Items<T>, FrameFault>
+    ensures { Gives result (whole (list_all T.is_text) (repeat_at T.field_at count bytes.now)) }
+{
+    let mut cursor = Cursor::new(bytes);
+    pass_items::<T>(&mut cursor, count)?;
+    end_of(&cursor)?;
+    items_of(alloc, &mut Cursor::new(bytes), count)
+}
+
+/// What stands in a list, as it is written.
+pub(crate) trait Put {
+    ghost use Rattle.std.specs.Prelude.{List, ℕ};
+
+    ghost spelled: { Self → List ℕ };
+
+    ghost is_short: { Self → Type 0 };
+
+    fn len(&self) -> usize
+        requires { length (spelled self.now) < 2 ^ 32 }
+        ensures { result ≡ length (spelled self.now) };
+
+    fn put(&self, out: &mut BytesMut) -> Result<(), AllocError>
+        requires { is_short self.now }
+        ensures { Puts result out.old.items out.new.items (spelled self.now) };
+}
+
+/// How many bytes the items take.
+pub(crate) fn items_len<T: Put>(items: &[T]) -> usize
+    requires { length (flat_map T.spelled items.now) < 2 ^ 32 }
+    ensures { result ≡ length (flat_map T.spelled items.now) }
+{
+    let mut total = 0;
+    for item in items {
+        total += item.len();
+    }
+    total
+}
+
+#[tactic(auto, using(crate::proofs::Putting::in_place))]
+fn put_items<T: Put>(out: &mut BytesMut, items: &[T]) -> Result<(), AllocError>
+    requires { AllByRecursion T.is_short items.now }
+    ensures { Puts result out.old.items out.new.items (flat_map T.spelled items.now) }
+{
+    for item in items {
+        item.put(out)?;
+    }
+    Ok(())
+}
+
+/// The count of the items, and each item.
+#[tactic(auto, using(crate::proofs::Putting::in_place))]
+pub(crate) fn put_counted<T: Put>(out: &mut BytesMut, items: &[T]) -> Result<(), AllocError>
+    requires count { length items.now < 2 ^ 15 }
+    requires each { AllByRecursion T.is_short items.now }
+    ensures { Puts result out.old.items out.new.items (counted T.spelled items.now) }
+{
+    put_int16(out, items.len() as u16)?;
+    put_items(out, items)
+}
+
+/// Each item, and the zero byte that ends them.
+#[tactic(auto, using(crate::proofs::Putting::in_place))]
+pub(crate) fn put_closed<T: Put>(out: &mut BytesMut, items: &[T]) -> Result<(), AllocError>
+    requires { AllByRecursion T.is_short items.now }
+    ensures { Puts result out.old.items out.new.items (closed T.spelled items.now) }
+{
+    put_items(out, items)?;
+    put_byte(out, 0)
+}

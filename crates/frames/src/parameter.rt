@@ -1,0 +1,47 @@
+//! A parameter of a session, as a client asks for it in its startup.
+
+ghost use Rattle.std.specs.Prelude.{◌≡◌};
+ghost use Rattle.frames.specs.Body.{GivesAt, checked_at, passed_over};
+ghost use Rattle.frames.specs.Parameter.{parameter_at, is_parameter_text};
+
+use crate::body::text_of;
+use crate::cursor::Cursor;
+use crate::fault::FrameFault;
+use crate::list::Field;
+use crate::text::Text;
+use std::alloc::Global;
+
+/// A parameter of a session (PostgreSQL 15, 55.7, StartupMessage). The name is never empty.
+///
+/// ```text
+/// String name | String value
+/// ```
+#[derive(Debug, Drop, PartialEq)]
+pub struct Parameter {
+    pub name: Text,
+    pub value: Text,
+}
+
+impl Field for Parameter {
+    ghost use Rattle.frames.specs.Parameter.{parameter_at, is_parameter_text};
+
+    ghost field_at = { parameter_at };
+
+    ghost is_text = { is_parameter_text };
+
+    #[tactic(auto, unfolding(crate::specs::Parameter::parameter_at))]
+    fn pass(cursor: &mut Cursor<'_>) -> Result<(), FrameFault> {
+        cursor.cstr().ok_or(FrameFault::BadBody)?;
+        cursor.cstr().ok_or(FrameFault::BadBody)?;
+        Ok(())
+    }
+
+    #[tactic(auto, unfolding(crate::specs::Parameter::parameter_at))]
+    fn read(alloc: Global, cursor: &mut Cursor<'_>) -> Result<Self, FrameFault> {
+        let name = cursor.cstr().ok_or(FrameFault::BadBody)?;
+        let value = cursor.cstr().ok_or(FrameFault::BadBody)?;
+        let name = text_of(alloc, name)?;
+        let value = text_of(alloc, value)?;
+        Ok(Parameter { name, value })
+    }
+}
