@@ -2,8 +2,6 @@
 
 ghost use Rattle.std.specs.Prelude.{◌≡◌, ℕ, List, Ok, IfOk};
 ghost use Rattle.replcmd.specs.Grammar.{SpellsCommand};
-ghost use Rattle.replcmd.specs.declared.token.Token.{Token};
-ghost use Rattle.replcmd.specs.Lexing.{Lexes};
 ghost use Rattle.replcmd.specs.Reading.{Answers, Tells, command_at};
 
 use crate::create::create_of;
@@ -14,7 +12,6 @@ use crate::lexer::tokens_of;
 use crate::name::Name;
 use crate::names::Names;
 use crate::start::start_of;
-use crate::token::Token;
 use crate::tokens::Tokens;
 use crate::verb::Verb;
 use std::alloc::Global;

@@ -1,6 +1,6 @@
-//! Lists of names, and the text of one, as START_REPLICATION has it for its publications.
+//! Lists of names.
 
-ghost use Rattle.std.specs.Prelude.{◌≡◌, length};
+ghost use Rattle.std.specs.Prelude.{◌≡◌};
 
 use crate::name::Name;
 use std::cmp::PartialEq;

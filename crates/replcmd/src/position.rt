@@ -1,6 +1,6 @@
 //! Positions of the log as text: read in every spelling, written in one.
 
-ghost use Rattle.std.specs.Prelude.{◌≡◌, ℕ, Ok, Err, IfOk, IfErr, MatchOption, string_bytes};
+ghost use Rattle.std.specs.Prelude.{◌≡◌, ℕ, Ok, IfOk, IfErr, MatchOption, string_bytes};
 ghost use Rattle.std.specs.Str.Parse.{digits_value};
 ghost use Rattle.replcmd.specs.Position.{IsHalf, SpellsPosition, printed};
 ghost use Rattle.replcmd.specs.Reading.{position_of};

@@ -1,6 +1,5 @@
 //! The value of publication_names: the names of publications with commas between them.
 
-ghost use Rattle.std.specs.Prelude.{◌≡◌};
 ghost use Rattle.std.specs.Str.{IsUtf8};
 ghost use Rattle.replcmd.specs.Reading.{Answers, LendsName, front_name, names_of};
 

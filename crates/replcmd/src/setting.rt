@@ -4,10 +4,9 @@ ghost use Rattle.std.specs.Prelude.{◌≡◌, None, false};
 ghost use Rattle.replcmd.specs.Reading.{Gives, GivesItems, version_at, publications_at, setting_at, more_settings, settings_at, options_at, gathered};
 
 use crate::fault::CmdFault;
-use crate::name::Name;
 use crate::names::Names;
 use crate::publications::names_of;
-use crate::token::{CLOSE, COMMA, OPEN, Token};
+use crate::token::{CLOSE, COMMA, OPEN};
 use crate::tokens::Tokens;
 use std::alloc::Global;
 

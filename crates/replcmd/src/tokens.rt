@@ -1,8 +1,6 @@
 //! Reading a command from the front of its tokens.
 
 ghost use Rattle.std.specs.Prelude.{◌≡◌, IfOk};
-ghost use Rattle.std.specs.Option.{option_map};
-ghost use Rattle.replcmd.specs.declared.token.Token.{Token};
 ghost use Rattle.replcmd.specs.Reading.{Gives, Moves, Answers, name_of, name_at, slot_at, past_mark, past_word, begins_with_name, GivesLent, verb_at, unexpected, keyword_at, end_at, position_at, value_at};
 
 use crate::fault::CmdFault;
@@ -53,11 +51,11 @@ impl<'a> Tokens<'a> {
     pub(crate) fn keyword(&mut self, verb: Verb, keyword: &str) -> Result<(), CmdFault>
         ensures { Moves result self.new (keyword_at verb keyword.now self.old) }
     {
-        if let Some((Token::Word(word), rest)) = self.rest.split_first() {
-            if is_keyword(keyword, word.as_str()) {
-                self.rest = rest;
-                return Ok(());
-            }
+        if let Some((Token::Word(word), rest)) = self.rest.split_first()
+            && is_keyword(keyword, word.as_str())
+        {
+            self.rest = rest;
+            return Ok(());
         }
         Err(self.unexpected(verb))
     }
@@ -111,11 +109,11 @@ impl<'a> Tokens<'a> {
     pub(crate) fn takes(&mut self, mark: u8) -> bool
         ensures { (result, self.new) ≡ past_mark mark self.old }
     {
-        if let Some((Token::Mark(found), rest)) = self.rest.split_first() {
-            if *found == mark {
-                self.rest = rest;
-                return true;
-            }
+        if let Some((Token::Mark(found), rest)) = self.rest.split_first()
+            && *found == mark
+        {
+            self.rest = rest;
+            return true;
         }
         false
     }
@@ -124,11 +122,11 @@ impl<'a> Tokens<'a> {
     pub(crate) fn takes_word(&mut self, keyword: &str) -> bool
         ensures { (result, self.new) ≡ past_word keyword.now self.old }
     {
-        if let Some((Token::Word(word), rest)) = self.rest.split_first() {
-            if is_keyword(keyword, word.as_str()) {
-                self.rest = rest;
-                return true;
-            }
+        if let Some((Token::Word(word), rest)) = self.rest.split_first()
+            && is_keyword(keyword, word.as_str())
+        {
+            self.rest = rest;
+            return true;
         }
         false
     }
