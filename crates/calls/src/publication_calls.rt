@@ -12,20 +12,22 @@ fn selection(alloc: Global, name: &str) -> Result<Selection, PubFault> {
     publications.select(&[Text::copy_of(alloc, name)?])
 }
 
+fn has_relation(selection: &Selection, oid: u32) -> Result<bool, Fail> {
+    Ok(selection.relation(oid)?.is_some())
+}
+
 #[test]
 fn a_publication_is_selected(rt: HostRuntime) -> Result<(), Fail> {
-    let alloc = rt.alloc();
-    let selection = selection(alloc, "p")?;
-    assert!(rt; selection.relation(16384)?.is_some());
-    assert!(rt; selection.relation(16385)?.is_none());
+    let selection = selection(rt.alloc(), "p")?;
+    assert!(rt; has_relation(&selection, 16384)?);
+    assert!(rt; !has_relation(&selection, 16385)?);
     Ok(())
 }
 
 #[test]
 fn no_publication_selects_no_table(rt: HostRuntime) -> Result<(), Fail> {
-    let alloc = rt.alloc();
-    let selection = Publications::builtin(alloc)?.select(&[])?;
-    assert!(rt; selection.relation(16384)?.is_none());
+    let selection = Publications::builtin(rt.alloc())?.select(&[])?;
+    assert!(rt; !has_relation(&selection, 16384)?);
     Ok(())
 }
 
@@ -35,24 +37,28 @@ fn insert(alloc: Global, oid: u32) -> Result<Change, Fail> {
     Ok(Change::Insert(oid, Row::new(values)))
 }
 
-#[test]
-fn a_change_becomes_a_message(rt: HostRuntime) -> Result<(), Fail> {
-    let alloc = rt.alloc();
-    let projected = selection(alloc, "p")?.project(&insert(alloc, 16384)?)?;
+/// What `p` makes of that insert.
+fn projected(alloc: Global, oid: u32) -> Result<Projected, Fail> {
+    let change = insert(alloc, oid)?;
+    Ok(selection(alloc, "p")?.project(&change)?)
+}
+
+fn message(alloc: Global) -> Result<Logical, Fail> {
     let one = Cell::Text(Text::copy_of(alloc, "1")?);
     let seven = Cell::Text(Text::copy_of(alloc, "7")?);
-    let message = Logical::Insert(Insert {
-        oid: 16384,
-        new: Items::new(vec![in alloc; one, Cell::Null, seven]?),
-    });
-    assert_eq!(rt; projected, Projected::Message(message));
+    let new = Items::new(vec![in alloc; one, Cell::Null, seven]?);
+    Ok(Logical::Insert(Insert { oid: 16384, new }))
+}
+
+#[test]
+fn a_change_becomes_a_message(rt: HostRuntime) -> Result<(), Fail> {
+    let wanted = Projected::Message(message(rt.alloc())?);
+    assert_eq!(rt; projected(rt.alloc(), 16384)?, wanted);
     Ok(())
 }
 
 #[test]
 fn a_change_of_another_table_becomes_nothing(rt: HostRuntime) -> Result<(), Fail> {
-    let alloc = rt.alloc();
-    let projected = selection(alloc, "p")?.project(&insert(alloc, 16385)?)?;
-    assert_eq!(rt; projected, Projected::Nothing);
+    assert_eq!(rt; projected(rt.alloc(), 16385)?, Projected::Nothing);
     Ok(())
 }

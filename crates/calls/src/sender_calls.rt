@@ -54,11 +54,22 @@ fn a_sender_starts_with_nothing(rt: HostRuntime) -> Result<(), Fail> {
     Ok(())
 }
 
+/// A sender that has read the log of one insert.
+fn fed(rt: &impl Abort, alloc: Global) -> Result<Sender, Fail> {
+    let mut sender = sender_of_p(alloc)?;
+    feed_log(rt, alloc, &mut sender)?;
+    Ok(sender)
+}
+
+fn feed_log(rt: &impl Abort, alloc: Global, sender: &mut Sender) -> Result<(), Fail> {
+    let records = log(rt, alloc)?;
+    sender.feed(records.as_slice(), 9)?;
+    Ok(())
+}
+
 #[test]
 fn a_sender_is_fed_and_drained(rt: HostRuntime) -> Result<(), Fail> {
-    let alloc = rt.alloc();
-    let mut sender = sender_of_p(alloc)?;
-    sender.feed(log(&rt, alloc)?.as_slice(), 9)?;
+    let mut sender = fed(&rt, rt.alloc())?;
     assert_eq!(rt; sender.position(), 0x100_0050);
     let mut out = [0; 300];
     assert_eq!(rt; sender.drain(&mut []), 0);
@@ -70,9 +81,11 @@ fn a_sender_is_fed_and_drained(rt: HostRuntime) -> Result<(), Fail> {
 
 #[test]
 fn a_sender_is_drained_into_a_buffer(rt: HostRuntime) -> Result<(), Fail> {
-    let alloc = rt.alloc();
-    let mut sender = sender_of_p(alloc)?;
-    sender.feed(log(&rt, alloc)?.as_slice(), 9)?;
+    let mut sender = fed(&rt, rt.alloc())?;
+    drain_twice(&rt, rt.alloc(), &mut sender)
+}
+
+fn drain_twice(rt: &impl Abort, alloc: Global, sender: &mut Sender) -> Result<(), Fail> {
     let mut out = BytesMut::new(alloc);
     sender.drain_into(100, &mut out)?;
     assert_eq!(rt; out.len(), 100);
@@ -85,9 +98,12 @@ fn a_sender_is_drained_into_a_buffer(rt: HostRuntime) -> Result<(), Fail> {
 
 #[test]
 fn a_keepalive_asks(rt: HostRuntime) -> Result<(), Fail> {
-    let alloc = rt.alloc();
-    let mut sender = sender(alloc, &[])?;
-    sender.feed(log(&rt, alloc)?.as_slice(), 9)?;
+    let mut sender = sender(rt.alloc(), &[])?;
+    feed_log(&rt, rt.alloc(), &mut sender)?;
+    ask(&rt, rt.alloc(), &mut sender)
+}
+
+fn ask(rt: &impl Abort, alloc: Global, sender: &mut Sender) -> Result<(), Fail> {
     assert!(rt; !sender.holds_bytes(), "no publication, no bytes");
     sender.keepalive(9, true)?;
     let mut out = BytesMut::new(alloc);
@@ -99,10 +115,17 @@ fn a_keepalive_asks(rt: HostRuntime) -> Result<(), Fail> {
 /// Records that don't follow what was read, or each other, are refused, and the sender goes on.
 #[test]
 fn a_gap_is_refused(rt: HostRuntime) -> Result<(), Fail> {
-    let alloc = rt.alloc();
-    let mut sender = sender_of_p(alloc)?;
-    let records = log(&rt, alloc)?;
-    let (change, commit) = records.as_slice().split_at_checked(1).ok_or("two records")?;
+    let mut sender = sender_of_p(rt.alloc())?;
+    let records = log(&rt, rt.alloc())?;
+    feed_with_gaps(&rt, &mut sender, records.as_slice())
+}
+
+fn feed_with_gaps(
+    rt: &impl Abort,
+    sender: &mut Sender,
+    records: &[Arc<Record>],
+) -> Result<(), Fail> {
+    let (change, commit) = records.split_at_checked(1).ok_or("two records")?;
     assert_eq!(rt; sender.feed(commit, 9), Err(SendFault::Gap));
     sender.feed(change, 9)?;
     assert_eq!(rt; sender.feed(change, 9), Err(SendFault::Gap));

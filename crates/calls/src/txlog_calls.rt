@@ -1,7 +1,7 @@
 //! Calls of txlog.
 
 use frames::Text;
-use std::alloc::Global;
+use std::alloc::{AllocError, Global};
 use std::process::Abort;
 use std::test::Fail;
 use tables::{Catalog, Row, Value};
@@ -111,27 +111,46 @@ fn a_transaction_of_another_log(rt: HostRuntime) -> Result<(), Fail> {
     let mut publisher = publisher(rt.alloc())?;
     let mut tx = other.begin().expect(&rt, "it begins");
     let inserted = insert(rt.alloc(), &mut publisher, &mut tx);
+    let committed = refusal_of_commit(&mut publisher, tx, &mut other);
     assert_eq!(rt; inserted, Err(SessionFault::NoTransaction));
+    assert_eq!(rt; committed, Some(SessionFault::NoTransaction));
+    Ok(())
+}
+
+/// Why the transaction doesn't commit here; it is left in its own log.
+fn refusal_of_commit(
+    publisher: &mut Publisher,
+    tx: Tx,
+    own: &mut Publisher,
+) -> Option<SessionFault> {
     match publisher.commit(tx, 5) {
-        Ok(_) => assert!(rt; false, "it is not live"),
+        Ok(_) => None,
         Err((tx, fault)) => {
-            other.leave(tx);
-            assert_eq!(rt; fault, SessionFault::NoTransaction);
+            own.leave(tx);
+            Some(fault)
         }
     }
-    Ok(())
 }
 
 /// A tail is cut at the log's end and to what was asked.
 #[test]
 fn tails(rt: HostRuntime) -> Result<(), Fail> {
-    let mut publisher = publisher(rt.alloc())?;
-    let mut tx = publisher.begin().expect(&rt, "it begins");
+    let publisher = of_two_records(&rt, rt.alloc())?;
+    for (place, most, count) in [(0, 100, 2), (0, 1, 1), (1, 100, 1), (2, 1, 0), (3, 1, 0)] {
+        assert_eq!(rt; tail_length(&publisher, place, most)?, count);
+    }
+    Ok(())
+}
+
+fn of_two_records(rt: &impl Abort, alloc: Global) -> Result<Publisher, SessionFault> {
+    let mut publisher = publisher(alloc)?;
+    let mut tx = publisher.begin().expect(rt, "it begins");
     assert_eq!(rt; publisher.savepoint(&mut tx), Ok(1));
     assert_eq!(rt; publisher.savepoint(&mut tx), Ok(2));
     publisher.leave(tx);
-    for (place, most, count) in [(0, 100, 2), (0, 1, 1), (1, 100, 1), (2, 1, 0), (3, 1, 0)] {
-        assert_eq!(rt; publisher.tail(place, most)?.len(), count);
-    }
-    Ok(())
+    Ok(publisher)
+}
+
+fn tail_length(publisher: &Publisher, place: usize, most: usize) -> Result<usize, AllocError> {
+    Ok(publisher.tail(place, most)?.len())
 }

@@ -4,6 +4,7 @@ use publication::Publications;
 use std::alloc::{AllocError, Global};
 use std::io;
 use std::io::{ErrorKind, Read, Write};
+use std::process::Abort;
 use std::test::Fail;
 use tables::Catalog;
 use txlog::{MAX_RECORDS, SessionFault};
@@ -33,23 +34,42 @@ fn a_log_has_room_for_some_records(rt: HostRuntime) -> Result<(), Fail> {
     Ok(())
 }
 
+fn builtin_world(alloc: Global) -> Result<World, Fail> {
+    Ok(World::new(alloc, Config::builtin(alloc)?)?)
+}
+
+fn step(alloc: Global, world: &mut World, line: &str) -> Result<Answer, Fail> {
+    let event = Event::parse(alloc, line)?;
+    Ok(world.step(&event)?)
+}
+
 #[test]
 fn steps_answer_one_by_one(rt: HostRuntime) -> Result<(), Fail> {
-    let alloc = rt.alloc();
-    let mut world = World::new(alloc, Config::builtin(alloc)?)?;
-    assert_eq!(rt; world.step(&Event::parse(alloc, "begin A")?)?, Answer::Done);
+    let mut world = builtin_world(rt.alloc())?;
+    two_steps(&rt, rt.alloc(), &mut world)
+}
+
+fn two_steps(rt: &impl Abort, alloc: Global, world: &mut World) -> Result<(), Fail> {
     let refused = Answer::Session(SessionFault::NoSavepoint);
-    assert_eq!(rt; world.step(&Event::parse(alloc, "rollback A 1")?)?, refused);
+    assert_eq!(rt; step(alloc, world, "begin A")?, Answer::Done);
+    assert_eq!(rt; step(alloc, world, "rollback A 1")?, refused);
     assert_eq!(rt; world.answers(), [Answer::Done, refused].as_slice());
     Ok(())
 }
 
+/// The world that a schedule leads to, and the lines of its events.
+fn ran(alloc: Global, text: &str) -> Result<World, Fail> {
+    let schedule = Schedule::parse(alloc, text)?;
+    Ok(World::run(alloc, Config::builtin(alloc)?, schedule.events())?)
+}
+
 #[test]
 fn a_run_lends_what_its_starts_produced(rt: HostRuntime) -> Result<(), Fail> {
-    let alloc = rt.alloc();
-    let schedule = Schedule::parse(alloc, "start c - 0/0 p\nkeepalive c 9\n\ndrain c 99")?;
-    assert_eq!(rt; schedule.lines(), [1, 2, 4].as_slice());
-    let world = World::run(alloc, Config::builtin(alloc)?, schedule.events())?;
+    let world = ran(rt.alloc(), "start c - 0/0 p\nkeepalive c 9\ndrain c 99")?;
+    has_sent_a_keepalive(&rt, &world)
+}
+
+fn has_sent_a_keepalive(rt: &impl Abort, world: &World) -> Result<(), Fail> {
     assert_eq!(rt;
         world.answers(),
         [Answer::Done, Answer::Done, Answer::Done].as_slice()
@@ -58,6 +78,13 @@ fn a_run_lends_what_its_starts_produced(rt: HostRuntime) -> Result<(), Fail> {
     let start = world.starts().first().ok_or("a start")?;
     assert_eq!(rt; start.connection(), "c");
     assert_eq!(rt; start.produced(), KEEPALIVE.as_slice());
+    Ok(())
+}
+
+#[test]
+fn a_schedule_tells_the_lines_of_its_events(rt: HostRuntime) -> Result<(), Fail> {
+    let schedule = Schedule::parse(rt.alloc(), "begin A\n\n# a comment\nabort A")?;
+    assert_eq!(rt; schedule.lines(), [1, 4].as_slice());
     Ok(())
 }
 
@@ -118,17 +145,21 @@ impl Write for Narrow {
     }
 }
 
+/// Whether the report of a start is printed to a place that takes so many bytes, or fails where it is printed.
+fn is_printed(alloc: Global, left: usize) -> Result<bool, Fail> {
+    let mut input = b"start c - 0/0 p\n".as_slice();
+    let mut output = Narrow { left };
+    match simulate(alloc, Config::builtin(alloc)?, &mut input, &mut output) {
+        Ok(()) => Ok(true),
+        Err(SimFault::Write(_)) => Ok(false),
+        Err(_) => Err(Fail::from("another fault")),
+    }
+}
+
 #[test]
 fn a_report_that_cannot_be_printed(rt: HostRuntime) -> Result<(), Fail> {
-    let alloc = rt.alloc();
     for left in 0..4 {
-        let mut input = b"start c - 0/0 p\n".as_slice();
-        let mut output = Narrow { left };
-        let printed = simulate(alloc, Config::builtin(alloc)?, &mut input, &mut output);
-        match printed {
-            Ok(()) => assert_eq!(rt; left, 3),
-            Err(fault) => assert!(rt; matches!(fault, SimFault::Write(_)), "{left} bytes"),
-        }
+        assert_eq!(rt; is_printed(rt.alloc(), left)?, left == 3, "{left} bytes");
     }
     Ok(())
 }

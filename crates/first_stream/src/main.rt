@@ -20,12 +20,8 @@ fn main(rt: HostRuntime) -> Result<()> {
 fn stream(alloc: Global) -> Result<String> {
     let mut publisher = publisher(alloc)?;
     run_session(alloc, &mut publisher)?;
-    let mut sender = sender_of_p(alloc)?;
-    send(&publisher, &mut sender)?;
-    // All that is held; for a socket, `drain` takes as much as a buffer has room for.
-    let mut out = BytesMut::new(alloc);
-    sender.drain_into(usize::MAX, &mut out)?;
-    Ok(hex::encode(alloc, out.as_slice())?)
+    let bytes = sent(alloc, &publisher)?;
+    Ok(hex::encode(alloc, bytes.as_slice())?)
 }
 
 /// A publisher of the built-in table, whose log has room for 1,000 records.
@@ -40,11 +36,21 @@ fn sender_of_p(alloc: Global) -> Result<Sender> {
     Ok(Sender::start(alloc, selection, 0, FIRST_POSITION)?)
 }
 
+/// The bytes that a sender makes of the log.
+fn sent(alloc: Global, publisher: &Publisher) -> Result<BytesMut> {
+    let mut sender = sender_of_p(alloc)?;
+    let mut bytes = BytesMut::new(alloc);
+    send(publisher, &mut sender, &mut bytes)?;
+    Ok(bytes)
+}
+
 /// The sender reads the log under clock 9, and tells how far it has read.
-fn send(publisher: &Publisher, sender: &mut Sender) -> Result<()> {
+fn send(publisher: &Publisher, sender: &mut Sender, bytes: &mut BytesMut) -> Result<()> {
     let records = publisher.tail(0, 100)?;
     sender.feed(records.as_slice(), 9)?;
     sender.keepalive(9, false)?;
+    // All that is held; for a socket, `drain` takes as much as a buffer has room for.
+    sender.drain_into(usize::MAX, bytes)?;
     Ok(())
 }
 

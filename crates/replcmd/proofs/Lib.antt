@@ -1,4 +1,5 @@
 pub mod Halves
+pub mod Pieces
 pub mod Lexemes
 pub mod Texts
 pub mod Keywords
@@ -7,4 +8,5 @@ pub mod Lists
 pub mod Readers
 pub mod PublicationNames
 pub mod Options
+pub mod Phrases
 pub mod Sentences

@@ -1,10 +1,10 @@
 -- The options that are read of the tokens of START_REPLICATION are those that stand there.
-use Rattle.std.proofs.Common.{◌≡◌, ◌≢◌, ℕ, suc, ◌+◌, ◌≤◌, ◌<◌, Bool, true, false, cond, eqb, List, [], ◌∷◌, ◌++◌, length, Option, Some, None, Result, Ok, Err, refl, sym, ap, subst, ◌∙◌, arith}
+use Rattle.std.proofs.Common.{◌≡◌, ◌≢◌, ℕ, suc, ◌+◌, ◌<◌, Bool, true, false, cond, eqb, List, [], ◌∷◌, ◌++◌, length, Option, Some, None, Result, Ok, Err, refl, sym, ap, subst, ◌∙◌, arith}
 use Rattle.std.specs.Prelude.{codes, count_by}
-use Rattle.std.specs.Option.{ok_or, is_some, option_to_list}
+use Rattle.std.specs.Option.{ok_or, option_to_list}
 use Rattle.std.specs.List.{filter_map}
 use Rattle.std.specs.Str.{bytes_eq}
-use Rattle.std.proofs.lemmas.Bool.{eqb-true, eq-eqb}
+use Rattle.std.proofs.lemmas.Bool.{eqb-true}
 use Rattle.std.proofs.lemmas.List.Sums.{sum_by-cons}
 use Rattle.replcmd.specs.declared.fault.CmdFault.{CmdFault}
 use Rattle.replcmd.specs.declared.fault.CmdFault.TheVariants.{Syntax, BadOption}
@@ -13,12 +13,11 @@ use Rattle.replcmd.specs.declared.token.Token.TheVariants.{Word, Quoted, Value, 
 use Rattle.replcmd.specs.declared.token.TheConstants.{OPEN, CLOSE, COMMA}
 use Rattle.replcmd.specs.declared.setting.Setting.{Setting}
 use Rattle.replcmd.specs.declared.setting.Setting.TheVariants.{Version, Publications}
-use Rattle.replcmd.specs.Grammar.{Part, Keyword, Named, At, Quote, Chosen, Sign, IsPart, IsEnd, Follows, option_name, IsValue, is_version, publications_of, AreSettings, setting_parts}
+use Rattle.replcmd.specs.Grammar.{Part, Named, Chosen, Sign, IsEnd, Follows, option_name, IsValue, is_version, publications_of, AreSettings, setting_parts}
 use Rattle.replcmd.specs.Reading.{◌>>=◌, name_of, name_at, value_at, past_mark, names_of, version_at, publications_at, setting_at, more_settings, settings_at, in_brackets, if_open, options_at, gathered, separated}
-use Rattle.replcmd.proofs.Lexemes.{if_true, if_false}
 use Rattle.replcmd.proofs.Lists.{found, same_found, bind_ok, Shortens, Lists, lists_take, lists_again}
 use Rattle.replcmd.proofs.PublicationNames.{names_take, names_again}
-use Rattle.replcmd.proofs.Readers.{bytes_same, same_bytes, name_follows, name_reads, value_follows, passed, mark_is, mark_stays, mark_passed}
+use Rattle.replcmd.proofs.Readers.{bytes_same, same_bytes, name_follows, name_reads, value_follows, passed, mark_is, mark_stays}
 
 -- ---- one option
 

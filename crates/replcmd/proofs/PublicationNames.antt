@@ -1,23 +1,22 @@
 -- The names that are read of the value of publication_names are those that it spells.
-use Rattle.std.proofs.Common.{◌≡◌, ◌≢◌, ℕ, suc, ◌≤◌, ◌<◌, Bool, true, false, cond, eqb, List, [], ◌∷◌, ◌++◌, length, Option, Some, None, Result, Ok, Err, refl, sym, ap, subst, ◌∙◌, arith}
-use Rattle.std.specs.Prelude.{◌||◌, ◌&&◌}
+use Rattle.std.proofs.Common.{◌≡◌, ◌≢◌, ℕ, suc, Bool, true, false, cond, eqb, List, [], ◌∷◌, ◌++◌, length, Option, Some, None, Ok, Err, refl, sym, ap, subst, ◌∙◌, arith}
 use Rattle.std.specs.Option.{ok_or}
 use Rattle.std.specs.List.{list_all}
 use Rattle.std.specs.Str.{IsUtf8}
 use Rattle.std.proofs.lemmas.Bool.{eqb-true, eq-eqb, ne_eqb, and_parts}
 use Rattle.std.proofs.lemmas.Bool.Decides.{nat_tests}
-use Rattle.std.proofs.lemmas.List.{append-nil, length-append}
-use Rattle.replcmd.specs.declared.fault.CmdFault.{CmdFault}
+use Rattle.std.proofs.lemmas.List.{append-nil}
 use Rattle.replcmd.specs.declared.fault.CmdFault.TheVariants.{BadOption}
 use Rattle.replcmd.specs.declared.token.Token.{Token}
 use Rattle.replcmd.specs.declared.token.Token.TheVariants.{Word, Quoted, Value, Mark, Unclosed}
 use Rattle.replcmd.specs.declared.token.TheConstants.{NAME_QUOTE, VALUE_QUOTE, COMMA}
 use Rattle.replcmd.specs.Tokens.{is_blank, is_mark, is_plain, spelled, Each, begins, IsWhole}
-use Rattle.replcmd.specs.Lexing.{after_blanks, word_of, after_word, quoted_at, closed, token_from, token_at}
+use Rattle.replcmd.specs.Lexing.{word_of, after_word, token_from, token_at}
 use Rattle.replcmd.specs.Words.{is_first, is_later, is_bare, IsName}
 use Rattle.replcmd.specs.Publications.{SpellsNames}
 use Rattle.replcmd.specs.Reading.{◌>>=◌, name_of, front_name, more_names, names_of, separated}
-use Rattle.replcmd.proofs.Lexemes.{if_true, if_false, blanks_again, token_found, same_token, Front, front_takes, token_reads, token_smaller}
+use Rattle.replcmd.proofs.Pieces.{if_true, if_false, blanks_again}
+use Rattle.replcmd.proofs.Lexemes.{token_found, same_token, front_takes, token_reads, token_smaller}
 use Rattle.replcmd.proofs.Lists.{found, same_found, bind_ok, Shortens, Lists, lists_take, lists_again}
 use Rattle.replcmd.proofs.Readers.{name_is, is_name}
 use Rattle.replcmd.proofs.Texts.{rest_is_text}

@@ -1,21 +1,19 @@
 -- What is read of the tokens at the front are the parts that stand there.
-use Rattle.std.proofs.Common.{◌≡◌, ◌≢◌, ℕ, Bool, true, false, cond, eqb, List, [], ◌∷◌, ◌++◌, Option, Some, None, Result, Ok, Err, refl, sym, ap, subst, ◌∙◌, arith}
-use Rattle.std.specs.Prelude.{codes}
+use Rattle.std.proofs.Common.{◌≡◌, ℕ, Bool, true, false, cond, eqb, List, [], ◌∷◌, Option, Some, None, Ok, Err, refl, sym, ap, subst, ◌∙◌}
 use Rattle.std.specs.Option.{ok_or}
 use Rattle.std.specs.Str.{bytes_eq}
 use Rattle.std.specs.Cmp.Lexicographic.{bytes_decides}
 use Rattle.std.proofs.lemmas.Bool.{eqb-true, eq-eqb}
-use Rattle.replcmd.specs.declared.fault.CmdFault.{CmdFault}
-use Rattle.replcmd.specs.declared.fault.CmdFault.TheVariants.{Syntax, BadName, BadPosition, Unsupported, BadOption, Memory}
+use Rattle.replcmd.specs.declared.fault.CmdFault.TheVariants.{Syntax, BadName, BadPosition}
 use Rattle.replcmd.specs.declared.token.Token.{Token}
 use Rattle.replcmd.specs.declared.token.Token.TheVariants.{Word, Quoted, Value, Mark, Unclosed}
-use Rattle.replcmd.specs.declared.token.TheConstants.{OPEN, CLOSE, COMMA, SEMICOLON}
+use Rattle.replcmd.specs.declared.token.TheConstants.{SEMICOLON}
 use Rattle.replcmd.specs.declared.verb.Verb.{Verb}
 use Rattle.replcmd.specs.Position.{SpellsPosition}
 use Rattle.replcmd.specs.Words.{lower, is_keyword, is_bare, IsName, is_slot_name}
-use Rattle.replcmd.specs.Grammar.{Part, Keyword, Named, At, Quote, Chosen, Sign, IsPart, IsEnd, Follows}
-use Rattle.replcmd.specs.Reading.{◌>>=◌, name_of, name_at, slot_at, value_at, past_mark, past_word, unexpected, keyword_at, nothing_at, end_at, position_of, position_at}
-use Rattle.replcmd.proofs.Lexemes.{if_true, if_false}
+use Rattle.replcmd.specs.Grammar.{Part, Keyword, Named, At, IsEnd, Follows}
+use Rattle.replcmd.specs.Reading.{◌>>=◌, name_of, name_at, slot_at, value_at, past_mark, unexpected, keyword_at, nothing_at, end_at, position_of, position_at}
+use Rattle.replcmd.proofs.Pieces.{if_true}
 use Rattle.replcmd.proofs.Places.{position_takes, position_again}
 use Rattle.replcmd.proofs.Lists.{found, same_found, bind_ok}
 

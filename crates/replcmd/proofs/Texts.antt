@@ -1,6 +1,5 @@
 -- The pieces of a text that are cut at ASCII bytes are texts.
-use Rattle.std.proofs.Common.{◌≡◌, ◌≢◌, ℕ, zero, suc, ◌<◌, ◌+◌, Bool, true, false, cond, eqb, List, [], ◌∷◌, ◌++◌, length, get_or, take, drop, Option, Some, None, refl, sym, ap, subst, ◌∙◌, append_assoc, arith}
-use Rattle.std.specs.Prelude.{◌||◌, not, map}
+use Rattle.std.proofs.Common.{◌≡◌, ◌≢◌, ℕ, zero, suc, ◌<◌, ◌+◌, Bool, true, false, cond, eqb, List, [], ◌∷◌, ◌++◌, length, get_or, refl, sym, subst, append_assoc, arith}
 use Rattle.std.specs.Str.{IsUtf8}
 use Rattle.std.proofs.lemmas.Bool.{eqb-true}
 use Rattle.std.proofs.lemmas.Bool.Decides.{nat_tests}
@@ -12,7 +11,8 @@ use Rattle.replcmd.specs.Lexing.{after_blanks, word_of, after_word, quoted_at, t
 use Rattle.replcmd.specs.declared.token.Token.{Token}
 use Rattle.replcmd.specs.declared.token.Token.TheVariants.{Word, Quoted, Value, Mark, Unclosed}
 use Rattle.replcmd.specs.declared.token.TheConstants.{NAME_QUOTE, VALUE_QUOTE}
-use Rattle.replcmd.proofs.Lexemes.{found, token_found, blanks_take, word_takes, quoted_takes, token_takes, unclosed_at_end}
+use Rattle.replcmd.proofs.Pieces.{found, word_takes, quoted_takes}
+use Rattle.replcmd.proofs.Lexemes.{token_found, token_takes, unclosed_at_end}
 
 -- a text cut at an ASCII byte
 pub cut_at_ascii : (front : List ℕ) (b : ℕ) (rest : List ℕ) → b < 128 → IsUtf8 (front ++ (b ∷ rest)) → IsUtf8 front × IsUtf8 rest

@@ -4,10 +4,10 @@
 --     CREATE_REPLICATION_SLOT slot LOGICAL pgoutput [ NOEXPORT_SNAPSHOT | ( SNAPSHOT 'nothing' ) ]
 --     DROP_REPLICATION_SLOT slot
 --     START_REPLICATION SLOT slot LOGICAL position ( option 'value' [, ...] )
-use Rattle.std.specs.Prelude.{◌≡◌, ℕ, List, [], ◌∷◌, ◌++◌, Option, Some, None, Bool, true, false, count_by, codes}
+use Rattle.std.specs.Prelude.{◌≡◌, ℕ, List, [], ◌∷◌, Option, Some, None, Bool, true, false, count_by, codes}
 use Rattle.std.specs.List.{filter_map}
 use Rattle.replcmd.specs.declared.token.Token.{Token}
-use Rattle.replcmd.specs.declared.token.Token.TheVariants.{Word, Quoted, Value, Mark, Unclosed}
+use Rattle.replcmd.specs.declared.token.Token.TheVariants.{Word, Value, Mark}
 use Rattle.replcmd.specs.declared.token.TheConstants.{OPEN, CLOSE, COMMA, SEMICOLON}
 use Rattle.replcmd.specs.declared.setting.Setting.{Setting}
 use Rattle.replcmd.specs.declared.setting.Setting.TheVariants.{Version, Publications}
@@ -29,6 +29,7 @@ abbrev pub IsValue : Setting → List ℕ → Type 0
 IsValue Version value = value ≡ codes "1"
 IsValue (Publications names) value = SpellsNames value names
 
+-- a keyword; a name; a position; this value in single quotes; a value that says an option; a mark
 pub data Part : Type 0 where
   Keyword : List ℕ → Part
   Named : List ℕ → Part

@@ -1,6 +1,6 @@
 //! The commands of the replication protocol, and their reader.
 
-ghost use Rattle.std.specs.Prelude.{◌≡◌, List, Ok, IfOk};
+ghost use Rattle.std.specs.Prelude.{◌≡◌, ℕ, List, Ok, IfOk};
 ghost use Rattle.replcmd.specs.Grammar.{SpellsCommand};
 ghost use Rattle.replcmd.specs.declared.token.Token.{Token};
 ghost use Rattle.replcmd.specs.Lexing.{Lexes};
@@ -74,3 +74,8 @@ fn whole(alloc: Global, mut tokens: Tokens<'_>) -> Result<Command, CmdFault>
         Verb::Start => start_of(alloc, &mut tokens),
     }
 }
+
+/// The law of the grammar: a text spells one command at most.
+pub fn no_text_spells_two_commands()
+    ensures { (text : List ℕ) (c d : Command) → SpellsCommand text c → SpellsCommand text d → c ≡ d }
+{}

@@ -18,7 +18,7 @@ mod tokens;
 mod verb;
 mod words;
 
-pub use command::{Command, parse_command};
+pub use command::{Command, no_text_spells_two_commands, parse_command};
 pub use fault::CmdFault;
 pub use name::Name;
 pub use names::Names;

@@ -2,13 +2,11 @@
 
 use crate::fault::WorldFault;
 use frames::{Items, Text};
+use replcmd::parse_position;
 use std::alloc::Global;
 
 /// The longest name of a transaction or a connection, in letters and digits.
 const NAME_LIMIT: usize = 32;
-
-/// The most hexadecimal digits on a side of a position.
-const HALF_DIGITS: usize = 8;
 
 /// The fields of a line that are still to be read: none behind its last one.
 #[derive(Debug, Drop)]
@@ -80,10 +78,7 @@ impl<'a> Fields<'a> {
 
     /// A position in the log, as in `16/B374D848`.
     pub(crate) fn position(&mut self) -> Result<u64, WorldFault> {
-        let (upper, lower) = self.word()?.split_once('/').ok_or(WorldFault::BadEvent)?;
-        let upper = u64::from(half_of(upper)?);
-        let lower = u64::from(half_of(lower)?);
-        Ok(upper << 32 | lower)
+        parse_position(self.word()?).map_err(|_| WorldFault::BadEvent)
     }
 
     /// Names of publications, which commas separate. None of them is empty.
@@ -101,12 +96,4 @@ impl<'a> Fields<'a> {
 
 fn is_name(word: &str) -> bool {
     word.len() <= NAME_LIMIT && word.bytes().all(|b| b.is_ascii_alphanumeric())
-}
-
-/// The upper or lower 32 bits of a position, in hexadecimal digits of either case.
-fn half_of(digits: &str) -> Result<u32, WorldFault> {
-    if digits.len() > HALF_DIGITS || digits.starts_with('+') {
-        return Err(WorldFault::BadEvent);
-    }
-    u32::from_str_radix(digits, 16).map_err(|_| WorldFault::BadEvent)
 }

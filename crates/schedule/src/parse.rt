@@ -4,6 +4,7 @@ use crate::event::Event;
 use crate::fault::WorldFault;
 use crate::fields::Fields;
 use crate::literals::row_of;
+use frames::Text;
 use std::alloc::Global;
 
 impl Event {
@@ -11,31 +12,83 @@ impl Event {
     /// line, V2 where there was no memory for the event.
     pub fn parse(alloc: Global, line: &str) -> Result<Event, WorldFault> {
         let mut fields = Fields::new(line);
-        let event = match fields.word()? {
-            "begin" => Event::Begin(fields.name(alloc)?),
-            "insert" => Event::Insert(
-                fields.name(alloc)?,
-                fields.text(alloc)?,
-                row_of(alloc, fields.remainder()?)?,
-            ),
-            "savepoint" => Event::Savepoint(fields.name(alloc)?),
-            "rollback" => Event::Rollback(fields.name(alloc)?, fields.count()?),
-            "release" => Event::Release(fields.name(alloc)?, fields.count()?),
-            "commit" => Event::Commit(fields.name(alloc)?, fields.integer()?),
-            "abort" => Event::Abort(fields.name(alloc)?),
-            "start" => Event::Start(
-                fields.name(alloc)?,
-                fields.text(alloc)?,
-                fields.position()?,
-                fields.publications(alloc)?,
-            ),
-            "read" => Event::Read(fields.name(alloc)?, fields.count()?, fields.integer()?),
-            "keepalive" => Event::Keepalive(fields.name(alloc)?, fields.integer()?),
-            "drain" => Event::Drain(fields.name(alloc)?, fields.count()?),
-            "cut" => Event::Cut(fields.name(alloc)?),
-            _ => return Err(WorldFault::BadEvent),
-        };
+        let word = fields.word()?;
+        let event = event_of(alloc, word, &mut fields)?;
         fields.end()?;
         Ok(event)
     }
+}
+
+/// The event whose line begins with this word.
+fn event_of(alloc: Global, word: &str, fields: &mut Fields<'_>) -> Result<Event, WorldFault> {
+    match word {
+        "begin" => Ok(Event::Begin(fields.name(alloc)?)),
+        "insert" => insert(alloc, fields),
+        "savepoint" => Ok(Event::Savepoint(fields.name(alloc)?)),
+        "rollback" => {
+            let (name, depth) = name_and_count(alloc, fields)?;
+            Ok(Event::Rollback(name, depth))
+        }
+        "release" => {
+            let (name, depth) = name_and_count(alloc, fields)?;
+            Ok(Event::Release(name, depth))
+        }
+        "commit" => {
+            let (name, time) = name_and_time(alloc, fields)?;
+            Ok(Event::Commit(name, time))
+        }
+        "abort" => Ok(Event::Abort(fields.name(alloc)?)),
+        _ => connection_event_of(alloc, word, fields),
+    }
+}
+
+/// The same of the lines of a connection.
+fn connection_event_of(
+    alloc: Global,
+    word: &str,
+    fields: &mut Fields<'_>,
+) -> Result<Event, WorldFault> {
+    match word {
+        "start" => start(alloc, fields),
+        "read" => read(alloc, fields),
+        "keepalive" => {
+            let (name, clock) = name_and_time(alloc, fields)?;
+            Ok(Event::Keepalive(name, clock))
+        }
+        "drain" => {
+            let (name, bytes) = name_and_count(alloc, fields)?;
+            Ok(Event::Drain(name, bytes))
+        }
+        "cut" => Ok(Event::Cut(fields.name(alloc)?)),
+        _ => Err(WorldFault::BadEvent),
+    }
+}
+
+fn name_and_count(alloc: Global, fields: &mut Fields<'_>) -> Result<(Text, u32), WorldFault> {
+    Ok((fields.name(alloc)?, fields.count()?))
+}
+
+fn name_and_time(alloc: Global, fields: &mut Fields<'_>) -> Result<(Text, i64), WorldFault> {
+    Ok((fields.name(alloc)?, fields.integer()?))
+}
+
+fn insert(alloc: Global, fields: &mut Fields<'_>) -> Result<Event, WorldFault> {
+    let name = fields.name(alloc)?;
+    let table = fields.text(alloc)?;
+    let row = row_of(alloc, fields.remainder()?)?;
+    Ok(Event::Insert(name, table, row))
+}
+
+fn start(alloc: Global, fields: &mut Fields<'_>) -> Result<Event, WorldFault> {
+    let name = fields.name(alloc)?;
+    let slot = fields.text(alloc)?;
+    let position = fields.position()?;
+    let publications = fields.publications(alloc)?;
+    Ok(Event::Start(name, slot, position, publications))
+}
+
+fn read(alloc: Global, fields: &mut Fields<'_>) -> Result<Event, WorldFault> {
+    let (name, max) = name_and_count(alloc, fields)?;
+    let clock = fields.integer()?;
+    Ok(Event::Read(name, max, clock))
 }

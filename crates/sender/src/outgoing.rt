@@ -197,12 +197,28 @@ impl Outgoing {
             (frames_of (block_words (relation selection.now) (reverse self.old.relations_sent.items) clock transaction.now)) }
         ensures relations_sent { OnOk result (reverse self.new.relations_sent.items ≡ relations_sent_by_all (reverse self.old.relations_sent.items) transaction.now.changes) }
     {
-        let begin = begin_of(transaction);
-        self.add_message(transaction.start, clock, &begin)?;
+        self.add_begin(clock, transaction)?;
         self.changes(selection, clock, transaction.changes.as_slice())?;
-        let commit = commit_of(transaction);
-        self.add_message(transaction.end, clock, &commit)?;
+        self.add_commit(clock, transaction)?;
         Ok(())
+    }
+
+    fn add_begin(&mut self, clock: i64, transaction: &Published) -> Result<(), AllocError>
+        ensures held { Puts result self.old.held.items self.new.held.items
+            (word_bytes (xlogdata_word transaction.now.start clock (begin_message transaction.now))) }
+        ensures relations_sent { self.new.relations_sent ≡ self.old.relations_sent }
+    {
+        let begin = begin_of(transaction);
+        self.add_message(transaction.start, clock, &begin)
+    }
+
+    fn add_commit(&mut self, clock: i64, transaction: &Published) -> Result<(), AllocError>
+        ensures held { Puts result self.old.held.items self.new.held.items
+            (word_bytes (xlogdata_word transaction.now.end clock (commit_message transaction.now))) }
+        ensures relations_sent { self.new.relations_sent ≡ self.old.relations_sent }
+    {
+        let commit = commit_of(transaction);
+        self.add_message(transaction.end, clock, &commit)
     }
 }
 

@@ -1,4 +1,5 @@
 pub mod Bodies
 pub mod Lengths
+pub mod Members
 pub mod Names
 pub mod Undoing

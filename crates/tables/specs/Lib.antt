@@ -1,3 +1,4 @@
+pub mod Config
 pub mod Journals
 pub mod Reading
 pub mod Rows

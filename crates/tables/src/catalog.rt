@@ -51,6 +51,12 @@ impl Catalog {
         tables.iter().find(|table| table.is_named(name))
     }
 
+    pub(crate) fn of_tables(tables: Items<Table>) -> Self
+        ensures { result ≡ tables }
+    {
+        Catalog { tables }
+    }
+
     /// The catalogue of the one table public.item.
     pub fn builtin(alloc: Global) -> Result<Self, AllocError>
         ensures { IfOk result (λ c. c ≡ builtin_tables) }

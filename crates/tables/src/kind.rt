@@ -29,7 +29,7 @@ impl Kind {
     }
 }
 
-fn is_without_zero(text: &str) -> bool
+pub(crate) fn is_without_zero(text: &str) -> bool
     ensures { result ≡ has_no_zero text.now }
 {
     text.as_bytes().iter().all(|b| *b != 0)

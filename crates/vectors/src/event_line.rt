@@ -2,24 +2,24 @@
 
 use crate::sample::Answer;
 use crate::shown::{Position, Quoted};
-use anyhow::{Result, bail};
+use anyhow::{Context, Result};
 use frames::Text;
 use std::alloc::{AllocError, Global};
 use world::{Event, Literal};
 
 /// The sample is a line between double quotes, in which `\r` stands for a carriage return.
 pub fn event_answer(alloc: Global, given: &str) -> Result<Answer> {
-    let Some(line) = given
-        .strip_prefix('"')
-        .and_then(|rest| rest.strip_suffix('"'))
-    else {
-        bail!("is not quoted");
-    };
-    let line = line.replace(alloc, "\\r", "\r")?;
+    let line = line_of(alloc, given)?;
     match Event::parse(alloc, line.as_str()) {
         Ok(event) => Ok(Answer::Meaning(shown_event(alloc, &event)?)),
         Err(fault) => Ok(Answer::Fault(fault.to_string(alloc)?)),
     }
+}
+
+fn line_of(alloc: Global, given: &str) -> Result<String> {
+    let quoted = given.strip_prefix('"').context("is not quoted")?;
+    let line = quoted.strip_suffix('"').context("is not quoted")?;
+    Ok(line.replace(alloc, "\\r", "\r")?)
 }
 
 fn shown_event(alloc: Global, event: &Event) -> Result<String, AllocError> {

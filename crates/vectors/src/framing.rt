@@ -1,19 +1,37 @@
-//! Frames: what is read is written again as it stood.
+//! Frames and startups: what is read is written again as it stood.
 
+ghost use Rattle.frames.specs.Frame.{FitsLength};
+ghost use Rattle.frames.specs.Front.{front_body};
+ghost use Rattle.frames.specs.Back.{back_body, HasCounts};
+
+use crate::frame_text::{shown_back, shown_front, shown_startup};
 use crate::given::Given;
 use crate::sample::Answer;
 use anyhow::{Result, ensure};
 use bytes::BytesMut;
-use frames::{Back, CopyData, FrameFault, Front, read_back, read_front, write_back, write_front};
+use frames::{
+    Back, FrameFault, Front, read_back, read_front, read_startup, write_back, write_front,
+};
 use std::alloc::{AllocError, Global};
+
+/// A startup is only read.
+pub fn startup_answer(alloc: Global, given: &Given) -> Result<Answer> {
+    match read_startup(alloc, given.all()) {
+        Ok(Some((startup, size))) => {
+            ensure!(size == given.own().len(), "takes {size} bytes");
+            Ok(Answer::Meaning(shown_startup(alloc, &startup)?))
+        }
+        Ok(None) => Ok(waits(alloc)?),
+        Err(fault) => Ok(refused(alloc, fault)?),
+    }
+}
 
 pub fn front_answer(alloc: Global, given: &Given) -> Result<Answer> {
     match read_front(alloc, given.all()) {
         Ok(Some((frame, size))) => {
-            let mut out = BytesMut::new(alloc);
-            write_front(&frame, &mut out)?;
-            let Front::CopyData(data) = &frame;
-            whole(alloc, given, size, out.as_slice(), data)
+            ensure!(size == given.own().len(), "takes {size} bytes");
+            ensure!(is_front(alloc, &frame, given)?, "is written in another way");
+            Ok(Answer::Meaning(shown_front(alloc, &frame)?))
         }
         Ok(None) => Ok(waits(alloc)?),
         Err(fault) => Ok(refused(alloc, fault)?),
@@ -23,10 +41,9 @@ pub fn front_answer(alloc: Global, given: &Given) -> Result<Answer> {
 pub fn back_answer(alloc: Global, given: &Given) -> Result<Answer> {
     match read_back(alloc, given.all()) {
         Ok(Some((frame, size))) => {
-            let mut out = BytesMut::new(alloc);
-            write_back(&frame, &mut out)?;
-            let Back::CopyData(data) = &frame;
-            whole(alloc, given, size, out.as_slice(), data)
+            ensure!(size == given.own().len(), "takes {size} bytes");
+            ensure!(is_back(alloc, &frame, given)?, "is written in another way");
+            Ok(Answer::Meaning(shown_back(alloc, &frame)?))
         }
         Ok(None) => Ok(waits(alloc)?),
         Err(fault) => Ok(refused(alloc, fault)?),
@@ -41,20 +58,20 @@ fn refused(alloc: Global, fault: FrameFault) -> Result<Answer, AllocError> {
     Ok(Answer::Fault(fault.to_string(alloc)?))
 }
 
-/// A frame that takes the sample's own bytes and is written as these again.
-fn whole(
-    alloc: Global,
-    given: &Given,
-    size: usize,
-    written: &[u8],
-    data: &CopyData,
-) -> Result<Answer> {
-    ensure!(size == given.own().len(), "takes {size} bytes");
-    ensure!(written == given.own(), "is written in another way");
-    let mut meaning = "CopyData".to_string(alloc)?;
-    if !data.bytes.is_empty() {
-        let body = hex::encode(alloc, data.bytes.as_slice())?;
-        write!(meaning, " {body}")?;
-    }
-    Ok(Answer::Meaning(meaning))
+/// Whether the frame is written as the sample's own bytes.
+fn is_front(alloc: Global, frame: &Front, given: &Given) -> Result<bool, AllocError>
+    requires { FitsLength (front_body frame.now) }
+{
+    let mut out = BytesMut::new(alloc);
+    write_front(frame, &mut out)?;
+    Ok(out.as_slice() == given.own())
+}
+
+fn is_back(alloc: Global, frame: &Back, given: &Given) -> Result<bool, AllocError>
+    requires length { FitsLength (back_body frame.now) }
+    requires counts { HasCounts frame.now }
+{
+    let mut out = BytesMut::new(alloc);
+    write_back(frame, &mut out)?;
+    Ok(out.as_slice() == given.own())
 }

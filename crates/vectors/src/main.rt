@@ -4,9 +4,12 @@
 //! each line; a file of schedules has what each of them prints. The head of each file tells its form.
 #![tactic(auto)]
 
+mod catalog_text;
+mod command_text;
 mod event_line;
 mod expanded;
 mod field;
+mod frame_text;
 mod framing;
 mod given;
 mod message;

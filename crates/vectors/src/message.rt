@@ -9,14 +9,16 @@ use std::alloc::{AllocError, Global};
 
 pub fn logical_answer(alloc: Global, bytes: &[u8]) -> Result<Answer> {
     match read_logical(alloc, bytes) {
-        Ok(message) => {
-            let mut out = BytesMut::new(alloc);
-            write_logical(&message, &mut out)?;
-            ensure!(out.as_slice() == bytes, "is written in another way");
-            Ok(Answer::Meaning(shown_message(alloc, &message)?))
-        }
+        Ok(message) => Ok(Answer::Meaning(meaning(alloc, &message, bytes)?)),
         Err(fault) => Ok(Answer::Fault(fault.to_string(alloc)?)),
     }
+}
+
+fn meaning(alloc: Global, message: &Logical, bytes: &[u8]) -> Result<String> {
+    let mut out = BytesMut::new(alloc);
+    write_logical(message, &mut out)?;
+    ensure!(out.as_slice() == bytes, "is written in another way");
+    Ok(shown_message(alloc, message)?)
 }
 
 pub fn shown_message(alloc: Global, message: &Logical) -> Result<String, AllocError> {

@@ -5,20 +5,38 @@ use anyhow::{Result, ensure};
 use publication::Publications;
 use std::alloc::Global;
 use tables::Catalog;
-use world::{Config, simulate};
+use world::{Config, SimFault, simulate};
 
 /// What the schedule prints, or why it is refused.
 pub fn played(alloc: Global, records: usize, text: &str) -> Result<Answer> {
-    let mut input = text.as_bytes();
     let mut output = Vec::new(alloc);
-    match simulate(alloc, config_of(alloc, records)?, &mut input, &mut output) {
-        Ok(()) => Ok(Answer::Meaning(String::from_utf8(output)?)),
-        Err(fault) => {
-            ensure!(fault.is_bad_schedule(), "{fault}");
+    match refusal(alloc, records, text, &mut output)? {
+        None => Ok(Answer::Meaning(String::from_utf8(output)?)),
+        Some(fault) => {
             ensure!(output.is_empty(), "prints something, though it is refused");
-            Ok(Answer::Fault(fault.to_string(alloc)?))
+            Ok(Answer::Fault(fault))
         }
     }
+}
+
+/// Why the schedule is refused, or None where it printed what it says.
+fn refusal(
+    alloc: Global,
+    records: usize,
+    text: &str,
+    output: &mut Vec<u8>,
+) -> Result<Option<String>> {
+    let config = config_of(alloc, records)?;
+    let mut input = text.as_bytes();
+    match simulate(alloc, config, &mut input, output) {
+        Ok(()) => Ok(None),
+        Err(fault) => Ok(Some(shown_fault(alloc, &fault)?)),
+    }
+}
+
+fn shown_fault(alloc: Global, fault: &SimFault) -> Result<String> {
+    ensure!(fault.is_bad_schedule(), "{fault}");
+    Ok(fault.to_string(alloc)?)
 }
 
 /// The built-in table and publication, with a log for so many records.

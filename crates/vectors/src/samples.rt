@@ -1,8 +1,10 @@
 //! Files of samples, one on each line.
 
+use crate::catalog_text::catalog_answer;
+use crate::command_text::{command_answer, position_answer};
 use crate::event_line::event_answer;
 use crate::field::field_answer;
-use crate::framing::{back_answer, front_answer};
+use crate::framing::{back_answer, front_answer, startup_answer};
 use crate::given::Given;
 use crate::message::logical_answer;
 use crate::report::Report;
@@ -75,6 +77,9 @@ fn unless_said(answer: Answer, sample: Sample<'_>) -> Option<Answer> {
 
 fn answer_of(alloc: Global, sample: Sample<'_>) -> Result<Answer> {
     match sample.call {
+        "catalog" => catalog_answer(alloc, sample.given),
+        "command" => command_answer(alloc, sample.given),
+        "position" => position_answer(alloc, sample.given),
         "event" => event_answer(alloc, sample.given),
         "text" => text_answer(alloc, sample.given),
         "code" => code_answer(alloc, sample.given),
@@ -84,6 +89,7 @@ fn answer_of(alloc: Global, sample: Sample<'_>) -> Result<Answer> {
 
 fn bytes_answer(alloc: Global, call: &str, given: &Given) -> Result<Answer> {
     match call {
+        "read_startup" => startup_answer(alloc, given),
         "read_front" => front_answer(alloc, given),
         "read_back" => back_answer(alloc, given),
         "read_logical" => logical_answer(alloc, given.all()),

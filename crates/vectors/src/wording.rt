@@ -14,24 +14,26 @@ pub fn word_answer(alloc: Global, bytes: &[u8]) -> Result<Answer> {
     let Some((frame, size)) = read_back(alloc, bytes)? else {
         return Ok(Answer::Meaning("waits".to_string(alloc)?));
     };
-    ensure!(size == bytes.len(), "takes {size} bytes");
-    let Back::CopyData(data) = &frame;
-    let body = data.bytes.as_slice();
-    let mut cursor = Cursor::new(body);
-    let kind = cursor.u8();
-    let mut out = BytesMut::new(alloc);
-    let meaning = if kind == Some(XLOGDATA) {
-        shown_xlogdata(alloc, &mut cursor, &mut out)?
-    } else if kind == Some(KEEPALIVE) {
-        shown_keepalive(alloc, &mut cursor, &mut out)?
-    } else {
-        None
+    let Back::CopyData(data) = frame else {
+        bail!("is no CopyData");
     };
-    let Some(meaning) = meaning else {
-        bail!("is no word");
+    ensure!(size == bytes.len(), "takes {size} bytes");
+    match shown_body(alloc, data.bytes.as_slice())? {
+        Some(meaning) => Ok(Answer::Meaning(meaning)),
+        None => bail!("is no word"),
+    }
+}
+
+fn shown_body(alloc: Global, body: &[u8]) -> Result<Option<String>> {
+    let mut cursor = Cursor::new(body);
+    let mut out = BytesMut::new(alloc);
+    let shown = match cursor.u8() {
+        Some(XLOGDATA) => shown_xlogdata(alloc, &mut cursor, &mut out)?,
+        Some(KEEPALIVE) => shown_keepalive(alloc, &mut cursor, &mut out)?,
+        _ => return Ok(None),
     };
     ensure!(out.as_slice() == body, "is written in another way");
-    Ok(Answer::Meaning(meaning))
+    Ok(shown)
 }
 
 fn shown_xlogdata(
@@ -44,10 +46,15 @@ fn shown_xlogdata(
     };
     let clock = clock.cast_signed();
     write_xlogdata(start, end, clock, cursor.rest(), out)?;
-    let message = shown_message(alloc, &read_logical(alloc, cursor.rest())?)?;
+    let message = shown_payload(alloc, cursor.rest())?;
     let start = Position(start);
     let end = Position(end);
     Ok(Some(format!(in alloc; "XLogData {start} {end} {clock} {message}")?))
+}
+
+fn shown_payload(alloc: Global, bytes: &[u8]) -> Result<String> {
+    let message = read_logical(alloc, bytes)?;
+    Ok(shown_message(alloc, &message)?)
 }
 
 fn shown_keepalive(

@@ -1,4 +1,4 @@
-use Rattle.std.proofs.Common.{◌≡◌, suc, true, false, [], ◌∷◌, length, Ok, Err, sym, ap, subst, ◌∙◌, rules, arith}
+use Rattle.std.proofs.Common.{◌≡◌, suc, true, [], ◌∷◌, length, Ok, Err, sym, ap, subst, ◌∙◌, rules, arith}
 use Rattle.std.specs.Str.{IsUtf8}
 use Rattle.std.proofs.lemmas.Result.{err_from_is_err_and}
 use Rattle.replcmd.specs.declared.fault.CmdFault.TheVariants.{BadOption}

@@ -1,4 +1,4 @@
-use Rattle.std.proofs.Common.{◌≡◌, true, false, sym, ap, ◌∙◌, rules, arith}
+use Rattle.std.proofs.Common.{◌≡◌, rules, arith}
 use Rattle.std.proofs.lemmas.Result.{err_from_is_err_and}
 use Rattle.replcmd.specs.Reading.{setting_at, more_settings, settings_at}
 use Rattle.replcmd.proofs.Lists.{found, goes_on, is_done, item_stops, more_stops}

@@ -1,0 +1,7 @@
+use Rattle.sender.proofs.Framing.{commit_short}
+use Rattle.sender.proofs.outgoing.Outgoing.add_commit.Goals as goal
+
+pub add_message-requires-clause-fits : goal.add_message-requires-clause-fits
+add_message-requires-clause-fits c =
+    let t = c.args.transaction.now in
+    rw c.commit_of-commit.ensures (commit_short (record { position = t.start; end = t.end; time = t.time }))

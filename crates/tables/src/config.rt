@@ -1,0 +1,120 @@
+//! The tables of a configuration, which is a TOML text. Its form is told in docs/CONFIGURATION.md.
+
+ghost use Rattle.std.specs.Prelude.{◌≡◌, ◌==◌, [], option_map};
+ghost use Rattle.std.specs.List.{list_any};
+ghost use Rattle.toml.specs.View.{view, items_view};
+ghost use Rattle.tables.specs.Config.{Names, ReadsTable, ReadsTables, another_table, clash, is_namesake, named_by, tables_behind, tables_of};
+
+use crate::catalog::Catalog;
+use crate::config_fault::{CatalogFault, Member, Misfit};
+use crate::config_table::{Unread, table_in};
+use crate::table::Table;
+use frames::Items;
+use std::alloc::Global;
+use toml::Value;
+
+/// The most tables of a catalogue.
+pub const MAX_TABLES: usize = 256;
+
+impl Catalog {
+    /// The tables that the text of a configuration names, in its order. What a table is told by stands in docs/CONFIGURATION.md.
+    pub fn from_toml(alloc: Global, text: &str) -> Result<Self, CatalogFault>
+        ensures { Names result (named_by text.now) }
+    {
+        match toml::table_from_str(alloc, text) {
+            Ok(members) => {
+                let document = Value::Table(members);
+                let tables = tables_of(alloc, document.get("table"))?;
+                Ok(Catalog::of_tables(tables))
+            }
+            Err(fault) if fault.is_memory() => Err(CatalogFault::Memory),
+            Err(fault) => Err(CatalogFault::NotToml(line_of(text, &fault))),
+        }
+    }
+}
+
+/// The line where the reader stopped, from 1.
+fn line_of(text: &str, fault: &toml::de::Error) -> usize {
+    let read = match fault.span() {
+        Some(span) => text.as_bytes().get(..span.start).unwrap_or(&[]),
+        None => &[],
+    };
+    read.iter()
+        .filter(|b| **b == b'\n')
+        .count()
+        .saturating_add(1)
+}
+
+fn tables_of(alloc: Global, member: Option<&Value>) -> Result<Items<Table>, CatalogFault>
+    ensures { ReadsTables result (tables_of (option_map (λ v. view v.now) member.entry)) }
+{
+    let Some(value) = member else {
+        return Ok(Items::new(Vec::new(alloc)));
+    };
+    let Some(values) = value.as_array() else {
+        return Err(CatalogFault::BadTables(Misfit::NoList));
+    };
+    tables_behind(alloc, values.as_slice())
+}
+
+fn tables_behind(alloc: Global, values: &[Value]) -> Result<Items<Table>, CatalogFault>
+    ensures { ReadsTables result (tables_behind [] (items_view values.now)) }
+{
+    let mut tables = Vec::new(alloc);
+    for value in values {
+        if tables.len() >= MAX_TABLES {
+            return Err(CatalogFault::BadTables(Misfit::TooMany));
+        }
+        match another_table(alloc, tables.as_slice(), value) {
+            Ok(table) => tables.push(table)?,
+            Err(Unread::Wrong(member)) => {
+                let number = tables.len() + 1;
+                return Err(CatalogFault::BadTables(Misfit::Table(number, member)));
+            }
+            Err(Unread::Memory) => return Err(CatalogFault::Memory),
+        }
+    }
+    Ok(Items::new(tables))
+}
+
+#[tactic(auto, unfolding(crate::specs::Config::another_table))]
+fn another_table(alloc: Global, tables: &[Table], value: &Value) -> Result<Table, Unread>
+    ensures { ReadsTable result (another_table tables.now (view value.now)) }
+{
+    let table = table_in(alloc, value)?;
+    match clash(tables, &table) {
+        Some(member) => Err(Unread::Wrong(member)),
+        None => Ok(table),
+    }
+}
+
+/// The member by which a table is another one.
+fn clash(tables: &[Table], table: &Table) -> Option<Member>
+    ensures { result ≡ clash tables.now table.now }
+{
+    if has_oid(tables, table.oid) {
+        return Some(Member::Oid);
+    }
+    if has_namesake(tables, table) {
+        return Some(Member::Name);
+    }
+    None
+}
+
+fn has_oid(tables: &[Table], oid: u32) -> bool
+    ensures { result ≡ list_any (λ t. t.oid == oid) tables.now }
+{
+    tables.iter().any(|other| other.oid == oid)
+}
+
+fn has_namesake(tables: &[Table], table: &Table) -> bool
+    ensures { result ≡ list_any (λ other. is_namesake other table.now) tables.now }
+{
+    tables.iter().any(|other| is_namesake(other, table))
+}
+
+fn is_namesake(other: &Table, table: &Table) -> bool
+    ensures { result ≡ is_namesake other.now table.now }
+{
+    other.schema == table.schema && other.name == table.name
+}

@@ -1,0 +1,136 @@
+//! The members of a table in a configuration, each by itself.
+
+ghost use Rattle.std.specs.Prelude.{◌≡◌, ◌==◌, not, [], IfOk, option_map, option_copied};
+ghost use Rattle.std.specs.List.{list_all, list_any};
+ghost use Rattle.std.specs.Str.{bytes_eq};
+ghost use Rattle.toml.specs.View.{view, items_view};
+ghost use Rattle.tables.specs.Config.{another_name, is_name, kind_in, name_in, names_behind, names_in, oid_in, unless_empty, identity_in, identity_of};
+
+use crate::identity::Identity;
+use crate::kind::{Kind, is_without_zero};
+use frames::{Items, Text};
+use std::alloc::{AllocError, Global};
+use toml::Value;
+
+/// The most bytes of a name.
+pub const MAX_NAME_LENGTH: usize = 63;
+
+/// The greatest OID.
+pub const MAX_OID: i64 = 4_294_967_295;
+
+pub(crate) fn is_name(text: &str) -> bool
+    ensures { result ≡ is_name text.now }
+{
+    let length = text.as_bytes().len();
+    1 <= length && length <= MAX_NAME_LENGTH && is_without_zero(text) && is_without_dot(text)
+}
+
+fn is_without_dot(text: &str) -> bool
+    ensures { result ≡ list_all (λ b. not (b == 46)) text.now }
+{
+    text.as_bytes().iter().all(|b| *b != b'.')
+}
+
+#[tactic(auto, unfolding(crate::specs::Config::name_in))]
+pub(crate) fn name_in(value: &Value) -> Option<&str>
+    ensures { option_copied result ≡ name_in (view value.now) }
+{
+    match value.as_str() {
+        Some(text) if is_name(text) => Some(text),
+        _ => None,
+    }
+}
+
+#[tactic(auto, unfolding(crate::specs::Config::oid_in))]
+pub(crate) fn oid_in(value: &Value) -> Option<u32>
+    ensures { result ≡ oid_in (view value.now) }
+{
+    let number = value.as_integer()?;
+    if number < 1 || number > MAX_OID {
+        return None;
+    }
+    u32::try_from(number).ok()
+}
+
+#[tactic(auto, unfolding(crate::specs::Config::identity_in))]
+pub(crate) fn identity_in(member: Option<&Value>) -> Option<Identity>
+    ensures { result ≡ identity_in (option_map (λ v. view v.now) member.entry) }
+{
+    match member {
+        None => Some(Identity::Default),
+        Some(value) => identity_of(value.as_str()?),
+    }
+}
+
+fn identity_of(text: &str) -> Option<Identity>
+    ensures { result ≡ identity_of text.now }
+{
+    match text {
+        "default" => Some(Identity::Default),
+        "nothing" => Some(Identity::Nothing),
+        "full" => Some(Identity::Full),
+        _ => None,
+    }
+}
+
+#[tactic(auto, unfolding(crate::specs::Config::kind_in))]
+pub(crate) fn kind_in(value: &Value) -> Option<Kind>
+    ensures { result ≡ kind_in (view value.now) }
+{
+    match value.as_str()? {
+        "bool" => Some(Kind::Bool),
+        "int4" => Some(Kind::Int4),
+        "int8" => Some(Kind::Int8),
+        "text" => Some(Kind::Text),
+        _ => None,
+    }
+}
+
+/// The names of a list, each once.
+#[tactic(auto, unfolding(crate::specs::Config::names_in))]
+pub(crate) fn names_in(alloc: Global, value: &Value) -> Result<Option<Items<Text>>, AllocError>
+    ensures { IfOk result (λ names. names ≡ names_in (view value.now)) }
+{
+    match value.as_array() {
+        Some(values) => Ok(names_of(alloc, values.as_slice())?.and_then(unless_empty)),
+        None => Ok(None),
+    }
+}
+
+fn names_of(alloc: Global, values: &[Value]) -> Result<Option<Items<Text>>, AllocError>
+    ensures { IfOk result (λ names. names ≡ names_behind [] (items_view values.now)) }
+{
+    let mut names = Vec::new(alloc);
+    for value in values {
+        let Some(name) = another_name(names.as_slice(), value) else {
+            return Ok(None);
+        };
+        names.push(Text::copy_of(alloc, name)?)?;
+    }
+    Ok(Some(Items::new(names)))
+}
+
+#[tactic(auto, unfolding(crate::specs::Config::another_name))]
+fn another_name<'v>(names: &[Text], value: &'v Value) -> Option<&'v str>
+    ensures { option_copied result ≡ another_name names.now (view value.now) }
+{
+    match name_in(value) {
+        Some(name) if !is_among(names, name) => Some(name),
+        _ => None,
+    }
+}
+
+pub(crate) fn is_among(names: &[Text], name: &str) -> bool
+    ensures { result ≡ list_any (bytes_eq name.now) names.now }
+{
+    names.iter().any(|other| name == other.as_str())
+}
+
+pub(crate) fn unless_empty<T: Drop>(items: Items<T>) -> Option<Items<T>>
+    ensures { result ≡ unless_empty items }
+{
+    if items.is_empty() {
+        return None;
+    }
+    Some(items)
+}
