@@ -48,7 +48,7 @@ pub use parameter_status::PARAMETER_STATUS;
 pub use put::{put_byte, put_bytes, put_int16, put_int32, put_int64, put_string};
 pub use query::{QUERY, QUERY_LIMIT, Query};
 pub use ready_for_query::{READY_FOR_QUERY, Status};
-pub use row_description::{ColumnDescription, ROW_DESCRIPTION, RowDescription};
+pub use row_description::{ColumnDescription, ColumnType, ROW_DESCRIPTION, RowDescription};
 pub use startup::{
     CANCEL_REQUEST, GSS_REQUEST, PROTOCOL_VERSION, SSL_REQUEST, STARTUP_LIMIT, Startup,
     no_startup_begins_another, read_startup,

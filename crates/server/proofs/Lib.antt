@@ -1,0 +1,5 @@
+pub mod Rows
+pub mod Tails
+pub mod Steps
+pub mod Names
+pub mod Parameters

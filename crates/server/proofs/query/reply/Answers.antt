@@ -1,0 +1,26 @@
+use Rattle.std.proofs.Common.{[], refl, inr}
+use Rattle.server.specs.declared.refusal.Refusal.TheVariants.{Command}
+use Rattle.server.specs.Said.{refused_ready}
+use Rattle.server.proofs.Names.{short_slot}
+use Rattle.server.proofs.Steps.{not_read}
+use Rattle.server.proofs.query.reply.Goals as goal
+
+pub run-requires : goal.run-requires
+run-requires g c = short_slot c.args.query.now c.in-Ok.command c.in-Ok.ensures.found
+
+pub returns-in_ok-say_refused_ready-in-Err : goal.returns-in_ok-say_refused_ready-in-Err
+returns-in_ok-say_refused_ready-in-Err g c = record {
+  asked = [];
+  text = refused_ready (Command c.in-Err.fault);
+  fact = inr (
+    record {
+      fault = c.in-Err.fault;
+      nothing = refl;
+      answer = refl;
+      no_command = λ other command spells. not_read c.in-Err.fault command other (c.in-Err.ensures.only command spells);
+    },
+    refl,
+  );
+  asks = refl;
+  says = c.in_ok-say_refused_ready-in-Err.ensures;
+}

@@ -1,0 +1,15 @@
+use Rattle.std.proofs.Common.{[], ◌∷◌, refl}
+use Rattle.server.specs.Calls.{StartStream}
+use Rattle.server.specs.Said.{started}
+use Rattle.server.proofs.query.start.Goals as goal
+
+pub returns : goal.returns
+returns g c =
+    let told = rw (c.as_str.ensures.value, c.as_slice.ensures) at c.start-answer.ensures in
+    record {
+      asked = StartStream c.args.slot.now c.args.position c.args.publications.now c.start-answer.result ∷ [];
+      text = started c.start-answer.result;
+      fact = (c.start-answer.result, refl, refl, c.has_begun-begun.ensures);
+      asks = (c.start-answer.new.self, told, refl);
+      says = c.in_ok-say_started.ensures;
+    }

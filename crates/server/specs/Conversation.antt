@@ -1,0 +1,48 @@
+-- A conversation: what is said to each text that a client sends, and what is asked of the desk for it.
+use Rattle.std.specs.Prelude.{◌≡◌, ◌≢◌, ℕ, ◌≤◌, length, ◌⊎◌, Bool, true, false, List, [], ◌∷◌, ◌++◌, Result, Ok, Err}
+use Rattle.replcmd.specs.declared.command.Command.{Command}
+use Rattle.replcmd.specs.declared.command.Command.TheVariants.{Identify, Create, Start, Drop}
+use Rattle.replcmd.specs.declared.fault.CmdFault.{CmdFault}
+use Rattle.replcmd.specs.declared.fault.CmdFault.TheVariants as commands
+use Rattle.replcmd.specs.Grammar.{SpellsCommand}
+use Rattle.server.specs.declared.fault.DeskFault.{DeskFault}
+use Rattle.server.specs.declared.refusal.Refusal.TheVariants as refusals
+use Rattle.server.specs.Calls.{Call, End, System, CreateSlot, DropSlot, StartStream, AreAsked}
+use Rattle.server.specs.Said.{refused_ready, identified, created, dropped, started}
+
+-- what was asked of the desk, and what was said, in one step
+pub record Gave {D : Type 0} (told : D → Call → D → Type 0) (Fact : List Call → List ℕ → Type 0) (desk : D) (out : List ℕ) (desk' : D) (out' : List ℕ) : Type 0 where
+  pub asked : List Call
+  pub text : List ℕ
+  pub fact : Fact asked text
+  pub asks : AreAsked told desk asked desk'
+  pub says : out' ≡ out ++ text
+
+-- ---- commands
+
+abbrev pub is_ok : Result (Unit {0}) DeskFault → Bool
+is_ok (Ok u) = true
+is_ok (Err fault) = false
+
+-- Each command makes its own calls, each once. A stream that begins leaves no query to wait for.
+abbrev pub Runs : List ℕ → Command → Bool → List Call → List ℕ → Type 0
+Runs database Identify closes asked text = (end : ℕ) × (systemid : List ℕ) × (asked ≡ End end ∷ System systemid ∷ []) × (text ≡ identified systemid end database) × (closes ≡ false)
+Runs database (Create slot) closes asked text = (answer : Result ℕ DeskFault) × (asked ≡ CreateSlot slot answer ∷ []) × (text ≡ created slot answer) × (closes ≡ false)
+Runs database (Drop slot) closes asked text = (answer : Result (Unit {0}) DeskFault) × (asked ≡ DropSlot slot answer ∷ []) × (text ≡ dropped answer) × (closes ≡ false)
+Runs database (Start slot position publications) closes asked text =
+    (answer : Result (Unit {0}) DeskFault) × (asked ≡ StartStream slot position publications answer ∷ []) × (text ≡ started answer) × (closes ≡ is_ok answer)
+
+-- the slot of a command to make one is no longer than slots' names are
+abbrev pub HasShortSlot : Command → Type 0
+HasShortSlot (Create slot) = length slot ≤ 63
+HasShortSlot _ = Unit {0}
+
+-- A query that is no command: any one of the codes of a text, or that memory ran out.
+pub record IsRefused (query : List ℕ) (asked : List Call) (text : List ℕ) : Type 0 where
+  pub fault : CmdFault
+  pub nothing : asked ≡ []
+  pub answer : text ≡ refused_ready (refusals.Command fault)
+  pub no_command : fault ≢ commands.Memory → (c : Command) → SpellsCommand query c → ⊥
+
+abbrev pub Replies : List ℕ → List ℕ → Bool → List Call → List ℕ → Type 0
+Replies database query closes asked text = ((c : Command) × SpellsCommand query c × Runs database c closes asked text) ⊎ (IsRefused query asked text × (closes ≡ false))

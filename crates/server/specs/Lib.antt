@@ -1,0 +1,5 @@
+pub mod Refusals
+pub mod Said
+pub mod Calls
+pub mod Opening
+pub mod Conversation

@@ -1,0 +1,38 @@
+//! What a connection asks while it answers: the log's end and the slots.
+
+ghost use Rattle.std.specs.Prelude.{◌<◌, ◌^◌, length};
+
+use crate::fault::DeskFault;
+use replcmd::Name;
+
+/// The desk of a connection. `told` is what one call with its answer says of a desk before and after it; a desk that
+/// tells nothing says `Unit`, one that keeps a record of its calls says that it grew by this one.
+pub trait Desk {
+    ghost use Rattle.server.specs.Calls.{Call, End, System, CreateSlot, DropSlot, StartStream, Flushed};
+
+    ghost told: { Self → Call → Self → Type 0 };
+
+    /// The end of the log.
+    fn end(&mut self) -> u64
+        ensures { told self.old (End result) self.new };
+
+    /// The text that names the system.
+    fn systemid(&self) -> &str
+        ensures told { told self.now (System result.now) self.now }
+        ensures short { length result.now < 2 ^ 16 };
+
+    /// Makes a slot; answers its consistent point.
+    fn create(&mut self, slot: &str) -> Result<u64, DeskFault>
+        ensures { told self.old (CreateSlot slot.now result) self.new };
+
+    fn drop_slot(&mut self, slot: &str) -> Result<(), DeskFault>
+        ensures { told self.old (DropSlot slot.now result) self.new };
+
+    /// Begins a stream of these publications for the slot, at this position or at a later one that it has confirmed.
+    fn start(&mut self, slot: &str, position: u64, publications: &[Name]) -> Result<(), DeskFault>
+        ensures { told self.old (StartStream slot.now position publications.now result) self.new };
+
+    /// A client has flushed all before the position; `ask`: it wants an answer at once.
+    fn flushed(&mut self, position: u64, ask: bool)
+        ensures { told self.old (Flushed position ask) self.new };
+}

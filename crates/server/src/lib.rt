@@ -1,0 +1,18 @@
+//! The server's side of a connection, as a core of its own: bytes in, bytes out, and a desk that it asks. No socket, no
+//! thread.
+#![tactic(auto)]
+
+mod database;
+mod desk;
+mod fault;
+mod opening;
+mod query;
+mod refusal;
+mod say;
+
+pub use database::{Database, MOST_DATABASE_BYTES};
+pub use desk::Desk;
+pub use fault::{ConnFault, DeskFault};
+pub use opening::open;
+pub use query::reply;
+pub use refusal::Refusal;

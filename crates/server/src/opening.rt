@@ -1,0 +1,75 @@
+//! The beginning of a session: what its startup asks for.
+
+ghost use Rattle.std.specs.Prelude.{◌≡◌, ◌≤◌, ◌+◌, ◌++◌, length, option_map, OnOk, IfOk, codes};
+ghost use Rattle.frames.specs.Steps.{closed};
+ghost use Rattle.frames.specs.Parameter.{parameter};
+ghost use Rattle.server.specs.Opening.{value_of, opened, is_database, first_of};
+ghost use Rattle.server.specs.Said.{greeted};
+
+use crate::database::{Database, MOST_DATABASE_BYTES};
+use crate::refusal::Refusal;
+use crate::say::{say_greeting, say_refused};
+use bytes::BytesMut;
+use frames::{Parameter, Text};
+use std::alloc::{AllocError, Global};
+
+/// The value of the last parameter of this name.
+fn value_of<'a>(parameters: &'a [Parameter], name: &str) -> Option<&'a str>
+    ensures { option_map (λ s. s.now) result ≡ value_of name.now parameters.now }
+{
+    let mut found = None;
+    for parameter in parameters {
+        if parameter.name.as_str() == name {
+            found = Some(parameter.value.as_str());
+        }
+    }
+    found
+}
+
+/// Whether replication on a database is asked for.
+fn asks_for_replication(parameters: &[Parameter]) -> bool
+    ensures { result ≡ is_database (value_of (codes "replication") parameters.now) }
+{
+    match value_of(parameters, "replication") {
+        Some(value) => value == "database",
+        None => false,
+    }
+}
+
+/// The name of the database: that of `database`, or else of `user`, or else none.
+fn database_of(parameters: &[Parameter]) -> &str
+    ensures { result.now ≡ first_of (value_of (codes "database") parameters.now) (value_of (codes "user") parameters.now) }
+{
+    match value_of(parameters, "database") {
+        Some(name) => name,
+        None => match value_of(parameters, "user") {
+            Some(name) => name,
+            None => "",
+        },
+    }
+}
+
+/// Answers the startup of a session on the connection of this number: the database, or that none is served.
+///
+/// The session must ask for `replication=database`. Other parameters are passed over, and of a repeated name the last
+/// pair counts.
+#[tactic(auto, unfolding(crate::specs::Opening::opened))]
+pub fn open(
+    alloc: Global,
+    number: u32,
+    parameters: &[Parameter],
+    out: &mut BytesMut,
+) -> Result<Option<Database>, AllocError>
+    requires { length (closed parameter parameters.now) ≤ MOST_DATABASE_BYTES }
+    ensures database { IfOk result (λ d. d ≡ opened parameters.now) }
+    ensures says { OnOk result (out.new.items ≡ out.old.items ++ greeted number (opened parameters.now)) }
+{
+    if !asks_for_replication(parameters) {
+        say_refused(alloc, out, Refusal::NoReplication)?;
+        return Ok(None);
+    }
+    let name = Text::copy_of(alloc, database_of(parameters))?;
+    let database = Database::new(name);
+    say_greeting(alloc, out, number)?;
+    Ok(Some(database))
+}

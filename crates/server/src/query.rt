@@ -1,0 +1,134 @@
+//! Queries: the command that a text spells, what it asks of the desk, and its answer.
+
+ghost use Rattle.std.specs.Prelude.{◌≡◌, ◌≤◌, length, OnOk, IfOk, false};
+ghost use Rattle.server.specs.Calls.{End, System, CreateSlot, DropSlot, StartStream};
+ghost use Rattle.server.specs.Conversation.{Gave, Runs, Replies, HasShortSlot, is_ok};
+ghost use Rattle.server.specs.Said.{identified, created, dropped, started};
+ghost use Rattle.replcmd.specs.declared.command.Command.TheVariants.{Identify, Create, Start, Drop};
+
+use crate::database::Database;
+use crate::desk::Desk;
+use crate::fault::DeskFault;
+use crate::refusal::Refusal;
+use crate::say::{say_created, say_dropped, say_identified, say_refused_ready, say_started};
+use bytes::BytesMut;
+use replcmd::{Command, Name, Names, parse_command};
+use std::alloc::{AllocError, Global};
+
+fn identify<D: Desk>(
+    alloc: Global,
+    database: &Database,
+    desk: &mut D,
+    out: &mut BytesMut,
+) -> Result<(), AllocError>
+    ensures { OnOk result (Gave D.told (Runs database.now Identify false) desk.old out.old.items desk.new out.new.items) }
+{
+    let end = desk.end();
+    say_identified(alloc, out, desk.systemid(), end, database.as_str())
+}
+
+fn create<D: Desk>(
+    alloc: Global,
+    database: &Database,
+    slot: &Name,
+    desk: &mut D,
+    out: &mut BytesMut,
+) -> Result<(), AllocError>
+    requires { length slot.now ≤ 63 }
+    ensures { OnOk result (Gave D.told (Runs database.now (Create slot.now) false) desk.old out.old.items desk.new out.new.items) }
+{
+    let answer = desk.create(slot.as_str());
+    say_created(alloc, out, slot.as_str(), answer)
+}
+
+fn drop_slot<D: Desk>(
+    alloc: Global,
+    database: &Database,
+    slot: &Name,
+    desk: &mut D,
+    out: &mut BytesMut,
+) -> Result<(), AllocError>
+    ensures { OnOk result (Gave D.told (Runs database.now (Drop slot.now) false) desk.old out.old.items desk.new out.new.items) }
+{
+    let answer = desk.drop_slot(slot.as_str());
+    say_dropped(alloc, out, answer)
+}
+
+/// Whether a stream has begun.
+fn start<D: Desk>(
+    alloc: Global,
+    database: &Database,
+    slot: &Name,
+    position: u64,
+    publications: &Names,
+    desk: &mut D,
+    out: &mut BytesMut,
+) -> Result<bool, AllocError>
+    ensures { IfOk result (λ begun. Gave D.told (Runs database.now (Start slot.now position publications.now) begun) desk.old out.old.items desk.new out.new.items) }
+{
+    let answer = desk.start(slot.as_str(), position, publications.as_slice());
+    let begun = has_begun(answer);
+    say_started(alloc, out, answer)?;
+    Ok(begun)
+}
+
+fn has_begun(answer: Result<(), DeskFault>) -> bool
+    ensures { result ≡ is_ok answer }
+{
+    answer.is_ok()
+}
+
+/// Carries out a command; whether a stream has begun.
+fn run<D: Desk>(
+    alloc: Global,
+    database: &Database,
+    command: &Command,
+    desk: &mut D,
+    out: &mut BytesMut,
+) -> Result<bool, AllocError>
+    requires { HasShortSlot command.now }
+    ensures { IfOk result (λ begun. Gave D.told (Runs database.now command.now begun) desk.old out.old.items desk.new out.new.items) }
+{
+    match command {
+        Command::Identify => {
+            identify(alloc, database, desk, out)?;
+            Ok(false)
+        }
+        Command::Create { slot } => {
+            create(alloc, database, slot, desk, out)?;
+            Ok(false)
+        }
+        Command::Drop { slot } => {
+            drop_slot(alloc, database, slot, desk, out)?;
+            Ok(false)
+        }
+        Command::Start {
+            slot,
+            at,
+            publications,
+        } => { start(alloc, database, slot, *at, publications, desk, out) }
+    }
+}
+
+/// Answers the text of a Query in a session on this database; whether a stream has begun, and with it no query is waited
+/// for.
+///
+/// A command makes its calls of the desk, each once. A text that is none makes no call: it is refused by the code of its
+/// fault, and the next query is waited for.
+pub fn reply<D: Desk>(
+    alloc: Global,
+    database: &Database,
+    query: &str,
+    desk: &mut D,
+    out: &mut BytesMut,
+) -> Result<bool, AllocError>
+    ensures { IfOk result (λ begun. Gave D.told (Replies database.now query.now begun) desk.old out.old.items desk.new out.new.items) }
+{
+    match parse_command(alloc, query) {
+        Ok(command) => run(alloc, database, &command, desk, out),
+        Err(fault) => {
+            say_refused_ready(alloc, out, Refusal::Command(fault))?;
+            Ok(false)
+        }
+    }
+}

@@ -1,0 +1,346 @@
+//! What the server says, at the end of a buffer.
+
+ghost use Rattle.std.specs.Prelude.{◌≡◌, ◌<◌, ◌≤◌, ◌^◌, ◌++◌, length, OnOk, IfOk};
+ghost use Rattle.std.specs.List.{AllByRecursion};
+ghost use Rattle.frames.specs.declared.data_row.DataValue.TheVariants.{Bytes};
+ghost use Rattle.frames.specs.declared.back.Back.TheVariants.{AuthenticationOk};
+ghost use Rattle.replcmd.specs.Position.{printed};
+ghost use Rattle.server.specs.Said.{said, refused, refused_ready, ready, greeting, completed, status, shown, text_type, int4_type, IsSmall, identity_columns, identity_values, slot_columns, slot_values, key_frame, columns_frame, values_frame, slot_made, identified, created, dropped, started};
+
+use crate::fault::DeskFault;
+use crate::refusal::Refusal;
+use bytes::BytesMut;
+use frames::{
+    Back, BackendKeyData, ColumnDescription, ColumnType, CommandComplete, CopyBothResponse,
+    DataRow, DataValue, ErrorField, ErrorResponse, Items, Parameter, RowDescription, Status, Text,
+    write_back,
+};
+use replcmd::write_position;
+use std::alloc::{AllocError, Global};
+
+pub const TEXT_OID: u32 = 25;
+
+pub const INT4_OID: u32 = 23;
+
+pub const INT4_SIZE: i16 = 4;
+
+/// The size of a type whose values have many.
+pub const ANY_SIZE: i16 = -1;
+
+pub const NO_MODIFIER: i32 = -1;
+
+/// The attribute of a column that is no table's.
+pub const NO_ATTRIBUTE: i16 = 0;
+
+#[tactic(auto, unfolding(crate::specs::Said::ready, crate::specs::Said::said, frames::specs::Fields::int32))]
+pub(crate) fn say_ready(out: &mut BytesMut) -> Result<(), AllocError>
+    ensures { OnOk result (out.new.items ≡ out.old.items ++ ready) }
+{
+    write_back(&Back::ReadyForQuery(Status::Idle), out)
+}
+
+fn error_field(alloc: Global, code: u8, text: &str) -> Result<ErrorField, AllocError>
+    ensures { IfOk result (λ f. f ≡ record { code = code; text = text.now }) }
+{
+    Ok(ErrorField {
+        code,
+        text: Text::copy_of(alloc, text)?,
+    })
+}
+
+#[tactic(auto, unfolding(crate::specs::Said::refused, crate::specs::Said::said))]
+pub(crate) fn say_refused(
+    alloc: Global,
+    out: &mut BytesMut,
+    refusal: Refusal,
+) -> Result<(), AllocError>
+    ensures { OnOk result (out.new.items ≡ out.old.items ++ refused refusal) }
+{
+    let severity = error_field(alloc, b'S', "ERROR")?;
+    let untranslated = error_field(alloc, b'V', "ERROR")?;
+    let code = error_field(alloc, b'C', refusal.code())?;
+    let text = error_field(alloc, b'M', refusal.text())?;
+    let fields = Items::new(Vec::from_array(alloc, [severity, untranslated, code, text])?);
+    write_back(&Back::ErrorResponse(ErrorResponse { fields }), out)
+}
+
+/// That a command is refused, and that the next one is waited for.
+pub(crate) fn say_refused_ready(
+    alloc: Global,
+    out: &mut BytesMut,
+    refusal: Refusal,
+) -> Result<(), AllocError>
+    ensures { OnOk result (out.new.items ≡ out.old.items ++ refused_ready refusal) }
+{
+    say_refused(alloc, out, refusal)?;
+    say_ready(out)
+}
+
+#[tactic(auto, unfolding(crate::specs::Said::said, frames::specs::Fields::int32))]
+fn say_status(alloc: Global, out: &mut BytesMut, name: &str, value: &str) -> Result<(), AllocError>
+    requires name { length name.now ≤ 40 }
+    requires value { length value.now ≤ 40 }
+    ensures { OnOk result (out.new.items ≡ out.old.items ++ said (status name.now value.now)) }
+{
+    let name = Text::copy_of(alloc, name)?;
+    let value = Text::copy_of(alloc, value)?;
+    write_back(&Back::ParameterStatus(Parameter { name, value }), out)
+}
+
+#[tactic(auto, unfolding(crate::specs::Said::said, frames::specs::Fields::int32))]
+fn say_authenticated(out: &mut BytesMut) -> Result<(), AllocError>
+    ensures { OnOk result (out.new.items ≡ out.old.items ++ said AuthenticationOk) }
+{
+    write_back(&Back::AuthenticationOk, out)
+}
+
+#[tactic(auto, unfolding(crate::specs::Said::said, frames::specs::Fields::int32))]
+fn say_key(out: &mut BytesMut, process: u32) -> Result<(), AllocError>
+    ensures { OnOk result (out.new.items ≡ out.old.items ++ said (key_frame process)) }
+{
+    write_back(
+        &Back::BackendKeyData(BackendKeyData { process, key: 0 }),
+        out,
+    )
+}
+
+/// The beginning of a session on the connection of this number.
+#[tactic(auto, unfolding(crate::specs::Said::greeting))]
+pub(crate) fn say_greeting(alloc: Global, out: &mut BytesMut, number: u32) -> Result<(), AllocError>
+    ensures { OnOk result (out.new.items ≡ out.old.items ++ greeting number) }
+{
+    say_authenticated(out)?;
+    say_status(alloc, out, "server_version", "15.0")?;
+    say_status(alloc, out, "client_encoding", "UTF8")?;
+    say_key(out, number)?;
+    say_ready(out)
+}
+
+fn column(alloc: Global, name: &str, data_type: ColumnType) -> Result<ColumnDescription, AllocError>
+    ensures { IfOk result (λ c. c ≡ shown data_type name.now) }
+{
+    Ok(ColumnDescription {
+        name: Text::copy_of(alloc, name)?,
+        table: 0,
+        attribute: NO_ATTRIBUTE,
+        data_type,
+        format: 0,
+    })
+}
+
+fn text_column(alloc: Global, name: &str) -> Result<ColumnDescription, AllocError>
+    ensures { IfOk result (λ c. c ≡ shown text_type name.now) }
+{
+    let data_type = ColumnType {
+        oid: TEXT_OID,
+        size: ANY_SIZE,
+        modifier: NO_MODIFIER,
+    };
+    column(alloc, name, data_type)
+}
+
+fn int4_column(alloc: Global, name: &str) -> Result<ColumnDescription, AllocError>
+    ensures { IfOk result (λ c. c ≡ shown int4_type name.now) }
+{
+    let data_type = ColumnType {
+        oid: INT4_OID,
+        size: INT4_SIZE,
+        modifier: NO_MODIFIER,
+    };
+    column(alloc, name, data_type)
+}
+
+fn value(alloc: Global, text: &str) -> Result<DataValue, AllocError>
+    ensures { IfOk result (λ v. v ≡ Bytes text.now) }
+{
+    let bytes = Vec::from_slice(alloc, text.as_bytes())?;
+    Ok(DataValue::Bytes(Items::new(bytes)))
+}
+
+#[tactic(auto, unfolding(crate::specs::Said::said, frames::specs::Fields::int32))]
+fn say_completed(alloc: Global, out: &mut BytesMut, tag: &str) -> Result<(), AllocError>
+    requires { length tag.now ≤ 40 }
+    ensures { OnOk result (out.new.items ≡ out.old.items ++ said (completed tag.now)) }
+{
+    let tag = Text::copy_of(alloc, tag)?;
+    write_back(&Back::CommandComplete(CommandComplete { tag }), out)
+}
+
+/// The answer of DROP_REPLICATION_SLOT.
+#[tactic(auto, unfolding(crate::specs::Said::dropped))]
+pub(crate) fn say_dropped(
+    alloc: Global,
+    out: &mut BytesMut,
+    answer: Result<(), DeskFault>,
+) -> Result<(), AllocError>
+    ensures { OnOk result (out.new.items ≡ out.old.items ++ dropped answer) }
+{
+    match answer {
+        Ok(()) => {
+            say_completed(alloc, out, "DROP_REPLICATION_SLOT")?;
+            say_ready(out)
+        }
+        Err(fault) => say_refused_ready(alloc, out, Refusal::Asked(fault)),
+    }
+}
+
+/// The answer of START_REPLICATION.
+#[tactic(auto, unfolding(crate::specs::Said::started, crate::specs::Said::said, frames::specs::Fields::int32, frames::specs::Fields::int16))]
+pub(crate) fn say_started(
+    alloc: Global,
+    out: &mut BytesMut,
+    answer: Result<(), DeskFault>,
+) -> Result<(), AllocError>
+    ensures { OnOk result (out.new.items ≡ out.old.items ++ started answer) }
+{
+    match answer {
+        Ok(()) => {
+            let formats = Items::new(Vec::new(alloc));
+            write_back(
+                &Back::CopyBothResponse(CopyBothResponse { format: 0, formats }),
+                out,
+            )
+        }
+        Err(fault) => say_refused_ready(alloc, out, Refusal::Asked(fault)),
+    }
+}
+
+fn position_value(alloc: Global, position: u64) -> Result<DataValue, AllocError>
+    ensures value { IfOk result (λ v. v ≡ Bytes (printed position)) }
+    ensures small { IfOk result (λ _. length (printed position) ≤ 17) }
+{
+    let text = write_position(alloc, position)?;
+    value(alloc, text.as_str())
+}
+
+#[tactic(auto, unfolding(crate::specs::Said::said))]
+fn say_columns(
+    alloc: Global,
+    out: &mut BytesMut,
+    columns: [ColumnDescription; 4],
+) -> Result<(), AllocError>
+    requires count { length columns ≤ 4 }
+    requires names { AllByRecursion (λ c. length c.name ≤ 40) columns }
+    ensures { OnOk result (out.new.items ≡ out.old.items ++ said (columns_frame columns)) }
+{
+    let columns = Items::new(Vec::from_array(alloc, columns)?);
+    write_back(&Back::RowDescription(RowDescription { columns }), out)
+}
+
+#[tactic(auto, unfolding(crate::specs::Said::said))]
+fn say_values(alloc: Global, out: &mut BytesMut, values: [DataValue; 4]) -> Result<(), AllocError>
+    requires count { length values ≤ 4 }
+    requires each { AllByRecursion IsSmall values }
+    ensures { OnOk result (out.new.items ≡ out.old.items ++ said (values_frame values)) }
+{
+    let values = Items::new(Vec::from_array(alloc, values)?);
+    write_back(&Back::DataRow(DataRow { values }), out)
+}
+
+fn say_identity_columns(alloc: Global, out: &mut BytesMut) -> Result<(), AllocError>
+    ensures { OnOk result (out.new.items ≡ out.old.items ++ said identity_columns) }
+{
+    let systemid = text_column(alloc, "systemid")?;
+    let timeline = int4_column(alloc, "timeline")?;
+    let xlogpos = text_column(alloc, "xlogpos")?;
+    let dbname = text_column(alloc, "dbname")?;
+    say_columns(alloc, out, [systemid, timeline, xlogpos, dbname])
+}
+
+fn say_identity_values(
+    alloc: Global,
+    out: &mut BytesMut,
+    systemid: &str,
+    end: u64,
+    database: &str,
+) -> Result<(), AllocError>
+    requires systemid { length systemid.now ≤ 2 ^ 16 }
+    requires database { length database.now ≤ 2 ^ 16 }
+    ensures { OnOk result (out.new.items ≡ out.old.items ++ said (identity_values systemid.now end database.now)) }
+{
+    let systemid = value(alloc, systemid)?;
+    let timeline = value(alloc, "1")?;
+    let xlogpos = position_value(alloc, end)?;
+    let dbname = value(alloc, database)?;
+    say_values(alloc, out, [systemid, timeline, xlogpos, dbname])
+}
+
+/// The answer of IDENTIFY_SYSTEM.
+#[tactic(auto, unfolding(crate::specs::Said::identified))]
+pub(crate) fn say_identified(
+    alloc: Global,
+    out: &mut BytesMut,
+    systemid: &str,
+    end: u64,
+    database: &str,
+) -> Result<(), AllocError>
+    requires systemid { length systemid.now ≤ 2 ^ 16 }
+    requires database { length database.now ≤ 2 ^ 16 }
+    ensures { OnOk result (out.new.items ≡ out.old.items ++ identified systemid.now end database.now) }
+{
+    say_identity_columns(alloc, out)?;
+    say_identity_values(alloc, out, systemid, end, database)?;
+    say_completed(alloc, out, "IDENTIFY_SYSTEM")?;
+    say_ready(out)
+}
+
+fn say_slot_columns(alloc: Global, out: &mut BytesMut) -> Result<(), AllocError>
+    ensures { OnOk result (out.new.items ≡ out.old.items ++ said slot_columns) }
+{
+    let slot_name = text_column(alloc, "slot_name")?;
+    let consistent_point = text_column(alloc, "consistent_point")?;
+    let snapshot_name = text_column(alloc, "snapshot_name")?;
+    let output_plugin = text_column(alloc, "output_plugin")?;
+    say_columns(
+        alloc,
+        out,
+        [slot_name, consistent_point, snapshot_name, output_plugin],
+    )
+}
+
+fn say_slot_values(
+    alloc: Global,
+    out: &mut BytesMut,
+    slot: &str,
+    position: u64,
+) -> Result<(), AllocError>
+    requires { length slot.now ≤ 2 ^ 16 }
+    ensures { OnOk result (out.new.items ≡ out.old.items ++ said (slot_values slot.now position)) }
+{
+    let slot_name = value(alloc, slot)?;
+    let consistent_point = position_value(alloc, position)?;
+    let output_plugin = value(alloc, "pgoutput")?;
+    say_values(
+        alloc,
+        out,
+        [slot_name, consistent_point, DataValue::Null, output_plugin],
+    )
+}
+
+#[tactic(auto, unfolding(crate::specs::Said::slot_made))]
+fn say_slot(alloc: Global, out: &mut BytesMut, slot: &str, position: u64) -> Result<(), AllocError>
+    requires { length slot.now ≤ 2 ^ 16 }
+    ensures { OnOk result (out.new.items ≡ out.old.items ++ slot_made slot.now position) }
+{
+    say_slot_columns(alloc, out)?;
+    say_slot_values(alloc, out, slot, position)?;
+    say_completed(alloc, out, "CREATE_REPLICATION_SLOT")?;
+    say_ready(out)
+}
+
+/// The answer of CREATE_REPLICATION_SLOT.
+#[tactic(auto, unfolding(crate::specs::Said::created))]
+pub(crate) fn say_created(
+    alloc: Global,
+    out: &mut BytesMut,
+    slot: &str,
+    answer: Result<u64, DeskFault>,
+) -> Result<(), AllocError>
+    requires { length slot.now ≤ 2 ^ 16 }
+    ensures { OnOk result (out.new.items ≡ out.old.items ++ created slot.now answer) }
+{
+    match answer {
+        Ok(position) => say_slot(alloc, out, slot, position),
+        Err(fault) => say_refused_ready(alloc, out, Refusal::Asked(fault)),
+    }
+}
