@@ -1,4 +1,5 @@
-pub mod Journals
+pub mod History
+pub mod Keeping
 pub mod Reading
 pub mod Rows
 pub mod Slots
