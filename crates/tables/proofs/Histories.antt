@@ -53,7 +53,7 @@ put_off top (p ∷ ps) k s off = by_test (same_key k p.0) off (put_off top ps k 
     by_test true off rest = absurd cc
     by_test false off rest = rest off
 
-emptied_off : (change : TableChange) (k : List ℕ) (s : Slot) → is_emptied change k ≡ false → emptied change k s ≡ s
+pub emptied_off : (change : TableChange) (k : List ℕ) (s : Slot) → is_emptied change k ≡ false → emptied change k s ≡ s
 emptied_off (changes.Truncate oids) k s off = rw off refl
 emptied_off (changes.Insert oid row) k s off = refl
 emptied_off (changes.Update oid old row) k s off = refl

@@ -218,7 +218,7 @@ follows_own top (Some x) off = by_test (eqb x top) refl off
     by_test true same off = ap (λ (n : ℕ). Some n) (sym (eqb-true x top same))
     by_test false same off = absurd cc
 
-abbrev Off : List Table → ℕ → List ℕ → Made → Type 0
+abbrev pub Off : List Table → ℕ → List ℕ → Made → Type 0
 Off tables top p m = touches tables m.change p ≡ true → Follows m.top (Some top)
 
 emptied_put : (tables : List Table) (change : TableChange) (p : List ℕ) (oid : ℕ) → take 4 p ≡ int32 oid → is_emptied change p ≡ true → is_put (table_place oid) (puts_of tables change) ≡ true
@@ -249,7 +249,7 @@ free_place tables top oid p (m ∷ ms) front table_free free = (
     here on = follows_own top m.top (by_test (is_put p (puts_of tables m.change)) refl on)
 
 -- a change that alters slots where it puts rows alone
-abbrev OffAll : List Table → ℕ → List Put → Made → Type 0
+abbrev pub OffAll : List Table → ℕ → List Put → Made → Type 0
 OffAll tables top ps m = AllByRecursion (λ p. Off tables top p.0 m) ps
 
 pub keeps_off : (tables : List Table) (top : ℕ) (m n : Made) → n.top ≡ Some top → ((k : List ℕ) → is_emptied n.change k ≡ false) → OffAll tables top (puts_of tables n.change) m → KeepsOff tables m n

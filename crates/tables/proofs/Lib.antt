@@ -1,8 +1,10 @@
 pub mod Bodies
+pub mod Changing
 pub mod Forgetting
 pub mod Histories
 pub mod Holding
 pub mod Keys
 pub mod Lengths
 pub mod Names
+pub mod Storing
 pub mod Undoing

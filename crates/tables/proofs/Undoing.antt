@@ -226,7 +226,7 @@ set_there (e ∷ es) key v there = by_test (same_key key e.0.items) there (set_t
     by_test true there rest = refl
     by_test false there rest = ap (λ (fs : Entries). (e.0.items, e.1) ∷ fs) (rest there)
 
-short_there : (k : List ℕ) (v : Slot) (es : Entries) → IsSome (lookup (same_key k) es) → AreShort es → AreShort (put k v es)
+pub short_there : (k : List ℕ) (v : Slot) (es : Entries) → IsSome (lookup (same_key k) es) → AreShort es → AreShort (put k v es)
 short_there k v [] there all = absurd cc
 short_there k v (e ∷ es) there all = by_test (same_key k e.0) there (λ h. short_there k v es h all.1)
   where

@@ -1,6 +1,6 @@
 -- The history of a store: the changes that were made and not undone, the oldest first. What stands in the tables, what is
 -- held, and which change is refused, is told of the history alone.
-use Rattle.std.specs.Prelude.{ℕ, ◌==◌, ◌∷◌, [], ◌++◌, Bool, true, false, ◌&&◌, ◌||◌, not, List, map, take, suc, zero, Option, Some, None, is_some, nat_lt, if◌then◌else◌}
+use Rattle.std.specs.Prelude.{◌≡◌, ℕ, ◌==◌, ◌∷◌, [], ◌++◌, Bool, true, false, ◌&&◌, ◌||◌, not, List, map, take, suc, zero, Option, Some, None, is_some, nat_lt, if◌then◌else◌}
 use Rattle.std.specs.List.{list_any}
 use Rattle.frames.specs.Fields.{int32}
 use Rattle.tables.specs.declared.row.TheConstants.{MAX_ROW_LENGTH}
@@ -148,3 +148,14 @@ update_refusal tables history top key row =
     update_fault tables key row (is_key_held tables top history key || is_key_held tables top history (key_of tables key.oid row))
     (is_there tables history key)
     (not (same_key (key_text key) (row_place tables key.oid row)) && is_there tables history (key_of tables key.oid row))
+
+-- the change that a call made, with the row that was there
+pub record Deletes (tables : List Table) (history : List Made) (key : Key) (change : TableChange) : Type 0 where
+  pub old : List Value
+  pub was : rows_after tables history key ≡ Some old
+  pub made : change ≡ changes.Delete key.oid old
+
+pub record Updates (tables : List Table) (history : List Made) (key : Key) (row : List Value) (change : TableChange) : Type 0 where
+  pub old : List Value
+  pub was : rows_after tables history key ≡ Some old
+  pub made : change ≡ changes.Update key.oid old row

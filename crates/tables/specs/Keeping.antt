@@ -1,6 +1,6 @@
 -- How a store keeps a history: a slot at each place, and for each live transaction a journal of what stood at the places
 -- that it changed. Callers need not look here.
-use Rattle.std.specs.Prelude.{◌≡◌, ℕ, ◌<◌, ◌≤◌, ◌==◌, ◌∷◌, ◌++◌, [], Bool, true, false, ◌||◌, List, length, nat_eq, Option, Some, None, Result, Ok, Err, unwrap_or, if◌then◌else◌}
+use Rattle.std.specs.Prelude.{◌≡◌, ℕ, ◌<◌, ◌≤◌, ◌==◌, ◌∷◌, ◌++◌, [], Bool, true, false, ◌||◌, ◌&&◌, not, is_some, List, length, nat_eq, Option, Some, None, Result, Ok, Err, unwrap_or, if◌then◌else◌}
 use Rattle.std.specs.List.{list_any, AllByRecursion}
 use Rattle.std.specs.Map.{lookup}
 use Rattle.tables.specs.declared.key.TheConstants.{MAX_KEY_LENGTH}
@@ -15,7 +15,7 @@ use Rattle.tables.specs.declared.store_fault.StoreFault.TheVariants as faults
 use Rattle.tables.specs.Slots.{same_key, vacant, Entries, slot_at, put, HavePlaces, undone_at}
 use Rattle.tables.specs.Tables.{FitsTableChange}
 use Rattle.tables.specs.Rows.{Key, key_text}
-use Rattle.tables.specs.History.{Made, is_top, is_other, no_longer, is_within, row_place, table_place}
+use Rattle.tables.specs.History.{Made, unless, is_top, is_other, no_longer, is_within, row_place, table_place}
 
 abbrev pub Journals : Type 0
 Journals = List (ℕ × List (List Undo))
@@ -158,7 +158,7 @@ pub record Makes (top : ℕ) (puts : List Put) (old new : StoreState) : Type 0 w
   pub tables : new.tables ≡ old.tables
   pub slots : new.slots ≡ put_all (Some top) puts old.slots
   pub journals : (x : ℕ) → journal_of x new.journals ≡
-      (if x == top then journal_of x old.journals ++ noted_of (Some top) puts old.slots ∷ [] else journal_of x old.journals)
+      (if top == x then journal_of x old.journals ++ noted_of (Some top) puts old.slots ∷ [] else journal_of x old.journals)
 
 pub record IsSame (old new : StoreState) : Type 0 where
   pub tables : new.tables ≡ old.tables
@@ -172,6 +172,17 @@ key_held s top key = is_other top (slot_at s.slots (table_place key.oid)).owner 
 abbrev pub row_at : StoreState → Key → Option (List Value)
 row_at s key = (slot_at s.slots (key_text key)).row
 
+-- S4 and S3 of an update, and S5 before them
+abbrev pub places_fault : StoreState → List ℕ → List ℕ → Option StoreFault
+places_fault s from to =
+    unless (not (is_some (slot_at s.slots from).row)) faults.NoSuchRow
+    (unless (not (same_key from to) && is_some (slot_at s.slots to).row) faults.DuplicateKey None)
+
+abbrev pub keys_fault : StoreState → ℕ → Key → List ℕ → Option StoreFault
+keys_fault s top key to =
+    unless (key_held s top key || (is_other top (slot_at s.slots (table_place key.oid)).owner || is_other top (slot_at s.slots to).owner)) faults.KeyHeld
+    (places_fault s (key_text key) to)
+
 -- A call answers its refusal; without one it is Ok, or memory was refused.
 abbrev pub IsRefusalOrMemory : Option StoreFault → StoreFault → Type 0
 IsRefusalOrMemory refusal faults.Memory = refusal ≡ None
@@ -181,7 +192,22 @@ abbrev pub RefusedOrMemory : {A : Type 0} → Option StoreFault → Result A Sto
 RefusedOrMemory refusal (Ok x) = refusal ≡ None
 RefusedOrMemory refusal (Err fault) = IsRefusalOrMemory refusal fault
 
--- a test of a call: it is Ok exactly where there is no refusal
+-- a test of a call: it is Ok exactly where there is no refusal, and takes no memory
+abbrev pub IsRefusal : Option StoreFault → StoreFault → Type 0
+IsRefusal refusal faults.Memory = ⊥
+IsRefusal refusal fault = refusal ≡ Some fault
+
 abbrev pub RefusedExactly : {A : Type 0} → Option StoreFault → Result A StoreFault → Type 0
 RefusedExactly refusal (Ok x) = refusal ≡ None
-RefusedExactly refusal (Err fault) = refusal ≡ Some fault
+RefusedExactly refusal (Err fault) = IsRefusal refusal fault
+
+-- the change that was made of the row at a place
+pub record DeletesAt (s : StoreState) (oid : ℕ) (place : List ℕ) (change : TableChange) : Type 0 where
+  pub old : List Value
+  pub was : (slot_at s.slots place).row ≡ Some old
+  pub made : change ≡ changes.Delete oid old
+
+pub record UpdatesAt (s : StoreState) (oid : ℕ) (place : List ℕ) (row : List Value) (change : TableChange) : Type 0 where
+  pub old : List Value
+  pub was : (slot_at s.slots place).row ≡ Some old
+  pub made : change ≡ changes.Update oid old row

@@ -2,10 +2,11 @@
 
 ghost use Rattle.std.specs.Prelude.{List, ℕ, ◌≡◌, ◌≤◌, ◌++◌, ◌∷◌, [], IfOk, OnErr, OnOk, length, if◌then◌else◌};
 ghost use Rattle.std.specs.Option.{option_copied};
-ghost use Rattle.tables.specs.Keeping.{AreShort, SameSlots, freed, is_noted, noted_of, put_all};
+ghost use Rattle.tables.specs.Keeping.{AreShort, SameSlots, freed, is_in_journal, is_noted, noted_of, put_all};
 ghost use Rattle.tables.specs.Slots.{HasPlace, HavePlaces, put, same_key, slot_at, undone};
 ghost use Rattle.tables.specs.declared.slot.Undo.{Undo as Noted};
 
+use crate::journals::Journal;
 use crate::key::MAX_KEY_LENGTH;
 use crate::row::Row;
 use crate::slot::{Slot, Undo};
@@ -158,6 +159,18 @@ impl Slots {
                 self.undo(Items::new(undos));
                 Err(refused)
             }
+        }
+    }
+
+    /// The places of all changes in a journal are no longer the transaction's. It takes no memory.
+    pub fn free_all(&mut self, top: u32, journal: Journal)
+        ensures slots { (place : List ℕ) → slot_at self.new place ≡ (if is_in_journal place journal then freed top (slot_at self.old place) else slot_at self.old place) }
+        ensures places { (others : List Noted) → HavePlaces self.old others → HavePlaces self.new others }
+        ensures short { AreShort self.old → AreShort self.new }
+    {
+        let mut journal = journal;
+        while let Some(undos) = journal.pop() {
+            self.free(top, undos);
         }
     }
 
