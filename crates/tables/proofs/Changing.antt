@@ -1,6 +1,6 @@
 -- What may be changed is changed, and what is refused is what the history says.
 use Rattle.std.proofs.Common.{◌≡◌, ℕ, ◌<◌, ◌≤◌, ◌^◌, Bool, true, false, cond, ◌||◌, ◌&&◌, not, List, [], ◌∷◌, ◌++◌, length, take, Some, None, refl, sym, ap, subst, ◌∙◌, arith}
-use Rattle.std.specs.Prelude.{Option, Result, Ok, Err, IfOk, MatchOption, is_some, nat_lt, IsTrue}
+use Rattle.std.specs.Prelude.{Option, Result, Ok, Err, MatchOption, is_some, nat_lt, IsTrue}
 use Rattle.std.proofs.lemmas.Bool.Decides.{nat_tests}
 use Rattle.std.specs.Int.{w32}
 use Rattle.std.specs.Option.{ok_or}
@@ -22,13 +22,13 @@ use Rattle.tables.specs.Slots.{same_key, vacant, slot_at}
 use Rattle.tables.specs.Rows.{Key, key_text, key_of, key_in}
 use Rattle.tables.specs.Spelling.{row_length}
 use Rattle.tables.specs.Tables.{table_of, fits_table, fits_key, FitsRow, FitsTableChange}
-use Rattle.tables.specs.History.{Made, made, is_other, is_held, is_key_held, is_there, row_place, table_place, rows_after, of_table, unless, insert_fault, delete_fault, update_fault, insert_refusal, delete_refusal, update_refusal, Deletes, Updates}
-use Rattle.tables.specs.Keeping.{StoreState, Put, puts_of, is_emptied, slot_from, Keeps, Makes, IsRefusal, DeletesAt, UpdatesAt, RefusedExactly, key_held, keys_fault, places_fault, row_at}
+use Rattle.tables.specs.History.{Made, made, is_other, is_held, is_key_held, is_there, row_place, table_place, of_table, unless, insert_fault, delete_fault, update_fault, insert_refusal, delete_refusal, update_refusal, Deletes, Updates}
+use Rattle.tables.specs.Keeping.{StoreState, Put, Keeps, Makes, IsRefusal, DeletesAt, UpdatesAt, RefusedExactly, key_held, keys_fault, places_fault, row_at}
 use Rattle.tables.proofs.Keys.{row_key_le, key_length}
 use Rattle.tables.proofs.Lengths.{row_length_is}
-use Rattle.tables.proofs.Histories.{all_map, or_left, or_right}
+use Rattle.tables.proofs.Histories.{or_left, or_right}
 use Rattle.tables.proofs.Holding.{Off, OffAll, free_place, front_of_row, front_of_key, IsHome, stands_home}
-use Rattle.tables.proofs.Storing.{keeps_made, row_is, held_key, ShortPuts}
+use Rattle.tables.proofs.Storing.{keeps_made, row_is, held_key}
 
 -- REFUSALS
 

@@ -1,5 +1,5 @@
 -- The slots and journals of a history once a transaction has ended.
-use Rattle.std.proofs.Common.{◌≡◌, ℕ, Bool, true, false, cond, ◌||◌, List, [], ◌∷◌, map, Some, None, refl, sym, ap, subst, ◌∙◌}
+use Rattle.std.proofs.Common.{◌≡◌, ℕ, Bool, true, false, cond, ◌||◌, List, [], ◌∷◌, Some, None, refl, sym, ap, subst, ◌∙◌}
 use Rattle.std.specs.Prelude.{Option}
 use Rattle.std.specs.List.{AllByRecursion}
 use Rattle.tables.specs.declared.slot.Slot.{Slot}
@@ -11,7 +11,7 @@ use Rattle.tables.specs.Slots.{same_key, undone_at, vacant}
 use Rattle.tables.specs.Tables.{FitsTableChange}
 use Rattle.tables.specs.History.{Made, is_top, is_within, no_longer, settled, forgotten}
 use Rattle.tables.specs.Keeping.{Put, put_at, is_put, puts_of, without_row, emptied, is_emptied, touches, slot_by, slot_from, freed, is_noted, is_in_journal, IsUndo, OwnFirst, AreNotes, Follows, KeepsOff, AreApart}
-use Rattle.tables.proofs.Histories.{all_map, or_left, or_right, top_self, top_is, undo_agrees, notes_none}
+use Rattle.tables.proofs.Histories.{or_left, or_right, top_self, top_is, undo_agrees, notes_none}
 use Rattle.tables.proofs.Holding.{owner_by}
 
 abbrev Slots : Type 0

@@ -1,14 +1,13 @@
 -- The lengths of keys, and the part of a key that is still to be spelled.
-use Rattle.std.proofs.Common.{◌≡◌, ℕ, zero, suc, ◌+◌, ◌-◌, ◌<◌, ◌≤◌, Bool, true, false, cond, List, [], ◌∷◌, ◌++◌, length, get_or, drop, refl, sym, ap, subst, ◌∙◌, arith, add-one, drop-cons, length-append, append_assoc}
+use Rattle.std.proofs.Common.{◌≡◌, ℕ, zero, suc, ◌+◌, ◌<◌, ◌≤◌, Bool, true, false, cond, List, [], ◌∷◌, ◌++◌, length, get_or, drop, refl, sym, ap, ◌∙◌, arith, add-one, drop-cons, length-append}
 use Rattle.std.specs.List.{flat_map}
 use Rattle.frames.specs.Fields.{int32}
 use Rattle.frames.proofs.Numbers.{length-int32}
 use Rattle.tables.specs.declared.key.TheConstants.{MAX_KEY_LENGTH}
 use Rattle.tables.specs.declared.row.TheConstants.{MAX_ROW_LENGTH}
 use Rattle.tables.specs.declared.column.Column.{Column}
-use Rattle.tables.specs.declared.table.Table.{Table}
 use Rattle.tables.specs.declared.value.Value.{Value}
-use Rattle.tables.specs.Rows.{Key, key_text, key_values, key_of}
+use Rattle.tables.specs.Rows.{key_text, key_values}
 use Rattle.tables.specs.Spelling.{spell_value, row_length}
 use Rattle.tables.proofs.Lengths.{row_length_is}
 

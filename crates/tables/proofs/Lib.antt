@@ -6,5 +6,6 @@ pub mod Holding
 pub mod Keys
 pub mod Lengths
 pub mod Names
+pub mod Outcomes
 pub mod Storing
 pub mod Undoing

@@ -1,22 +1,19 @@
 -- A store keeps its history through each of its calls.
-use Rattle.std.proofs.Common.{◌≡◌, ℕ, ◌<◌, ◌≤◌, Bool, true, false, cond, ◌||◌, ◌&&◌, not, List, [], ◌∷◌, ◌++◌, length, length-append, Some, None, refl, sym, ap, subst, ◌∙◌, arith}
-use Rattle.std.specs.Prelude.{Option, Result, Ok, Err, OnOk, OnErr, IfOk, IfErr, IsSome, is_some, nat_eq, unwrap_or}
-use Rattle.tables.specs.declared.store_fault.StoreFault.{StoreFault}
-use Rattle.tables.specs.declared.store_fault.StoreFault.TheVariants as faults
+use Rattle.std.proofs.Common.{◌≡◌, ℕ, ◌<◌, ◌≤◌, Bool, true, false, cond, ◌||◌, List, [], ◌∷◌, ◌++◌, length, length-append, Some, None, refl, sym, ap, subst, ◌∙◌, arith}
+use Rattle.std.specs.Prelude.{Option, nat_eq, unwrap_or}
 use Rattle.std.proofs.lemmas.Bool.{eqb-true}
 use Rattle.std.specs.List.{AllByRecursion}
 use Rattle.std.specs.Map.{lookup}
 use Rattle.tables.specs.declared.key.TheConstants.{MAX_KEY_LENGTH}
 use Rattle.tables.specs.declared.slot.Slot.{Slot}
 use Rattle.tables.specs.declared.slot.Undo.{Undo}
-use Rattle.tables.specs.declared.value.Value.{Value}
 use Rattle.tables.specs.declared.table.Table.{Table}
 use Rattle.tables.specs.declared.table_change.TableChange.{TableChange}
 use Rattle.tables.specs.Slots.{same_key, vacant, Entries, slot_at, put, HavePlaces, undone, undone_at}
 use Rattle.tables.specs.Rows.{Key, key_text}
 use Rattle.tables.specs.Tables.{FitsTableChange}
-use Rattle.tables.specs.History.{Made, made, is_top, is_other, is_held, is_key_held, table_place, rows_after, rolled_back, count_of, no_longer, forgotten}
-use Rattle.tables.specs.Keeping.{Journals, StoreState, journal_of, Put, put_at, put_all, noted_of, is_put, puts_of, emptied, is_emptied, touches, slot_by, slot_from, freed, is_in_journal, IsUndo, AreNotes, AreApart, KeepsOff, nothing_at, Keeps, AreShort, SameSlots, Makes, IsSame, IsRefusal, IsRefusalOrMemory, RefusedOrMemory, key_held, row_at}
+use Rattle.tables.specs.History.{Made, made, is_top, is_other, is_held, is_key_held, table_place, rows_after, rolled_back, count_of, forgotten}
+use Rattle.tables.specs.Keeping.{Journals, StoreState, journal_of, Put, put_at, put_all, noted_of, is_put, puts_of, emptied, is_emptied, touches, slot_by, slot_from, freed, is_in_journal, IsUndo, AreNotes, KeepsOff, nothing_at, Keeps, AreShort, SameSlots, Makes, IsSame, key_held, row_at}
 use Rattle.tables.proofs.Undoing.{slot_put, slot_undone, places_kept, place_made, undone_keeps, keys_same, same_self, short_put, short_there}
 use Rattle.tables.proofs.Histories.{all_map, all_more, emptied_off, top_self, slot_more, notes_more, notes_beside, apart_more, all_rolled, apart_rolled, undone_rolled, notes_rolled, notes_others, notes_count, rolled_all, rolled_twice}
 use Rattle.tables.proofs.Holding.{rows_are, held_is, OffAll, keeps_off}
@@ -314,46 +311,6 @@ held_key s h top key keeps =
     ap (λ (a : Bool). a || is_other top (slot_at s.slots (key_text key)).owner) (place_held s h top (table_place key.oid) keeps)
     ∙ ap (λ (a : Bool). is_held s.tables top h (table_place key.oid) || a) (place_held s h top (key_text key) keeps)
 
--- RESULTS
-
-pub puts_refused : {A E : Type 0} (r : Result A E) (s new : StoreState) (top : ℕ) (ps : List Put) (slots : Entries) (undos : List Undo) → new.tables ≡ s.tables → slots ≡ put_all (Some top) ps s.slots →
-    undos ≡ noted_of (Some top) ps s.slots → ShortPuts ps → OnErr r (HavePlaces slots undos → new.slots ≡ undone slots undos) →
-    OnErr r ((x : ℕ) → journal_of x new.journals ≡ journal_of x s.journals) → OnErr r (IsSame s new)
-puts_refused (Ok x) s new top ps slots undos same made noted short back journals = tt
-puts_refused (Err e) s new top ps slots undos same made noted short back journals =
-    same_puts s new top ps slots same made short (subst (λ (us : List Undo). HavePlaces slots us → new.slots ≡ undone slots us) noted back) journals
-
-pub puts_made : {A E : Type 0} (r : Result A E) (s new : StoreState) (top : ℕ) (ps : List Put) (slots : Entries) (undos : List Undo) → new.tables ≡ s.tables → slots ≡ put_all (Some top) ps s.slots →
-    undos ≡ noted_of (Some top) ps s.slots → OnOk r (new.slots ≡ slots) →
-    OnOk r ((x : ℕ) → journal_of x new.journals ≡ cond (nat_eq top x) (journal_of x s.journals ++ undos ∷ []) (journal_of x s.journals)) → OnOk r (Makes top ps s new)
-puts_made (Err e) s new top ps slots undos same made noted kept journals = tt
-puts_made (Ok x) s new top ps slots undos same made noted kept journals = record {
-  tables = same;
-  slots = kept ∙ made;
-  journals = λ x. journals x ∙ ap (λ (us : List Undo). cond (nat_eq top x) (journal_of x s.journals ++ us ∷ []) (journal_of x s.journals)) noted;
-}
-
-pub on_ok : {A E : Type 0} (r : Result A E) (P Q : Type 0) → (P → Q) → OnOk r P → OnOk r Q
-on_ok (Ok x) P Q f p = f p
-on_ok (Err e) P Q f p = tt
-
-pub on_err : {A E : Type 0} (r : Result A E) (P Q : Type 0) → (P → Q) → OnErr r P → OnErr r Q
-on_err (Ok x) P Q f p = tt
-on_err (Err e) P Q f p = f p
-
-pub refused_by : (a b : Option StoreFault) (fault : StoreFault) → a ≡ b → IsRefusal a fault → IsRefusalOrMemory b fault
-refused_by a b faults.UnknownTable same h = sym same ∙ h
-refused_by a b faults.RowShape same h = sym same ∙ h
-refused_by a b faults.DuplicateKey same h = sym same ∙ h
-refused_by a b faults.NoSuchRow same h = sym same ∙ h
-refused_by a b faults.KeyHeld same h = sym same ∙ h
-refused_by a b faults.TooLarge same h = sym same ∙ h
-refused_by a b faults.Memory same h = absurd h
-
-pub refused_memory : {A : Type 0} (r : Result A StoreFault) (refusal : Option StoreFault) → refusal ≡ None → IfErr r (λ fault. fault ≡ faults.Memory) → RefusedOrMemory refusal r
-refused_memory (Ok x) refusal none memory = none
-refused_memory (Err fault) refusal none memory = subst (IsRefusalOrMemory refusal) (sym memory) none
-
 -- nothing stands at a key that is too long
 long_away : (es : Entries) (k : List ℕ) → MAX_KEY_LENGTH < length k → AreShort es → slot_at es k ≡ vacant
 long_away [] k long all = refl
@@ -393,15 +350,3 @@ same_rest s top rest own others = record {
     by_test : (x : ℕ) (a : Bool) → nat_eq top x ≡ a → journal_of x rest ≡ journal_of x s.journals
     by_test x true is = subst (λ (y : ℕ). journal_of y rest ≡ journal_of y s.journals) (eqb-true top x is) own
     by_test x false is = others x is
-
-pub if_ok_both : {A E : Type 0} (r : Result A E) (P R : A → Type 0) (Q : Type 0) → ((x : A) → P x → Q → R x) → IfOk r P → OnOk r Q → IfOk r R
-if_ok_both (Ok x) P R Q f p q = f x p q
-if_ok_both (Err e) P R Q f p q = tt
-
-pub if_ok : {A E : Type 0} (r : Result A E) (P R : A → Type 0) → ((x : A) → P x → R x) → IfOk r P → IfOk r R
-if_ok (Ok x) P R f p = f x p
-if_ok (Err e) P R f p = tt
-
-pub refused_there : {A : Type 0} (r : Result A StoreFault) (refusal : Option StoreFault) (P : Type 0) → P → refusal ≡ None → IfErr r (λ fault. P → fault ≡ faults.Memory) → RefusedOrMemory refusal r
-refused_there (Ok x) refusal P there none memory = none
-refused_there (Err fault) refusal P there none memory = subst (IsRefusalOrMemory refusal) (sym (memory there)) none

@@ -1,11 +1,10 @@
 -- The history of a store: the changes that were made and not undone, the oldest first. What stands in the tables, what is
 -- held, and which change is refused, is told of the history alone.
-use Rattle.std.specs.Prelude.{◌≡◌, ℕ, ◌==◌, ◌∷◌, [], ◌++◌, Bool, true, false, ◌&&◌, ◌||◌, not, List, map, take, suc, zero, Option, Some, None, is_some, nat_lt, if◌then◌else◌}
+use Rattle.std.specs.Prelude.{◌≡◌, ℕ, ◌==◌, ◌∷◌, [], ◌++◌, Bool, false, ◌&&◌, ◌||◌, not, List, map, take, suc, zero, Option, Some, None, is_some, nat_lt, if◌then◌else◌}
 use Rattle.std.specs.List.{list_any}
 use Rattle.frames.specs.Fields.{int32}
 use Rattle.tables.specs.declared.row.TheConstants.{MAX_ROW_LENGTH}
 use Rattle.tables.specs.declared.value.Value.{Value}
-use Rattle.tables.specs.declared.column.Column.{Column}
 use Rattle.tables.specs.declared.table.Table.{Table}
 use Rattle.tables.specs.declared.table_change.TableChange.{TableChange}
 use Rattle.tables.specs.declared.table_change.TableChange.TheVariants as changes

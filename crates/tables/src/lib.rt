@@ -8,6 +8,7 @@ mod column;
 mod fault;
 mod identity;
 mod journals;
+mod judging;
 mod key;
 mod kind;
 mod reading;
@@ -16,6 +17,8 @@ mod slot;
 mod slots;
 mod store;
 mod store_fault;
+#[cfg(test)]
+mod store_scripts;
 mod table;
 mod table_change;
 mod value;

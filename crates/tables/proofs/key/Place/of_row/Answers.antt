@@ -1,4 +1,4 @@
-use Rattle.std.proofs.Common.{◌≡◌, ◌++◌, length, drop, ◌+◌, sym, ap, ◌∙◌, List, ℕ, append_assoc}
+use Rattle.std.proofs.Common.{◌≡◌, length, drop, ◌+◌, sym, ap, ◌∙◌, List}
 use Rattle.std.specs.List.{flat_map}
 use Rattle.tables.specs.declared.key.TheConstants.{MAX_KEY_LENGTH}
 use Rattle.tables.specs.declared.value.Value.{Value}

@@ -1,10 +1,10 @@
-use Rattle.std.proofs.Common.{◌≡◌, ap, ◌∙◌, subst, sym}
+use Rattle.std.proofs.Common.{ap, ◌∙◌}
 use Rattle.std.specs.Cmp.Lexicographic.{pointwise}
 use Rattle.std.specs.Prelude.{nat_eq}
 use Rattle.std.specs.Map.{set_value}
 use Rattle.tables.specs.declared.slot.Slot.{Slot}
 use Rattle.tables.specs.declared.slots.Slots.TheInside.{Inside}
-use Rattle.tables.specs.Slots.{Entries, entries_of}
+use Rattle.tables.specs.Slots.{entries_of}
 use Rattle.tables.proofs.Undoing.{Frees, frees_there, frees_none}
 use Rattle.tables.proofs.slots.Slots.free_place.Goals as goal
 use Rattle.tables.proofs.slots.Slots.free_place.Goals.{in-Some, in_default}

@@ -1,4 +1,4 @@
-use Rattle.std.proofs.Common.{sym, ap, ◌∙◌}
+use Rattle.std.proofs.Common.{ap, ◌∙◌}
 use Rattle.std.specs.Prelude.{Option, unwrap_or}
 use Rattle.tables.specs.declared.slot.Slot.{Slot}
 use Rattle.tables.specs.Slots.{Entries, slot_at, vacant}

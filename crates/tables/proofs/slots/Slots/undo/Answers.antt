@@ -1,6 +1,3 @@
-use Rattle.std.proofs.Common.{sym, ap, subst, ◌∙◌, List}
-use Rattle.tables.specs.declared.slot.Undo.{Undo}
-use Rattle.tables.specs.Slots.{Entries, HavePlaces, put, undone}
 use Rattle.tables.proofs.Undoing.{undoing_next}
 use Rattle.tables.proofs.slots.Slots.undo.Goals as goal
 

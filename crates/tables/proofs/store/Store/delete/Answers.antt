@@ -1,12 +1,12 @@
-use Rattle.std.proofs.Common.{◌≡◌, List, [], ◌∷◌, ◌++◌, None, sym, subst, ap, ◌∙◌, ℕ}
+use Rattle.std.proofs.Common.{List, [], ◌∷◌, ◌++◌, None, sym, subst, ◌∙◌, ℕ}
 use Rattle.std.specs.Prelude.{IsTrue, is_some}
-use Rattle.tables.specs.declared.table_change.TableChange.{TableChange}
-use Rattle.tables.specs.Rows.{Key, key_text}
+use Rattle.tables.specs.Rows.{Key}
 use Rattle.tables.specs.Slots.{slot_at}
 use Rattle.tables.specs.Tables.{FitsTableChange}
 use Rattle.tables.specs.History.{Made, made, Deletes, delete_fault, delete_refusal}
 use Rattle.tables.specs.Keeping.{Keeps, Makes, IsSame, DeletesAt, key_held, row_at}
-use Rattle.tables.proofs.Storing.{keeps_same, on_err, if_ok, if_ok_both, refused_by, refused_there}
+use Rattle.tables.proofs.Outcomes.{on_err, if_ok, if_ok_both, refused_by, refused_there}
+use Rattle.tables.proofs.Storing.{keeps_same}
 use Rattle.tables.proofs.Changing.{delete_made, delete_fits, delete_is, delete_same, delete_there}
 use Rattle.tables.proofs.store.Store.delete.Goals as goal
 

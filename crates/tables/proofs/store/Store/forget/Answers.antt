@@ -1,8 +1,4 @@
-use Rattle.std.proofs.Common.{◌∙◌, ap, sym, subst, List, ℕ, cond}
-use Rattle.tables.specs.declared.slot.Undo.{Undo}
-use Rattle.tables.specs.Slots.{slot_at, HavePlaces}
-use Rattle.tables.specs.Keeping.{StoreState, AreShort, journal_of, freed, is_in_journal}
-use Rattle.tables.proofs.Storing.{keeps_forgotten, state, shown_forgotten, none_forgotten}
+use Rattle.tables.proofs.Storing.{shown_forgotten, none_forgotten}
 use Rattle.tables.proofs.store.Store.forget.Goals as goal
 
 pub returns-in-Some-clause-keeps : goal.returns-in-Some-clause-keeps

@@ -4,7 +4,8 @@ use Rattle.tables.specs.Rows.{key_of}
 use Rattle.std.specs.Prelude.{is_some}
 use Rattle.tables.specs.History.{Made, made, insert_fault, insert_refusal}
 use Rattle.tables.specs.Keeping.{Keeps, Makes, IsSame, key_held, row_at}
-use Rattle.tables.proofs.Storing.{keeps_same, on_ok, on_err, refused_by, refused_memory}
+use Rattle.tables.proofs.Outcomes.{on_ok, on_err, refused_by, refused_memory}
+use Rattle.tables.proofs.Storing.{keeps_same}
 use Rattle.tables.proofs.Changing.{insert_made, insert_same}
 use Rattle.tables.proofs.store.Store.insert.Goals as goal
 

@@ -1,8 +1,8 @@
-use Rattle.std.proofs.Common.{◌≡◌, subst, ◌∙◌, ap, sym, List, [], ◌∷◌, ℕ, Some}
+use Rattle.std.proofs.Common.{◌≡◌, subst, ◌∙◌, ap, List, [], ◌∷◌, ℕ, Some}
 use Rattle.std.specs.Prelude.{OnErr}
 use Rattle.tables.specs.Slots.{Entries}
 use Rattle.tables.specs.Keeping.{StoreState, Put, journal_of, put_all, noted_of}
-use Rattle.tables.proofs.Storing.{puts_refused}
+use Rattle.tables.proofs.Outcomes.{puts_refused}
 use Rattle.tables.proofs.store.Store.put_one.Goals as goal
 
 pub returns-clause-err : goal.returns-clause-err

@@ -1,6 +1,5 @@
-use Rattle.std.proofs.Common.{◌≡◌, ◌∙◌, ap, sym, subst, refl, List, ℕ}
-use Rattle.tables.specs.History.{Made, rolled_back}
-use Rattle.tables.specs.Keeping.{StoreState, Keeps, journal_of}
+use Rattle.std.proofs.Common.{ap, sym, subst, refl}
+use Rattle.tables.specs.Keeping.{StoreState, Keeps}
 use Rattle.tables.proofs.Storing.{state, undoing_more, undoing_done, same_rest}
 use Rattle.tables.proofs.store.Store.undo_to.Goals as goal
 

@@ -1,12 +1,12 @@
-use Rattle.std.proofs.Common.{◌≡◌, List, [], ◌∷◌, ◌++◌, None, Some, not, ◌||◌, ◌&&◌, sym, subst, ap, ◌∙◌, ℕ}
+use Rattle.std.proofs.Common.{List, [], ◌∷◌, ◌++◌, None, Some, not, ◌||◌, ◌&&◌, sym, subst, ◌∙◌, ℕ}
 use Rattle.std.specs.Prelude.{IsTrue, is_some}
-use Rattle.tables.specs.declared.table_change.TableChange.{TableChange}
 use Rattle.tables.specs.Rows.{Key, key_text, key_of}
 use Rattle.tables.specs.Slots.{same_key, slot_at}
 use Rattle.tables.specs.Tables.{FitsTableChange}
 use Rattle.tables.specs.History.{Made, made, row_place, Updates, update_fault, update_refusal}
 use Rattle.tables.specs.Keeping.{Keeps, Makes, IsSame, UpdatesAt, key_held, row_at}
-use Rattle.tables.proofs.Storing.{keeps_same, on_err, if_ok, if_ok_both, refused_by, refused_there}
+use Rattle.tables.proofs.Outcomes.{on_err, if_ok, if_ok_both, refused_by, refused_there}
+use Rattle.tables.proofs.Storing.{keeps_same}
 use Rattle.tables.proofs.Changing.{update_made, update_fits, update_is, update_same, update_there}
 use Rattle.tables.proofs.store.Store.update.Goals as goal
 
