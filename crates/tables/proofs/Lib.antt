@@ -1,5 +1,12 @@
 pub mod Bodies
+pub mod Changing
+pub mod Forgetting
+pub mod Histories
+pub mod Holding
+pub mod Keys
 pub mod Lengths
 pub mod Members
 pub mod Names
+pub mod Outcomes
+pub mod Storing
 pub mod Undoing

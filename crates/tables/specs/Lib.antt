@@ -1,5 +1,6 @@
 pub mod Config
-pub mod Journals
+pub mod History
+pub mod Keeping
 pub mod Reading
 pub mod Rows
 pub mod Slots

@@ -1,5 +1,5 @@
 -- Which rows a table takes, and which changes fit a catalogue.
-use Rattle.std.specs.Prelude.{◌≡◌, ℕ, ◌^◌, ◌<◌, ◌≤◌, ◌==◌, Bool, true, false, ◌&&◌, not, List, [], ◌∷◌, ◌++◌, length, codes, find, Option, IsSomeAnd, FitsSigned}
+use Rattle.std.specs.Prelude.{◌≡◌, ℕ, ◌^◌, ◌<◌, ◌≤◌, ◌==◌, Bool, true, false, ◌&&◌, not, List, [], ◌∷◌, ◌++◌, length, codes, count_by, filter, find, Option, IsSome, IsSomeAnd, FitsSigned}
 use Rattle.std.specs.List.{list_all, zip, AllByRecursion}
 use Rattle.std.specs.Int.{w32, w64}
 use Rattle.std.specs.Str.{bytes_eq, is_utf8}
@@ -13,6 +13,8 @@ use Rattle.tables.specs.declared.column.Column.{Column}
 use Rattle.tables.specs.declared.table.Table.{Table}
 use Rattle.tables.specs.declared.change.Change.{Change}
 use Rattle.tables.specs.declared.change.Change.TheVariants as changes
+use Rattle.tables.specs.declared.table_change.TableChange.{TableChange}
+use Rattle.tables.specs.declared.table_change.TableChange.TheVariants as table_changes
 use Rattle.tables.specs.Spelling.{spell_row}
 
 -- the table public.item: id int4 in the key, name text, qty int8
@@ -61,6 +63,11 @@ fits_column column value = is_of_kind column.kind value
 abbrev pub fits_table : Table → List Value → Bool
 fits_table table row = (length table.columns == length row) && list_all (λ p. fits_column p.0 p.1) (zip table.columns row)
 
+-- one value for each column of the primary key, in table order, which takes it
+abbrev pub fits_key : Table → List Value → Bool
+fits_key table key =
+    (count_by (λ c. c.is_key) table.columns == length key) && list_all (λ p. fits_column p.0 p.1) (zip (filter (λ c. c.is_key) table.columns) key)
+
 -- what a value of Rust is: an integer of its width, and a text in UTF-8
 abbrev pub IsValue : Value → Type 0
 IsValue (values.Int4 n) = FitsSigned w32 n
@@ -77,3 +84,9 @@ pub record FitsRow (tables : List Table) (oid : ℕ) (row : List Value) : Type 0
 
 abbrev pub FitsChange : List Table → Change → Type 0
 FitsChange tables (changes.Insert oid row) = FitsRow tables oid row
+
+abbrev pub FitsTableChange : List Table → TableChange → Type 0
+FitsTableChange tables (table_changes.Insert oid row) = FitsRow tables oid row
+FitsTableChange tables (table_changes.Update oid old row) = FitsRow tables oid old × FitsRow tables oid row
+FitsTableChange tables (table_changes.Delete oid old) = FitsRow tables oid old
+FitsTableChange tables (table_changes.Truncate oids) = AllByRecursion (λ oid. (oid < 2 ^ 32) × IsSome (table_of oid tables)) oids

@@ -11,14 +11,20 @@ mod config_member;
 mod config_table;
 mod fault;
 mod identity;
-mod journal;
+mod journals;
+mod judging;
 mod key;
 mod kind;
 mod reading;
 mod row;
 mod slot;
 mod slots;
+mod store;
+mod store_fault;
+#[cfg(test)]
+mod store_scripts;
 mod table;
+mod table_change;
 mod value;
 
 pub use body::{
@@ -34,12 +40,11 @@ pub use config_member::{MAX_NAME_LENGTH, MAX_OID};
 pub use config_table::MAX_COLUMNS;
 pub use fault::BodyFault;
 pub use identity::Identity;
-pub use journal::Journal;
-pub use key::KeyText;
 pub use kind::Kind;
 pub use reading::read_body;
 pub use row::{MAX_ROW_LENGTH, Row};
-pub use slot::{Slot, Undo};
-pub use slots::Slots;
+pub use store::Store;
+pub use store_fault::StoreFault;
 pub use table::Table;
+pub use table_change::TableChange;
 pub use value::Value;

@@ -1,12 +1,13 @@
 //! A row: its values in table order, and how long its coding is.
 
-ghost use Rattle.std.specs.Prelude.{◌≡◌, ◌+◌, ◌<◌, ◌≤◌, ◌^◌, MatchOption, OnSome, length};
+ghost use Rattle.std.specs.Prelude.{◌≡◌, ◌+◌, ◌<◌, ◌≤◌, ◌^◌, IfOk, MatchOption, OnSome, length};
 ghost use Rattle.std.specs.List.{AllByRecursion};
 ghost use Rattle.tables.specs.Spelling.{row_length, spell_value};
 ghost use Rattle.tables.specs.Tables.{IsValue};
 
 use crate::value::Value;
 use frames::Items;
+use std::alloc::{AllocError, Global};
 use std::marker::Model;
 
 /// The longest coding of a row, in bytes.
@@ -42,6 +43,16 @@ impl Row {
         ensures { result.now ≡ self.now }
     {
         self.values.as_slice()
+    }
+
+    pub fn copy(&self, alloc: Global) -> Result<Self, AllocError>
+        ensures { IfOk result (λ r. r ≡ self.now) }
+    {
+        let mut copies = Vec::new(alloc);
+        for value in self.values() {
+            copies.push(value.copy(alloc)?)?;
+        }
+        Ok(Row::new(copies))
     }
 }
 

@@ -1,22 +1,23 @@
-//! What stands at a key of a store, and what stood there before a change.
+//! What stands at a place of a store, and what stood there before a change.
 
 ghost use Rattle.std.specs.Prelude.{◌≡◌};
+ghost use Rattle.tables.specs.Keeping.{freed};
 ghost use Rattle.tables.specs.Slots.{vacant};
 
-use crate::key::KeyText;
 use crate::row::Row;
+use frames::Items;
 
-/// What stands at a key: the row, if there is one, and the transaction that changed it last, if there was one.
+/// What stands at a place: the row, if there is one, and the live transaction that holds the place, if there is one.
 #[derive(Debug, Drop)]
 pub struct Slot {
     pub row: Option<Row>,
     pub owner: Option<u32>,
 }
 
-/// A key that was changed, and what stood there before.
+/// A place that was changed, and what stood there before.
 #[derive(Debug, Drop)]
 pub struct Undo {
-    pub key: KeyText,
+    pub key: Items<u8>,
     pub before: Slot,
 }
 
@@ -28,6 +29,15 @@ impl Slot {
         Slot {
             row: None,
             owner: None,
+        }
+    }
+
+    /// The transaction holds it no longer, if it did.
+    pub fn release(&mut self, top: u32)
+        ensures { self.new ≡ freed top self.old }
+    {
+        if self.owner == Some(top) {
+            self.owner = None;
         }
     }
 }

@@ -1,35 +1,33 @@
-//! What stands at each key, and how changes of it are undone. A transaction's changes are noted in its `Journal`.
+//! What stands at each place.
 
-ghost use Rattle.std.specs.Prelude.{List, ◌≡◌, [], length, Some, OnErr, OnOk, take, drop};
+ghost use Rattle.std.specs.Prelude.{List, ℕ, ◌≡◌, ◌≤◌, ◌++◌, ◌∷◌, [], IfOk, OnErr, OnOk, length, if◌then◌else◌};
 ghost use Rattle.std.specs.Option.{option_copied};
-ghost use Rattle.tables.specs.declared.slot.Undo.{Undo};
-ghost use Rattle.tables.specs.Slots.{Entries, HasPlace, HavePlaces, Restores, noted, owned, put, slot_at, undone};
+ghost use Rattle.tables.specs.Keeping.{AreShort, SameSlots, freed, is_in_journal, is_noted, noted_of, put_all};
+ghost use Rattle.tables.specs.Slots.{HasPlace, HavePlaces, put, same_key, slot_at, undone};
+ghost use Rattle.tables.specs.declared.slot.Undo.{Undo as Noted};
 
-use crate::journal::Journal;
-use crate::key::KeyText;
+use crate::journals::Journal;
+use crate::key::MAX_KEY_LENGTH;
 use crate::row::Row;
 use crate::slot::{Slot, Undo};
+use frames::Items;
 use indexmap::IndexMap;
 use std::alloc::{AllocError, Global};
 use std::marker::Model;
 
-/// The slots of a store, by their keys. A key that was used keeps its slot. Contracts see the keys with their slots.
-///
-/// Each transaction has a `Journal`. `set` changes a key and notes in the journal what stood there; `undo_to` takes the
-/// changes behind a `Journal::mark` back, all of them with mark 0. The owner of a slot is the transaction that changed it
-/// last; it holds the key as long as its journal is kept.
+/// The slots of a store, by the texts of their places. A place that was used keeps its slot. Contracts see the texts with
+/// their slots.
 #[derive(Drop)]
 pub struct Slots {
-    slots: IndexMap<KeyText, Slot>,
+    by_place: IndexMap<Vec<u8>, Slot>,
 }
 
 impl Model for Slots {
-    ghost use Rattle.std.specs.Prelude.{List, ℕ};
-    ghost use Rattle.tables.specs.declared.slot.Slot.{Slot as Kept};
+    ghost use Rattle.tables.specs.Slots.{Entries, entries_of};
 
-    ghost Value = { List (List ℕ × Kept) };
+    ghost Value = { Entries };
 
-    ghost view = { λ s. s.slots.entries };
+    ghost view = { λ s. entries_of s.by_place.entries };
 }
 
 impl Slots {
@@ -37,88 +35,164 @@ impl Slots {
         ensures { result ≡ [] }
     {
         Slots {
-            slots: IndexMap::new(alloc),
+            by_place: IndexMap::new(alloc),
         }
     }
 
-    /// The row at a key.
-    pub fn get(&self, key: &KeyText) -> Option<&Row>
-        ensures { option_copied result ≡ (slot_at self.now key.now).row }
+    /// The row at a place.
+    pub fn row(&self, place: &[u8]) -> Option<&Row>
+        ensures { option_copied result ≡ (slot_at self.now place.now).row }
     {
-        match self.slots.get(key) {
+        match self.by_place.get(place) {
             Some(slot) => slot.row.as_ref(),
             None => None,
         }
     }
 
-    /// The transaction that changed a key last.
-    pub fn owner(&self, key: &KeyText) -> Option<u32>
-        ensures { result ≡ (slot_at self.now key.now).owner }
+    /// The transaction that holds a place.
+    pub fn owner(&self, place: &[u8]) -> Option<u32>
+        ensures { result ≡ (slot_at self.now place.now).owner }
     {
-        match self.slots.get(key) {
+        match self.by_place.get(place) {
             Some(slot) => slot.owner,
             None => None,
         }
     }
 
-    /// Puts a row, or none, at a key for the journal's transaction, and notes there what stood at the key. Without memory
-    /// nothing changes.
-    pub fn set(
+    /// Puts a slot at a place, and answers what stood there. Without memory nothing changes.
+    pub fn swap(&mut self, place: Vec<u8>, slot: Slot) -> Result<Slot, AllocError>
+        ensures ok { OnOk result (self.new ≡ put place.items slot self.old) }
+        ensures before { IfOk result (λ before. before ≡ slot_at self.old place.items) }
+        ensures err { OnErr result (self.new ≡ self.old) }
+    {
+        match self.by_place.insert(place, slot) {
+            Ok(before) => Ok(before.unwrap_or(Slot::vacant())),
+            Err(_) => Err(AllocError),
+        }
+    }
+
+    /// Undoes a change, the last of its places first. It takes no memory.
+    pub fn undo(&mut self, undos: Items<Undo>)
+        ensures { HavePlaces self.old undos → self.new ≡ undone self.old undos }
+    {
+        let mut undos = undos.into_vec();
+        while let Some(undo) = undos.pop() {
+            self.put_back(undo);
+        }
+    }
+
+    fn put_back(&mut self, undo: Undo)
+        ensures { HasPlace self.old undo → self.new ≡ put undo.key undo.before self.old }
+    {
+        let Undo { key, before } = undo;
+        match self.by_place.insert(key.into_vec(), before) {
+            Ok(_) => {}
+            Err(_) => {}
+        }
+    }
+
+    /// Puts a row, or none, at a place for a transaction, and notes behind the others what stood there. Without memory
+    /// nothing is noted, and the same stands at each place.
+    fn note(
         &mut self,
-        journal: &mut Journal,
-        key: KeyText,
+        undos: &mut Vec<Undo>,
+        top: u32,
+        place: &[u8],
         row: Option<Row>,
     ) -> Result<(), AllocError>
-        ensures ok { OnOk result (self.new ≡ put key (owned journal.old.top row) self.old) }
-        ensures notes { OnOk result (journal.new ≡ noted key self.old journal.old) }
-        ensures err { OnErr result (self.new ≡ self.old) }
-        ensures err_notes { OnErr result (journal.new ≡ journal.old) }
-        // What was noted can be undone, in this journal and in others.
-        ensures place { OnOk result (HavePlaces self.old journal.old.undos → HavePlaces self.new journal.new.undos) }
-        // Undoing it all comes to the same as before.
-        ensures undo { OnOk result ((base : Entries) → Restores base self.old journal.old.undos → Restores base self.new journal.new.undos) }
-        ensures places { (undos : List Undo) → HavePlaces self.old undos → HavePlaces self.new undos }
+        requires { length place.now ≤ MAX_KEY_LENGTH }
+        ensures ok { OnOk result (self.new ≡ put place.now (record { row = row; owner = Some top }) self.old) }
+        ensures noted { OnOk result (undos.new.items ≡ undos.old.items ++ record { key = place.now; before = slot_at self.old place.now } ∷ []) }
+        ensures err { OnErr result (SameSlots self.old self.new) }
+        ensures err_notes { OnErr result (undos.new.items ≡ undos.old.items) }
     {
-        let name = key.copy(journal.alloc())?;
-        journal.open(name)?;
-        let slot = Slot {
-            row,
-            owner: Some(journal.top()),
-        };
-        match self.slots.insert(key, slot) {
-            Ok(before) => {
-                journal.fill(before.unwrap_or(Slot::vacant()));
-                Ok(())
-            }
-            Err(_) => {
-                journal.pop();
+        let alloc = *self.by_place.allocator();
+        let name = Vec::from_slice(alloc, place)?;
+        let key = Items::new(Vec::from_slice(alloc, place)?);
+        let owner = Some(top);
+        let before = self.swap(name, Slot { row, owner })?;
+        match undos.push(Undo { key, before }) {
+            Ok(()) => Ok(()),
+            Err(refused) => {
+                self.put_back(refused.value);
                 Err(AllocError)
             }
         }
     }
 
-    /// Undoes the journal's changes behind the mark, the last first. It takes no memory.
-    pub fn undo_to(&mut self, journal: &mut Journal, mark: usize)
-        requires { HavePlaces self.old journal.old.undos }
-        ensures slots { self.new ≡ undone self.old (drop mark journal.old.undos) }
-        ensures notes { journal.new ≡ record journal.old { undos = take mark journal.old.undos } }
-        ensures undo { (base : Entries) → Restores base self.old journal.old.undos → Restores base self.new journal.new.undos }
+    /// Puts a row, or none, at a place for a transaction, and answers what stood there.
+    pub fn put_one(
+        &mut self,
+        top: u32,
+        place: &[u8],
+        row: Option<Row>,
+    ) -> Result<Items<Undo>, AllocError>
+        requires { length place.now ≤ MAX_KEY_LENGTH }
+        ensures ok { OnOk result (self.new ≡ put_all (Some top) ((place.now, row) ∷ []) self.old) }
+        ensures noted { IfOk result (λ undos. undos ≡ noted_of (Some top) ((place.now, row) ∷ []) self.old) }
+        ensures err { OnErr result (SameSlots self.old self.new) }
     {
-        while journal.mark() > mark {
-            if let Some(undo) = journal.pop() {
-                self.put_back(undo);
+        let mut undos = Vec::new(*self.by_place.allocator());
+        self.note(&mut undos, top, place, row)?;
+        Ok(Items::new(undos))
+    }
+
+    /// Takes the row at a place away and puts one at another, for a transaction, and answers what stood there.
+    pub fn put_two(
+        &mut self,
+        top: u32,
+        from: &[u8],
+        to: &[u8],
+        row: Row,
+    ) -> Result<Items<Undo>, AllocError>
+        requires from { length from.now ≤ MAX_KEY_LENGTH }
+        requires to { length to.now ≤ MAX_KEY_LENGTH }
+        ensures ok { OnOk result (self.new ≡ put_all (Some top) ((from.now, None) ∷ (to.now, Some row) ∷ []) self.old) }
+        ensures noted { IfOk result (λ undos. undos ≡ noted_of (Some top) ((from.now, None) ∷ (to.now, Some row) ∷ []) self.old) }
+        ensures err { OnErr result (SameSlots self.old self.new) }
+    {
+        let mut undos = Vec::new(*self.by_place.allocator());
+        self.note(&mut undos, top, from, None)?;
+        match self.note(&mut undos, top, to, Some(row)) {
+            Ok(()) => Ok(Items::new(undos)),
+            Err(refused) => {
+                self.undo(Items::new(undos));
+                Err(refused)
             }
         }
     }
 
-    fn put_back(&mut self, undo: Undo)
-        requires { HasPlace self.old undo }
-        ensures { self.new ≡ put undo.key undo.before self.old }
+    /// The places of all changes in a journal are no longer the transaction's. It takes no memory.
+    pub fn free_all(&mut self, top: u32, journal: Journal)
+        ensures slots { (place : List ℕ) → slot_at self.new place ≡ (if is_in_journal place journal then freed top (slot_at self.old place) else slot_at self.old place) }
+        ensures places { (others : List Noted) → HavePlaces self.old others → HavePlaces self.new others }
+        ensures short { AreShort self.old → AreShort self.new }
     {
-        let Undo { key, before } = undo;
-        match self.slots.insert(key, before) {
-            Ok(_) => {}
-            Err(_) => {}
+        let mut journal = journal;
+        while let Some(undos) = journal.pop() {
+            self.free(top, undos);
+        }
+    }
+
+    /// The places of a change are no longer the transaction's. It takes no memory.
+    pub fn free(&mut self, top: u32, undos: Items<Undo>)
+        ensures slots { (place : List ℕ) → slot_at self.new place ≡ (if is_noted place undos then freed top (slot_at self.old place) else slot_at self.old place) }
+        ensures places { (others : List Noted) → HavePlaces self.old others → HavePlaces self.new others }
+        ensures short { AreShort self.old → AreShort self.new }
+    {
+        let mut undos = undos.into_vec();
+        while let Some(undo) = undos.pop() {
+            self.free_place(top, undo.key.as_slice());
+        }
+    }
+
+    fn free_place(&mut self, top: u32, place: &[u8])
+        ensures slots { (other : List ℕ) → slot_at self.new other ≡ (if same_key other place.now then freed top (slot_at self.old other) else slot_at self.old other) }
+        ensures places { (others : List Noted) → HavePlaces self.old others → HavePlaces self.new others }
+        ensures short { AreShort self.old → AreShort self.new }
+    {
+        if let Some(slot) = self.by_place.get_mut(place) {
+            slot.release(top);
         }
     }
 }

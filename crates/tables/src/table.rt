@@ -1,9 +1,9 @@
 //! A table: its names, its columns, and the rows that it takes.
 
-ghost use Rattle.std.specs.Prelude.{◌≡◌, ◌∷◌, IfOk};
+ghost use Rattle.std.specs.Prelude.{◌≡◌, ◌∷◌, IfOk, filter};
 ghost use Rattle.std.specs.List.{list_all, zip};
 ghost use Rattle.std.specs.Str.{bytes_eq};
-ghost use Rattle.tables.specs.Tables.{fits_column, fits_table, full_name};
+ghost use Rattle.tables.specs.Tables.{fits_column, fits_key, fits_table, full_name};
 
 use crate::column::Column;
 use crate::identity::Identity;
@@ -47,6 +47,16 @@ impl Table {
         all_take(columns, values)
     }
 
+    /// Whether the values may stand in the columns of the primary key, in table order.
+    pub fn takes_key(&self, key: &Row) -> bool
+        ensures { result ≡ fits_key self.now key.now }
+    {
+        let columns = self.columns.as_slice();
+        let values = key.values();
+        let count = columns.iter().filter(|column| column.is_key).count();
+        count == values.len() && all_take_keys(columns, values)
+    }
+
     /// Whether the name is the table's schema, a dot and its own name.
     #[tactic(auto, using(crate::proofs::Names::split_at_schema, crate::proofs::Names::other_schema))]
     pub fn is_named(&self, name: &str) -> bool
@@ -74,6 +84,13 @@ fn all_take(columns: &[Column], values: &[Value]) -> bool
     ensures { result ≡ list_all (λ p. fits_column p.0 p.1) (zip columns.now values.now) }
 {
     let mut pairs = columns.iter().zip(values);
+    pairs.all(|(column, value)| column.takes(value))
+}
+
+fn all_take_keys(columns: &[Column], values: &[Value]) -> bool
+    ensures { result ≡ list_all (λ p. fits_column p.0 p.1) (zip (filter (λ c. c.is_key) columns.now) values.now) }
+{
+    let mut pairs = columns.iter().filter(|column| column.is_key).zip(values);
     pairs.all(|(column, value)| column.takes(value))
 }
 

@@ -1,0 +1,157 @@
+//! Small scripts on a store, with what each line shows.
+
+use crate::catalog::Catalog;
+use crate::row::Row;
+use crate::store::Store;
+use crate::store_fault::StoreFault;
+use crate::table_change::TableChange;
+use crate::value::Value;
+use std::alloc::{AllocError, Global};
+
+const ITEM: u32 = 16384;
+
+/// A call on the table public.item, by a transaction; rows are of an id and a quantity.
+#[derive(Clone, Copy)]
+enum Line {
+    Insert(u32, i32, i64),
+    Update(u32, i32, i32, i64),
+    Delete(u32, i32),
+    Get(i32),
+    Mark(u32),
+    UndoTo(u32, usize),
+    Forget(u32),
+}
+
+use Line::{Delete, Forget, Get, Insert, Mark, UndoTo, Update};
+
+#[derive(Clone, Copy, Debug, PartialEq)]
+enum Shown {
+    Done,
+    Refused(StoreFault),
+    Quantity(i64),
+    Nothing,
+    Count(usize),
+}
+
+use Shown::{Count, Done, Nothing, Quantity, Refused};
+
+fn item(alloc: Global, id: i32, quantity: i64) -> Result<Row, AllocError> {
+    let values = vec![in alloc; Value::Int4(id), Value::Null, Value::Int8(quantity)]?;
+    Ok(Row::new(values))
+}
+
+fn key(alloc: Global, id: i32) -> Result<Row, AllocError> {
+    Ok(Row::new(vec![in alloc; Value::Int4(id)]?))
+}
+
+fn outcome(answer: Result<TableChange, StoreFault>) -> Shown {
+    match answer {
+        Ok(_) => Done,
+        Err(fault) => Refused(fault),
+    }
+}
+
+fn quantity_in(row: Option<&Row>) -> Shown {
+    match row {
+        Some(row) => match row.values() {
+            [_, _, Value::Int8(n)] => Quantity(*n),
+            _ => Nothing,
+        },
+        None => Nothing,
+    }
+}
+
+fn run_line(alloc: Global, store: &mut Store, line: Line) -> Result<Shown, AllocError> {
+    match line {
+        Insert(top, id, n) => Ok(outcome(store.insert(top, ITEM, item(alloc, id, n)?))),
+        Update(top, id, to, n) => {
+            let key = key(alloc, id)?;
+            Ok(outcome(store.update(top, ITEM, &key, item(alloc, to, n)?)))
+        }
+        Delete(top, id) => Ok(outcome(store.delete(top, ITEM, &key(alloc, id)?))),
+        Get(id) => Ok(quantity_in(store.get(ITEM, &key(alloc, id)?))),
+        Mark(top) => Ok(Count(store.mark(top))),
+        UndoTo(top, mark) => {
+            store.undo_to(top, mark);
+            Ok(Done)
+        }
+        Forget(top) => {
+            store.forget(top);
+            Ok(Done)
+        }
+    }
+}
+
+/// How many lines show what stands beside them, up to the first that does not.
+fn run(alloc: Global, script: &[(Line, Shown)]) -> Result<usize, AllocError> {
+    let mut store = Store::new(alloc, Catalog::builtin(alloc)?);
+    for (i, (line, want)) in script.iter().enumerate() {
+        if run_line(alloc, &mut store, *line)? != *want {
+            return Ok(i);
+        }
+    }
+    Ok(script.len())
+}
+
+const KEYS: [(Line, Shown); 29] = [
+    (Insert(700, 1, 1), Done),
+    (Insert(701, 1, 2), Refused(StoreFault::KeyHeld)),
+    (Get(1), Quantity(1)),
+    (Forget(700), Done),
+    (Insert(701, 1, 2), Refused(StoreFault::DuplicateKey)),
+    // aborted
+    (Insert(702, 2, 5), Done),
+    (UndoTo(702, 0), Done),
+    (Forget(702), Done),
+    (Get(2), Nothing),
+    // a delete that is undone
+    (Delete(703, 1), Done),
+    (Get(1), Nothing),
+    (Insert(704, 1, 9), Refused(StoreFault::KeyHeld)),
+    (UndoTo(703, 0), Done),
+    (Get(1), Quantity(1)),
+    (Insert(704, 1, 9), Refused(StoreFault::DuplicateKey)),
+    // updates: to its own key, to one that is held, to one that is there, of one that is not
+    (Update(705, 1, 1, 3), Done),
+    (Insert(706, 3, 3), Done),
+    (Update(705, 1, 3, 4), Refused(StoreFault::KeyHeld)),
+    (Forget(706), Done),
+    (Update(705, 1, 3, 4), Refused(StoreFault::DuplicateKey)),
+    (Update(705, 4, 5, 4), Refused(StoreFault::NoSuchRow)),
+    (Update(705, 1, 4, 6), Done),
+    (Get(1), Nothing),
+    (Get(4), Quantity(6)),
+    (Insert(707, 1, 1), Refused(StoreFault::KeyHeld)),
+    (Mark(705), Count(2)),
+    (UndoTo(705, 0), Done),
+    (Get(4), Nothing),
+    (Get(1), Quantity(1)),
+];
+
+const SAVEPOINTS: [(Line, Shown); 17] = [
+    (Insert(700, 1, 1), Done),
+    (Forget(700), Done),
+    // an update of an update, between two marks, beside another's change
+    (Update(701, 1, 1, 2), Done),
+    (Mark(701), Count(1)),
+    (Insert(702, 2, 7), Done),
+    (Update(701, 1, 1, 3), Done),
+    (Update(701, 1, 5, 4), Done),
+    (Get(1), Nothing),
+    (UndoTo(701, 2), Done),
+    (Get(1), Quantity(3)),
+    (Get(5), Nothing),
+    (UndoTo(701, 1), Done),
+    (Get(1), Quantity(2)),
+    (Get(2), Quantity(7)),
+    (UndoTo(701, 0), Done),
+    (Get(1), Quantity(1)),
+    (Insert(703, 2, 1), Refused(StoreFault::KeyHeld)),
+];
+
+#[test]
+fn scripts_show_what_they_say(rt: HostRuntime) -> Result<(), AllocError> {
+    assert_eq!(rt; run(rt.alloc(), &KEYS)?, KEYS.len());
+    assert_eq!(rt; run(rt.alloc(), &SAVEPOINTS)?, SAVEPOINTS.len());
+    Ok(())
+}

@@ -1,0 +1,17 @@
+//! What a session changed in the tables.
+
+use crate::row::Row;
+use frames::Items;
+
+/// A change of tables, by their OIDs.
+#[derive(Debug, Drop, PartialEq)]
+pub enum TableChange {
+    /// The table and its new row.
+    Insert(u32, Row),
+    /// The table, the row that was there, and the row in its place.
+    Update(u32, Row, Row),
+    /// The table and the row that was there.
+    Delete(u32, Row),
+    /// The tables that were emptied, in the order of the call.
+    Truncate(Items<u32>),
+}
