@@ -11,6 +11,8 @@ mod reorder_calls;
 #[cfg(test)]
 mod sender_calls;
 #[cfg(test)]
+mod store_calls;
+#[cfg(test)]
 mod tables_calls;
 #[cfg(test)]
 mod txlog_calls;

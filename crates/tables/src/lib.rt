@@ -21,8 +21,6 @@ mod slot;
 mod slots;
 mod store;
 mod store_fault;
-#[cfg(test)]
-mod store_scripts;
 mod table;
 mod table_change;
 mod value;

@@ -1,12 +1,7 @@
-//! Small scripts on a store, with what each line shows.
+//! Calls of the store of tables: small scripts, with what each line shows.
 
-use crate::catalog::Catalog;
-use crate::row::Row;
-use crate::store::Store;
-use crate::store_fault::StoreFault;
-use crate::table_change::TableChange;
-use crate::value::Value;
 use std::alloc::{AllocError, Global};
+use tables::{Catalog, Row, Store, StoreFault, TableChange, Value};
 
 const ITEM: u32 = 16384;
 
