@@ -63,17 +63,18 @@ pub fn words_of<'a>(alloc: Global, words: &'a [String]) -> Result<Words<'a>, Err
     })
 }
 
-fn command(alloc: Global) -> Result<Command, Error> {
-    Command::new(alloc, "pubsim")
+fn command(alloc: Global) -> Result<Command<'static>, Error> {
+    let command = Command::new(alloc, "pubsim")
         .bin_name("pubsim")?
         .about(ABOUT)
         .after_help(AFTER_HELP)
         .arg(word(alloc, "CONFIG", CONFIG_HELP))?
-        .arg(word(alloc, "SCHEDULE", SCHEDULE_HELP))
+        .arg(word(alloc, "SCHEDULE", SCHEDULE_HELP))?;
+    Ok(command)
 }
 
 /// A word that has to be there.
-fn word(alloc: Global, name: &'static str, help: &'static str) -> Arg {
+fn word(alloc: Global, name: &'static str, help: &'static str) -> Arg<'static> {
     Arg::new(alloc, name)
         .required(true)
         .action(ArgAction::Set)
