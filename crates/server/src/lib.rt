@@ -9,6 +9,8 @@ mod opening;
 mod query;
 mod refusal;
 mod say;
+mod stage;
+mod turn;
 
 pub use database::{Database, MOST_DATABASE_BYTES};
 pub use desk::Desk;
@@ -16,3 +18,5 @@ pub use fault::{ConnFault, DeskFault};
 pub use opening::open;
 pub use query::reply;
 pub use refusal::Refusal;
+pub use stage::Stage;
+pub use turn::{DECLINED, answer, begin, say_broken};
