@@ -8,4 +8,5 @@ pub mod Lengths
 pub mod Names
 pub mod Outcomes
 pub mod Storing
+pub mod TableLengths
 pub mod Undoing

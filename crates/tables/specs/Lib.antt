@@ -4,5 +4,6 @@ pub mod Reading
 pub mod Rows
 pub mod Slots
 pub mod Spelling
+pub mod TableSpelling
 pub mod Tables
 pub use Rattle.frames.specs.Fields

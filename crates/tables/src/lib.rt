@@ -20,6 +20,7 @@ mod store_fault;
 #[cfg(test)]
 mod store_scripts;
 mod table;
+mod table_body;
 mod table_change;
 mod value;
 
@@ -38,5 +39,8 @@ pub use row::{MAX_ROW_LENGTH, Row};
 pub use store::Store;
 pub use store_fault::StoreFault;
 pub use table::Table;
+pub use table_body::{
+    DELETE_TAG, MAX_TRUNCATED, TRUNCATE_TAG, UPDATE_TAG, table_change_len, write_table_change,
+};
 pub use table_change::TableChange;
 pub use value::Value;
