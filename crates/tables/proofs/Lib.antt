@@ -8,5 +8,6 @@ pub mod Lengths
 pub mod Names
 pub mod Outcomes
 pub mod Storing
+pub mod TableBodies
 pub mod TableLengths
 pub mod Undoing

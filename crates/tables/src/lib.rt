@@ -22,6 +22,7 @@ mod store_scripts;
 mod table;
 mod table_body;
 mod table_change;
+mod table_reading;
 mod value;
 
 pub use body::{
@@ -43,4 +44,5 @@ pub use table_body::{
     DELETE_TAG, MAX_TRUNCATED, TRUNCATE_TAG, UPDATE_TAG, table_change_len, write_table_change,
 };
 pub use table_change::TableChange;
+pub use table_reading::read_table_change;
 pub use value::Value;
