@@ -1,12 +1,11 @@
 -- What is read as a change of any kind was spelled so, and what was spelled is read again.
-use Rattle.std.proofs.Common.{◌≡◌, ℕ, ◌^◌, ◌<◌, ap, arith, Bool, true, false, cond, eqb, List, [], ◌∷◌, ◌++◌, length, Result, Ok, Err, refl, sym, subst, ◌∙◌}
+use Rattle.std.proofs.Common.{◌≡◌, ℕ, ◌^◌, ◌<◌, cond, eqb, List, [], ◌++◌, length, Result, Ok, Err, refl, sym, subst, ◌∙◌}
 use Rattle.std.specs.Prelude.{IfOk}
-use Rattle.std.specs.Int.{w16, w32}
 use Rattle.std.specs.List.{flat_map, AllByRecursion}
 use Rattle.std.specs.Option.{ok_or}
 use Rattle.std.proofs.lemmas.Bool.{eqb-true}
-use Rattle.std.proofs.lemmas.List.{append-nil, nil_from_length, append_assoc}
-use Rattle.frames.specs.Fields.{byte_at, int16, int32}
+use Rattle.std.proofs.lemmas.List.{append-nil, nil_from_length}
+use Rattle.frames.specs.Fields.{byte_at, int32}
 use Rattle.frames.specs.Steps.{◌>>=◌, repeat_at}
 use Rattle.frames.proofs.Codec.{IsBytes, bind_ok, passed, Codec, field, last_field, codec_of, counted, repeated, Chooses, no_choice, choice, choice_codec}
 use Rattle.frames.proofs.Numbers.{number16, number32}
@@ -19,7 +18,7 @@ use Rattle.tables.specs.declared.table_change.TableChange.{TableChange}
 use Rattle.tables.specs.declared.table_change.TableChange.TheVariants as changes
 use Rattle.tables.specs.Spelling.{spell_row}
 use Rattle.tables.specs.TableSpelling.{spell_oids, spell_change}
-use Rattle.tables.specs.Reading.{IsCodedRow, row_at, insert_at, Fails, Gives}
+use Rattle.tables.specs.Reading.{IsCodedRow, Gives}
 use Rattle.tables.specs.TableReading.{IsCodedOids, IsCodedChange, SpellsChange, oid_at, oids_at, update_at, change_tagged, table_change_at, table_body_at}
 use Rattle.tables.proofs.Bodies.{row_codec, insert_codec}
 

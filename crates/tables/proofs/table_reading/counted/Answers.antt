@@ -1,4 +1,3 @@
-use Rattle.std.proofs.Common.{refl}
 use Rattle.std.proofs.lemmas.Result.{err_from_is_err_and}
 use Rattle.frames.specs.Steps.{repeat_at}
 use Rattle.frames.proofs.Loop.{goes_on, is_done}
