@@ -72,11 +72,11 @@ value_codec : Codec value_at spell_value IsCodedValue
 unfolding value_at
 value_codec = choice_codec Short values_choose value_again
 
-row_codec : Codec row_at spell_row IsCodedRow
+pub row_codec : Codec row_at spell_row IsCodedRow
 unfolding row_at
 row_codec = counted (number16 Short) length (repeat_at value_at) (flat_map spell_value) (AllByRecursion IsCodedValue) (λ n. repeated value_codec n)
 
-insert_codec : Codec insert_at (λ m. int32 m.0 ++ spell_row m.1) (λ m. (m.0 < 2 ^ 32) × IsCodedRow m.1)
+pub insert_codec : Codec insert_at (λ m. int32 m.0 ++ spell_row m.1) (λ m. (m.0 < 2 ^ 32) × IsCodedRow m.1)
 unfolding insert_at
 insert_codec = codec_of (field (number32 Short) (λ m. m.0) _ _ _ _ (λ oid.
     last_field row_codec (λ m. m.1) _ (λ row. (oid, row)) (λ _. refl) (λ _ _. (refl, tt)) (λ m known. rw (← known.0) refl)))

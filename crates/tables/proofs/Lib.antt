@@ -9,4 +9,6 @@ pub mod Members
 pub mod Names
 pub mod Outcomes
 pub mod Storing
+pub mod TableBodies
+pub mod TableLengths
 pub mod Undoing

@@ -82,7 +82,7 @@ fn put_body(change: &Change, out: &mut BytesMut) -> Result<(), AllocError>
     }
 }
 
-fn put_row(row: &Row, out: &mut BytesMut) -> Result<(), AllocError>
+pub(crate) fn put_row(row: &Row, out: &mut BytesMut) -> Result<(), AllocError>
     requires { row_length row.now ≤ MAX_ROW_LENGTH }
     ensures { Puts result out.old.items out.new.items (spell_row row.now) }
 {
@@ -122,7 +122,7 @@ fn put_value(value: &Value, out: &mut BytesMut) -> Result<(), AllocError>
 }
 
 #[tactic(auto, unfolding(frames::specs::Fields::int16))]
-fn put_int16(out: &mut BytesMut, n: u16) -> Result<(), AllocError>
+pub(crate) fn put_int16(out: &mut BytesMut, n: u16) -> Result<(), AllocError>
     ensures ok { OnOk result (out.new.items ≡ out.old.items ++ int16 n) }
     ensures err { OnErr result (out.new.items ≡ out.old.items) }
 {
@@ -130,7 +130,7 @@ fn put_int16(out: &mut BytesMut, n: u16) -> Result<(), AllocError>
 }
 
 #[tactic(auto, unfolding(frames::specs::Fields::int32))]
-fn put_int32(out: &mut BytesMut, n: u32) -> Result<(), AllocError>
+pub(crate) fn put_int32(out: &mut BytesMut, n: u32) -> Result<(), AllocError>
     ensures ok { OnOk result (out.new.items ≡ out.old.items ++ int32 n) }
     ensures err { OnErr result (out.new.items ≡ out.old.items) }
 {

@@ -22,7 +22,9 @@ mod slots;
 mod store;
 mod store_fault;
 mod table;
+mod table_body;
 mod table_change;
+mod table_reading;
 mod value;
 
 pub use body::{
@@ -44,5 +46,9 @@ pub use row::{MAX_ROW_LENGTH, Row};
 pub use store::Store;
 pub use store_fault::StoreFault;
 pub use table::Table;
+pub use table_body::{
+    DELETE_TAG, MAX_TRUNCATED, TRUNCATE_TAG, UPDATE_TAG, table_change_len, write_table_change,
+};
 pub use table_change::TableChange;
+pub use table_reading::read_table_change;
 pub use value::Value;

@@ -55,7 +55,7 @@ fn change_of(alloc: Global, cursor: &mut Cursor<'_>) -> Result<Change, BodyFault
 }
 
 #[tactic(auto, unfolding(crate::specs::Reading::row_at))]
-fn row_of(alloc: Global, cursor: &mut Cursor<'_>) -> Result<Row, BodyFault>
+pub(crate) fn row_of(alloc: Global, cursor: &mut Cursor<'_>) -> Result<Row, BodyFault>
     ensures exact { Gives result cursor.new (row_at cursor.old) }
     ensures memory { result ≡ Err Memory → RowHasValue cursor.old }
 {

@@ -1,0 +1,102 @@
+//! How a change of any kind is written into the log: the lengths and bytes of its body.
+#![tactic(auto, using(frames::proofs::Putting::extends_itself, frames::proofs::Putting::extends_more, frames::proofs::Putting::extends_back))]
+
+ghost use Rattle.std.specs.Prelude.{◌≡◌, ◌+◌, ◌*◌, ◌++◌, ◌∷◌, ◌<◌, ◌≤◌, ◌^◌, OnErr, OnOk, length};
+ghost use Rattle.std.specs.List.{flat_map};
+ghost use Rattle.frames.specs.Fields.{int16, int32};
+ghost use Rattle.frames.specs.Putting.{Puts};
+ghost use Rattle.tables.specs.TableSpelling.{IsShortChange, change_length, spell_change, spell_oids, spell_one};
+ghost use Rattle.tables.specs.Spelling.{row_length};
+ghost use Rattle.tables.specs.declared.row.TheConstants.{MAX_ROW_LENGTH};
+
+use crate::body::{INSERT_TAG, MAX_BODY_LENGTH, put_int16, put_int32, put_row};
+use crate::row::Row;
+use crate::table_change::TableChange;
+use bytes::{BufMut, BytesMut};
+use std::alloc::AllocError;
+
+/// The first byte of a change's body, by its kind.
+pub const UPDATE_TAG: u8 = 2;
+
+pub const DELETE_TAG: u8 = 3;
+
+pub const TRUNCATE_TAG: u8 = 4;
+
+/// The most tables that a truncate names.
+pub const MAX_TRUNCATED: usize = 256;
+
+/// The length of the change's body in bytes.
+#[tactic(auto, using(crate::proofs::TableLengths::truncate_length, crate::proofs::TableLengths::insert_length, crate::proofs::TableLengths::delete_length, crate::proofs::TableLengths::two_rows_length))]
+pub fn table_change_len(change: &TableChange) -> usize
+    requires { IsShortChange change.now }
+    ensures value { result ≡ change_length change.now }
+    ensures bounded { result ≤ MAX_BODY_LENGTH }
+{
+    match change {
+        TableChange::Insert(_, row) => 5 + short_len(row),
+        TableChange::Update(_, old, row) => 5 + short_len(old) + short_len(row),
+        TableChange::Delete(_, old) => 5 + short_len(old),
+        TableChange::Truncate(oids) => 3 + 4 * oids.len(),
+    }
+}
+
+fn short_len(row: &Row) -> usize
+    requires { row_length row.now ≤ MAX_ROW_LENGTH }
+    ensures value { result ≡ row_length row.now }
+    ensures bounded { result ≤ MAX_ROW_LENGTH }
+{
+    match row.coded_len() {
+        Some(len) => len,
+        None => unreachable!(),
+    }
+}
+
+/// Adds the change's body, or, where memory is refused, nothing.
+pub fn write_table_change(change: &TableChange, out: &mut BytesMut) -> Result<(), AllocError>
+    requires { IsShortChange change.now }
+    ensures ok { OnOk result (out.new.items ≡ out.old.items ++ spell_change change.now) }
+    ensures err { OnErr result (out.new.items ≡ out.old.items) }
+{
+    let start = out.len();
+    let written = put_change(change, out);
+    if written.is_err() {
+        out.truncate(start);
+    }
+    written
+}
+
+fn put_change(change: &TableChange, out: &mut BytesMut) -> Result<(), AllocError>
+    requires { IsShortChange change.now }
+    ensures { Puts result out.old.items out.new.items (spell_change change.now) }
+{
+    match change {
+        TableChange::Insert(oid, row) => put_one_row(INSERT_TAG, *oid, row, out),
+        TableChange::Update(oid, old, row) => {
+            put_one_row(UPDATE_TAG, *oid, old, out)?;
+            put_row(row, out)
+        }
+        TableChange::Delete(oid, old) => put_one_row(DELETE_TAG, *oid, old, out),
+        TableChange::Truncate(oids) => put_oids(oids.as_slice(), out),
+    }
+}
+
+fn put_one_row(tag: u8, oid: u32, row: &Row, out: &mut BytesMut) -> Result<(), AllocError>
+    requires { row_length row.now ≤ MAX_ROW_LENGTH }
+    ensures { Puts result out.old.items out.new.items (spell_one tag oid row.now) }
+{
+    out.put_u8(tag)?;
+    put_int32(out, oid)?;
+    put_row(row, out)
+}
+
+fn put_oids(oids: &[u32], out: &mut BytesMut) -> Result<(), AllocError>
+    requires { length oids.now ≤ MAX_TRUNCATED }
+    ensures { Puts result out.old.items out.new.items (TRUNCATE_TAG ∷ spell_oids oids.now) }
+{
+    out.put_u8(TRUNCATE_TAG)?;
+    put_int16(out, oids.len() as u16)?;
+    for oid in oids {
+        put_int32(out, *oid)?;
+    }
+    Ok(())
+}

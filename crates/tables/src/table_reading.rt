@@ -1,0 +1,89 @@
+//! How a change of any kind is read from its body.
+
+ghost use Rattle.std.specs.Prelude.{◌≡◌, [], IfOk, Ok};
+ghost use Rattle.frames.specs.Steps.{repeat_at};
+ghost use Rattle.tables.specs.Reading.{Gives};
+ghost use Rattle.tables.specs.TableReading.{SpellsChange, oid_at, oids_at, table_body_at, table_change_at};
+ghost use Rattle.tables.specs.declared.table_change.TableChange.{TableChange as Changed};
+
+use crate::body::INSERT_TAG;
+use crate::fault::BodyFault;
+use crate::reading::row_of;
+use crate::table_body::{DELETE_TAG, TRUNCATE_TAG, UPDATE_TAG};
+use crate::table_change::TableChange;
+use frames::{Cursor, Items};
+use std::alloc::Global;
+
+/// The change whose body these bytes are. The leftmost fault is answered, unless memory is refused before it.
+pub fn read_table_change(alloc: Global, bytes: &[u8]) -> Result<TableChange, BodyFault>
+    ensures found { IfOk result (λ c. SpellsChange bytes.now c) }
+    ensures only { (c : Changed) → SpellsChange bytes.now c → Gives result [] (Ok (c, [])) }
+    ensures exact { Gives result [] (table_body_at bytes.now) }
+{
+    whole(alloc, bytes)
+}
+
+#[tactic(auto, unfolding(crate::specs::TableReading::table_body_at))]
+fn whole(alloc: Global, bytes: &[u8]) -> Result<TableChange, BodyFault>
+    ensures { Gives result [] (table_body_at bytes.now) }
+{
+    let mut cursor = Cursor::new(bytes);
+    let change = change_of(alloc, &mut cursor)?;
+    if cursor.rest().is_empty() {
+        Ok(change)
+    } else {
+        Err(BodyFault::Trailing)
+    }
+}
+
+#[tactic(auto, unfolding(crate::specs::TableReading::table_change_at, crate::specs::TableReading::update_at, crate::specs::Reading::insert_at))]
+fn change_of(alloc: Global, cursor: &mut Cursor<'_>) -> Result<TableChange, BodyFault>
+    ensures { Gives result cursor.new (table_change_at cursor.old) }
+{
+    match cursor.u8().ok_or(BodyFault::Short)? {
+        INSERT_TAG => {
+            let oid = cursor.u32().ok_or(BodyFault::Short)?;
+            let row = row_of(alloc, cursor)?;
+            Ok(TableChange::Insert(oid, row))
+        }
+        UPDATE_TAG => {
+            let oid = cursor.u32().ok_or(BodyFault::Short)?;
+            let old = row_of(alloc, cursor)?;
+            let row = row_of(alloc, cursor)?;
+            Ok(TableChange::Update(oid, old, row))
+        }
+        DELETE_TAG => {
+            let oid = cursor.u32().ok_or(BodyFault::Short)?;
+            let old = row_of(alloc, cursor)?;
+            Ok(TableChange::Delete(oid, old))
+        }
+        TRUNCATE_TAG => Ok(TableChange::Truncate(oids_of(alloc, cursor)?)),
+        _ => Err(BodyFault::UnknownTag),
+    }
+}
+
+#[tactic(auto, unfolding(crate::specs::TableReading::oids_at))]
+fn oids_of(alloc: Global, cursor: &mut Cursor<'_>) -> Result<Items<u32>, BodyFault>
+    ensures { Gives result cursor.new (oids_at cursor.old) }
+{
+    let count = cursor.u16().ok_or(BodyFault::Short)?;
+    counted(alloc, cursor, count)
+}
+
+fn counted(alloc: Global, cursor: &mut Cursor<'_>, count: u16) -> Result<Items<u32>, BodyFault>
+    ensures { Gives result cursor.new (repeat_at oid_at count cursor.old) }
+{
+    let mut oids = Vec::new(alloc);
+    for _ in 0..count {
+        let oid = oid_of(cursor)?;
+        oids.push(oid)?;
+    }
+    Ok(Items::new(oids))
+}
+
+fn oid_of(cursor: &mut Cursor<'_>) -> Result<u32, BodyFault>
+    ensures { Gives result cursor.new (oid_at cursor.old) }
+{
+    let oid = cursor.u32().ok_or(BodyFault::Short)?;
+    Ok(oid)
+}
