@@ -2,6 +2,7 @@
 //! thread.
 #![tactic(auto)]
 
+mod connection;
 mod database;
 mod desk;
 mod fault;
@@ -9,7 +10,9 @@ mod opening;
 mod query;
 mod refusal;
 mod say;
+mod turn;
 
+pub use connection::{Connection, Phase, converse};
 pub use database::{Database, MOST_DATABASE_BYTES};
 pub use desk::Desk;
 pub use fault::{ConnFault, DeskFault};
