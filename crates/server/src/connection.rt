@@ -157,12 +157,12 @@ pub fn converse<D: Desk>(
     pieces: &[Vec<u8>],
     desk: &mut D,
     out: &mut BytesMut,
-) -> Result<Phase, AllocError>
-    ensures { IfOk result (λ phase. Gave D.told (λ asked said. IsConversation number (flat_map (λ p. p.items) pieces.now) asked said) desk.old out.old.items desk.new out.new.items) }
+) -> Result<(), AllocError>
+    ensures { OnOk result (Gave D.told (IsConversation number (flat_map (λ p. p.items) pieces.now)) desk.old out.old.items desk.new out.new.items) }
 {
     let mut connection = Connection::new(alloc, number);
     for piece in pieces {
         unless_memory(connection.take(piece.as_slice(), desk, out))?;
     }
-    Ok(connection.phase())
+    Ok(())
 }
