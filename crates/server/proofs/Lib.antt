@@ -3,3 +3,5 @@ pub mod Tails
 pub mod Steps
 pub mod Names
 pub mod Parameters
+pub mod Segments
+pub mod Turning

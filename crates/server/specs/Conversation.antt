@@ -1,5 +1,5 @@
 -- A conversation: what is said to each text that a client sends, and what is asked of the desk for it.
-use Rattle.std.specs.Prelude.{◌≡◌, ◌≢◌, ℕ, ◌≤◌, length, ◌⊎◌, Bool, true, false, List, [], ◌∷◌, ◌++◌, Option, Some, None, Result, Ok, Err}
+use Rattle.std.specs.Prelude.{◌≡◌, ◌≢◌, ℕ, ◌≤◌, length, ◌⊎◌, Bool, true, false, List, [], ◌∷◌, ◌++◌, Result, Ok, Err}
 use Rattle.replcmd.specs.declared.command.Command.{Command}
 use Rattle.replcmd.specs.declared.command.Command.TheVariants.{Identify, Create, Start, Drop}
 use Rattle.replcmd.specs.declared.fault.CmdFault.{CmdFault}
@@ -7,19 +7,8 @@ use Rattle.replcmd.specs.declared.fault.CmdFault.TheVariants as commands
 use Rattle.replcmd.specs.Grammar.{SpellsCommand}
 use Rattle.server.specs.declared.fault.DeskFault.{DeskFault}
 use Rattle.server.specs.declared.refusal.Refusal.TheVariants as refusals
-use Rattle.frames.specs.declared.startup.Startup.{Startup}
-use Rattle.frames.specs.declared.startup.Startup.TheVariants as startups
-use Rattle.frames.specs.declared.front.Front.{Front}
-use Rattle.frames.specs.declared.front.Front.TheVariants as fronts
-use Rattle.frames.specs.declared.fault.FrameFault.{FrameFault}
-use Rattle.frames.specs.declared.fault.FrameFault.TheVariants as frame_faults
-use Rattle.server.specs.declared.stage.Stage.{Stage}
-use Rattle.server.specs.declared.stage.Stage.TheVariants as stages
-use Rattle.server.specs.declared.stage.Stage.TheVariants.{Idle, Closed}
-use Rattle.server.specs.declared.turn.TheConstants.{DECLINED}
-use Rattle.server.specs.Opening.{opened}
 use Rattle.server.specs.Calls.{Call, End, System, CreateSlot, DropSlot, StartStream, AreAsked}
-use Rattle.server.specs.Said.{refused, refused_ready, greeted, identified, created, dropped, started}
+use Rattle.server.specs.Said.{refused_ready, identified, created, dropped, started}
 
 -- what was asked of the desk, and what was said, in one step
 pub record Gave {D : Type 0} (told : D → Call → D → Type 0) (Fact : List Call → List ℕ → Type 0) (desk : D) (out : List ℕ) (desk' : D) (out' : List ℕ) : Type 0 where
@@ -57,31 +46,3 @@ pub record IsRefused (query : List ℕ) (asked : List Call) (text : List ℕ) : 
 
 abbrev pub Replies : List ℕ → List ℕ → Bool → List Call → List ℕ → Type 0
 Replies database query closes asked text = ((c : Command) × SpellsCommand query c × Runs database c closes asked text) ⊎ (IsRefused query asked text × (closes ≡ false))
-
--- ---- what is said to a startup or a frame, and what is waited for next
-
--- what is said to a text that no frame begins with
-abbrev pub broken : FrameFault → List ℕ
-broken frame_faults.BadVersion = refused refusals.Version
-broken _ = refused refusals.Violation
-
-abbrev pub session : Option (List ℕ) → Stage
-session (Some database) = Idle database
-session None = Closed
-
--- a startup: encryption is declined, and another startup follows
-abbrev pub Opens : ℕ → Startup → List ℕ → Stage → Type 0
-Opens number startups.Ssl text next = (text ≡ DECLINED ∷ []) × (next ≡ stages.Startup)
-Opens number startups.Gss text next = (text ≡ DECLINED ∷ []) × (next ≡ stages.Startup)
-Opens number (startups.Cancel process key) text next = (text ≡ []) × (next ≡ Closed)
-Opens number (startups.Session parameters) text next = (text ≡ greeted number (opened parameters)) × (next ≡ session (opened parameters))
-
-abbrev pub stays : List ℕ → Bool → Stage
-stays database true = Closed
-stays database false = Idle database
-
--- a frame between queries; one that is out of its place closes
-abbrev pub Answered : List ℕ → Front → List Call → List ℕ → Stage → Type 0
-Answered database (fronts.Query m) asked text next = (begun : Bool) × Replies database m.text begun asked text × (next ≡ stays database begun)
-Answered database fronts.Terminate asked text next = (asked ≡ []) × (text ≡ []) × (next ≡ Closed)
-Answered database _ asked text next = (asked ≡ []) × (text ≡ refused refusals.Violation) × (next ≡ Closed)

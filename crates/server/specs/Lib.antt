@@ -3,3 +3,5 @@ pub mod Said
 pub mod Calls
 pub mod Opening
 pub mod Conversation
+pub mod Turns
+pub mod Segment

@@ -2,6 +2,7 @@
 //! thread.
 #![tactic(auto)]
 
+mod connection;
 mod database;
 mod desk;
 mod fault;
@@ -9,14 +10,12 @@ mod opening;
 mod query;
 mod refusal;
 mod say;
-mod stage;
 mod turn;
 
+pub use connection::{Connection, Phase, converse};
 pub use database::{Database, MOST_DATABASE_BYTES};
 pub use desk::Desk;
 pub use fault::{ConnFault, DeskFault};
 pub use opening::open;
 pub use query::reply;
 pub use refusal::Refusal;
-pub use stage::Stage;
-pub use turn::{DECLINED, answer, begin, say_broken};

@@ -1,0 +1,126 @@
+-- One turn, from what was read at the front of the pending bytes.
+use Rattle.std.proofs.Common.{◌≡◌, ℕ, ◌<◌, ◌≤◌, ◌+◌, List, [], ◌∷◌, ◌++◌, length, take, drop, Result, Ok, Err, refl, sym, ap, subst, ◌∙◌, inl, inr, arith}
+use Rattle.std.specs.Prelude.{◌≢◌, ◌⊎◌, IfOk}
+use Rattle.std.specs.declared.alloc.AllocError.{AllocError}
+use Rattle.std.proofs.lemmas.List.{length-append, length-take-le, take_all, append-nil, take-append-drop}
+use Rattle.frames.specs.declared.fault.FrameFault.{FrameFault}
+use Rattle.frames.specs.declared.fault.FrameFault.TheVariants.{BadLength, BadVersion, UnknownType, BadBody, NotUtf8, TooLong, Memory}
+use Rattle.frames.specs.declared.startup.Startup.{Startup}
+use Rattle.frames.specs.declared.front.Front.{Front}
+use Rattle.frames.specs.declared.front.Front.TheVariants as fronts
+use Rattle.frames.specs.declared.copy_data.CopyData.{CopyData}
+use Rattle.frames.specs.declared.copy_fail.CopyFail.{CopyFail}
+use Rattle.frames.specs.Fields.{int32}
+use Rattle.frames.specs.Frame.{Gives}
+use Rattle.frames.specs.Front.{SpellsFront, IsShortFront, framed_front}
+use Rattle.frames.specs.Startup.{SpellsStartup, framed_startup, startup_number, startup_body}
+use Rattle.frames.proofs.Numbers.{length-int32}
+use Rattle.server.specs.declared.connection.Connection.{Connection}
+use Rattle.server.specs.declared.refusal.Refusal.TheVariants.{Violation}
+use Rattle.server.specs.declared.turn.Stage.{Stage}
+use Rattle.server.specs.declared.turn.Stage.TheVariants.{Fresh, Idle, Closed}
+use Rattle.server.specs.declared.turn.Turned.{Turned}
+use Rattle.server.specs.Calls.{Call}
+use Rattle.server.specs.Conversation.{Gave}
+use Rattle.server.specs.Said.{refused}
+use Rattle.server.specs.Turns.{Hears, refusal_of}
+use Rattle.server.specs.Segment.{Went, Said, IsTurned}
+use Rattle.server.proofs.Segments.{went-none, went-one}
+
+-- ---- what is read takes bytes
+
+read_fault : {X : Type 0} (fault : FrameFault) (read : Result X FrameFault) → fault ≢ Memory → Gives (Err fault) read → read ≡ Err fault
+read_fault BadLength read other is = is
+read_fault BadVersion read other is = is
+read_fault UnknownType read other is = is
+read_fault BadBody read other is = is
+read_fault NotUtf8 read other is = is
+read_fault TooLong read other is = is
+read_fault Memory read other is = absurd (other refl)
+
+front_has : (text : List ℕ) (f : Front) → SpellsFront text f → 0 < length text
+front_has text f spells = rw spells.text (omega arith)
+
+startup_has : (text : List ℕ) (f : Startup) → SpellsStartup text f → 0 < length text
+startup_has text f spells =
+    let number : List ℕ = int32 (startup_number f) ++ startup_body f in
+    rw spells.text (omega (arith, length-append (int32 (8 + length (startup_body f))) number, length-int32 (8 + length (startup_body f))))
+
+faulty_front : (bytes : List ℕ) (fault : FrameFault) → framed_front bytes ≡ Err fault → 0 < length bytes
+faulty_front [] fault is = absurd cc
+faulty_front (b ∷ bytes) fault is = omega arith
+
+faulty_startup : (bytes : List ℕ) (fault : FrameFault) → framed_startup bytes ≡ Err fault → 0 < length bytes
+faulty_startup [] fault is = absurd cc
+faulty_startup (b ∷ bytes) fault is = omega arith
+
+front_of_some : (n : ℕ) (bytes : List ℕ) → n ≤ length bytes → 0 < length (take n bytes) → 0 < n
+front_of_some n bytes le some = rw (length-take-le n bytes le) at some
+
+-- ---- turns
+
+pub front_turned : {D : Type 0} (told : D → Call → D → Type 0) (number : ℕ) (database pending : List ℕ) (count : ℕ) (front : Front) (next : Stage) (Same : Type 0) (desk : D) (out : List ℕ) (desk' : D) (out' : List ℕ)
+    → count ≤ length pending → SpellsFront (take count pending) front → IsShortFront front
+    → Gave told (λ asked said. Hears database front asked said next) desk out desk' out'
+    → IsTurned number (Idle database) pending (record { stage = next; count = count }) Same (λ fact. Gave told fact desk out desk' out')
+front_turned told number database pending count front next Same desk out desk' out' le spells short gave = inr (
+  front_of_some count pending le (front_has (take count pending) front spells),
+  le,
+  record { asked = gave.asked; text = gave.text; fact = inl (front, spells, short, gave.fact); asks = gave.asks; says = gave.says },
+)
+
+pub front_refused : {D : Type 0} (told : D → Call → D → Type 0) (number : ℕ) (database pending : List ℕ) (fault : FrameFault) (Same : Type 0) (desk : D) (out out' : List ℕ)
+    → fault ≢ Memory → Gives (Err fault) (framed_front pending) → out' ≡ out ++ refused (refusal_of fault)
+    → IsTurned number (Idle database) pending (record { stage = Closed; count = length pending }) Same (λ fact. Gave told fact desk out desk out')
+front_refused told number database pending fault Same desk out out' other gives says =
+    let is : framed_front pending ≡ Err fault = read_fault fault (framed_front pending) other gives in
+    let whole : take (length pending) pending ≡ pending = take_all (length pending) pending (omega arith) in
+    inr (
+      faulty_front pending fault is,
+      omega arith,
+      record { asked = []; text = refused (refusal_of fault); fact = inr (fault, rw whole is, (refl, refl, refl)); asks = refl; says = says },
+    )
+
+pub startup_refused : (number : ℕ) (pending : List ℕ) (fault : FrameFault) (Same : Type 0) (out out' : List ℕ)
+    → fault ≢ Memory → Gives (Err fault) (framed_startup pending) → out' ≡ out ++ refused (refusal_of fault)
+    → IsTurned number Fresh pending (record { stage = Closed; count = length pending }) Same (λ fact. Said fact out out')
+startup_refused number pending fault Same out out' other gives says =
+    let is : framed_startup pending ≡ Err fault = read_fault fault (framed_startup pending) other gives in
+    let whole : take (length pending) pending ≡ pending = take_all (length pending) pending (omega arith) in
+    inr (
+      faulty_startup pending fault is,
+      omega arith,
+      record { text = refused (refusal_of fault); fact = inr (fault, rw whole is, (refl, refl, refl)); says = says },
+    )
+
+pub quiet_turned : {D : Type 0} (told : D → Call → D → Type 0) (number : ℕ) (stage : Stage) (pending : List ℕ) (desk : D) (out out' : List ℕ) (r : Result Turned AllocError)
+    → IfOk r (λ t. IsTurned number stage pending t (out' ≡ out) (λ fact. Said fact out out'))
+    → IfOk r (λ t. IsTurned number stage pending t ((desk ≡ desk) × (out' ≡ out)) (λ fact. Gave told fact desk out desk out'))
+quiet_turned told number stage pending desk out out' (Ok t) (inl (none, same, waits, kept)) = inl (none, same, waits, (refl, kept))
+quiet_turned told number stage pending desk out out' (Ok t) (inr (some, le, said)) = inr (some, le, record { asked = []; text = said.text; fact = said.fact; asks = refl; says = said.says })
+quiet_turned told number stage pending desk out out' (Err e) is = tt
+
+pub closed_turned : {D : Type 0} (told : D → Call → D → Type 0) (number : ℕ) (pending : List ℕ) (desk : D) (out : List ℕ)
+    → IsTurned number Closed pending (record { stage = Closed; count = length pending }) ((desk ≡ desk) × (out ≡ out)) (λ fact. Gave told fact desk out desk out)
+closed_turned told number [] desk out = inl (refl, refl, refl, (refl, refl))
+closed_turned told number (b ∷ bytes) desk out = inr (omega arith, omega arith, record { asked = []; text = []; fact = (refl, refl, refl); asks = refl; says = sym (append-nil out) })
+
+-- ---- the connection after a turn
+
+pub turned_went : {D : Type 0} (told : D → Call → D → Type 0) (old : Connection) (desk : D) (out : List ℕ) (t : Turned) (new : Connection) (desk' : D) (out' : List ℕ)
+    → new.number ≡ old.number → new.stage ≡ t.stage → new.pending.items ≡ drop t.count old.pending.items
+    → IsTurned old.number old.stage old.pending.items t ((desk' ≡ desk) × (out' ≡ out)) (λ fact. Gave told fact desk out desk' out')
+    → Went told [] old desk out new desk' out'
+turned_went told old desk out t new desk' out' number stage pending (inl (none, same, waits, (desks, outs))) =
+    went-none told [] old desk out new desk' out' number (stage ∙ same) (pending ∙ ap (λ (n : ℕ). drop n old.pending.items) none ∙ sym (append-nil old.pending.items)) desks outs
+turned_went told old desk out t new desk' out' number stage pending (inr (some, le, gave)) =
+    went-one told [] old desk out new desk' out' (record { text = take t.count old.pending.items; asked = gave.asked; said = gave.text }) number (rw stage gave.fact)
+    (append-nil old.pending.items ∙ sym (take-append-drop t.count old.pending.items) ∙ ap (λ (l : List ℕ). take t.count old.pending.items ++ l) (sym pending))
+    gave.asks gave.says
+
+-- ---- frames out of their place
+
+pub out_of_place : (database : List ℕ) (f : Front) → ((bytes : CopyData) × (f ≡ fronts.CopyData bytes)) ⊎ ((f ≡ fronts.CopyDone) ⊎ ((fail : CopyFail) × (f ≡ fronts.CopyFail fail))) → Hears database f [] (refused Violation) Closed
+out_of_place database f (inl (bytes, is)) = subst (λ (g : Front). Hears database g [] (refused Violation) Closed) (sym is) (refl, refl, refl)
+out_of_place database f (inr (inl is)) = subst (λ (g : Front). Hears database g [] (refused Violation) Closed) (sym is) (refl, refl, refl)
+out_of_place database f (inr (inr (fail, is))) = subst (λ (g : Front). Hears database g [] (refused Violation) Closed) (sym is) (refl, refl, refl)

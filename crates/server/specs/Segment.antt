@@ -1,0 +1,51 @@
+-- The part of a conversation that one call carries on, from the connection before it to the connection after it.
+use Rattle.std.specs.Prelude.{◌≡◌, ℕ, ◌<◌, ◌≤◌, ◌⊎◌, List, [], ◌++◌, length, take, Result, Ok, Err}
+use Rattle.std.specs.List.{flat_map}
+use Rattle.server.specs.declared.fault.ConnFault.{ConnFault}
+use Rattle.server.specs.declared.fault.ConnFault.TheVariants as faults
+use Rattle.server.specs.declared.connection.Phase.{Phase}
+use Rattle.server.specs.declared.connection.Phase.TheVariants as phases
+use Rattle.server.specs.declared.connection.Connection.{Connection}
+use Rattle.server.specs.declared.turn.Stage.{Stage}
+use Rattle.server.specs.declared.turn.Stage.TheVariants.{Fresh, Idle, Closed}
+use Rattle.server.specs.declared.turn.Turned.{Turned}
+use Rattle.server.specs.Calls.{Call, AreAsked}
+use Rattle.server.specs.Turns.{Turn, IsTurn, AreTurns, Waits}
+
+-- The turns between two connections: they spell what was left and what came, but for what is left now.
+pub record Went {D : Type 0} (told : D → Call → D → Type 0) (input : List ℕ) (old : Connection) (desk : D) (out : List ℕ) (new : Connection) (desk' : D) (out' : List ℕ) : Type 0 where
+  pub turns : List Turn
+  pub same : new.number ≡ old.number
+  pub follow : AreTurns old.number old.stage turns new.stage
+  pub spell : old.pending.items ++ input ≡ flat_map (λ t. t.text) turns ++ new.pending.items
+  pub ask : AreAsked told desk (flat_map (λ t. t.asked) turns) desk'
+  pub say : out' ≡ out ++ flat_map (λ t. t.said) turns
+
+-- until memory runs out; what comes to a closed connection is no exception
+abbrev pub UnlessMemory : {A : Type 0} → Result A ConnFault → Type 0 → Type 0
+UnlessMemory (Ok a) Fact = Fact
+UnlessMemory (Err faults.Closed) Fact = Fact
+UnlessMemory (Err faults.Memory) Fact = Unit {0}
+
+abbrev pub phase_of : Stage → Phase
+phase_of Fresh = phases.Startup
+phase_of (Idle database) = phases.Idle
+phase_of Closed = phases.Closed
+
+-- ---- one turn
+
+-- the turn of this text
+abbrev pub OneTurn : ℕ → Stage → List ℕ → Stage → List Call → List ℕ → Type 0
+OneTurn number old text new asked said = IsTurn number old (record { text = text; asked = asked; said = said }) new
+
+-- what was said, where nothing is asked of the desk
+pub record Said (Fact : List Call → List ℕ → Type 0) (out : List ℕ) (out' : List ℕ) : Type 0 where
+  pub text : List ℕ
+  pub fact : Fact [] text
+  pub says : out' ≡ out ++ text
+
+-- Either nothing is whole and nothing changes, or a turn took the front of what was pending.
+abbrev pub IsTurned : ℕ → Stage → List ℕ → Turned → Type 0 → ((List Call → List ℕ → Type 0) → Type 0) → Type 0
+IsTurned number stage pending t Same Step =
+    ((t.count ≡ 0) × (t.stage ≡ stage) × Waits stage pending × Same)
+    ⊎ ((0 < t.count) × (t.count ≤ length pending) × Step (OneTurn number stage (take t.count pending) t.stage))

@@ -1,0 +1,98 @@
+-- A conversation as a list of turns: each is a text of the client, what was asked of the desk for it, and what was said
+-- to it (PostgreSQL 15, 55.2.1 to 55.2.3 and 55.4).
+use Rattle.std.specs.Prelude.{◌≡◌, ℕ, ◌⊎◌, List, [], ◌∷◌, ◌++◌, Option, Some, None, Ok, Err, Bool, codes, if◌then◌else◌}
+use Rattle.std.specs.List.{flat_map}
+use Rattle.frames.specs.declared.fault.FrameFault.{FrameFault}
+use Rattle.frames.specs.declared.fault.FrameFault.TheVariants as frames
+use Rattle.frames.specs.declared.startup.Startup.{Startup}
+use Rattle.frames.specs.declared.startup.Startup.TheVariants.{Session, Ssl, Gss, Cancel}
+use Rattle.frames.specs.declared.front.Front.{Front}
+use Rattle.frames.specs.declared.front.Front.TheVariants.{Query, Terminate, CopyData, CopyDone, CopyFail}
+use Rattle.frames.specs.Startup.{SpellsStartup, framed_startup}
+use Rattle.frames.specs.Front.{SpellsFront, IsShortFront, framed_front}
+use Rattle.server.specs.declared.refusal.Refusal.{Refusal}
+use Rattle.server.specs.declared.refusal.Refusal.TheVariants.{Violation, Version}
+use Rattle.server.specs.declared.turn.Stage.{Stage}
+use Rattle.server.specs.declared.turn.Stage.TheVariants.{Fresh, Idle, Closed}
+use Rattle.server.specs.Calls.{Call}
+use Rattle.server.specs.Conversation.{Replies}
+use Rattle.server.specs.Opening.{opened}
+use Rattle.server.specs.Said.{refused, greeted}
+
+pub record Turn : Type 0 where
+  pub text : List ℕ
+  pub asked : List Call
+  pub said : List ℕ
+
+-- nothing is asked of the desk, this is said, and the connection is then at this stage
+abbrev pub Says : List ℕ → Stage → List Call → List ℕ → Stage → Type 0
+Says text stage asked said next = (asked ≡ []) × (said ≡ text) × (next ≡ stage)
+
+-- why a text that can't be read is refused
+abbrev pub refusal_of : FrameFault → Refusal
+refusal_of frames.BadVersion = Version
+refusal_of _ = Violation
+
+-- what it can't go on from
+abbrev pub Refuses : Refusal → List Call → List ℕ → Stage → Type 0
+Refuses refusal = Says (refused refusal) Closed
+
+-- ---- before a session
+
+abbrev pub session : Option (List ℕ) → Stage
+session (Some database) = Idle database
+session None = Closed
+
+-- Encryption is declined by a single byte, and the startup is still waited for.
+abbrev pub Opens : ℕ → Startup → List Call → List ℕ → Stage → Type 0
+Opens number (Session parameters) = Says (greeted number (opened parameters)) (session (opened parameters))
+Opens number Ssl = Says (codes "N") Fresh
+Opens number Gss = Says (codes "N") Fresh
+Opens number (Cancel process key) = Says [] Closed
+
+-- ---- in a session
+
+-- A query is answered; a stream that begins ends the conversation. Terminate is the client's own end, and the frames of
+-- a stream are out of their place.
+abbrev pub Hears : List ℕ → Front → List Call → List ℕ → Stage → Type 0
+Hears database (Query query) asked said next = (closes : Bool) × Replies database query.text closes asked said × (next ≡ (if closes then Closed else Idle database))
+Hears database Terminate asked said next = Says [] Closed asked said next
+Hears database (CopyData bytes) asked said next = Refuses Violation asked said next
+Hears database CopyDone asked said next = Refuses Violation asked said next
+Hears database (CopyFail fail) asked said next = Refuses Violation asked said next
+
+-- ---- turns
+
+-- A turn from one stage to the next. Its text is one startup, or one frame, or it begins with what is neither: then the
+-- connection closes, and all that follows is passed over.
+abbrev pub IsTurn : ℕ → Stage → Turn → Stage → Type 0
+IsTurn number Fresh t next =
+    ((startup : Startup) × SpellsStartup t.text startup × Opens number startup t.asked t.said next)
+    ⊎ ((fault : FrameFault) × (framed_startup t.text ≡ Err fault) × Refuses (refusal_of fault) t.asked t.said next)
+IsTurn number (Idle database) t next =
+    ((front : Front) × SpellsFront t.text front × IsShortFront front × Hears database front t.asked t.said next)
+    ⊎ ((fault : FrameFault) × (framed_front t.text ≡ Err fault) × Refuses (refusal_of fault) t.asked t.said next)
+IsTurn number Closed t next = Says [] Closed t.asked t.said next
+
+-- one turn after the other
+abbrev pub AreTurns : ℕ → Stage → List Turn → Stage → Type 0
+AreTurns number old [] new = new ≡ old
+AreTurns number old (t ∷ ts) new = (mid : Stage) × IsTurn number old t mid × AreTurns number mid ts new
+
+-- no startup and no frame stands whole at the front; once the connection is closed, nothing is left
+abbrev pub Waits : Stage → List ℕ → Type 0
+Waits Fresh rest = framed_startup rest ≡ Ok None
+Waits (Idle database) rest = framed_front rest ≡ Ok None
+Waits Closed rest = rest ≡ []
+
+-- What the connection of this number hears, what it asks of its desk and what it says are one conversation: from its
+-- startup on, turn by turn, the turns spell the input but for a rest that is waited on.
+pub record IsConversation (number : ℕ) (input : List ℕ) (asked : List Call) (said : List ℕ) : Type 0 where
+  pub turns : List Turn
+  pub end : Stage
+  pub rest : List ℕ
+  pub follow : AreTurns number Fresh turns end
+  pub spell : input ≡ flat_map (λ t. t.text) turns ++ rest
+  pub ask : asked ≡ flat_map (λ t. t.asked) turns
+  pub say : said ≡ flat_map (λ t. t.said) turns
+  pub waits : Waits end rest

@@ -1,0 +1,168 @@
+//! A connection: what has come of it and isn't answered yet, and how far its conversation is.
+
+ghost use Rattle.std.specs.Prelude.{◌≡◌, ◌≢◌, ◌↔◌, ◌<◌, ◌++◌, length, OnOk, OnErr, IfOk, [], Err, false, true};
+ghost use Rattle.server.specs.Conversation.{Gave};
+ghost use Rattle.server.specs.Segment.{Went, UnlessMemory, phase_of};
+ghost use Rattle.server.specs.Turns.{Waits, IsConversation};
+ghost use Rattle.server.specs.declared.turn.Stage.TheVariants.{Fresh, Closed};
+ghost use Rattle.std.specs.List.{flat_map};
+
+use crate::desk::Desk;
+use crate::fault::ConnFault;
+use crate::turn::{Stage, Turned, turn};
+use bytes::BytesMut;
+use std::alloc::{AllocError, Global};
+use std::mem;
+
+/// What a connection waits for.
+#[derive(Clone, Copy, Debug, PartialEq, Eq)]
+pub enum Phase {
+    /// The session's startup.
+    Startup,
+    /// A query, or the end.
+    Idle,
+    /// Nothing.
+    Closed,
+}
+
+/// The server's side of one connection, without its socket.
+///
+/// `take` is given the bytes as they come, in any cuts, and a desk; it adds the answers to a buffer.
+#[derive(Debug, Drop)]
+pub struct Connection {
+    pub(crate) alloc: Global,
+    pub(crate) number: u32,
+    pub(crate) stage: Stage,
+    /// What has come and isn't answered yet.
+    pub(crate) pending: BytesMut,
+}
+
+impl Connection {
+    /// The connection of this number, which waits for its startup.
+    pub fn new(alloc: Global, number: u32) -> Self
+        ensures number { result.number ≡ number }
+        ensures stage { result.stage ≡ Fresh }
+        ensures pending { result.pending.items ≡ [] }
+    {
+        Connection {
+            alloc,
+            number,
+            stage: Stage::Fresh,
+            pending: BytesMut::new(alloc),
+        }
+    }
+
+    pub fn phase(&self) -> Phase
+        ensures { result ≡ phase_of self.now.stage }
+    {
+        match &self.stage {
+            Stage::Fresh => Phase::Startup,
+            Stage::Idle(_) => Phase::Idle,
+            Stage::Closed => Phase::Closed,
+        }
+    }
+
+    /// Takes one turn; false: what is pending has to wait for more.
+    fn step<D: Desk>(&mut self, desk: &mut D, out: &mut BytesMut) -> Result<bool, AllocError>
+        ensures went { OnOk result (Went D.told [] self.old desk.old out.old.items self.new desk.new out.new.items) }
+        ensures less { IfOk result (λ more. more ≡ true → length self.new.pending.items < length self.old.pending.items) }
+        ensures waits { IfOk result (λ more. more ≡ false → Waits self.new.stage self.new.pending.items) }
+    {
+        let stage = mem::replace(&mut self.stage, Stage::Closed);
+        let turned = turn(
+            self.alloc,
+            self.number,
+            stage,
+            self.pending.as_slice(),
+            desk,
+            out,
+        )?;
+        let Turned { stage, count } = turned;
+        self.stage = stage;
+        self.pending.advance(count);
+        Ok(0 < count)
+    }
+
+    /// Takes all turns that the pending bytes and these make.
+    fn hear<D: Desk>(
+        &mut self,
+        bytes: &[u8],
+        desk: &mut D,
+        out: &mut BytesMut,
+    ) -> Result<(), AllocError>
+        ensures went { OnOk result (Went D.told bytes.now self.old desk.old out.old.items self.new desk.new out.new.items) }
+        ensures waits { OnOk result (Waits self.new.stage self.new.pending.items) }
+    {
+        self.pending.extend_from_slice(bytes)?;
+        while self.step(desk, out)? {}
+        Ok(())
+    }
+
+    fn close(&mut self)
+        ensures stage { self.new.stage ≡ Closed }
+    {
+        let _ended = mem::replace(&mut self.stage, Stage::Closed);
+    }
+
+    fn is_closed(&self) -> bool
+        ensures { (result ≡ true) ↔ (self.now.stage ≡ Closed) }
+    {
+        matches!(&self.stage, Stage::Closed)
+    }
+
+    /// Answers all that the client has sent up to the end of these bytes.
+    ///
+    /// H1 is want of memory, and it closes the connection without a word. What comes to a closed connection is passed
+    /// over: in the call that closed it silently, in later ones by H2.
+    pub fn take<D: Desk>(
+        &mut self,
+        bytes: &[u8],
+        desk: &mut D,
+        out: &mut BytesMut,
+    ) -> Result<Phase, ConnFault>
+        // The call carries the conversation on.
+        ensures went { UnlessMemory result (Went D.told bytes.now self.old desk.old out.old.items self.new desk.new out.new.items) }
+        // All that can be answered is.
+        ensures waits { UnlessMemory result (Waits self.new.stage self.new.pending.items) }
+        ensures phase { IfOk result (λ p. p ≡ phase_of self.new.stage) }
+        ensures closed { OnErr result (self.new.stage ≡ Closed) }
+        ensures ended { (result ≡ Err ConnFault.Closed) ↔ (self.old.stage ≡ Closed) }
+    {
+        if self.is_closed() {
+            self.pending.clear();
+            return Err(ConnFault::Closed);
+        }
+        if self.hear(bytes, desk, out).is_err() {
+            self.close();
+            return Err(ConnFault::Memory);
+        }
+        Ok(self.phase())
+    }
+}
+
+/// Whether the connection can go on.
+fn unless_memory(answer: Result<Phase, ConnFault>) -> Result<(), AllocError>
+    ensures { OnOk result (answer ≢ Err ConnFault.Memory) }
+{
+    match answer {
+        Err(ConnFault::Memory) => Err(AllocError),
+        _ => Ok(()),
+    }
+}
+
+/// Holds a whole conversation on the connection of this number: the pieces are what the client sends, in any cuts.
+pub fn converse<D: Desk>(
+    alloc: Global,
+    number: u32,
+    pieces: &[Vec<u8>],
+    desk: &mut D,
+    out: &mut BytesMut,
+) -> Result<(), AllocError>
+    ensures { OnOk result (Gave D.told (IsConversation number (flat_map (λ p. p.items) pieces.now)) desk.old out.old.items desk.new out.new.items) }
+{
+    let mut connection = Connection::new(alloc, number);
+    for piece in pieces {
+        unless_memory(connection.take(piece.as_slice(), desk, out))?;
+    }
+    Ok(())
+}
