@@ -55,28 +55,24 @@ pub struct Words<'a> {
 
 /// Both words, or the text for a user who asks for help or gives other words.
 pub fn words_of<'a>(alloc: Global, words: &'a [String]) -> Result<Words<'a>, Error> {
-    let matches = command(alloc)?.try_get_matches_from(words)?;
+    let config = Arg::new(alloc, "CONFIG")
+        .required(true)
+        .action(ArgAction::Set)
+        .help(CONFIG_HELP);
+    let schedule = Arg::new(alloc, "SCHEDULE")
+        .required(true)
+        .action(ArgAction::Set)
+        .help(SCHEDULE_HELP);
+    let command = Command::new(alloc, "pubsim")
+        .bin_name("pubsim")?
+        .about(ABOUT)
+        .after_help(AFTER_HELP)
+        .arg(config)?
+        .arg(schedule)?;
+    let matches = command.try_get_matches_from(words)?;
     // Both are required, so both are there.
     Ok(Words {
         config: matches.get_str("CONFIG").unwrap_or(""),
         schedule: matches.get_str("SCHEDULE").unwrap_or(""),
     })
-}
-
-fn command(alloc: Global) -> Result<Command<'static>, Error> {
-    let command = Command::new(alloc, "pubsim")
-        .bin_name("pubsim")?
-        .about(ABOUT)
-        .after_help(AFTER_HELP)
-        .arg(word(alloc, "CONFIG", CONFIG_HELP))?
-        .arg(word(alloc, "SCHEDULE", SCHEDULE_HELP))?;
-    Ok(command)
-}
-
-/// A word that has to be there.
-fn word(alloc: Global, name: &'static str, help: &'static str) -> Arg<'static> {
-    Arg::new(alloc, name)
-        .required(true)
-        .action(ArgAction::Set)
-        .help(help)
 }
