@@ -21,25 +21,29 @@ pub fn add_lines(alloc: Global, schedule: &mut String, line: &str) -> Result<()>
     Ok(())
 }
 
-/// Adds a line, in which `a{N}` stands for N letters a, and `\0` for a zero byte.
 fn add_line(alloc: Global, schedule: &mut String, line: &str) -> Result<()> {
-    let line = line.replace(alloc, "\\0", "\0")?;
-    match line.as_str().split_once("a{") {
-        None => schedule.push_str(line.as_str())?,
-        Some((before, rest)) => {
-            let (count, behind) = rest.split_once('}').context("has no closing bracket")?;
-            let count = count
-                .parse::<u32>()
-                .context("reading how often a letter stands")?;
-            schedule.push_str(before)?;
-            for _ in 0..count {
-                schedule.push('a')?;
-            }
-            schedule.push_str(behind)?;
-        }
-    }
+    let line = line_of(alloc, line)?;
+    schedule.push_str(line.as_str())?;
     schedule.push('\n')?;
     Ok(())
+}
+
+/// A line in which `a{N}` stands for N letters a, and `\0` for a zero byte.
+pub fn line_of(alloc: Global, line: &str) -> Result<String> {
+    let line = line.replace(alloc, "\\0", "\0")?;
+    let Some((before, rest)) = line.as_str().split_once("a{") else {
+        return Ok(line);
+    };
+    let (count, behind) = rest.split_once('}').context("has no closing bracket")?;
+    let count = count
+        .parse::<u32>()
+        .context("reading how often a letter stands")?;
+    let mut whole = String::from_str(alloc, before)?;
+    for _ in 0..count {
+        whole.push('a')?;
+    }
+    whole.push_str(behind)?;
+    Ok(whole)
 }
 
 /// Adds a line of what is printed. One that begins with a space goes on with the line before it, and its spaces don't count;

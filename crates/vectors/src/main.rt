@@ -1,11 +1,12 @@
 //! Holds the crates against samples: each line of a file in data/ has a sample and says what it means, or which fault it is.
 //!
 //! `vectors FILE..` prints for each file how many of its samples held, and each that didn't. A file of samples has one on
-//! each line; a file of schedules has what each of them prints. The head of each file tells its form.
+//! each line; a file of schedules or of conversations has what comes of each of them. The head of each file tells its form.
 #![tactic(auto)]
 
 mod catalog_text;
 mod command_text;
+mod conversations;
 mod event_line;
 mod expanded;
 mod field;
@@ -14,16 +15,21 @@ mod framing;
 mod given;
 mod message;
 mod play;
+mod random;
 mod report;
 mod row_body;
 mod sample;
 mod samples;
 mod schedules;
+mod scripted_desk;
 mod shown;
+mod spoken;
+mod talk;
 mod told;
 mod wording;
 
 use anyhow::{Result, bail, ensure};
+use conversations::judge_conversations;
 use report::Report;
 use samples::judge_samples;
 use schedules::judge_schedules;
@@ -50,6 +56,9 @@ fn judged(alloc: Global, path: &str, text: &str) -> Result<Report> {
     }
     if path.ends_with(".schedules") {
         return judge_schedules(alloc, text);
+    }
+    if path.ends_with(".conversations") {
+        return judge_conversations(alloc, text);
     }
     bail!("{path} is a file of no kind");
 }

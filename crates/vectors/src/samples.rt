@@ -7,6 +7,7 @@ use crate::field::field_answer;
 use crate::framing::{back_answer, front_answer, startup_answer};
 use crate::given::Given;
 use crate::message::logical_answer;
+use crate::random::random_answer;
 use crate::report::Report;
 use crate::row_body::body_answer;
 use crate::sample::{Answer, Sample};
@@ -81,6 +82,7 @@ fn answer_of(alloc: Global, sample: Sample<'_>) -> Result<Answer> {
         "command" => command_answer(alloc, sample.given),
         "position" => position_answer(alloc, sample.given),
         "event" => event_answer(alloc, sample.given),
+        "random" => random_answer(alloc, sample.given),
         "text" => text_answer(alloc, sample.given),
         "code" => code_answer(alloc, sample.given),
         _ => bytes_answer(alloc, sample.call, &Given::of(alloc, sample.given)?),

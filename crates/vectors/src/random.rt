@@ -1,0 +1,109 @@
+//! Conversations that nobody means: frames and bytes as they happen to come.
+
+use crate::sample::Answer;
+use crate::spoken::add_heard;
+use crate::talk::{Talk, talked};
+use anyhow::{Context, Result, ensure};
+use std::alloc::Global;
+
+/// The longest piece of a cut conversation, in bytes.
+const LONGEST_PIECE: u32 = 40;
+
+/// How many lines a conversation has behind its startup.
+const LINES: usize = 30;
+
+/// What a client may send, in the words of a conversation.
+const HEARD: [&str; 12] = [
+    "query IDENTIFY_SYSTEM",
+    "query IDENTIFY_SYSTEM;",
+    "query CREATE_REPLICATION_SLOT s LOGICAL pgoutput",
+    "query CREATE_REPLICATION_SLOT there LOGICAL pgoutput",
+    "query DROP_REPLICATION_SLOT s",
+    "query DROP_REPLICATION_SLOT missing",
+    "query START_REPLICATION SLOT busy LOGICAL 0/0 (proto_version '1', publication_names 'p')",
+    "query nothing that is known",
+    "51 0000000c ff",
+    "51 00000009 61 c3 28 62 00",
+    "50 00000004",
+    "58 00000004",
+];
+
+/// Numbers that follow from a seed (a linear congruential generator with Knuth's factors).
+#[derive(Drop)]
+struct Numbers {
+    state: u64,
+}
+
+impl Numbers {
+    /// A number below this one, which isn't 0.
+    fn below(&mut self, bound: u32) -> u32 {
+        self.state = self
+            .state
+            .wrapping_mul(6_364_136_223_846_793_005)
+            .wrapping_add(1_442_695_040_888_963_407);
+        let number = (self.state >> 33) as u32;
+        number.checked_rem(bound).unwrap_or(0)
+    }
+}
+
+/// Conversations of so many bytes in all, each held in random cuts and at once: `SEED BYTES`.
+pub fn random_answer(alloc: Global, given: &str) -> Result<Answer> {
+    let (seed, count) = given.split_once(' ').context("gives no number of bytes")?;
+    let mut numbers = Numbers {
+        state: seed.parse::<u64>().context("reading the seed")?,
+    };
+    let mut left = count.parse::<usize>().context("reading how many bytes")?;
+    while 0 < left {
+        let heard = random_bytes(alloc, &mut numbers)?;
+        let whole = talked(alloc, heard.as_slice(), usize::MAX)?;
+        let pieces = talked_in_pieces(alloc, heard.as_slice(), &mut numbers)?;
+        ensure!(whole == pieces, "comes to something else in pieces");
+        left = left.saturating_sub(heard.len());
+    }
+    Ok(Answer::Meaning("same".to_string(alloc)?))
+}
+
+fn talked_in_pieces(alloc: Global, heard: &[u8], numbers: &mut Numbers) -> Result<String> {
+    let mut talk = Talk::new(alloc);
+    let mut rest = heard;
+    while !rest.is_empty() {
+        let length = numbers.below(LONGEST_PIECE) as usize;
+        let (piece, behind) = rest.split_at_checked(length).unwrap_or((rest, &[]));
+        talk.hear(piece)?;
+        rest = behind;
+    }
+    talk.shown(alloc)
+}
+
+/// One conversation: mostly a startup, then frames, and now and then bytes that are none.
+fn random_bytes(alloc: Global, numbers: &mut Numbers) -> Result<Vec<u8>> {
+    let mut heard = Vec::new(alloc);
+    if numbers.below(8) != 0 {
+        add_heard(
+            alloc,
+            &mut heard,
+            "startup 'user' 'u' 'replication' 'database'",
+        )?;
+    }
+    for _ in 0..LINES {
+        match HEARD.get(numbers.below(16) as usize) {
+            Some(line) => add_heard(alloc, &mut heard, line)?,
+            None => add_noise(&mut heard, numbers)?,
+        }
+    }
+    Ok(heard)
+}
+
+/// Bytes of any kind, mostly in a frame of a query.
+fn add_noise(heard: &mut Vec<u8>, numbers: &mut Numbers) -> Result<()> {
+    let length = numbers.below(30);
+    if numbers.below(4) != 0 {
+        let length = length.saturating_add(4);
+        heard.push(b'Q')?;
+        heard.extend_from_slice(&length.to_be_bytes())?;
+    }
+    for _ in 0..length {
+        heard.push(numbers.below(256) as u8)?;
+    }
+    Ok(())
+}

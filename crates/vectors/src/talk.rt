@@ -1,0 +1,58 @@
+//! A conversation held over a scripted desk.
+
+ghost use Rattle.std.specs.Prelude.{◌≤◌};
+
+use crate::scripted_desk::ScriptedDesk;
+use anyhow::{Context, Result, ensure};
+use bytes::BytesMut;
+use server::{ConnFault, Connection};
+use std::alloc::Global;
+
+/// A connection with what it has asked and said.
+#[derive(Drop)]
+pub struct Talk {
+    desk: ScriptedDesk,
+    connection: Connection,
+    out: BytesMut,
+}
+
+impl Talk {
+    /// The first connection of a server.
+    pub fn new(alloc: Global) -> Self {
+        Talk {
+            desk: ScriptedDesk::new(alloc),
+            connection: Connection::new(alloc, 1),
+            out: BytesMut::new(alloc),
+        }
+    }
+
+    /// Hears what the client sends. To a closed connection nothing can be sent.
+    pub fn hear(&mut self, bytes: &[u8]) -> Result<()> {
+        let phase = self.connection.phase();
+        match self.connection.take(bytes, &mut self.desk, &mut self.out) {
+            Ok(answer) => ensure!(answer == self.connection.phase(), "answers another phase"),
+            Err(ConnFault::Closed) => ensure!(phase == server::Phase::Closed, "closes twice"),
+            Err(fault) => return Err(fault.into()),
+        }
+        Ok(())
+    }
+
+    /// The phase, what was asked, and what was said.
+    pub fn shown(&self, alloc: Global) -> Result<String> {
+        let phase = self.connection.phase();
+        let asked = self.desk.asked().context("is not told whole")?;
+        let said = hex::encode(alloc, self.out.as_slice())?;
+        Ok(format!(in alloc; "{phase:?}\n{asked}{}", said.as_str())?)
+    }
+}
+
+/// What comes of bytes that are sent in pieces of this length.
+pub fn talked(alloc: Global, bytes: &[u8], length: usize) -> Result<String>
+    requires { 1 ≤ length }
+{
+    let mut talk = Talk::new(alloc);
+    for piece in bytes.chunks(length) {
+        talk.hear(piece)?;
+    }
+    talk.shown(alloc)
+}
