@@ -1,9 +1,10 @@
 -- Each message is read as it is spelled, with its faults.
-use Rattle.std.proofs.Common.{◌≡◌, ℕ, suc, ◌<◌, ◌^◌, Bool, true, false, List, ◌++◌, length, take, Some, Ok, Err, refl, arith}
+use Rattle.std.proofs.Common.{◌≡◌, ℕ, suc, ◌<◌, ◌^◌, Bool, true, false, List, [], ◌∷◌, ◌++◌, length, take, Option, Some, None, Ok, Err, refl, arith}
 use Rattle.std.specs.List.{flat_map, AllByRecursion}
-use Rattle.frames.specs.Fields.{int16}
+use Rattle.frames.specs.Fields.{int16, int32}
 use Rattle.std.proofs.lemmas.Bool.Decides.{nat_tests}
 use Rattle.pgoutput.specs.declared.fault.OutFault.TheVariants.{Short, UnknownKind, BadMark}
+use Rattle.pgoutput.specs.Reading.{one_of}
 use Rattle.pgoutput.specs.declared.tuple.Cell.{Cell}
 use Rattle.pgoutput.specs.declared.tuple.Cell.TheVariants as cells
 use Rattle.pgoutput.specs.declared.tuple.TheConstants.{NULL, UNCHANGED, TEXT}
@@ -15,15 +16,26 @@ use Rattle.pgoutput.specs.declared.begin.TheConstants.{BEGIN}
 use Rattle.pgoutput.specs.declared.commit.TheConstants.{COMMIT, COMMIT_FLAGS}
 use Rattle.pgoutput.specs.declared.relation.TheConstants.{RELATION}
 use Rattle.pgoutput.specs.declared.insert.TheConstants.{INSERT, NEW}
+use Rattle.pgoutput.specs.declared.old_tuple.OldTuple.{OldTuple}
+use Rattle.pgoutput.specs.declared.old_tuple.OldTuple.TheVariants as olds
+use Rattle.pgoutput.specs.declared.old_tuple.TheConstants.{KEY, OLD}
+use Rattle.pgoutput.specs.declared.update.TheConstants.{UPDATE}
+use Rattle.pgoutput.specs.declared.delete.TheConstants.{DELETE}
+use Rattle.pgoutput.specs.declared.truncate.TruncateOptions.{TruncateOptions}
+use Rattle.pgoutput.specs.declared.truncate.TheConstants.{TRUNCATE}
 use Rattle.pgoutput.specs.Begin.{begin, FitsBegin, begin_at}
 use Rattle.pgoutput.specs.Commit.{commit, FitsCommit, commit_at}
 use Rattle.pgoutput.specs.Relation.{column, FitsColumn, column_at, columns_at, relation, FitsRelation, relation_at, identity_of, identity_letter, is_key_of, key_flag}
 use Rattle.pgoutput.specs.Tuple.{cell, FitsCell, cell_at, tuple, FitsTuple, tuple_at}
 use Rattle.pgoutput.specs.Insert.{insert, FitsInsert, insert_at}
+use Rattle.pgoutput.specs.OldTuple.{old_tuple, FitsOldTuple, old_tuple_at}
+use Rattle.pgoutput.specs.Update.{old_if_any, update, FitsIfAny, FitsUpdate, tuples_at, rows_at, update_at}
+use Rattle.pgoutput.specs.Delete.{delete, FitsDelete, delete_at}
+use Rattle.pgoutput.specs.Truncate.{letter_of, options, options_letter, options_of, truncate, FitsTruncate, truncate_at}
 use Rattle.pgoutput.specs.Logical.{logical_at, fields_at, is_kind, spell_logical, FitsLogical}
 use Rattle.frames.proofs.Codec.{Codec, choice_codec}
-use Rattle.pgoutput.proofs.Engine.{Wire, field, last_field, free_field, wire_of, Chosen, choice, no_choice, choice_wire, choice_cut}
-use Rattle.pgoutput.proofs.Plain.{number32, number64, signed32, signed64, name_wire, text_wire, list_wire, letter_wire, expected_wire, nothing}
+use Rattle.pgoutput.proofs.Engine.{Wire, field, last_field, free_field, wire_of, counted, repeated, Chosen, choice, no_choice, choice_wire, choice_cut}
+use Rattle.pgoutput.proofs.Plain.{number32, number64, count32, signed32, signed64, name_wire, text_wire, list_wire, letter_wire, expected_wire, nothing}
 
 begin_wire : Wire begin_at begin FitsBegin
 unfolding begin_at
@@ -117,6 +129,112 @@ insert_wire = wire_of (
     last_field tuple_wire (λ m. m.new) _ (λ new. record { oid = oid; new = new })
     (λ _. refl) (λ _ _. (refl, (refl, tt))) (λ m known. rw (← known.1.0) refl))))
 
+-- ---- old rows
+
+old_tuple_again : (old : OldTuple) (rest : List ℕ) → FitsOldTuple old → old_tuple_at (old_tuple old ++ rest) ≡ Ok (old, rest)
+unfolding old_tuple_at
+old_tuple_again (olds.Key cells) rest fits = rw (tuple_wire.codec.again cells rest fits) refl
+old_tuple_again (olds.Full cells) rest fits = rw (tuple_wire.codec.again cells rest fits) refl
+
+old_tuple_cut : (old : OldTuple) (n : ℕ) → FitsOldTuple old → suc n < length (old_tuple old) → old_tuple_at (take (suc n) (old_tuple old)) ≡ Err Short
+unfolding old_tuple_at
+old_tuple_cut (olds.Key cells) n fits lt = rw (tuple_wire.cut cells n fits (omega arith)) refl
+old_tuple_cut (olds.Full cells) n fits lt = rw (tuple_wire.cut cells n fits (omega arith)) refl
+
+old_tuple_wire : Wire old_tuple_at old_tuple FitsOldTuple
+unfolding old_tuple_at
+old_tuple_wire = choice_wire (
+    choice KEY tuple_wire (λ cells. olds.Key cells) old_tuple FitsOldTuple (λ _. refl) (λ _ fits. fits) (
+    choice OLD tuple_wire (λ cells. olds.Full cells) old_tuple FitsOldTuple (λ _. refl) (λ _ fits. fits) (
+    no_choice BadMark old_tuple FitsOldTuple))) tt old_tuple_again old_tuple_cut
+
+delete_wire : Wire delete_at delete FitsDelete
+unfolding delete_at
+delete_wire = wire_of (
+    field number32 (λ m. m.oid) _ _ _ _ (λ oid.
+    last_field old_tuple_wire (λ m. m.old) _ (λ old. record { oid = oid; old = old })
+    (λ _. refl) (λ _ _. (refl, tt)) (λ m known. rw (← known.0) refl)))
+
+-- ---- old and new rows
+
+abbrev Tuples : Type 0
+Tuples = List Cell × List Cell
+
+abbrev tuples : Tuples → List ℕ
+tuples t = tuple t.0 ++ ((NEW ∷ []) ++ tuple t.1)
+
+abbrev FitTuples : Tuples → Type 0
+FitTuples t = FitsTuple t.0 × FitsTuple t.1
+
+tuples_wire : Wire tuples_at tuples FitTuples
+unfolding tuples_at
+tuples_wire = wire_of (
+    field tuple_wire (λ t. t.0) _ _ _ _ (λ old.
+    free_field (expected_wire NEW) (λ _. tt) (λ _. tt) _ _ _ _ (λ letter.
+    last_field tuple_wire (λ t. t.1) _ (λ new. (old, new))
+    (λ _. refl) (λ _ _. (refl, (refl, tt))) (λ t known. rw (← known.1.0) refl))))
+
+abbrev Rows : Type 0
+Rows = Option OldTuple × List Cell
+
+abbrev rows : Rows → List ℕ
+rows r = old_if_any r.0 ++ ((NEW ∷ []) ++ tuple r.1)
+
+abbrev FitRows : Rows → Type 0
+FitRows r = FitsIfAny r.0 × FitsTuple r.1
+
+rows_again : (old : Option OldTuple) (new : List Cell) (rest : List ℕ) → FitRows (old, new) → rows_at (rows (old, new) ++ rest) ≡ Ok ((old, new), rest)
+unfolding rows_at
+rows_again None new rest fits = rw (tuple_wire.codec.again new rest fits.1) refl
+rows_again (Some (olds.Key old)) new rest fits = rw (tuples_wire.codec.again (old, new) rest fits) refl
+rows_again (Some (olds.Full old)) new rest fits = rw (tuples_wire.codec.again (old, new) rest fits) refl
+
+rows_cut : (old : Option OldTuple) (new : List Cell) (n : ℕ) → FitRows (old, new) → suc n < length (rows (old, new)) → rows_at (take (suc n) (rows (old, new))) ≡ Err Short
+unfolding rows_at
+rows_cut None new n fits lt = rw (tuple_wire.cut new n fits.1 (omega arith)) refl
+rows_cut (Some (olds.Key old)) new n fits lt = rw (tuples_wire.cut (old, new) n fits (omega arith)) refl
+rows_cut (Some (olds.Full old)) new n fits lt = rw (tuples_wire.cut (old, new) n fits (omega arith)) refl
+
+rows_wire : Wire rows_at rows FitRows
+unfolding rows_at
+rows_wire = choice_wire (
+    choice NEW tuple_wire (λ new. (None, new)) rows FitRows (λ _. refl) (λ _ fits. (tt, fits)) (
+    choice KEY tuples_wire (λ t. (Some (olds.Key t.0), t.1)) rows FitRows (λ _. refl) (λ _ fits. fits) (
+    choice OLD tuples_wire (λ t. (Some (olds.Full t.0), t.1)) rows FitRows (λ _. refl) (λ _ fits. fits) (
+    no_choice BadMark rows FitRows)))) tt (λ r. rows_again r.0 r.1) (λ r. rows_cut r.0 r.1)
+
+update_wire : Wire update_at update FitsUpdate
+unfolding update_at
+update_wire = wire_of (
+    field number32 (λ m. m.oid) _ _ _ _ (λ oid.
+    last_field rows_wire (λ m. (m.old, m.new)) _ (λ r. record { oid = oid; old = r.0; new = r.1 })
+    (λ _. refl) (λ _ _. (refl, tt)) (λ m known. rw (← known.0) refl)))
+
+-- ---- truncate
+
+options_there : (b : ℕ) (cascade restart_identity : Bool) → options_of b ≡ Some (options cascade restart_identity) → letter_of cascade restart_identity ≡ b
+options_there b false false e = grind (arith, nat_tests)
+options_there b true false e = grind (arith, nat_tests)
+options_there b false true e = grind (arith, nat_tests)
+options_there b true true e = grind (arith, nat_tests)
+
+options_back : (cascade restart_identity : Bool) → options_of (letter_of cascade restart_identity) ≡ Some (options cascade restart_identity)
+options_back false false = refl
+options_back true false = refl
+options_back false true = refl
+options_back true true = refl
+
+options_wire : Wire (one_of options_of) (λ o. options_letter o ∷ []) (λ _. Unit {0})
+options_wire = letter_wire options_of options_letter (λ b o. options_there b o.cascade o.restart_identity) (λ o. options_back o.cascade o.restart_identity)
+
+truncate_wire : Wire truncate_at truncate FitsTruncate
+unfolding truncate_at
+truncate_wire = counted count32 (λ m. length m.oids) _ (λ m. (options_letter m.options ∷ []) ++ flat_map int32 m.oids) (λ m. AllByRecursion (λ oid. oid < 2 ^ 32) m.oids) (λ n.
+    wire_of (
+    free_field options_wire (λ _. tt) (λ m. m.options) _ _ _ _ (λ options.
+    last_field (repeated number32 n) (λ m. m.oids) _ (λ oids. record { options = options; oids = oids })
+    (λ _. refl) (λ _ _. (refl, tt)) (λ m known. rw (← known.0) refl))))
+
 -- ---- any message
 
 logical_again : (m : Logical) (rest : List ℕ) → FitsLogical m → logical_at (spell_logical m ++ rest) ≡ Ok (m, rest)
@@ -125,6 +243,9 @@ logical_again (logical.Begin m) rest fits = rw (begin_wire.codec.again m rest fi
 logical_again (logical.Commit m) rest fits = rw (commit_wire.codec.again m rest fits) refl
 logical_again (logical.Relation m) rest fits = rw (relation_wire.codec.again m rest fits) refl
 logical_again (logical.Insert m) rest fits = rw (insert_wire.codec.again m rest fits) refl
+logical_again (logical.Update m) rest fits = rw (update_wire.codec.again m rest fits) refl
+logical_again (logical.Delete m) rest fits = rw (delete_wire.codec.again m rest fits) refl
+logical_again (logical.Truncate m) rest fits = rw (truncate_wire.codec.again m rest fits) refl
 
 logical_cut : (m : Logical) (n : ℕ) → FitsLogical m → suc n < length (spell_logical m) → logical_at (take (suc n) (spell_logical m)) ≡ Err Short
 unfolding logical_at
@@ -132,6 +253,9 @@ logical_cut (logical.Begin m) n fits lt = rw (begin_wire.cut m n fits (omega ari
 logical_cut (logical.Commit m) n fits lt = rw (commit_wire.cut m n fits (omega arith)) refl
 logical_cut (logical.Relation m) n fits lt = rw (relation_wire.cut m n fits (omega arith)) refl
 logical_cut (logical.Insert m) n fits lt = rw (insert_wire.cut m n fits (omega arith)) refl
+logical_cut (logical.Update m) n fits lt = rw (update_wire.cut m n fits (omega arith)) refl
+logical_cut (logical.Delete m) n fits lt = rw (delete_wire.cut m n fits (omega arith)) refl
+logical_cut (logical.Truncate m) n fits lt = rw (truncate_wire.cut m n fits (omega arith)) refl
 
 pub logical_chosen : Chosen UnknownKind fields_at spell_logical FitsLogical is_kind
 logical_chosen =
@@ -139,7 +263,10 @@ logical_chosen =
     choice COMMIT commit_wire (λ m. logical.Commit m) spell_logical FitsLogical (λ _. refl) (λ _ fits. fits) (
     choice RELATION relation_wire (λ m. logical.Relation m) spell_logical FitsLogical (λ _. refl) (λ _ fits. fits) (
     choice INSERT insert_wire (λ m. logical.Insert m) spell_logical FitsLogical (λ _. refl) (λ _ fits. fits) (
-    no_choice UnknownKind spell_logical FitsLogical))))
+    choice UPDATE update_wire (λ m. logical.Update m) spell_logical FitsLogical (λ _. refl) (λ _ fits. fits) (
+    choice DELETE delete_wire (λ m. logical.Delete m) spell_logical FitsLogical (λ _. refl) (λ _ fits. fits) (
+    choice TRUNCATE truncate_wire (λ m. logical.Truncate m) spell_logical FitsLogical (λ _. refl) (λ _ fits. fits) (
+    no_choice UnknownKind spell_logical FitsLogical)))))))
 
 pub logical_codec : Codec logical_at spell_logical FitsLogical
 unfolding logical_at

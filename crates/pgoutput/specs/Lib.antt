@@ -4,4 +4,8 @@ pub mod Commit
 pub mod Relation
 pub mod Tuple
 pub mod Insert
+pub mod OldTuple
+pub mod Update
+pub mod Delete
+pub mod Truncate
 pub mod Logical

@@ -1,4 +1,4 @@
-//! Lists, a count of two bytes and that many items: what an item must tell to be read and written in one.
+//! Lists, a count and that many items: what an item must tell to be read and written in one.
 
 ghost use Rattle.std.specs.Prelude.{◌≡◌, ◌^◌, ◌<◌, ◌++◌, length, take};
 ghost use Rattle.std.specs.List.{flat_map, AllByRecursion};
@@ -26,7 +26,7 @@ pub(crate) trait ReadItem: Sized {
 pub(crate) fn items_of<T: ReadItem + Drop>(
     alloc: Global,
     cursor: &mut Cursor<'_>,
-    count: u16,
+    count: usize,
 ) -> Result<Items<T>, OutFault>
     ensures { Gives result cursor.new (repeat_at T.item_at count cursor.old) }
 {
@@ -51,7 +51,7 @@ pub(crate) trait PutItem {
         ensures { Puts result out.old.items out.new.items (spelled self.now) };
 }
 
-/// The count of the items, and each item.
+/// The count of the items, in two bytes, and each item.
 #[tactic(auto, using(frames::proofs::Putting::in_place))]
 pub(crate) fn put_items<T: PutItem>(out: &mut BytesMut, items: &[T]) -> Result<(), AllocError>
     requires count { length items.now < 2 ^ 15 }
@@ -59,6 +59,13 @@ pub(crate) fn put_items<T: PutItem>(out: &mut BytesMut, items: &[T]) -> Result<(
     ensures { Puts result out.old.items out.new.items (int16 (length items.now) ++ flat_map T.spelled items.now) }
 {
     put_int16(out, items.len() as u16)?;
+    put_each(out, items)
+}
+
+pub(crate) fn put_each<T: PutItem>(out: &mut BytesMut, items: &[T]) -> Result<(), AllocError>
+    requires { AllByRecursion T.is_short items.now }
+    ensures { Puts result out.old.items out.new.items (flat_map T.spelled items.now) }
+{
     for item in items {
         item.put(out)?;
     }

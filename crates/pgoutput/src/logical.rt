@@ -7,9 +7,12 @@ ghost use Rattle.pgoutput.specs.Logical.{SpellsLogical, FitsLogical, IsShort, St
 
 use crate::begin::{BEGIN, Begin, begin_of, put_begin};
 use crate::commit::{COMMIT, Commit, commit_of, put_commit};
+use crate::delete::{DELETE, Delete, delete_of, put_delete};
 use crate::fault::OutFault;
 use crate::insert::{INSERT, Insert, insert_of, put_insert};
 use crate::relation::{RELATION, Relation, put_relation, relation_of};
+use crate::truncate::{TRUNCATE, Truncate, put_truncate, truncate_of};
+use crate::update::{UPDATE, Update, put_update, update_of};
 use bytes::BytesMut;
 use frames::{Cursor, put_byte};
 use std::alloc::{AllocError, Global};
@@ -23,6 +26,9 @@ pub enum Logical {
     Commit(Commit),
     Relation(Relation),
     Insert(Insert),
+    Update(Update),
+    Delete(Delete),
+    Truncate(Truncate),
 }
 
 /// The message that the bytes spell, all of them.
@@ -70,6 +76,9 @@ fn logical_of(alloc: Global, cursor: &mut Cursor<'_>) -> Result<Logical, OutFaul
         COMMIT => Ok(Logical::Commit(commit_of(cursor)?)),
         RELATION => Ok(Logical::Relation(relation_of(alloc, cursor)?)),
         INSERT => Ok(Logical::Insert(insert_of(alloc, cursor)?)),
+        UPDATE => Ok(Logical::Update(update_of(alloc, cursor)?)),
+        DELETE => Ok(Logical::Delete(delete_of(alloc, cursor)?)),
+        TRUNCATE => Ok(Logical::Truncate(truncate_of(alloc, cursor)?)),
         _ => Err(OutFault::UnknownKind),
     }
 }
@@ -99,6 +108,9 @@ fn put_logical(out: &mut BytesMut, message: &Logical) -> Result<(), AllocError>
         Logical::Commit(message) => put_commit(out, message),
         Logical::Relation(message) => put_relation(out, message),
         Logical::Insert(message) => put_insert(out, message),
+        Logical::Update(message) => put_update(out, message),
+        Logical::Delete(message) => put_delete(out, message),
+        Logical::Truncate(message) => put_truncate(out, message),
     }
 }
 
@@ -110,6 +122,9 @@ fn kind_of(message: &Logical) -> u8
         Logical::Commit(_) => COMMIT,
         Logical::Relation(_) => RELATION,
         Logical::Insert(_) => INSERT,
+        Logical::Update(_) => UPDATE,
+        Logical::Delete(_) => DELETE,
+        Logical::Truncate(_) => TRUNCATE,
     }
 }
 

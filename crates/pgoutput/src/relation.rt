@@ -102,7 +102,7 @@ fn columns_of(alloc: Global, cursor: &mut Cursor<'_>) -> Result<Items<Column>, O
     ensures { Gives result cursor.new (columns_at cursor.old) }
 {
     let count = count16_of(cursor)?;
-    items_of(alloc, cursor, count)
+    items_of(alloc, cursor, count as usize)
 }
 
 #[tactic(auto, unfolding(crate::specs::Relation::column_at))]

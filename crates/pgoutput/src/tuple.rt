@@ -51,7 +51,7 @@ pub(crate) fn tuple_of(alloc: Global, cursor: &mut Cursor<'_>) -> Result<Items<C
     ensures { Gives result cursor.new (tuple_at cursor.old) }
 {
     let count = count16_of(cursor)?;
-    items_of(alloc, cursor, count)
+    items_of(alloc, cursor, count as usize)
 }
 
 pub(crate) fn put_tuple(out: &mut BytesMut, cells: &Items<Cell>) -> Result<(), AllocError>

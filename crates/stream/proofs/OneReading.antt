@@ -135,7 +135,12 @@ kind_of (words.XLogData s) = message_kind s.message
 
 change_kind : (relation : ℕ → Relation) (m : Logical) → IsOfChange relation m → (message_kind m ≡ 2 → ⊥) × (message_kind m ≡ 3 → ⊥)
 change_kind relation (logical.Insert m) h = (λ e. omega (arith, e), λ e. omega (arith, e))
-change_kind relation _ h = absurd h
+change_kind relation (logical.Update m) h = (λ e. omega (arith, e), λ e. omega (arith, e))
+change_kind relation (logical.Delete m) h = (λ e. omega (arith, e), λ e. omega (arith, e))
+change_kind relation (logical.Truncate m) h = (λ e. omega (arith, e), λ e. omega (arith, e))
+change_kind relation (logical.Begin m) h = absurd h
+change_kind relation (logical.Commit m) h = absurd h
+change_kind relation (logical.Relation m) h = absurd h
 
 -- behind the Relations the next word is the same, and so is what follows it
 past_relations : (xs ys : List Word) (w v : Word) (u t : List Word) → AllByRecursion (λ x. kind_of x ≡ 3) xs → AllByRecursion (λ y. kind_of y ≡ 3) ys

@@ -1,11 +1,14 @@
 -- The items of a stream, and the words that spell them. An item is a keepalive, or a block: one published transaction
 -- whole, under one clock. Before the first message of the stream that names a table stands the table's Relation.
-use Rattle.std.specs.Prelude.{◌≡◌, ℕ, ℤ, ◌+◌, ◌<◌, ◌≤◌, ◌^◌, FitsSigned, Bool, ◌==◌, if◌then◌else◌, List, [], ◌∷◌, ◌++◌, map, reverse, length}
+use Rattle.std.specs.Prelude.{◌≡◌, ℕ, ℤ, ◌+◌, ◌<◌, ◌≤◌, ◌^◌, FitsSigned, Bool, ◌==◌, if◌then◌else◌, List, [], ◌∷◌, ◌++◌, map, reverse, length, Option, Some, None}
 use Rattle.std.specs.List.{list_any, AllByRecursion}
 use Rattle.std.specs.Int.{w64}
 use Rattle.pgoutput.specs.declared.logical.Logical.{Logical}
 use Rattle.pgoutput.specs.declared.logical.Logical.TheVariants as logical
 use Rattle.pgoutput.specs.declared.relation.Relation.{Relation}
+use Rattle.pgoutput.specs.declared.tuple.Cell.{Cell}
+use Rattle.pgoutput.specs.declared.old_tuple.OldTuple.{OldTuple}
+use Rattle.pgoutput.specs.OldTuple.{cells_of}
 use Rattle.pgoutput.specs.Logical.{spell_logical, FitsLogical}
 use Rattle.stream.specs.declared.word.Word.{Word}
 use Rattle.stream.specs.declared.word.Word.TheVariants as words
@@ -31,6 +34,9 @@ keepalive_word position clock ask = words.Keepalive (record { position = positio
 -- the tables that a message names, in the order in which it names them
 abbrev pub tables_of : Logical → List ℕ
 tables_of (logical.Insert m) = m.oid ∷ []
+tables_of (logical.Update m) = m.oid ∷ []
+tables_of (logical.Delete m) = m.oid ∷ []
+tables_of (logical.Truncate m) = m.oids
 tables_of (logical.Begin m) = []
 tables_of (logical.Commit m) = []
 tables_of (logical.Relation m) = []
@@ -117,9 +123,20 @@ pub record FitsRelationOf (relation : ℕ → Relation) (oid : ℕ) : Type 0 whe
   pub fits : FitsLogical (logical.Relation (relation oid))
   pub short : IsShortMessage (logical.Relation (relation oid))
 
--- a message of a change: an Insert whose tuple has as many cells as the table's Relation has columns
+-- a tuple has as many cells as the table's Relation has columns
+abbrev pub IsTupleOf : (ℕ → Relation) → ℕ → List Cell → Type 0
+IsTupleOf relation oid cells = length cells ≡ length (relation oid).columns
+
+abbrev pub IsOldOf : (ℕ → Relation) → ℕ → Option OldTuple → Type 0
+IsOldOf relation oid None = Unit {0}
+IsOldOf relation oid (Some old) = IsTupleOf relation oid (cells_of old)
+
+-- a message of a change, with tuples of its table
 abbrev pub IsOfChange : (ℕ → Relation) → Logical → Type 0
-IsOfChange relation (logical.Insert m) = length m.new ≡ length (relation m.oid).columns
+IsOfChange relation (logical.Insert m) = IsTupleOf relation m.oid m.new
+IsOfChange relation (logical.Update m) = IsOldOf relation m.oid m.old × IsTupleOf relation m.oid m.new
+IsOfChange relation (logical.Delete m) = IsTupleOf relation m.oid (cells_of m.old)
+IsOfChange relation (logical.Truncate m) = Unit {0}
 IsOfChange relation _ = ⊥
 
 pub record FitsChange (relation : ℕ → Relation) (c : PublishedChange) : Type 0 where

@@ -1,0 +1,45 @@
+//! Delete, a row that is gone: its type, its reader and its writer.
+
+ghost use Rattle.std.specs.Prelude.{◌≡◌};
+ghost use Rattle.frames.specs.Putting.{Puts};
+ghost use Rattle.pgoutput.specs.Reading.{Gives};
+ghost use Rattle.pgoutput.specs.Delete.{delete, delete_at, IsShortDelete};
+
+use crate::fault::OutFault;
+use crate::old_tuple::{OldTuple, old_tuple_of, put_old_tuple};
+use bytes::BytesMut;
+use frames::{Cursor, put_int32};
+use std::alloc::{AllocError, Global};
+
+/// The kind byte of Delete.
+pub const DELETE: u8 = b'D';
+
+/// Delete (PostgreSQL 15, 55.9).
+///
+/// ```text
+/// Byte1('D') | Int32 oid | Byte1('K' or 'O') | TupleData old
+/// ```
+#[derive(Debug, Drop, PartialEq)]
+pub struct Delete {
+    /// The OID of the table.
+    pub oid: u32,
+    pub old: OldTuple,
+}
+
+#[tactic(auto, unfolding(crate::specs::Delete::delete_at))]
+pub(crate) fn delete_of(alloc: Global, cursor: &mut Cursor<'_>) -> Result<Delete, OutFault>
+    ensures { Gives result cursor.new (delete_at cursor.old) }
+{
+    let oid = cursor.u32().ok_or(OutFault::Short)?;
+    let old = old_tuple_of(alloc, cursor)?;
+    Ok(Delete { oid, old })
+}
+
+#[tactic(auto, using(frames::proofs::Putting::in_place))]
+pub(crate) fn put_delete(out: &mut BytesMut, message: &Delete) -> Result<(), AllocError>
+    requires { IsShortDelete message.now }
+    ensures { Puts result out.old.items out.new.items (delete message.now) }
+{
+    put_int32(out, message.oid)?;
+    put_old_tuple(out, &message.old)
+}
