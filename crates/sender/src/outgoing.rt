@@ -5,17 +5,19 @@ ghost use Rattle.std.specs.Prelude.{◌≡◌, ◌≤◌, ◌++◌, ◌∷◌, [
 ghost use Rattle.std.specs.List.{AllByRecursion};
 ghost use Rattle.frames.specs.Putting.{Puts};
 ghost use Rattle.pgoutput.specs.Logical.{IsShort};
+ghost use Rattle.pgoutput.specs.declared.logical.Logical.TheVariants as logical;
 ghost use Rattle.tables.specs.Tables.{table_of};
 ghost use Rattle.publication.specs.Selection.{relation};
 ghost use Rattle.publication.specs.Projection.{MessageFits};
 ghost use Rattle.stream.specs.Words.{frames_of, word_bytes};
-ghost use Rattle.stream.specs.Items.{IsShortMessage, begin_message, commit_message, is_relation_sent, relations_due, relations_sent_by, relations_sent_by_all, xlogdata_word, relation_words, change_words, changes_words, block_words, keepalive_word};
+ghost use Rattle.stream.specs.Items.{IsShortMessage, begin_message, commit_message, is_relation_sent, relations_due, relations_sent_by, relations_sent_by_all, tables_of, xlogdata_word, relation_words, change_words, changes_words, block_words, keepalive_word};
 
 use crate::word::{put_keepalive, put_xlogdata};
 use bytes::{BufMut, BytesMut};
 use pgoutput::{Begin, Commit, Logical};
 use publication::Selection;
 use std::alloc::{AllocError, Global};
+use std::slice;
 use stream::{Published, PublishedChange};
 
 /// Bytes on their way out. Where a call is refused, what was held before still stands at the front.
@@ -140,11 +142,46 @@ impl Outgoing {
         if is_sent(self.relations_sent.as_slice(), oid) {
             return Ok(());
         }
+        self.add_table(selection, position, clock, oid)?;
+        self.relations_sent.push(oid)?;
+        Ok(())
+    }
+
+    fn add_table(
+        &mut self,
+        selection: &Selection,
+        position: u64,
+        clock: i64,
+        oid: u32,
+    ) -> Result<(), AllocError>
+        requires { IsSome (table_of oid selection.now) }
+        ensures held { Puts result self.old.held.items self.new.held.items
+            (word_bytes (xlogdata_word position clock (logical.Relation (relation selection.now oid)))) }
+        ensures relations_sent { self.new.relations_sent ≡ self.old.relations_sent }
+    {
         let Some(message) = selection.relation(oid)? else {
             unreachable!();
         };
-        self.add_message(position, clock, &message)?;
-        self.relations_sent.push(oid)?;
+        self.add_message(position, clock, &message)
+    }
+
+    /// Adds the Relations of these tables that are due.
+    fn add_relations(
+        &mut self,
+        selection: &Selection,
+        position: u64,
+        clock: i64,
+        oids: &[u32],
+    ) -> Result<(), AllocError>
+        requires { AllByRecursion (λ oid. IsSome (table_of oid selection.now)) oids.now }
+        ensures held { Puts result self.old.held.items self.new.held.items
+            (frames_of (relation_words (relation selection.now) position clock (relations_due (reverse self.old.relations_sent.items) oids.now))) }
+        ensures relations_sent { OnOk result (reverse self.new.relations_sent.items
+            ≡ reverse (relations_due (reverse self.old.relations_sent.items) oids.now) ++ reverse self.old.relations_sent.items) }
+    {
+        for oid in oids {
+            self.add_relation(selection, position, clock, *oid)?;
+        }
         Ok(())
     }
 
@@ -160,9 +197,8 @@ impl Outgoing {
             (frames_of (change_words (relation selection.now) (reverse self.old.relations_sent.items) clock change.now)) }
         ensures relations_sent { OnOk result (reverse self.new.relations_sent.items ≡ relations_sent_by (reverse self.old.relations_sent.items) change.now) }
     {
-        if let Logical::Insert(insert) = &change.message {
-            self.add_relation(selection, change.position, clock, insert.oid)?;
-        }
+        let oids = tables_named(&change.message);
+        self.add_relations(selection, change.position, clock, oids)?;
         self.add_message(change.position, clock, &change.message)?;
         Ok(())
     }
@@ -219,6 +255,19 @@ impl Outgoing {
     {
         let commit = commit_of(transaction);
         self.add_message(transaction.end, clock, &commit)
+    }
+}
+
+/// The tables that a message names, in the order in which it names them.
+fn tables_named(message: &Logical) -> &[u32]
+    ensures { result.now ≡ tables_of message.now }
+{
+    match message {
+        Logical::Insert(message) => slice::from_ref(&message.oid),
+        Logical::Update(message) => slice::from_ref(&message.oid),
+        Logical::Delete(message) => slice::from_ref(&message.oid),
+        Logical::Truncate(message) => message.oids.as_slice(),
+        Logical::Begin(_) | Logical::Commit(_) | Logical::Relation(_) => &[],
     }
 }
 
