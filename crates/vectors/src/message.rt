@@ -6,7 +6,10 @@ use crate::sample::Answer;
 use crate::shown::{Position, Quoted};
 use anyhow::{Result, ensure};
 use bytes::BytesMut;
-use pgoutput::{Cell, Column, Insert, Logical, Relation, read_logical, write_logical};
+use pgoutput::{
+    Cell, Column, Delete, Insert, Logical, OldTuple, Relation, Truncate, Update, read_logical,
+    write_logical,
+};
 use std::alloc::{AllocError, Global};
 
 pub fn logical_answer(alloc: Global, bytes: &[u8]) -> Result<Answer> {
@@ -41,6 +44,9 @@ pub fn shown_message(alloc: Global, message: &Logical) -> Result<String, AllocEr
         }
         Logical::Relation(relation) => shown_relation(alloc, relation),
         Logical::Insert(insert) => shown_insert(alloc, insert),
+        Logical::Update(update) => shown_update(alloc, update),
+        Logical::Delete(delete) => shown_delete(alloc, delete),
+        Logical::Truncate(truncate) => shown_truncate(alloc, truncate),
     }
 }
 
@@ -65,9 +71,56 @@ fn shown_column(alloc: Global, column: &Column) -> Result<String, AllocError> {
 }
 
 fn shown_insert(alloc: Global, insert: &Insert) -> Result<String, AllocError> {
-    let oid = insert.oid;
-    let mut shown = format!(in alloc; "Insert {oid}")?;
-    for cell in insert.new.as_slice() {
+    let mut shown = format!(in alloc; "Insert {}", insert.oid)?;
+    add_cells(&mut shown, insert.new.as_slice())?;
+    Ok(shown)
+}
+
+fn shown_update(alloc: Global, update: &Update) -> Result<String, AllocError> {
+    let mut shown = format!(in alloc; "Update {}", update.oid)?;
+    if let Some(old) = &update.old {
+        add_old(&mut shown, old)?;
+    }
+    shown.push_str(" new")?;
+    add_cells(&mut shown, update.new.as_slice())?;
+    Ok(shown)
+}
+
+fn shown_delete(alloc: Global, delete: &Delete) -> Result<String, AllocError> {
+    let mut shown = format!(in alloc; "Delete {}", delete.oid)?;
+    add_old(&mut shown, &delete.old)?;
+    Ok(shown)
+}
+
+fn shown_truncate(alloc: Global, truncate: &Truncate) -> Result<String, AllocError> {
+    let mut shown = "Truncate".to_string(alloc)?;
+    if truncate.options.cascade {
+        shown.push_str(" cascade")?;
+    }
+    if truncate.options.restart_identity {
+        shown.push_str(" restart-identity")?;
+    }
+    for oid in truncate.oids.as_slice() {
+        write!(shown, " {oid}")?;
+    }
+    Ok(shown)
+}
+
+fn add_old(shown: &mut String, old: &OldTuple) -> Result<(), AllocError> {
+    match old {
+        OldTuple::Key(cells) => {
+            shown.push_str(" key")?;
+            add_cells(shown, cells.as_slice())
+        }
+        OldTuple::Full(cells) => {
+            shown.push_str(" full")?;
+            add_cells(shown, cells.as_slice())
+        }
+    }
+}
+
+fn add_cells(shown: &mut String, cells: &[Cell]) -> Result<(), AllocError> {
+    for cell in cells {
         match cell {
             Cell::Null => shown.push_str(" null")?,
             Cell::Unchanged => shown.push_str(" unchanged")?,
@@ -77,5 +130,5 @@ fn shown_insert(alloc: Global, insert: &Insert) -> Result<String, AllocError> {
             }
         }
     }
-    Ok(shown)
+    Ok(())
 }
