@@ -10,10 +10,18 @@ use world::{Event, Literal};
 /// The sample is a line between double quotes, in which `\r` stands for a carriage return.
 pub fn event_answer(alloc: Global, given: &str) -> Result<Answer> {
     let line = line_of(alloc, given)?;
-    match Event::parse(alloc, line.as_str()) {
-        Ok(event) => Ok(Answer::Meaning(shown_event(alloc, &event)?)),
+    parsed(alloc, line.as_str())
+}
+
+fn parsed(alloc: Global, line: &str) -> Result<Answer> {
+    match Event::parse(alloc, line) {
+        Ok(event) => event_meaning(alloc, &event),
         Err(fault) => Ok(Answer::Fault(fault.to_string(alloc)?)),
     }
+}
+
+fn event_meaning(alloc: Global, event: &Event) -> Result<Answer> {
+    Ok(Answer::Meaning(shown_event(alloc, event)?))
 }
 
 fn line_of(alloc: Global, given: &str) -> Result<String> {

@@ -10,44 +10,55 @@ use crate::sample::Answer;
 use anyhow::{Result, ensure};
 use bytes::BytesMut;
 use frames::{
-    Back, FrameFault, Front, read_back, read_front, read_startup, write_back, write_front,
+    Back, FrameFault, Front, Startup, read_back, read_front, read_startup, write_back, write_front,
 };
 use std::alloc::{AllocError, Global};
 
 /// A startup is only read.
 pub fn startup_answer(alloc: Global, given: &Given) -> Result<Answer> {
     match read_startup(alloc, given.all()) {
-        Ok(Some((startup, size))) => {
-            ensure!(size == given.own().len(), "takes {size} bytes");
-            Ok(Answer::Meaning(shown_startup(alloc, &startup)?))
-        }
+        Ok(Some((startup, size))) => startup_meaning(alloc, &startup, size, given),
         Ok(None) => Ok(waits(alloc)?),
         Err(fault) => Ok(refused(alloc, fault)?),
     }
+}
+
+fn startup_meaning(alloc: Global, startup: &Startup, size: usize, given: &Given) -> Result<Answer> {
+    ensure!(size == given.own().len(), "takes {size} bytes");
+    Ok(Answer::Meaning(shown_startup(alloc, startup)?))
 }
 
 pub fn front_answer(alloc: Global, given: &Given) -> Result<Answer> {
     match read_front(alloc, given.all()) {
-        Ok(Some((frame, size))) => {
-            ensure!(size == given.own().len(), "takes {size} bytes");
-            ensure!(is_front(alloc, &frame, given)?, "is written in another way");
-            Ok(Answer::Meaning(shown_front(alloc, &frame)?))
-        }
+        Ok(Some((frame, size))) => front_meaning(alloc, &frame, size, given),
         Ok(None) => Ok(waits(alloc)?),
         Err(fault) => Ok(refused(alloc, fault)?),
     }
 }
 
+fn front_meaning(alloc: Global, frame: &Front, size: usize, given: &Given) -> Result<Answer>
+    requires { FitsLength (front_body frame.now) }
+{
+    ensure!(size == given.own().len(), "takes {size} bytes");
+    ensure!(is_front(alloc, frame, given)?, "is written in another way");
+    Ok(Answer::Meaning(shown_front(alloc, frame)?))
+}
+
 pub fn back_answer(alloc: Global, given: &Given) -> Result<Answer> {
     match read_back(alloc, given.all()) {
-        Ok(Some((frame, size))) => {
-            ensure!(size == given.own().len(), "takes {size} bytes");
-            ensure!(is_back(alloc, &frame, given)?, "is written in another way");
-            Ok(Answer::Meaning(shown_back(alloc, &frame)?))
-        }
+        Ok(Some((frame, size))) => back_meaning(alloc, &frame, size, given),
         Ok(None) => Ok(waits(alloc)?),
         Err(fault) => Ok(refused(alloc, fault)?),
     }
+}
+
+fn back_meaning(alloc: Global, frame: &Back, size: usize, given: &Given) -> Result<Answer>
+    requires length { FitsLength (back_body frame.now) }
+    requires counts { HasCounts frame.now }
+{
+    ensure!(size == given.own().len(), "takes {size} bytes");
+    ensure!(is_back(alloc, frame, given)?, "is written in another way");
+    Ok(Answer::Meaning(shown_back(alloc, frame)?))
 }
 
 fn waits(alloc: Global) -> Result<Answer, AllocError> {

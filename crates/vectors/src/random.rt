@@ -35,14 +35,23 @@ struct Numbers {
 }
 
 impl Numbers {
-    /// A number below this one, which isn't 0.
-    fn below(&mut self, bound: u32) -> u32 {
+    fn go_on(&mut self) {
         self.state = self
             .state
             .wrapping_mul(6_364_136_223_846_793_005)
             .wrapping_add(1_442_695_040_888_963_407);
+    }
+
+    /// A number below this one, which isn't 0.
+    fn below(&mut self, bound: u32) -> u32 {
+        self.go_on();
         let number = (self.state >> 33) as u32;
         number.checked_rem(bound).unwrap_or(0)
+    }
+
+    fn byte(&mut self) -> u8 {
+        self.go_on();
+        (self.state >> 56) as u8
     }
 }
 
@@ -103,7 +112,7 @@ fn add_noise(heard: &mut Vec<u8>, numbers: &mut Numbers) -> Result<()> {
         heard.extend_from_slice(&length.to_be_bytes())?;
     }
     for _ in 0..length {
-        heard.push(numbers.below(256) as u8)?;
+        heard.push(numbers.byte())?;
     }
     Ok(())
 }
