@@ -61,13 +61,17 @@ pub fn random_answer(alloc: Global, given: &str) -> Result<Answer> {
     let mut numbers = Numbers {
         state: seed.parse::<u64>().context("reading the seed")?,
     };
-    let mut left = count.parse::<usize>().context("reading how many bytes")?;
-    while 0 < left {
-        let heard = random_bytes(alloc, &mut numbers)?;
-        let whole = talked(alloc, heard.as_slice(), usize::MAX)?;
-        let pieces = talked_in_pieces(alloc, heard.as_slice(), &mut numbers)?;
+    let count = count.parse::<usize>().context("reading how many bytes")?;
+    let mut heard = 0;
+    for _ in 0..count {
+        if heard >= count {
+            break;
+        }
+        let bytes = random_bytes(alloc, &mut numbers)?;
+        let whole = talked(alloc, bytes.as_slice(), usize::MAX)?;
+        let pieces = talked_in_pieces(alloc, bytes.as_slice(), &mut numbers)?;
         ensure!(whole == pieces, "comes to something else in pieces");
-        left = left.saturating_sub(heard.len());
+        heard = bytes.len().saturating_add(heard);
     }
     Ok(Answer::Meaning("same".to_string(alloc)?))
 }
@@ -75,9 +79,11 @@ pub fn random_answer(alloc: Global, given: &str) -> Result<Answer> {
 fn talked_in_pieces(alloc: Global, heard: &[u8], numbers: &mut Numbers) -> Result<String> {
     let mut talk = Talk::new(alloc);
     let mut rest = heard;
-    while !rest.is_empty() {
+    for _ in 0..heard.len() {
         let length = numbers.below(LONGEST_PIECE) as usize;
-        let (piece, behind) = rest.split_at_checked(length).unwrap_or((rest, &[]));
+        let (piece, behind) = rest
+            .split_at_checked(length.saturating_add(1))
+            .unwrap_or((rest, &[]));
         talk.hear(piece)?;
         rest = behind;
     }

@@ -64,13 +64,18 @@ fn add_query(bytes: &mut Vec<u8>, text: &str) -> Result<()> {
 /// The severity twice, for people and for programs, the code and the text.
 fn add_error(alloc: Global, bytes: &mut Vec<u8>, code: &str, text: &str) -> Result<()> {
     let mut body = Vec::new(alloc);
-    for (kind, field) in [(b'S', "ERROR"), (b'V', "ERROR"), (b'C', code), (b'M', text)] {
-        body.push(kind)?;
-        add_string(&mut body, field)?;
-    }
+    add_field(&mut body, b'S', "ERROR")?;
+    add_field(&mut body, b'V', "ERROR")?;
+    add_field(&mut body, b'C', code)?;
+    add_field(&mut body, b'M', text)?;
     body.push(0)?;
     bytes.push(b'E')?;
     add_framed(bytes, body.as_slice())
+}
+
+fn add_field(body: &mut Vec<u8>, kind: u8, text: &str) -> Result<()> {
+    body.push(kind)?;
+    add_string(body, text)
 }
 
 fn add_framed(bytes: &mut Vec<u8>, body: &[u8]) -> Result<()> {
