@@ -6,6 +6,7 @@
 
 mod catalog_text;
 mod command_text;
+mod config_text;
 mod event_line;
 mod expanded;
 mod field;
@@ -21,6 +22,7 @@ mod samples;
 mod schedules;
 mod shown;
 mod told;
+mod toml_text;
 mod wording;
 
 use anyhow::{Result, bail, ensure};
