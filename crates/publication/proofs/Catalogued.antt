@@ -1,13 +1,13 @@
 -- Every table of a catalogue has a Relation that fits its fields.
-use Rattle.std.proofs.Common.{◌≡◌, ℕ, ◌≤◌, ◌^◌, Bool, true, false, eqb, leb, List, [], ◌∷◌, length, refl, arith}
+use Rattle.std.proofs.Common.{◌≡◌, ℕ, ◌≤◌, Bool, true, false, eqb, leb, List, [], ◌∷◌, length, refl}
 use Rattle.std.specs.Prelude.{◌&&◌, ◌||◌, not}
-use Rattle.std.specs.List.{list_all, list_any, AllByRecursion}
+use Rattle.std.specs.List.{AllByRecursion}
 use Rattle.std.proofs.lemmas.Bool.{leb-true}
 use Rattle.frames.specs.Fields.{has_zero}
 use Rattle.pgoutput.specs.Relation.{FitsName}
 use Rattle.tables.specs.declared.column.Column.{Column}
 use Rattle.tables.specs.declared.table.Table.{Table}
-use Rattle.tables.specs.Tables.{IsName, IsTable, has_no_zero, is_name}
+use Rattle.tables.specs.Tables.{IsName, IsTable, has_no_zero}
 use Rattle.publication.specs.Selection.{FitsTable}
 use Rattle.publication.proofs.Fitting.{both_true}
 
