@@ -26,8 +26,8 @@ A configuration names the server and the tables, as in
   key = ['id']
   columns = [['id', 'int4'], ['name', 'text'], ['qty', 'int8']]
 
-The log has room for so many records. The types are bool, int4, int8 and text. There is one
-publication, p, which publishes the table public.item.
+The log has room for that number of records; chunks are not used yet. The types are bool,
+int4, int8 and text. There is one publication, p, which publishes the table public.item.
 
 A schedule has one event a line, and fields separated by single spaces. Empty lines and
 lines that begin with # are passed over. T is a transaction's name and C a connection's.

@@ -6,7 +6,6 @@ use Rattle.toml.specs.Data.{Data, Members, no_members, member, get, as_str, as_i
 use Rattle.frames.specs.Steps.{◌>>=◌}
 use Rattle.tables.specs.declared.table.Table.{Table}
 use Rattle.tables.specs.declared.config_fault.Misfit.{Misfit}
-use Rattle.tables.specs.declared.config_fault.CatalogFault.{CatalogFault}
 use Rattle.tables.specs.declared.config_fault.CatalogFault.TheVariants as catalog_faults
 use Rattle.tables.specs.Config.{and_then, told, tables_in, document_of}
 use Rattle.txlog.specs.declared.limits.TheConstants.{MAX_RECORDS}
@@ -64,6 +63,7 @@ ReadsServer (Ok server) read = read ≡ Ok server
 ReadsServer (Err (unread.Wrong misfit)) read = read ≡ Err misfit
 ReadsServer (Err unread.Memory) read = Unit {0}
 
+-- why no server was read, as a fault of the configuration
 abbrev pub unread_fault : Unread → ConfigFault
 unread_fault (unread.Wrong misfit) = faults.BadServer misfit
 unread_fault unread.Memory = faults.Memory

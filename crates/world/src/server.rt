@@ -1,12 +1,13 @@
 //! The server of a configuration.
 
-ghost use Rattle.std.specs.Prelude.{◌≡◌, ◌≤◌, not, codes, IfOk, IfSome, string_bytes};
+ghost use Rattle.std.specs.Prelude.{◌≡◌, ◌≤◌, not, codes, option_copied, IfOk, IfSome, string_bytes};
 ghost use Rattle.std.specs.List.{list_any};
 ghost use Rattle.toml.specs.Data.{as_str, as_table, get};
-ghost use Rattle.toml.specs.View.{table_view, view};
+ghost use Rattle.std.specs.BTreeMap.{keys};
+ghost use Rattle.toml.specs.View.{view};
 ghost use Rattle.tables.specs.Config.{and_then};
 ghost use Rattle.world.specs.declared.server.Unread.TheVariants.{Memory};
-ghost use Rattle.world.specs.Config.{IsServer, ReadsServer, has_another, has_another_in, is_of_server, is_part, number_in, server_in, server_of};
+ghost use Rattle.world.specs.Config.{IsServer, ReadsServer, has_another_in, is_of_server, is_part, number_in, server_in, server_of};
 
 use crate::config_fault::ServerMisfit;
 use frames::Text;
@@ -64,10 +65,10 @@ fn server_in(alloc: Global, value: &Value) -> Result<Server, Unread>
     ensures fits { IfOk result IsServer }
 {
     let systemid = text_at(value, "systemid").ok_or(Unread::Wrong(ServerMisfit::Systemid))?;
-    let records =
-        number_at(value, "records", MAX_RECORDS).ok_or(Unread::Wrong(ServerMisfit::Records))?;
-    let chunks =
-        number_at(value, "chunks", MAX_CHUNKS).ok_or(Unread::Wrong(ServerMisfit::Chunks))?;
+    let records = number_at(value, "records", MAX_RECORDS).ok_or(Unread::Wrong(
+        ServerMisfit::Records,
+    ))?;
+    let chunks = number_at(value, "chunks", MAX_CHUNKS).ok_or(Unread::Wrong(ServerMisfit::Chunks))?;
     if has_others(value) {
         return Err(Unread::Wrong(ServerMisfit::Other));
     }
@@ -107,6 +108,7 @@ fn number_in(value: &Value, most: usize) -> Option<usize>
     Some(number)
 }
 
+#[tactic(auto, using(crate::proofs::Members::another_among))]
 fn has_another_part(document: &Value) -> bool
     ensures { result ≡ has_another_in is_part (as_table (view document.now)) }
 {
@@ -116,9 +118,8 @@ fn has_another_part(document: &Value) -> bool
     }
 }
 
-#[tactic(auto, using(crate::proofs::Members::another_among))]
 fn has_other_than_parts(members: &Table) -> bool
-    ensures { result ≡ has_another is_part (table_view members.now) }
+    ensures { result ≡ list_any (λ name. not (is_part (string_bytes name))) (keys members.now) }
 {
     members.keys().any(|name| !is_part(name.as_str()))
 }
@@ -130,6 +131,7 @@ fn is_part(name: &str) -> bool
 }
 
 /// Whether the server has a member that no server has.
+#[tactic(auto, using(crate::proofs::Members::another_among))]
 fn has_others(server: &Value) -> bool
     ensures { result ≡ has_another_in is_of_server (as_table (view server.now)) }
 {
@@ -139,9 +141,8 @@ fn has_others(server: &Value) -> bool
     }
 }
 
-#[tactic(auto, using(crate::proofs::Members::another_among))]
 fn has_other_than_server(members: &Table) -> bool
-    ensures { result ≡ has_another is_of_server (table_view members.now) }
+    ensures { result ≡ list_any (λ name. not (is_of_server (string_bytes name))) (keys members.now) }
 {
     members.keys().any(|name| !is_of_server(name.as_str()))
 }
