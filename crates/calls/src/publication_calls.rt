@@ -3,13 +3,18 @@
 use frames::{Items, Text};
 use pgoutput::{Cell, Insert, Logical};
 use publication::{Projected, PubFault, Publications, Selection};
-use std::alloc::Global;
+use std::alloc::{AllocError, Global};
 use std::test::Fail;
-use tables::{Change, Row, Value};
+use tables::{Catalog, Change, Row, Value};
+
+/// The publications over the table public.item.
+fn publications(alloc: Global) -> Result<Publications, AllocError> {
+    let catalog = Catalog::builtin(alloc)?;
+    Publications::builtin(alloc, &catalog)
+}
 
 fn selection(alloc: Global, name: &str) -> Result<Selection, PubFault> {
-    let publications = Publications::builtin(alloc)?;
-    publications.select(&[Text::copy_of(alloc, name)?])
+    publications(alloc)?.select(&[Text::copy_of(alloc, name)?])
 }
 
 fn has_relation(selection: &Selection, oid: u32) -> Result<bool, Fail> {
@@ -26,7 +31,16 @@ fn a_publication_is_selected(rt: HostRuntime) -> Result<(), Fail> {
 
 #[test]
 fn no_publication_selects_no_table(rt: HostRuntime) -> Result<(), Fail> {
-    let selection = Publications::builtin(rt.alloc())?.select(&[])?;
+    let selection = publications(rt.alloc())?.select(&[])?;
+    assert!(rt; !has_relation(&selection, 16384)?);
+    Ok(())
+}
+
+#[test]
+fn a_publication_without_its_table_selects_none(rt: HostRuntime) -> Result<(), Fail> {
+    let catalog = Catalog::from_toml(rt.alloc(), "").expect(&rt, "a catalogue");
+    let publications = Publications::builtin(rt.alloc(), &catalog)?;
+    let selection = publications.select(&[Text::copy_of(rt.alloc(), "p")?])?;
     assert!(rt; !has_relation(&selection, 16384)?);
     Ok(())
 }

@@ -37,7 +37,8 @@ fn log(rt: &impl Abort, alloc: Global) -> Result<Vec<Arc<Record>>, Fail> {
 }
 
 fn sender(alloc: Global, names: &[Text]) -> Result<Sender, Fail> {
-    let selection = Publications::builtin(alloc)?.select(names)?;
+    let catalog = Catalog::builtin(alloc)?;
+    let selection = Publications::builtin(alloc, &catalog)?.select(names)?;
     Ok(Sender::start(alloc, selection, 0, FIRST_POSITION)?)
 }
 

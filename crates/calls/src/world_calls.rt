@@ -1,13 +1,12 @@
 //! Calls of world.
 
-use publication::Publications;
-use std::alloc::{AllocError, Global};
+use std::alloc::Global;
 use std::io;
 use std::io::{ErrorKind, Read, Write};
 use std::process::Abort;
 use std::test::Fail;
 use tables::Catalog;
-use txlog::{MAX_RECORDS, SessionFault};
+use txlog::SessionFault;
 use world::{Answer, Config, ConfigFault, Event, Schedule, SimFault, World, simulate};
 
 /// The keepalive of the empty log under clock 9.
@@ -15,27 +14,38 @@ const KEEPALIVE: [u8; 23] = [
     0x64, 0, 0, 0, 0x16, 0x6b, 0, 0, 0, 0, 1, 0, 0, 0, 0, 0, 0, 0, 0, 0, 0, 9, 0,
 ];
 
-fn of_records(alloc: Global, records: usize) -> Result<Option<ConfigFault>, AllocError> {
-    let catalog = Catalog::builtin(alloc)?;
-    let publications = Publications::builtin(alloc)?;
-    Ok(Config::new(catalog, publications, records).err())
+/// One table and a server.
+const TEXT: &str = "\
+[server]
+systemid = '42'
+records = 65536
+chunks = 64
+
+[[table]]
+oid = 16384
+schema = 'public'
+name = 'item'
+key = ['id']
+columns = [['id', 'int4'], ['name', 'text'], ['qty', 'int8']]
+";
+
+fn config(alloc: Global) -> Result<Config, ConfigFault> {
+    Config::from_toml(alloc, TEXT)
 }
 
 #[test]
-fn a_log_has_room_for_some_records(rt: HostRuntime) -> Result<(), Fail> {
-    let alloc = rt.alloc();
-    assert_eq!(rt; of_records(alloc, 0)?, Some(ConfigFault::BadServer));
-    assert_eq!(rt; of_records(alloc, 1)?, None);
-    assert_eq!(rt; of_records(alloc, MAX_RECORDS)?, None);
-    assert_eq!(rt;
-        of_records(alloc, MAX_RECORDS + 1)?,
-        Some(ConfigFault::BadServer)
-    );
+fn a_configuration_is_read(rt: HostRuntime) -> Result<(), Fail> {
+    let config = config(rt.alloc())?;
+    assert_eq!(rt; config.server().systemid.as_str(), "42");
+    assert_eq!(rt; config.server().records, 65_536);
+    assert_eq!(rt; config.server().chunks, 64);
+    let catalog = Catalog::builtin(rt.alloc())?;
+    assert_eq!(rt; config.catalog().tables(), catalog.tables());
     Ok(())
 }
 
-fn builtin_world(alloc: Global) -> Result<World, Fail> {
-    Ok(World::new(alloc, Config::builtin(alloc)?)?)
+fn new_world(alloc: Global) -> Result<World, Fail> {
+    Ok(World::new(alloc, config(alloc)?)?)
 }
 
 fn step(alloc: Global, world: &mut World, line: &str) -> Result<Answer, Fail> {
@@ -45,7 +55,7 @@ fn step(alloc: Global, world: &mut World, line: &str) -> Result<Answer, Fail> {
 
 #[test]
 fn steps_answer_one_by_one(rt: HostRuntime) -> Result<(), Fail> {
-    let mut world = builtin_world(rt.alloc())?;
+    let mut world = new_world(rt.alloc())?;
     two_steps(&rt, rt.alloc(), &mut world)
 }
 
@@ -60,7 +70,7 @@ fn two_steps(rt: &impl Abort, alloc: Global, world: &mut World) -> Result<(), Fa
 /// The world that a schedule leads to, and the lines of its events.
 fn ran(alloc: Global, text: &str) -> Result<World, Fail> {
     let schedule = Schedule::parse(alloc, text)?;
-    Ok(World::run(alloc, Config::builtin(alloc)?, schedule.events())?)
+    Ok(World::run(alloc, config(alloc)?, schedule.events())?)
 }
 
 #[test]
@@ -110,7 +120,7 @@ fn a_schedule_that_cannot_be_read_to_its_end(rt: HostRuntime) -> Result<(), Fail
     let alloc = rt.alloc();
     let mut output = Vec::new(alloc);
     let mut torn = Torn { is_read: false };
-    let read = simulate(alloc, Config::builtin(alloc)?, &mut torn, &mut output);
+    let read = simulate(alloc, config(alloc)?, &mut torn, &mut output);
     assert!(rt; read.err().is_some_and(|fault| !fault.is_bad_schedule()));
     assert!(rt; output.is_empty());
     Ok(())
@@ -121,7 +131,7 @@ fn a_schedule_that_is_not_text(rt: HostRuntime) -> Result<(), Fail> {
     let alloc = rt.alloc();
     let mut output = Vec::new(alloc);
     let mut bytes = b"# \xff".as_slice();
-    let decoded = simulate(alloc, Config::builtin(alloc)?, &mut bytes, &mut output);
+    let decoded = simulate(alloc, config(alloc)?, &mut bytes, &mut output);
     assert!(rt; decoded.err().is_some_and(|fault| fault.is_bad_schedule()));
     assert!(rt; output.is_empty());
     Ok(())
@@ -149,7 +159,7 @@ impl Write for Narrow {
 fn is_printed(alloc: Global, left: usize) -> Result<bool, Fail> {
     let mut input = b"start c - 0/0 p\n".as_slice();
     let mut output = Narrow { left };
-    match simulate(alloc, Config::builtin(alloc)?, &mut input, &mut output) {
+    match simulate(alloc, config(alloc)?, &mut input, &mut output) {
         Ok(()) => Ok(true),
         Err(SimFault::Write(_)) => Ok(false),
         Err(_) => Err(Fail::from("another fault")),

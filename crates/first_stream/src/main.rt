@@ -30,15 +30,15 @@ fn publisher(alloc: Global) -> Result<Publisher> {
 }
 
 /// A sender of what the publication `p` publishes, from the beginning of the log on.
-fn sender_of_p(alloc: Global) -> Result<Sender> {
+fn sender_of_p(alloc: Global, catalog: &Catalog) -> Result<Sender> {
     let names = [Text::copy_of(alloc, "p")?];
-    let selection = Publications::builtin(alloc)?.select(&names)?;
+    let selection = Publications::builtin(alloc, catalog)?.select(&names)?;
     Ok(Sender::start(alloc, selection, 0, FIRST_POSITION)?)
 }
 
 /// The bytes that a sender makes of the log.
 fn sent(alloc: Global, publisher: &Publisher) -> Result<BytesMut> {
-    let mut sender = sender_of_p(alloc)?;
+    let mut sender = sender_of_p(alloc, publisher.catalog())?;
     let mut bytes = BytesMut::new(alloc);
     send(publisher, &mut sender, &mut bytes)?;
     Ok(bytes)

@@ -30,7 +30,7 @@ use Rattle.tables.specs.declared.table.Table.{Table}
 use Rattle.tables.specs.declared.change.Change.{Change}
 use Rattle.tables.specs.declared.change.Change.TheVariants as changes
 use Rattle.tables.specs.Spelling.{spell_value, row_length}
-use Rattle.tables.specs.Tables.{table_of, fits_table, IsValue, item_table, builtin_tables}
+use Rattle.tables.specs.Tables.{table_of, fits_table, IsValue}
 use Rattle.stream.specs.Items.{IsShortMessage, FitsRelationOf}
 use Rattle.publication.specs.Selection.{relation, relation_of, relation_column, type_oid, FitsTable}
 use Rattle.publication.specs.Projection.{cell_of, stands_in, inserted_in, message, MessageFits}
@@ -225,19 +225,6 @@ message_fits selection (changes.Insert oid row) m tables in_range e = by_table (
         let same : table_of t.oid selection ≡ Some t = ap (λ (n : ℕ). table_of n selection) p.1 ∙ found in
         by_stand t same p.0 (stands_in t row) refl e
 
--- ---- the built-in table
-
-pub item_fits : FitsTable item_table
-item_fits = record {
-  oid = omega arith;
-  schema = (refl, ascii_fits (codes "public") refl);
-  schema_length = omega arith;
-  name = (refl, ascii_fits (codes "item") refl);
-  name_length = omega arith;
-  columns = (((refl, ascii_fits (codes "id") refl), omega arith), (((refl, ascii_fits (codes "name") refl), omega arith), (((refl, ascii_fits (codes "qty") refl), omega arith), tt)));
-  count = omega arith;
-}
-
 -- ---- what the selection answers
 
 all_unit : (tables : List Table) → AllByRecursion (λ _. Unit {0}) tables
@@ -256,6 +243,3 @@ inserted_fits selection oid t row found table in_range stands =
 
 pub relation_answer_fits : (t : Table) → FitsTable t → FitsLogical (logical.Relation (relation_of t)) × IsShortMessage (logical.Relation (relation_of t))
 relation_answer_fits t table = let f = relation_fits t table in (f.fits, f.short)
-
-pub builtin_fits : AllByRecursion FitsTable builtin_tables
-builtin_fits = (item_fits, tt)

@@ -1,1 +1,2 @@
+pub mod Catalogued
 pub mod Fitting

@@ -1,17 +1,17 @@
--- The built-in publication: p, of the table public.item whole.
-use Rattle.std.specs.Prelude.{ℕ, Bool, not, List, [], ◌∷◌, codes, if◌then◌else◌}
+-- The built-in publication: p, of the table public.item whole, where the catalogue has it.
+use Rattle.std.specs.Prelude.{ℕ, Bool, not, List, [], codes, option_to_list, if◌then◌else◌}
 use Rattle.std.specs.List.{list_any}
 use Rattle.std.specs.Str.{bytes_eq}
 use Rattle.tables.specs.declared.table.Table.{Table}
-use Rattle.tables.specs.Tables.{item_table}
+use Rattle.tables.specs.Tables.{table_named}
 
 -- a publication of whole tables
 pub record Publication : Type 0 where
   pub name : List ℕ
   pub tables : List Table
 
-abbrev pub builtin_publication : Publication
-builtin_publication = record { name = codes "p"; tables = item_table ∷ [] }
+abbrev pub builtin_publication : List Table → Publication
+builtin_publication tables = record { name = codes "p"; tables = option_to_list (table_named (codes "public.item") tables) }
 
 -- whether a name is no publication's
 abbrev pub is_unknown : Publication → List (List ℕ) → Bool

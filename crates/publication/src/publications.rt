@@ -1,9 +1,11 @@
 //! The publications of a publisher.
 
-ghost use Rattle.std.specs.Prelude.{◌≡◌, ◌++◌, IfOk, Err, false, true, not};
-ghost use Rattle.std.specs.List.{list_any};
+ghost use Rattle.std.specs.Prelude.{◌≡◌, ◌++◌, IfOk, Err, false, true, not, option_to_list};
+ghost use Rattle.std.specs.List.{list_any, AllByRecursion};
 ghost use Rattle.std.specs.Str.{bytes_eq};
 ghost use Rattle.publication.specs.declared.fault.PubFault.{PubFault};
+ghost use Rattle.tables.specs.Tables.{table_named};
+ghost use Rattle.publication.specs.Selection.{FitsTable};
 ghost use Rattle.publication.specs.Publications.{builtin_publication, selected, is_unknown};
 
 use crate::fault::PubFault;
@@ -13,9 +15,15 @@ use std::alloc::{AllocError, Global};
 use std::marker::Model;
 use tables::{Catalog, Table};
 
+/// The name of the built-in publication.
+const BUILTIN_NAME: &str = "p";
+
+/// The table that it publishes.
+const BUILTIN_TABLE: &str = "public.item";
+
 /// The publications of a publisher: for now one, of whole tables.
 ///
-/// `builtin` makes them, and `select` may be called any number of times. Its P1 says that a name is no publication's, and P7
+/// `builtin` makes them over a catalogue, and `select` may be called any number of times. Its P1 says that a name is no publication's, and P7
 /// is want of memory; neither changes anything.
 #[derive(Debug, Drop)]
 pub struct Publications {
@@ -37,15 +45,14 @@ impl Model for Publications {
 }
 
 impl Publications {
-    /// The publication `p` of the table public.item.
-    pub fn builtin(alloc: Global) -> Result<Self, AllocError>
-        ensures { IfOk result (λ p. p ≡ builtin_publication) }
+    /// The publication `p` of the catalogue's table public.item. Where the catalogue has no such table, `p` publishes nothing.
+    pub fn builtin(alloc: Global, catalog: &Catalog) -> Result<Self, AllocError>
+        ensures { IfOk result (λ p. p ≡ builtin_publication catalog.now) }
     {
-        let catalog = Catalog::builtin(alloc)?;
         Ok(Publications {
             alloc,
-            name: Text::copy_of(alloc, "p")?,
-            tables: copies(alloc, catalog.tables())?,
+            name: Text::copy_of(alloc, BUILTIN_NAME)?,
+            tables: table_named(alloc, catalog, BUILTIN_TABLE)?,
         })
     }
 
@@ -65,6 +72,19 @@ impl Publications {
         let tables = copies(self.alloc, self.tables.as_slice())?;
         Ok(Selection::new(self.alloc, tables))
     }
+}
+
+/// The table of this name alone, if the catalogue has it.
+#[tactic(auto, using(crate::proofs::Catalogued::catalogued_fits))]
+fn table_named(alloc: Global, catalog: &Catalog, name: &str) -> Result<Items<Table>, AllocError>
+    ensures value { IfOk result (λ tables. tables ≡ option_to_list (table_named name.now catalog.now)) }
+    ensures fits { IfOk result (AllByRecursion FitsTable) }
+{
+    let mut tables = Vec::new(alloc);
+    if let Some(table) = catalog.named(name) {
+        tables.push(table.copy(alloc)?)?;
+    }
+    Ok(Items::new(tables))
 }
 
 fn is_named(names: &[Text], name: &str) -> bool

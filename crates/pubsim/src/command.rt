@@ -6,13 +6,28 @@ use std::alloc::Global;
 const ABOUT: &str =
     "Runs a schedule of sessions and replication senders over a publisher in memory, and prints what the senders produced";
 
-const CONFIG_HELP: &str =
-    "The word builtin: the table public.item and the publication p, which publishes that table";
+const CONFIG_HELP: &str = "A TOML file with the tables and the server";
 
 const SCHEDULE_HELP: &str = "A text file with one event a line";
 
 const AFTER_HELP: &str = "\
-The table public.item has the columns id (int4, the key), name (text) and qty (int8).
+A configuration names the server and the tables, as in
+
+  [server]
+  systemid = '42'
+  records = 65536
+  chunks = 64
+
+  [[table]]
+  oid = 16384
+  schema = 'public'
+  name = 'item'
+  identity = 'default'
+  key = ['id']
+  columns = [['id', 'int4'], ['name', 'text'], ['qty', 'int8']]
+
+The log has room for that number of records; chunks are not used yet. The types are bool,
+int4, int8 and text. There is one publication, p, which publishes the table public.item.
 
 A schedule has one event a line, and fields separated by single spaces. Empty lines and
 lines that begin with # are passed over. T is a transaction's name and C a connection's.
@@ -43,8 +58,9 @@ It prints a line for each event that was refused, the number of its line and a c
 7 S1; and then a line for each sender: the connection's name, a colon and the bytes that
 it produced, in hexadecimal.
 
-It ends with 0 where that is done, with 2 where the arguments or the schedule are refused,
-and with 1 where a file cannot be read, the report cannot be printed or memory runs out.";
+It ends with 0 where that is done, with 2 where the arguments, the configuration or the
+schedule are refused, and with 1 where a file cannot be read, the report cannot be printed
+or memory runs out.";
 
 /// What the program is asked to run.
 #[derive(Clone, Copy, Debug)]

@@ -4,7 +4,7 @@ use clap::error::ErrorKind;
 use std::alloc::AllocError;
 use std::io;
 use thiserror::Error;
-use world::SimFault;
+use world::{ConfigFault, SimFault};
 
 #[derive(Debug, Drop, Error)]
 pub enum Fault {
@@ -12,8 +12,10 @@ pub enum Fault {
     Arguments(io::Error),
     #[error("{0}")]
     Usage(clap::Error),
-    #[error("CONFIG must be the word builtin, which is the only configuration")]
-    Config,
+    #[error("the configuration cannot be read: {0}")]
+    ReadConfig(io::Error),
+    #[error("in the configuration: {0}")]
+    Config(ConfigFault),
     #[error("the schedule cannot be opened: {0}")]
     Open(io::Error),
     #[error("standard output cannot be used: {0}")]
@@ -38,8 +40,11 @@ impl Fault {
                 ErrorKind::OutOfMemory => 1,
                 _ => 2,
             },
-            Fault::Config => 2,
+            // A file that is no text is a bad configuration, and no file that can't be read.
+            Fault::ReadConfig(error) if error.kind() == io::ErrorKind::InvalidData => 2,
+            Fault::Config(fault) if !fault.is_memory() => 2,
             Fault::Run(fault) if fault.is_bad_schedule() => 2,
+            Fault::ReadConfig(_) | Fault::Config(_) => 1,
             Fault::Run(_) | Fault::Open(_) | Fault::Output(_) | Fault::Memory => 1,
         }
     }

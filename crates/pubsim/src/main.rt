@@ -7,7 +7,6 @@ mod fault;
 
 use command::words_of;
 use fault::Fault;
-use std::alloc::Global;
 use std::io::BufWriter;
 use std::process::ExitCode;
 use std::{env, fs, io};
@@ -27,15 +26,13 @@ fn run(rt: &HostRuntime) -> Result<(), Fault> {
     let alloc = rt.alloc();
     let arguments: Vec<String> = env::args(rt).map_err(Fault::Arguments)?.collect(alloc)?;
     let words = words_of(alloc, arguments.as_slice()).map_err(Fault::Usage)?;
-    let config = config_of(alloc, words.config)?;
+    let config = config_of(rt, words.config)?;
     let mut schedule = fs::open(rt, words.schedule).map_err(Fault::Open)?;
     let mut output = BufWriter::new(alloc, io::writer(rt)).map_err(Fault::Output)?;
     simulate(alloc, config, &mut schedule, &mut output).map_err(Fault::Run)
 }
 
-fn config_of(alloc: Global, word: &str) -> Result<Config, Fault> {
-    if word != "builtin" {
-        return Err(Fault::Config);
-    }
-    Ok(Config::builtin(alloc)?)
+fn config_of(rt: &HostRuntime, path: &str) -> Result<Config, Fault> {
+    let text = fs::read_to_string(rt, path).map_err(Fault::ReadConfig)?;
+    Config::from_toml(rt.alloc(), text.as_str()).map_err(Fault::Config)
 }

@@ -1,4 +1,5 @@
 pub mod Bodies
+pub mod Catalogs
 pub mod Changing
 pub mod Forgetting
 pub mod Histories

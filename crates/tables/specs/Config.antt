@@ -1,9 +1,11 @@
 -- What a TOML text names as tables. The members of a table are judged in one order, and the first that is wrong is told.
-use Rattle.std.specs.Prelude.{◌≡◌, ℕ, ℤ, pos, nat_abs, int_le, ◌+◌, ◌==◌, nat_le, nat_lt, Bool, true, false, ◌&&◌, ◌||◌, not, if◌then◌else◌, is_some, List, [], ◌∷◌, ◌++◌, length, codes, Option, Some, None, option_map, ok_or, Result, Ok, Err}
+use Rattle.std.specs.Prelude.{◌≡◌, ℕ, ℤ, pos, nat_abs, int_le, ◌+◌, ◌==◌, nat_lt, Bool, true, ◌&&◌, not, if◌then◌else◌, is_some, List, [], ◌∷◌, ◌++◌, length, codes, Option, Some, None, option_map, ok_or, Result, Ok, Err}
 use Rattle.std.specs.List.{list_all, list_any}
 use Rattle.std.specs.Str.{bytes_eq}
-use Rattle.toml.specs.Data.{Data, Items, no_items, item, Members, no_members, member, array, table, get, at, as_str, as_integer, as_array, as_table}
+use Rattle.toml.specs.Data.{Data, Items, no_items, item, Members, no_members, member, table, get, at, as_str, as_integer, as_array, as_table}
 use Rattle.toml.specs.Parse.{parse_document}
+use Rattle.toml.specs.View.{view}
+use Rattle.toml.specs.declared.value.Value.{Value}
 use Rattle.frames.specs.Steps.{◌>>=◌}
 use Rattle.tables.specs.declared.kind.Kind.{Kind}
 use Rattle.tables.specs.declared.kind.Kind.TheVariants as kinds
@@ -19,19 +21,15 @@ use Rattle.tables.specs.declared.config_fault.CatalogFault.{CatalogFault}
 use Rattle.tables.specs.declared.config_fault.CatalogFault.TheVariants as faults
 use Rattle.tables.specs.declared.config.TheConstants.{MAX_TABLES}
 use Rattle.tables.specs.declared.config_table.TheConstants.{MAX_COLUMNS}
-use Rattle.tables.specs.declared.config_member.TheConstants.{MAX_NAME_LENGTH, MAX_OID}
+use Rattle.tables.specs.declared.config_member.TheConstants.{MAX_OID}
 use Rattle.tables.specs.declared.config_table.Unread.{Unread}
 use Rattle.tables.specs.declared.config_table.Unread.TheVariants as unread
-use Rattle.tables.specs.Tables.{has_no_zero}
+use Rattle.tables.specs.Tables.{is_name}
 
 -- what is read of what was found, if anything was
 abbrev pub and_then : {A B : Type 0} → Option A → (A → Option B) → Option B
 and_then None f = None
 and_then (Some x) f = f x
-
--- 1 to 63 bytes, no zero byte and no dot
-abbrev pub is_name : List ℕ → Bool
-is_name text = not (length text == 0) && (nat_le (length text) MAX_NAME_LENGTH && (has_no_zero text && list_all (λ b. not (b == 46)) text))
 
 unfoldable pub name_in : Data → Option (List ℕ)
 name_in d = and_then (as_str d) (λ text. if is_name text then Some text else None)
@@ -108,7 +106,7 @@ unfoldable pub columns_in : List (List ℕ) → Data → Option (List Column)
 columns_in key d = and_then (as_array d) (λ ds. and_then (columns_behind key [] ds) unless_empty)
 
 -- the member of this name, where it is there and is read so
-abbrev pub told : {X : Type 0} → Member → List ℕ → (Data → Option X) → Data → Result X Member
+abbrev pub told : {M X : Type 0} → M → List ℕ → (Data → Option X) → Data → Result X M
 told which key read d = ok_or (and_then (get key d) read) which
 
 abbrev pub count_of : Members → ℕ
@@ -181,11 +179,26 @@ ReadsTables (Err (faults.BadTables misfit)) read = read ≡ Err misfit
 ReadsTables (Err (faults.NotToml line)) read = ⊥
 ReadsTables (Err faults.Memory) read = Unit {0}
 
--- None where the text is no TOML
-abbrev pub named_by : List ℕ → Option (Result (List Table) Misfit)
-named_by text = option_map (λ ms. tables_of (get (codes "table") (table ms))) (parse_document text)
+-- the tables of a document
+abbrev pub tables_in : Data → Result (List Table) Misfit
+tables_in d = tables_of (get (codes "table") d)
 
--- What a reader answers is what the text names; which line of a text that is no TOML is at fault isn't told here.
+-- what a TOML text says, as one table of its members; None where it is no TOML
+abbrev pub document_of : List ℕ → Option Data
+document_of text = option_map table (parse_document text)
+
+-- What reading a document answers. Which line of a text that is no TOML is at fault isn't told here.
+abbrev pub ReadsDocument : Result Value CatalogFault → Option Data → Type 0
+ReadsDocument (Ok value) read = read ≡ Some (view value)
+ReadsDocument (Err (faults.NotToml line)) read = read ≡ None
+ReadsDocument (Err (faults.BadTables misfit)) read = ⊥
+ReadsDocument (Err faults.Memory) read = Unit {0}
+
+-- the tables that a text names
+abbrev pub named_by : List ℕ → Option (Result (List Table) Misfit)
+named_by text = option_map tables_in (document_of text)
+
+-- What a reader answers is what the text names, memory apart.
 abbrev pub Names : Result (List Table) CatalogFault → Option (Result (List Table) Misfit) → Type 0
 Names (Ok tables) named = named ≡ Some (Ok tables)
 Names (Err (faults.NotToml line)) named = named ≡ None

@@ -1,8 +1,10 @@
 -- Which rows a table takes, and which changes fit a catalogue.
-use Rattle.std.specs.Prelude.{◌≡◌, ℕ, ◌^◌, ◌<◌, ◌≤◌, ◌==◌, Bool, true, false, ◌&&◌, not, List, [], ◌∷◌, ◌++◌, length, codes, count_by, filter, find, Option, IsSome, IsSomeAnd, FitsSigned}
+use Rattle.std.specs.Prelude.{◌≡◌, ℕ, ◌^◌, ◌<◌, ◌≤◌, ◌==◌, nat_le, Bool, true, false, ◌&&◌, not, List, [], ◌∷◌, ◌++◌, length, codes, count_by, filter, find, Option, IsSome, IsSomeAnd, FitsSigned}
 use Rattle.std.specs.List.{list_all, zip, AllByRecursion}
 use Rattle.std.specs.Int.{w32, w64}
 use Rattle.std.specs.Str.{bytes_eq, is_utf8}
+use Rattle.tables.specs.declared.config_member.TheConstants.{MAX_NAME_LENGTH}
+use Rattle.tables.specs.declared.config_table.TheConstants.{MAX_COLUMNS}
 use Rattle.tables.specs.declared.row.TheConstants.{MAX_ROW_LENGTH}
 use Rattle.tables.specs.declared.kind.Kind.{Kind}
 use Rattle.tables.specs.declared.kind.Kind.TheVariants as kinds
@@ -46,6 +48,25 @@ table_named name tables = find (λ table. bytes_eq (full_name table) name) table
 -- no zero byte stands in the text
 abbrev pub has_no_zero : List ℕ → Bool
 has_no_zero text = list_all (λ b. not (b == 0)) text
+
+-- 1 to 63 bytes, no zero byte and no dot
+abbrev pub is_name : List ℕ → Bool
+is_name text = not (length text == 0) && (nat_le (length text) MAX_NAME_LENGTH && (has_no_zero text && list_all (λ b. not (b == 46)) text))
+
+-- a name, in UTF-8 as every text of Rust
+abbrev pub IsName : List ℕ → Type 0
+IsName text = (is_name text ≡ true) × (is_utf8 text ≡ true)
+
+-- at most 64 columns, each named
+abbrev pub AreColumns : List Column → Type 0
+AreColumns columns = AllByRecursion (λ c. IsName c.name) columns × (length columns ≤ MAX_COLUMNS)
+
+-- what every table of a catalogue is
+pub record IsTable (table : Table) : Type 0 where
+  pub oid : table.oid < 2 ^ 32
+  pub schema : IsName table.schema
+  pub name : IsName table.name
+  pub columns : AreColumns table.columns
 
 abbrev pub is_of_kind : Kind → Value → Bool
 is_of_kind kinds.Bool (values.Bool b) = true

@@ -1,8 +1,9 @@
 //! The tables that a publisher knows, found by OID or by name.
 
-ghost use Rattle.std.specs.Prelude.{◌≡◌, IfOk};
+ghost use Rattle.std.specs.Prelude.{◌≡◌, IfOk, IfSome};
+ghost use Rattle.std.specs.List.{AllByRecursion};
 ghost use Rattle.std.specs.Option.{option_copied};
-ghost use Rattle.tables.specs.Tables.{builtin_tables, table_named, table_of};
+ghost use Rattle.tables.specs.Tables.{IsTable, builtin_tables, item_table, table_named, table_of};
 
 use crate::column::Column;
 use crate::identity::Identity;
@@ -12,7 +13,7 @@ use frames::{Items, Text};
 use std::alloc::{AllocError, Global};
 use std::marker::Model;
 
-/// The tables of a publisher. Contracts see the list of them.
+/// The tables of a publisher. Contracts see the list of them. Each is named, and has at most 64 columns.
 #[derive(Debug, Drop, PartialEq)]
 pub struct Catalog {
     tables: Items<Table>,
@@ -20,18 +21,23 @@ pub struct Catalog {
 
 impl Model for Catalog {
     ghost use Rattle.std.specs.Prelude.{List};
+    ghost use Rattle.std.specs.List.{AllByRecursion};
     ghost use Rattle.tables.specs.declared.table.Table.{Table};
+    ghost use Rattle.tables.specs.Tables.{IsTable};
 
     ghost Value = { List Table };
 
     ghost view = { λ c. c.tables };
+
+    ghost invariant = { λ c. AllByRecursion IsTable c.tables };
 
     ghost inverse = { λ tables. record { tables = tables } };
 }
 
 impl Catalog {
     pub fn tables(&self) -> &[Table]
-        ensures { result.now ≡ self.now }
+        ensures value { result.now ≡ self.now }
+        ensures fits { AllByRecursion IsTable result.now }
     {
         self.tables.as_slice()
     }
@@ -45,13 +51,15 @@ impl Catalog {
 
     /// The table of this name: its schema, a dot and its own name.
     pub fn named(&self, name: &str) -> Option<&Table>
-        ensures { option_copied result ≡ table_named name.now self.now }
+        ensures value { option_copied result ≡ table_named name.now self.now }
+        ensures fits { IfSome result (λ table. IsTable table.now) }
     {
         let tables = self.tables.as_slice();
         tables.iter().find(|table| table.is_named(name))
     }
 
     pub(crate) fn of_tables(tables: Items<Table>) -> Self
+        requires { AllByRecursion IsTable tables }
         ensures { result ≡ tables }
     {
         Catalog { tables }
@@ -61,22 +69,26 @@ impl Catalog {
     pub fn builtin(alloc: Global) -> Result<Self, AllocError>
         ensures { IfOk result (λ c. c ≡ builtin_tables) }
     {
-        let columns = vec![in alloc;
-            column(alloc, "id", Kind::Int4, true)?,
-            column(alloc, "name", Kind::Text, false)?,
-            column(alloc, "qty", Kind::Int8, false)?,
-        ]?;
-        let table = Table {
-            oid: 16384,
-            schema: Text::copy_of(alloc, "public")?,
-            name: Text::copy_of(alloc, "item")?,
-            identity: Identity::Default,
-            columns: Items::new(columns),
-        };
-        Ok(Catalog {
-            tables: Items::new(vec![in alloc; table]?),
-        })
+        let tables = vec![in alloc; item_table(alloc)?]?;
+        Ok(Catalog::of_tables(Items::new(tables)))
     }
+}
+
+fn item_table(alloc: Global) -> Result<Table, AllocError>
+    ensures { IfOk result (λ table. table ≡ item_table) }
+{
+    let columns = vec![in alloc;
+        column(alloc, "id", Kind::Int4, true)?,
+        column(alloc, "name", Kind::Text, false)?,
+        column(alloc, "qty", Kind::Int8, false)?,
+    ]?;
+    Ok(Table {
+        oid: 16384,
+        schema: Text::copy_of(alloc, "public")?,
+        name: Text::copy_of(alloc, "item")?,
+        identity: Identity::Default,
+        columns: Items::new(columns),
+    })
 }
 
 fn column(alloc: Global, name: &str, kind: Kind, is_key: bool) -> Result<Column, AllocError>

@@ -1,13 +1,15 @@
 //! The tables of a configuration, which is a TOML text. Its form is told in docs/CONFIGURATION.md.
 
-ghost use Rattle.std.specs.Prelude.{◌≡◌, ◌==◌, [], option_map};
-ghost use Rattle.std.specs.List.{list_any};
+ghost use Rattle.std.specs.Prelude.{◌≡◌, ◌==◌, [], IfOk, option_map};
+ghost use Rattle.std.specs.List.{list_any, AllByRecursion};
 ghost use Rattle.toml.specs.View.{view, items_view};
-ghost use Rattle.tables.specs.Config.{Names, ReadsTable, ReadsTables, another_table, clash, is_namesake, named_by, tables_behind, tables_of};
+ghost use Rattle.tables.specs.Config.{Names, ReadsTable, ReadsTables, another_table, clash, is_namesake, named_by, tables_behind, tables_in, tables_of};
+ghost use Rattle.tables.specs.Tables.{IsTable};
 
 use crate::catalog::Catalog;
 use crate::config_fault::{CatalogFault, Member, Misfit};
 use crate::config_table::{Unread, table_in};
+use crate::document::read_document;
 use crate::table::Table;
 use frames::Items;
 use std::alloc::Global;
@@ -21,32 +23,22 @@ impl Catalog {
     pub fn from_toml(alloc: Global, text: &str) -> Result<Self, CatalogFault>
         ensures { Names result (named_by text.now) }
     {
-        match toml::table_from_str(alloc, text) {
-            Ok(members) => {
-                let document = Value::Table(members);
-                let tables = tables_of(alloc, document.get("table"))?;
-                Ok(Catalog::of_tables(tables))
-            }
-            Err(fault) if fault.is_memory() => Err(CatalogFault::Memory),
-            Err(fault) => Err(CatalogFault::NotToml(line_of(text, &fault))),
-        }
+        let document = read_document(alloc, text)?;
+        Catalog::of_document(alloc, &document)
+    }
+
+    /// The tables that the document of a configuration names.
+    pub fn of_document(alloc: Global, document: &Value) -> Result<Self, CatalogFault>
+        ensures { ReadsTables result (tables_in (view document.now)) }
+    {
+        let tables = tables_of(alloc, document.get("table"))?;
+        Ok(Catalog::of_tables(tables))
     }
 }
 
-/// The line where the reader stopped, from 1.
-fn line_of(text: &str, fault: &toml::de::Error) -> usize {
-    let read = match fault.span() {
-        Some(span) => text.as_bytes().get(..span.start).unwrap_or(&[]),
-        None => &[],
-    };
-    read.iter()
-        .filter(|b| **b == b'\n')
-        .count()
-        .saturating_add(1)
-}
-
 fn tables_of(alloc: Global, member: Option<&Value>) -> Result<Items<Table>, CatalogFault>
-    ensures { ReadsTables result (tables_of (option_map (λ v. view v.now) member.entry)) }
+    ensures value { ReadsTables result (tables_of (option_map (λ v. view v.now) member.entry)) }
+    ensures fits { IfOk result (AllByRecursion IsTable) }
 {
     let Some(value) = member else {
         return Ok(Items::new(Vec::new(alloc)));
@@ -58,7 +50,8 @@ fn tables_of(alloc: Global, member: Option<&Value>) -> Result<Items<Table>, Cata
 }
 
 fn tables_behind(alloc: Global, values: &[Value]) -> Result<Items<Table>, CatalogFault>
-    ensures { ReadsTables result (tables_behind [] (items_view values.now)) }
+    ensures value { ReadsTables result (tables_behind [] (items_view values.now)) }
+    ensures fits { IfOk result (AllByRecursion IsTable) }
 {
     let mut tables = Vec::new(alloc);
     for value in values {
@@ -79,7 +72,8 @@ fn tables_behind(alloc: Global, values: &[Value]) -> Result<Items<Table>, Catalo
 
 #[tactic(auto, unfolding(crate::specs::Config::another_table))]
 fn another_table(alloc: Global, tables: &[Table], value: &Value) -> Result<Table, Unread>
-    ensures { ReadsTable result (another_table tables.now (view value.now)) }
+    ensures value { ReadsTable result (another_table tables.now (view value.now)) }
+    ensures fits { IfOk result IsTable }
 {
     let table = table_in(alloc, value)?;
     match clash(tables, &table) {

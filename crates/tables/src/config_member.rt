@@ -1,10 +1,11 @@
 //! The members of a table in a configuration, each by itself.
 
-ghost use Rattle.std.specs.Prelude.{◌≡◌, ◌==◌, not, [], IfOk, option_map, option_copied};
+ghost use Rattle.std.specs.Prelude.{◌≡◌, ◌==◌, not, true, [], IfOk, IfSome, option_map, option_copied};
 ghost use Rattle.std.specs.List.{list_all, list_any};
 ghost use Rattle.std.specs.Str.{bytes_eq};
 ghost use Rattle.toml.specs.View.{view, items_view};
-ghost use Rattle.tables.specs.Config.{another_name, is_name, kind_in, name_in, names_behind, names_in, oid_in, unless_empty, identity_in, identity_of};
+ghost use Rattle.tables.specs.Config.{another_name, kind_in, name_in, names_behind, names_in, oid_in, unless_empty, identity_in, identity_of};
+ghost use Rattle.tables.specs.Tables.{IsName, is_name};
 
 use crate::identity::Identity;
 use crate::kind::{Kind, is_without_zero};
@@ -18,8 +19,10 @@ pub const MAX_NAME_LENGTH: usize = 63;
 /// The greatest OID.
 pub const MAX_OID: i64 = 4_294_967_295;
 
+#[tactic(auto, using(frames::proofs::Texts::valid_text))]
 pub(crate) fn is_name(text: &str) -> bool
-    ensures { result ≡ is_name text.now }
+    ensures value { result ≡ is_name text.now }
+    ensures named { result ≡ true → IsName text.now }
 {
     let length = text.as_bytes().len();
     1 <= length && length <= MAX_NAME_LENGTH && is_without_zero(text) && is_without_dot(text)
@@ -33,7 +36,8 @@ fn is_without_dot(text: &str) -> bool
 
 #[tactic(auto, unfolding(crate::specs::Config::name_in))]
 pub(crate) fn name_in(value: &Value) -> Option<&str>
-    ensures { option_copied result ≡ name_in (view value.now) }
+    ensures value { option_copied result ≡ name_in (view value.now) }
+    ensures named { IfSome result (λ name. IsName name.now) }
 {
     match value.as_str() {
         Some(text) if is_name(text) => Some(text),

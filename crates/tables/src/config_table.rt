@@ -1,11 +1,12 @@
 //! A table in a configuration, with its columns.
 
-ghost use Rattle.std.specs.Prelude.{◌≡◌, [], codes, IfOk, option_map};
+ghost use Rattle.std.specs.Prelude.{◌≡◌, [], codes, IfOk, IfSome, option_map};
 ghost use Rattle.std.specs.List.{list_all};
 ghost use Rattle.toml.specs.Data.{get};
 ghost use Rattle.toml.specs.View.{view, items_view};
 ghost use Rattle.tables.specs.declared.config_table.Unread.TheVariants.{Memory};
 ghost use Rattle.tables.specs.Config.{and_then, another_column, columns_behind, columns_in, has_others, is_column, name_in, names_in, oid_in, pair_in, table_in, ReadsTable};
+ghost use Rattle.tables.specs.Tables.{AreColumns, IsName, IsTable};
 
 use crate::column::Column;
 use crate::config_fault::Member;
@@ -41,7 +42,8 @@ impl From<AllocError> for Unread {
 /// The table that a value names, or its first member that is wrong.
 #[tactic(auto, unfolding(crate::specs::Config::table_in))]
 pub(crate) fn table_in(alloc: Global, value: &Value) -> Result<Table, Unread>
-    ensures { ReadsTable result (table_in (view value.now)) }
+    ensures value { ReadsTable result (table_in (view value.now)) }
+    ensures fits { IfOk result IsTable }
 {
     let oid = oid_at(value).ok_or(Unread::Wrong(Member::Oid))?;
     let schema = name_at(alloc, value, "schema")?.ok_or(Unread::Wrong(Member::Schema))?;
@@ -71,7 +73,8 @@ fn oid_at(table: &Value) -> Option<u32>
 }
 
 fn name_at(alloc: Global, table: &Value, member: &str) -> Result<Option<Text>, AllocError>
-    ensures { IfOk result (λ name. name ≡ and_then (get member.now (view table.now)) name_in) }
+    ensures value { IfOk result (λ name. name ≡ and_then (get member.now (view table.now)) name_in) }
+    ensures named { IfOk result (λ name. IfSome name IsName) }
 {
     let Some(value) = table.get(member) else {
         return Ok(None);
@@ -96,7 +99,8 @@ fn columns_at(
     key: &[Text],
     table: &Value,
 ) -> Result<Option<Items<Column>>, AllocError>
-    ensures { IfOk result (λ columns. columns ≡ and_then (get (codes "columns") (view table.now)) (columns_in key.now)) }
+    ensures value { IfOk result (λ columns. columns ≡ and_then (get (codes "columns") (view table.now)) (columns_in key.now)) }
+    ensures fits { IfOk result (λ columns. IfSome columns AreColumns) }
 {
     match table.get("columns") {
         Some(value) => columns_in(alloc, key, value),
@@ -132,7 +136,8 @@ fn columns_in(
     key: &[Text],
     value: &Value,
 ) -> Result<Option<Items<Column>>, AllocError>
-    ensures { IfOk result (λ columns. columns ≡ columns_in key.now (view value.now)) }
+    ensures value { IfOk result (λ columns. columns ≡ columns_in key.now (view value.now)) }
+    ensures fits { IfOk result (λ columns. IfSome columns AreColumns) }
 {
     match value.as_array() {
         Some(values) => Ok(columns_of(alloc, key, values.as_slice())?.and_then(unless_empty)),
@@ -145,7 +150,8 @@ fn columns_of(
     key: &[Text],
     values: &[Value],
 ) -> Result<Option<Items<Column>>, AllocError>
-    ensures { IfOk result (λ columns. columns ≡ columns_behind key.now [] (items_view values.now)) }
+    ensures value { IfOk result (λ columns. columns ≡ columns_behind key.now [] (items_view values.now)) }
+    ensures fits { IfOk result (λ columns. IfSome columns AreColumns) }
 {
     let mut columns = Vec::new(alloc);
     for value in values {
@@ -167,7 +173,8 @@ fn another_column(
     columns: &[Column],
     value: &Value,
 ) -> Result<Option<Column>, AllocError>
-    ensures { IfOk result (λ column. column ≡ another_column key.now columns.now (view value.now)) }
+    ensures value { IfOk result (λ column. column ≡ another_column key.now columns.now (view value.now)) }
+    ensures named { IfOk result (λ column. IfSome column (λ c. IsName c.name)) }
 {
     let Some((name, kind)) = pair_in(value) else {
         return Ok(None);

@@ -1,43 +1,18 @@
 //! Configurations: the tables that a text names.
 
 use crate::sample::Answer;
-use anyhow::{Context, Result};
+use crate::toml_text::toml_text;
+use anyhow::Result;
 use std::alloc::{AllocError, Global};
 use tables::{Catalog, Column, Table};
 
-/// The sample is a TOML text, in which `;` ends a line and `{N*TEXT}` stands for TEXT N times, with the number of each, from
-/// 1, in place of `#`.
+/// The sample is a TOML text on one line.
 pub fn catalog_answer(alloc: Global, given: &str) -> Result<Answer> {
-    let text = expanded(alloc, given)?;
+    let text = toml_text(alloc, given)?;
     match Catalog::from_toml(alloc, text.as_str()) {
         Ok(catalog) => Ok(Answer::Meaning(shown_tables(alloc, catalog.tables())?)),
         Err(fault) => Ok(Answer::Fault(fault.to_string(alloc)?)),
     }
-}
-
-fn expanded(alloc: Global, given: &str) -> Result<String> {
-    let lines = given.replace(alloc, ";", "\n")?;
-    let mut text = String::new(alloc);
-    for (number, piece) in lines.split('{').enumerate() {
-        if number == 0 {
-            text.push_str(piece)?;
-            continue;
-        }
-        let (repeated, rest) = piece.split_once('}').context("has no closing bracket")?;
-        add_repeated(alloc, &mut text, repeated)?;
-        text.push_str(rest)?;
-    }
-    Ok(text)
-}
-
-fn add_repeated(alloc: Global, text: &mut String, repeated: &str) -> Result<()> {
-    let (count, piece) = repeated.split_once('*').context("repeats nothing")?;
-    for number in 1..=count.parse::<u16>().context("reading how often")? {
-        let number = number.to_string(alloc)?;
-        let piece = piece.replace(alloc, "#", number.as_str())?;
-        text.push_str(piece.as_str())?;
-    }
-    Ok(())
 }
 
 /// The number of tables where there are many, else each of them.

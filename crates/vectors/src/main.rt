@@ -6,6 +6,7 @@
 
 mod catalog_text;
 mod command_text;
+mod config_text;
 mod conversations;
 mod event_line;
 mod expanded;
@@ -26,6 +27,7 @@ mod shown;
 mod spoken;
 mod talk;
 mod told;
+mod toml_text;
 mod wording;
 
 use anyhow::{Result, bail, ensure};

@@ -2,10 +2,18 @@
 
 use crate::sample::Answer;
 use anyhow::{Result, ensure};
-use publication::Publications;
 use std::alloc::Global;
-use tables::Catalog;
 use world::{Config, SimFault, simulate};
+
+/// The table public.item.
+const ITEM: &str = "\
+[[table]]
+oid = 16384
+schema = 'public'
+name = 'item'
+key = ['id']
+columns = [['id', 'int4'], ['name', 'text'], ['qty', 'int8']]
+";
 
 /// What the schedule prints, or why it is refused.
 pub fn played(alloc: Global, records: usize, text: &str) -> Result<Answer> {
@@ -39,9 +47,10 @@ fn shown_fault(alloc: Global, fault: &SimFault) -> Result<String> {
     Ok(fault.to_string(alloc)?)
 }
 
-/// The built-in table and publication, with a log for so many records.
+/// The table public.item, and a log for so many records.
 fn config_of(alloc: Global, records: usize) -> Result<Config> {
-    let catalog = Catalog::builtin(alloc)?;
-    let publications = Publications::builtin(alloc)?;
-    Ok(Config::new(catalog, publications, records)?)
+    let server = format!(in alloc; "systemid = '1'\nrecords = {records}\nchunks = 1")?;
+    let server = server.as_str();
+    let text = format!(in alloc; "[server]\n{server}\n{ITEM}")?;
+    Ok(Config::from_toml(alloc, text.as_str())?)
 }

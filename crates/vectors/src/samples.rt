@@ -2,6 +2,7 @@
 
 use crate::catalog_text::catalog_answer;
 use crate::command_text::{command_answer, position_answer};
+use crate::config_text::config_answer;
 use crate::event_line::event_answer;
 use crate::field::field_answer;
 use crate::framing::{back_answer, front_answer, startup_answer};
@@ -79,6 +80,7 @@ fn unless_said(answer: Answer, sample: Sample<'_>) -> Option<Answer> {
 fn answer_of(alloc: Global, sample: Sample<'_>) -> Result<Answer> {
     match sample.call {
         "catalog" => catalog_answer(alloc, sample.given),
+        "config" => config_answer(alloc, sample.given),
         "command" => command_answer(alloc, sample.given),
         "position" => position_answer(alloc, sample.given),
         "event" => event_answer(alloc, sample.given),

@@ -65,7 +65,7 @@ const SEND_FAULTS: [SendFault; 3] = [SendFault::Memory, SendFault::Failed, SendF
 
 const WORLD_FAULTS: [WorldFault; 2] = [WorldFault::BadEvent, WorldFault::Memory];
 
-const CONFIG_FAULTS: [ConfigFault; 1] = [ConfigFault::BadServer];
+const CONFIG_FAULTS: [ConfigFault; 1] = [ConfigFault::Memory];
 
 /// The text of a fault, which is given by the names of its type and of its variant.
 pub fn text_answer(alloc: Global, given: &str) -> Result<Answer> {

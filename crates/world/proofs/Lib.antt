@@ -1,6 +1,7 @@
 pub mod Ranges
 pub mod Streams
 pub mod Sections
+pub mod Members
 pub mod Names
 pub mod Openings
 pub mod Asking

@@ -1,4 +1,5 @@
 pub mod State
+pub mod Config
 pub mod Law
 pub mod Rows
 pub mod SessionLines

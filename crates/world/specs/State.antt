@@ -6,6 +6,7 @@ use Rattle.tables.specs.declared.table.Table.{Table}
 use Rattle.txlog.specs.Publishing.{PublisherState, new_publisher}
 use Rattle.publication.specs.Publications.{Publication}
 use Rattle.schedule.specs.declared.answer.Answer.{Answer}
+use Rattle.world.specs.declared.server.Server.{Server}
 
 -- a transaction in progress, by the name that the schedule gives it
 pub record NamedTx : Type 0 where
@@ -35,11 +36,11 @@ pub record WorldState : Type 0 where
 pub record Setting : Type 0 where
   pub tables : List Table
   pub publication : Publication
-  pub records : ℕ
+  pub server : Server
 
 -- before the first event the log is empty, and nobody is there
 abbrev pub new_world : Setting → WorldState
-new_world setting = record { publication = setting.publication; publisher = new_publisher setting.tables setting.records; transactions = []; starts = [] }
+new_world setting = record { publication = setting.publication; publisher = new_publisher setting.tables setting.server.records; transactions = []; starts = [] }
 
 -- what a world tells of itself: its state, and what each event so far answered
 pub record WorldView : Type 0 where

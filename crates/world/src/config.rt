@@ -1,76 +1,68 @@
-//! What a publisher is configured with.
+//! What a publisher is configured with. The form of a configuration is told in docs/CONFIGURATION.md.
 
-ghost use Rattle.std.specs.Prelude.{◌≡◌, ◌<◌, ◌≤◌, ◌⊎◌, IfOk, OnOk, OnErr};
-ghost use Rattle.tables.specs.Tables.{builtin_tables};
-ghost use Rattle.txlog.specs.declared.limits.TheConstants.{MAX_RECORDS};
-ghost use Rattle.publication.specs.Publications.{builtin_publication};
+ghost use Rattle.std.specs.Prelude.{◌≡◌};
+ghost use Rattle.toml.specs.View.{view};
+ghost use Rattle.world.specs.Config.{Names, ReadsSetting, named_by, setting_in};
 
+use crate::config_fault::ConfigFault;
+use crate::server::{Server, server_of};
 use publication::Publications;
-use std::alloc::{AllocError, Global};
+use std::alloc::Global;
 use std::marker::Model;
-use tables::Catalog;
-use thiserror::Error;
-use txlog::MAX_RECORDS;
+use tables::{Catalog, read_document};
+use toml::Value;
 
-/// The records that the log of the built-in configuration has room for.
-pub const BUILTIN_RECORDS: usize = 65_536;
-
-/// What a publisher is configured with: its tables, its publications, and how many records its log has room for.
+/// What a publisher is configured with: its tables, its publications, and its server.
 #[derive(Debug, Drop)]
 pub struct Config {
     pub(crate) catalog: Catalog,
     pub(crate) publications: Publications,
-    pub(crate) records: usize,
+    pub(crate) server: Server,
 }
 
 impl Model for Config {
-    ghost use Rattle.std.specs.Prelude.{◌≤◌};
-    ghost use Rattle.txlog.specs.declared.limits.TheConstants.{MAX_RECORDS};
+    ghost use Rattle.world.specs.Config.{IsServer};
     ghost use Rattle.world.specs.State.{Setting};
 
     ghost Value = { Setting };
 
-    ghost view = { λ c. record { tables = c.catalog; publication = c.publications; records = c.records } };
+    ghost view = { λ c. record { tables = c.catalog; publication = c.publications; server = c.server } };
 
-    ghost invariant = { λ c. (1 ≤ c.records) × (c.records ≤ MAX_RECORDS) };
-}
-
-/// Why there is no such configuration.
-#[derive(Clone, Copy, Debug, PartialEq, Eq, Error)]
-pub enum ConfigFault {
-    #[error("a number is out of its range")]
-    BadServer,
+    ghost invariant = { λ c. IsServer c.server };
 }
 
 impl Config {
-    /// A configuration. Its log has room for 1 to `MAX_RECORDS` records.
-    pub fn new(
-        catalog: Catalog,
-        publications: Publications,
-        records: usize,
-    ) -> Result<Self, ConfigFault>
-        ensures ok { IfOk result (λ c. c ≡ record { tables = catalog; publication = publications; records = records }) }
-        ensures within { OnOk result ((1 ≤ records) × (records ≤ MAX_RECORDS)) }
-        ensures err { OnErr result ((records < 1) ⊎ (MAX_RECORDS < records)) }
+    /// The configuration that a TOML text names. Its publications are not read yet: there is one, `p`, of the table public.item.
+    pub fn from_toml(alloc: Global, text: &str) -> Result<Self, ConfigFault>
+        ensures { Names result (named_by text.now) }
     {
-        if records < 1 || MAX_RECORDS < records {
-            return Err(ConfigFault::BadServer);
-        }
+        let document = read_document(alloc, text)?;
+        Config::of_document(alloc, &document)
+    }
+
+    fn of_document(alloc: Global, document: &Value) -> Result<Self, ConfigFault>
+        ensures { ReadsSetting result (setting_in (view document.now)) }
+    {
+        let catalog = Catalog::of_document(alloc, document)?;
+        let server = server_of(alloc, document)?;
+        let publications = Publications::builtin(alloc, &catalog)?;
         Ok(Config {
             catalog,
             publications,
-            records,
+            server,
         })
     }
 
-    /// The table public.item, the publication `p` of it, and a log of 65,536 records.
-    pub fn builtin(alloc: Global) -> Result<Self, AllocError>
-        ensures { IfOk result (λ c. c ≡ record { tables = builtin_tables; publication = builtin_publication; records = BUILTIN_RECORDS }) }
+    /// The tables of the publisher.
+    pub fn catalog(&self) -> &Catalog
+        ensures { result.now ≡ self.now.tables }
     {
-        Ok(Config {
-            catalog: Catalog::builtin(alloc)?,
-            publications: Publications::builtin(alloc)?,
-            records: BUILTIN_RECORDS,
-        })
+        &self.catalog
+    }
+
+    pub fn server(&self) -> &Server
+        ensures { result.now ≡ self.now.server }
+    {
+        &self.server
     }
 }

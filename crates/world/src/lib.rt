@@ -8,16 +8,20 @@
 mod action;
 mod calls;
 mod config;
+mod config_fault;
 mod machine;
 mod opening;
 mod rows;
+mod server;
 mod session;
 mod simulation;
 mod start;
 mod world;
 
-pub use config::{BUILTIN_RECORDS, Config, ConfigFault};
+pub use config::Config;
+pub use config_fault::{ConfigFault, ServerMisfit};
 pub use schedule::{Answer, BadEvent, Event, LineFault, Literal, Schedule, SlotFault, WorldFault};
+pub use server::{MAX_CHUNKS, Server};
 pub use simulation::{SimFault, simulate};
 pub use start::Start;
 pub use world::{RunFault, World};

@@ -54,9 +54,9 @@ impl Machine {
         let Config {
             catalog,
             publications,
-            records,
+            server,
         } = config;
-        match Publisher::new(alloc, catalog, records) {
+        match Publisher::new(alloc, catalog, server.records) {
             Ok(publisher) => {
                 return Ok(Machine {
                     publications,

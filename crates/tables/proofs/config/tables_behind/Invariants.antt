@@ -1,7 +1,10 @@
-use Rattle.std.proofs.Common.{◌≡◌, [], ℕ, length, drop, List}
+use Rattle.std.proofs.Common.{◌≡◌, [], drop}
 use Rattle.toml.specs.View.{items_view}
+use Rattle.std.specs.List.{AllByRecursion}
 use Rattle.tables.specs.Config.{tables_behind}
+use Rattle.tables.specs.Tables.{IsTable}
 use Rattle.tables.proofs.config.tables_behind.Given as goal
 
 abbrev pub invariant-loop-value : goal.invariant-loop-value
-invariant-loop-value l = tables_behind l.tables.items (items_view (drop l.value-index l.values)) ≡ tables_behind [] (items_view l.values)
+invariant-loop-value l =
+    (tables_behind l.tables.items (items_view (drop l.value-index l.values)) ≡ tables_behind [] (items_view l.values)) × AllByRecursion IsTable l.tables.items

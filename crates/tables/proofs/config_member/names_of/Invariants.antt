@@ -1,4 +1,4 @@
-use Rattle.std.proofs.Common.{◌≡◌, [], ℕ, length, drop, List}
+use Rattle.std.proofs.Common.{◌≡◌, [], drop}
 use Rattle.toml.specs.View.{items_view}
 use Rattle.tables.specs.Config.{names_behind}
 use Rattle.tables.proofs.config_member.names_of.Given as goal
