@@ -9,6 +9,7 @@ mod config;
 mod config_fault;
 mod config_member;
 mod config_table;
+mod emptying;
 mod fault;
 mod identity;
 mod journals;

@@ -3,7 +3,8 @@
 ghost use Rattle.std.specs.Prelude.{◌≡◌, ◌==◌, ◌≤◌, ◌++◌, ◌∷◌, [], ◌&&◌, ◌||◌, not, IfErr, IfOk, IsTrue, OnErr, OnOk, List, length, is_some, if◌then◌else◌, ℕ};
 ghost use Rattle.std.specs.Option.{option_copied};
 ghost use Rattle.tables.specs.Keeping.{AreShort, DeletesAt, IsSame, Keeps, Makes, UpdatesAt, RefusedExactly, RefusedOrMemory, journal_of, key_held, keys_fault, places_fault, row_at};
-ghost use Rattle.tables.specs.History.{Made, count_of, delete_fault, delete_refusal, forgotten, insert_fault, insert_refusal, is_other, made, rolled_back, row_place, rows_after, table_place, unless, update_fault, update_refusal, Deletes, Updates};
+ghost use Rattle.tables.specs.Emptying.{Does};
+ghost use Rattle.tables.specs.History.{Made, count_of, delete_fault, delete_refusal, forgotten, insert_fault, insert_refusal, is_other, made, rolled_back, row_place, rows_after, table_place, truncate_refusal, unless, update_fault, update_refusal, Deletes, Updates};
 ghost use Rattle.tables.specs.Rows.{key_of, key_text};
 ghost use Rattle.tables.specs.Slots.{HavePlaces, same_key, slot_at, undone};
 ghost use Rattle.tables.specs.Tables.{FitsRow, FitsTableChange};
@@ -199,6 +200,33 @@ impl Store {
         Ok(TableChange::Delete(oid, old))
     }
 
+    /// Empties tables, and holds them. S1, S2, S6, S5, S11 in this order. It goes through all places of the store.
+    pub fn truncate(&mut self, top: u32, oids: &[u32]) -> Result<TableChange, StoreFault>
+        ensures change { IfOk result (λ change. change ≡ TableChange.Truncate oids.now) }
+        ensures fits { IfOk result (λ change. FitsTableChange self.old.tables change) }
+        ensures ok { OnOk result ((history : List Made) → Keeps self.old history → Keeps self.new (history ++ made top (TableChange.Truncate oids.now) ∷ [])) }
+        ensures err { OnErr result ((history : List Made) → Keeps self.old history → Keeps self.new history) }
+        ensures refused { (history : List Made) → Keeps self.old history → RefusedOrMemory (truncate_refusal self.old.tables history top oids.now) result }
+        ensures tables { self.new.tables ≡ self.old.tables }
+    {
+        match self.judge_truncate(top, oids) {
+            Ok(()) => self.empty(top, oids),
+            Err(fault) => Err(fault),
+        }
+    }
+
+    fn empty(&mut self, top: u32, oids: &[u32]) -> Result<TableChange, StoreFault>
+        ensures change { IfOk result (λ change. change ≡ TableChange.Truncate oids.now) }
+        ensures ok { OnOk result (Does top (TableChange.Truncate oids.now) self.old self.new) }
+        ensures err { OnErr result (IsSame self.old self.new) }
+        ensures memory { IfErr result (λ fault. fault ≡ StoreFault.Memory) }
+    {
+        let named = Vec::from_slice(self.alloc, oids)?;
+        let undos = self.slots.empty(self.alloc, top, oids)?;
+        self.note(top, undos)?;
+        Ok(TableChange::Truncate(Items::new(named)))
+    }
+
     /// A copy of the row at a place.
     fn old_row(&self, place: &Place) -> Result<Row, StoreFault>
         ensures ok { IfOk result (λ row. (slot_at self.now.slots place.now).row ≡ Some row) }
@@ -237,7 +265,7 @@ impl Store {
     fn note(&mut self, top: u32, undos: Items<Undo>) -> Result<(), AllocError>
         ensures tables { self.new.tables ≡ self.old.tables }
         ensures slots { OnOk result (self.new.slots ≡ self.old.slots) }
-        ensures journals { OnOk result ((x : ℕ) → journal_of x self.new.journals ≡ (if x == top then journal_of x self.old.journals ++ undos ∷ [] else journal_of x self.old.journals)) }
+        ensures journals { OnOk result ((x : ℕ) → journal_of x self.new.journals ≡ (if top == x then journal_of x self.old.journals ++ undos ∷ [] else journal_of x self.old.journals)) }
         ensures undone { OnErr result (HavePlaces self.old.slots undos → self.new.slots ≡ undone self.old.slots undos) }
         ensures same { OnErr result ((x : ℕ) → journal_of x self.new.journals ≡ journal_of x self.old.journals) }
     {
