@@ -1,20 +1,18 @@
 -- Who holds a place of tables that are emptied, by the slots and by the history; and what a truncate does to a history.
-use Rattle.std.proofs.Common.{◌≡◌, ℕ, zero, suc, ◌≤◌, ◌<◌, ◌^◌, Bool, true, false, cond, ◌||◌, ◌&&◌, not, List, [], ◌∷◌, ◌++◌, length, get_or, take, map, Some, None, refl, sym, ap, subst, ◌∙◌, arith}
-use Rattle.std.specs.Prelude.{Option, IsSome, is_some, nat_eq, nat_lt}
+use Rattle.std.proofs.Common.{◌≡◌, ℕ, zero, suc, ◌≤◌, ◌<◌, ◌^◌, Bool, true, false, cond, ◌||◌, ◌&&◌, not, List, [], ◌∷◌, ◌++◌, length, get_or, take, None, refl, sym, ap, subst, ◌∙◌}
+use Rattle.std.specs.Prelude.{IsSome, is_some, nat_eq, nat_lt}
 use Rattle.std.specs.List.{AllByRecursion, list_all, list_any}
 use Rattle.frames.specs.Fields.{int32}
-use Rattle.tables.specs.declared.slot.Slot.{Slot}
 use Rattle.tables.specs.declared.slot.Undo.{Undo}
 use Rattle.tables.specs.declared.table.Table.{Table}
 use Rattle.tables.specs.declared.table_body.TheConstants.{MAX_TRUNCATED}
 use Rattle.tables.specs.declared.table_change.TableChange.{TableChange}
 use Rattle.tables.specs.declared.table_change.TableChange.TheVariants as changes
-use Rattle.tables.specs.declared.store_fault.StoreFault.{StoreFault}
 use Rattle.tables.specs.declared.store_fault.StoreFault.TheVariants as faults
 use Rattle.tables.specs.Slots.{same_key, Entries, slot_at, HavePlaces, undone, undone_at}
 use Rattle.tables.specs.Tables.{table_of, FitsTableChange}
 use Rattle.tables.specs.History.{Made, made, is_other, is_within, is_among, is_held, is_any_held, places_of, table_place, repeats, unless, truncate_fault, truncate_refusal}
-use Rattle.tables.specs.Keeping.{StoreState, journal_of, all_emptied, is_put, puts_of, is_emptied, touches, Follows, KeepsOff, Keeps, AreShort, IsSame}
+use Rattle.tables.specs.Keeping.{StoreState, journal_of, all_emptied, is_put, puts_of, is_emptied, touches, KeepsOff, Keeps, AreShort, IsSame}
 use Rattle.tables.specs.Emptying.{AreAtPlace, is_other_within, emptied_at, AreNoted, Does}
 use Rattle.tables.proofs.Undoing.{keys_same, same_self}
 use Rattle.tables.proofs.Histories.{all_map, or_left, or_right}

@@ -14,7 +14,7 @@ use Rattle.tables.specs.Rows.{Key, key_text}
 use Rattle.tables.specs.Tables.{FitsTableChange}
 use Rattle.tables.specs.Emptying.{Does}
 use Rattle.tables.specs.History.{Made, made, is_top, is_other, is_held, is_key_held, table_place, rows_after, rolled_back, count_of, forgotten}
-use Rattle.tables.specs.Keeping.{Journals, StoreState, journal_of, Put, put_at, put_all, noted_of, is_put, puts_of, emptied, is_emptied, touches, slot_by, slot_from, freed, is_in_journal, IsUndo, AreNotes, KeepsOff, nothing_at, Keeps, AreShort, SameSlots, Makes, IsSame, key_held, row_at}
+use Rattle.tables.specs.Keeping.{Journals, StoreState, journal_of, Put, put_at, put_all, noted_of, is_put, puts_of, is_emptied, touches, slot_by, slot_from, freed, is_in_journal, IsUndo, AreNotes, KeepsOff, nothing_at, Keeps, AreShort, SameSlots, Makes, IsSame, key_held, row_at}
 use Rattle.tables.proofs.Undoing.{slot_put, slot_undone, places_kept, place_made, undone_keeps, keys_same, same_self, short_put, short_undone}
 use Rattle.tables.proofs.Histories.{all_map, all_more, emptied_off, top_self, slot_more, notes_more, notes_beside, apart_more, all_rolled, apart_rolled, undone_rolled, notes_rolled, notes_others, notes_count, rolled_all, rolled_twice}
 use Rattle.tables.proofs.Holding.{rows_are, held_is, OffAll, keeps_off}

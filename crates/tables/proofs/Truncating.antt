@@ -1,21 +1,19 @@
 -- Tables that are emptied: what stands then, and that undoing it leaves what stood before.
-use Rattle.std.proofs.Common.{◌≡◌, ℕ, zero, suc, ◌+◌, ◌<◌, Bool, true, false, cond, ◌||◌, ◌&&◌, List, [], ◌∷◌, ◌++◌, length, length-append, take, drop, get_or, Some, None, refl, sym, ap, subst, ◌∙◌, arith}
-use Rattle.std.specs.Prelude.{Option, IsSome, Vec, is_some, nat_eq}
+use Rattle.std.proofs.Common.{◌≡◌, ℕ, zero, suc, ◌+◌, ◌<◌, Bool, true, false, cond, ◌||◌, ◌&&◌, List, [], ◌∷◌, ◌++◌, length, length-append, drop, get_or, Some, None, refl, sym, ap, subst, ◌∙◌, arith}
+use Rattle.std.specs.Prelude.{Option, Vec, is_some, nat_eq}
 use Rattle.std.specs.Cmp.Lexicographic.{pointwise, nat_list_eq_equiv}
-use Rattle.std.specs.List.{AllByRecursion, IsDistinct, list_all, list_any}
-use Rattle.std.specs.Map.{lookup, keys_of}
+use Rattle.std.specs.List.{AllByRecursion, IsDistinct, list_any}
+use Rattle.std.specs.Map.{keys_of}
 use Rattle.std.proofs.lemmas.Map.Keys.{IsDistinct-head, IsDistinct-tail}
-use Rattle.std.proofs.Math.Seq.{take-append_seam}
 use Rattle.frames.specs.Fields.{int32}
 use Rattle.frames.proofs.Numbers.{length-int32}
-use Rattle.tables.specs.declared.key.TheConstants.{MAX_KEY_LENGTH}
 use Rattle.tables.specs.declared.slot.Slot.{Slot}
 use Rattle.tables.specs.declared.slot.Undo.{Undo}
 use Rattle.tables.specs.declared.value.Value.{Value}
-use Rattle.tables.specs.Slots.{same_key, vacant, Entries, entries_of, slot_at, put, HasPlace, HavePlaces, undone, undone_at}
+use Rattle.tables.specs.Slots.{same_key, Entries, entries_of, slot_at, put, HasPlace, HavePlaces, undone, undone_at}
 use Rattle.tables.specs.History.{is_other, is_within, is_among, table_place}
-use Rattle.tables.specs.Keeping.{Put, all_emptied, put_at, without_row, AreShort, SameSlots}
-use Rattle.tables.specs.Emptying.{AreAtPlace, is_other_within, filled_within, taken_at, emptied_at, IsOf, AreNoted}
+use Rattle.tables.specs.Keeping.{all_emptied, put_at, without_row, AreShort, SameSlots}
+use Rattle.tables.specs.Emptying.{AreAtPlace, is_other_within, filled_within, taken_at, IsOf, AreNoted}
 use Rattle.tables.proofs.Undoing.{slot_put, slot_undone, places_kept, place_made, undone_keeps, keys_same, same_self, short_put, short_undone}
 use Rattle.tables.proofs.Histories.{all_more}
 use Rattle.tables.proofs.Holding.{and_right, front_of_table, right_true}

@@ -5,7 +5,6 @@ use Rattle.std.specs.List.{AllByRecursion}
 use Rattle.tables.specs.declared.key.TheConstants.{MAX_KEY_LENGTH}
 use Rattle.tables.specs.declared.slot.Slot.{Slot}
 use Rattle.tables.specs.declared.slot.Undo.{Undo}
-use Rattle.tables.specs.declared.table.Table.{Table}
 use Rattle.tables.specs.declared.table_change.TableChange.{TableChange}
 use Rattle.tables.specs.Slots.{same_key, Entries, slot_at, HavePlaces, undone_at}
 use Rattle.tables.specs.History.{made, is_other, is_within}

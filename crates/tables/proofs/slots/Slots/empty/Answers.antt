@@ -1,9 +1,8 @@
-use Rattle.std.proofs.Common.{◌≡◌, ℕ, List, Some, sym, ap, subst, ◌∙◌}
+use Rattle.std.proofs.Common.{ℕ, List, Some, sym, ap, subst, ◌∙◌}
 use Rattle.std.specs.List.{AllByRecursion}
-use Rattle.tables.specs.declared.slot.Undo.{Undo}
 use Rattle.tables.specs.Slots.{slot_at}
 use Rattle.tables.specs.Keeping.{all_emptied, put_at}
-use Rattle.tables.specs.Emptying.{filled_within, taken_at, IsOf, AreNoted}
+use Rattle.tables.specs.Emptying.{taken_at, IsOf, AreNoted}
 use Rattle.tables.proofs.Truncating.{taken_all, filled_of, noted_none, noted_undone}
 use Rattle.tables.proofs.slots.Slots.empty.Goals as goal
 

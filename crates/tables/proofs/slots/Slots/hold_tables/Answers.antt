@@ -4,7 +4,7 @@ use Rattle.tables.specs.declared.slot.Slot.{Slot}
 use Rattle.tables.specs.Slots.{put, slot_at}
 use Rattle.tables.specs.History.{table_place}
 use Rattle.tables.specs.Keeping.{all_emptied, put_at}
-use Rattle.tables.proofs.Truncating.{held_next, noted_next, noted_same, table_is_of}
+use Rattle.tables.proofs.Truncating.{held_next, noted_next, table_is_of}
 use Rattle.tables.proofs.slots.Slots.hold_tables.Goals as goal
 
 pub loop-oid-preserved : goal.loop-oid-preserved

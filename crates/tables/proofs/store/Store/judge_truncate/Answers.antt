@@ -1,6 +1,5 @@
-use Rattle.std.proofs.Common.{◌≡◌, Bool, sym, ap, subst, arith, None, ◌∙◌}
+use Rattle.std.proofs.Common.{Bool, sym, ap, subst, arith, None, ◌∙◌}
 use Rattle.tables.specs.declared.store_fault.StoreFault.TheVariants as faults
-use Rattle.tables.specs.Slots.{Entries}
 use Rattle.tables.specs.History.{unless, is_any_held}
 use Rattle.tables.specs.Keeping.{StoreState}
 use Rattle.tables.specs.Emptying.{AreAtPlace, is_other_within}
