@@ -7,6 +7,7 @@ ghost use Rattle.tables.specs.Emptying.{Does};
 ghost use Rattle.tables.specs.History.{Made, count_of, delete_fault, delete_refusal, forgotten, insert_fault, insert_refusal, is_other, made, rolled_back, row_place, rows_after, table_place, truncate_refusal, unless, update_fault, update_refusal, Deletes, Updates};
 ghost use Rattle.tables.specs.Rows.{key_of, key_text};
 ghost use Rattle.tables.specs.Slots.{HavePlaces, same_key, slot_at, undone};
+ghost use Rattle.tables.specs.TableSpelling.{IsShortChange};
 ghost use Rattle.tables.specs.Tables.{FitsRow, FitsTableChange};
 
 use crate::catalog::Catalog;
@@ -24,7 +25,8 @@ use std::marker::Model;
 /// The rows of a catalogue's tables, and what live transactions changed in them. A transaction is named by its xid.
 ///
 /// Contracts speak of the history of a store, the changes that were made and not undone (`Keeps`): each call says what
-/// becomes of it, and what is refused and what stands in the tables is told of it alone.
+/// becomes of it, and what is refused and what stands in the tables is told of it alone. A change that a call made can be
+/// written into the log: it fits the tables, its rows have at most 8,000 bytes and its body at most 16,005.
 #[derive(Drop)]
 pub struct Store {
     pub(crate) catalog: Catalog,
@@ -102,6 +104,7 @@ impl Store {
     pub fn insert(&mut self, top: u32, oid: u32, row: Row) -> Result<TableChange, StoreFault>
         ensures change { IfOk result (λ change. change ≡ TableChange.Insert oid row) }
         ensures fits { IfOk result (λ change. FitsTableChange self.old.tables change) }
+        ensures short { IfOk result IsShortChange }
         ensures ok { OnOk result ((history : List Made) → Keeps self.old history → Keeps self.new (history ++ made top (TableChange.Insert oid row) ∷ [])) }
         ensures err { OnErr result ((history : List Made) → Keeps self.old history → Keeps self.new history) }
         ensures refused { (history : List Made) → Keeps self.old history → RefusedOrMemory (insert_refusal self.old.tables history top oid row) result }
@@ -140,6 +143,7 @@ impl Store {
         row: Row,
     ) -> Result<TableChange, StoreFault>
         ensures fits { IfOk result (λ change. (history : List Made) → Keeps self.old history → FitsTableChange self.old.tables change) }
+        ensures short { IfOk result (λ change. (history : List Made) → Keeps self.old history → IsShortChange change) }
         ensures change { IfOk result (λ change. (history : List Made) → Keeps self.old history → Updates self.old.tables history (record { oid = oid; values = key.now }) row change) }
         ensures ok { IfOk result (λ change. (history : List Made) → Keeps self.old history → Keeps self.new (history ++ made top change ∷ [])) }
         ensures err { OnErr result ((history : List Made) → Keeps self.old history → Keeps self.new history) }
@@ -176,6 +180,7 @@ impl Store {
     /// Deletes the row with this key. S1, S2, S5, S4, S11 in this order.
     pub fn delete(&mut self, top: u32, oid: u32, key: &Row) -> Result<TableChange, StoreFault>
         ensures fits { IfOk result (λ change. (history : List Made) → Keeps self.old history → FitsTableChange self.old.tables change) }
+        ensures short { IfOk result (λ change. (history : List Made) → Keeps self.old history → IsShortChange change) }
         ensures change { IfOk result (λ change. (history : List Made) → Keeps self.old history → Deletes self.old.tables history (record { oid = oid; values = key.now }) change) }
         ensures ok { IfOk result (λ change. (history : List Made) → Keeps self.old history → Keeps self.new (history ++ made top change ∷ [])) }
         ensures err { OnErr result ((history : List Made) → Keeps self.old history → Keeps self.new history) }
@@ -204,6 +209,7 @@ impl Store {
     pub fn truncate(&mut self, top: u32, oids: &[u32]) -> Result<TableChange, StoreFault>
         ensures change { IfOk result (λ change. change ≡ TableChange.Truncate oids.now) }
         ensures fits { IfOk result (λ change. FitsTableChange self.old.tables change) }
+        ensures short { IfOk result IsShortChange }
         ensures ok { OnOk result ((history : List Made) → Keeps self.old history → Keeps self.new (history ++ made top (TableChange.Truncate oids.now) ∷ [])) }
         ensures err { OnErr result ((history : List Made) → Keeps self.old history → Keeps self.new history) }
         ensures refused { (history : List Made) → Keeps self.old history → RefusedOrMemory (truncate_refusal self.old.tables history top oids.now) result }
