@@ -1,7 +1,11 @@
 -- Who holds a place of tables that are emptied, by the slots and by the history; and what a truncate does to a history.
-use Rattle.std.proofs.Common.{◌≡◌, ℕ, zero, suc, ◌≤◌, ◌<◌, ◌^◌, Bool, true, false, cond, ◌||◌, ◌&&◌, not, List, [], ◌∷◌, ◌++◌, length, get_or, take, None, refl, sym, ap, subst, ◌∙◌}
+use Rattle.std.proofs.Common.{arith, ◌≡◌, ℕ, zero, suc, ◌≤◌, ◌<◌, ◌^◌, Bool, true, false, cond, eqb, ◌||◌, ◌&&◌, not, List, [], ◌∷◌, ◌++◌, length, get_or, take, None, refl, sym, ap, subst, ◌∙◌}
 use Rattle.std.specs.Prelude.{IsSome, is_some, nat_eq, nat_lt}
-use Rattle.std.specs.List.{AllByRecursion, list_all, list_any}
+use Rattle.std.specs.List.{AllByRecursion, IsDistinct, list_all, list_any}
+use Rattle.std.specs.Map.{lookup}
+use Rattle.std.specs.Cmp.{nat_eq_equiv}
+use Rattle.std.proofs.lemmas.Bool.{eqb-true}
+use Rattle.std.proofs.lemmas.Map.Steps.{length-le_from_keys}
 use Rattle.frames.specs.Fields.{int32}
 use Rattle.tables.specs.declared.slot.Undo.{Undo}
 use Rattle.tables.specs.declared.table.Table.{Table}
@@ -169,6 +173,54 @@ oids_fit tables (oid ∷ oids) small there =
 pub truncate_is : (tables : List Table) (oids : List ℕ) (held : Bool) → list_all (λ oid. is_some (table_of oid tables)) oids ≡ true → nat_eq (length oids) 0 ≡ false → repeats oids ≡ false →
     length oids ≤ MAX_TRUNCATED → truncate_fault tables oids held ≡ unless held faults.KeyHeld None
 truncate_is tables oids held there some once few = rw (there, some, once, not_longer (length oids) MAX_TRUNCATED few) refl
+
+-- NO LIST WITHOUT REPEATS IS LONGER THAN THE TABLES
+
+none_same : (oid : ℕ) (oids : List ℕ) → list_any (λ other. eqb other oid) oids ≡ false → AllByRecursion (λ other. nat_eq oid other ≡ false) oids
+none_same oid [] off = tt
+none_same oid (x ∷ oids) off =
+    (nat_eq_equiv.symm oid x ∙ or_left (eqb x oid) (list_any (λ other. eqb other oid) oids) off, none_same oid oids (or_right (eqb x oid) (list_any (λ other. eqb other oid) oids) off))
+
+distinct : (oids : List ℕ) → repeats oids ≡ false → IsDistinct nat_eq oids
+unfolding IsDistinct
+distinct [] once = tt
+distinct (x ∷ oids) once =
+    (none_same x oids (or_left (list_any (λ other. eqb other x) oids) (repeats oids) once), distinct oids (or_right (list_any (λ other. eqb other x) oids) (repeats oids) once))
+
+abbrev by_oid : List Table → List (ℕ × Table)
+by_oid [] = []
+by_oid (table ∷ tables) = (table.oid, table) ∷ by_oid tables
+
+as_many : (tables : List Table) → length (by_oid tables) ≡ length tables
+as_many [] = refl
+as_many (table ∷ tables) = ap suc (as_many tables)
+
+found_key : (tables : List Table) (oid : ℕ) → is_some (table_of oid tables) ≡ true → IsSome (lookup (nat_eq oid) (by_oid tables))
+found_key [] oid there = absurd cc
+found_key (table ∷ tables) oid there = by_test (eqb table.oid oid) refl (found_key tables oid)
+  where
+    by_test : (a : Bool) → eqb table.oid oid ≡ a → (is_some (table_of oid tables) ≡ true → IsSome (lookup (nat_eq oid) (by_oid tables))) →
+        IsSome (lookup (nat_eq oid) (by_oid (table ∷ tables)))
+    by_test true is later = rw (nat_eq_equiv.symm oid table.oid ∙ is) refl
+    by_test false is later =
+        let rest : is_some (table_of oid tables) ≡ true = sym (rw is refl) ∙ there in
+        rw (nat_eq_equiv.symm oid table.oid ∙ is) (later rest)
+
+all_found : (tables : List Table) (oids : List ℕ) → list_all (λ oid. is_some (table_of oid tables)) oids ≡ true → (q : ℕ) → list_any (nat_eq q) oids ≡ true → is_some (table_of q tables) ≡ true
+all_found tables [] there q on = absurd cc
+all_found tables (x ∷ oids) there q on =
+    by_test (nat_eq q x) (eqb-true q x) on
+    (all_found tables oids (and_right (is_some (table_of x tables)) (list_all (λ oid. is_some (table_of oid tables)) oids) there) q)
+  where
+    by_test : (a : Bool) → (a ≡ true → q ≡ x) → (a || list_any (nat_eq q) oids) ≡ true → (list_any (nat_eq q) oids ≡ true → is_some (table_of q tables) ≡ true) →
+        is_some (table_of q tables) ≡ true
+    by_test true same on later =
+        subst (λ (oid : ℕ). is_some (table_of oid tables) ≡ true) (sym (same refl)) (and_left (is_some (table_of x tables)) (list_all (λ oid. is_some (table_of oid tables)) oids) there)
+    by_test false same on later = later on
+
+pub no_more : (tables : List Table) (oids : List ℕ) → list_all (λ oid. is_some (table_of oid tables)) oids ≡ true → repeats oids ≡ false → length oids ≤ length tables
+no_more tables oids there once =
+    omega (arith, as_many tables, length-le_from_keys nat_eq_equiv oids (by_oid tables) (distinct oids once) (λ q on. found_key tables q (all_found tables oids there q on)))
 
 -- WHAT THE STORE DOES
 

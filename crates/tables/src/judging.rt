@@ -1,6 +1,7 @@
 //! Which changes a store refuses, and the places of those that it does not.
 
-ghost use Rattle.std.specs.Prelude.{◌≡◌, ◌&&◌, ◌||◌, not, IfOk, List, OnOk, is_some, if◌then◌else◌};
+ghost use Rattle.std.specs.Prelude.{◌≡◌, ◌<◌, ◌&&◌, ◌||◌, not, Err, IfOk, List, OnOk, is_some, length, if◌then◌else◌};
+ghost use Rattle.tables.specs.declared.config.TheConstants.{MAX_TABLES};
 ghost use Rattle.std.specs.List.{list_all};
 ghost use Rattle.tables.specs.Keeping.{AreShort, Keeps, RefusedExactly, key_held, keys_fault, places_fault, row_at};
 ghost use Rattle.tables.specs.History.{Made, delete_fault, insert_fault, is_other, repeats, row_place, table_place, truncate_refusal, unless, update_fault};
@@ -135,6 +136,7 @@ impl Store {
     pub(crate) fn judge_truncate(&self, top: u32, oids: &[u32]) -> Result<(), StoreFault>
         ensures refused { (history : List Made) → Keeps self.now history → RefusedExactly (truncate_refusal self.now.tables history top oids.now) result }
         ensures fits { OnOk result (FitsTableChange self.now.tables (TableChange.Truncate oids.now)) }
+        ensures few { result ≡ Err StoreFault.TooLarge → MAX_TABLES < length self.now.tables }
     {
         if !self.has_tables(oids) {
             return Err(StoreFault::UnknownTable);

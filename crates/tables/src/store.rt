@@ -1,7 +1,8 @@
 //! The rows of tables, who holds them, and how changes of them are undone.
 
-ghost use Rattle.std.specs.Prelude.{◌≡◌, ◌==◌, ◌≤◌, ◌++◌, ◌∷◌, [], ◌&&◌, ◌||◌, not, IfErr, IfOk, IsTrue, OnErr, OnOk, List, length, is_some, if◌then◌else◌, ℕ};
+ghost use Rattle.std.specs.Prelude.{◌≡◌, ◌==◌, ◌≤◌, ◌++◌, ◌∷◌, [], ◌&&◌, ◌||◌, ◌<◌, not, Err, IfErr, IfOk, IsTrue, OnErr, OnOk, List, length, is_some, if◌then◌else◌, ℕ};
 ghost use Rattle.std.specs.Option.{option_copied};
+ghost use Rattle.tables.specs.declared.config.TheConstants.{MAX_TABLES};
 ghost use Rattle.tables.specs.Keeping.{AreShort, DeletesAt, IsSame, Keeps, Makes, UpdatesAt, RefusedExactly, RefusedOrMemory, journal_of, key_held, keys_fault, places_fault, row_at};
 ghost use Rattle.tables.specs.Emptying.{Does};
 ghost use Rattle.tables.specs.History.{Made, count_of, delete_fault, delete_refusal, forgotten, insert_fault, insert_refusal, is_other, made, rolled_back, row_place, rows_after, table_place, truncate_refusal, unless, update_fault, update_refusal, Deletes, Updates};
@@ -213,6 +214,8 @@ impl Store {
         ensures ok { OnOk result ((history : List Made) → Keeps self.old history → Keeps self.new (history ++ made top (TableChange.Truncate oids.now) ∷ [])) }
         ensures err { OnErr result ((history : List Made) → Keeps self.old history → Keeps self.new history) }
         ensures refused { (history : List Made) → Keeps self.old history → RefusedOrMemory (truncate_refusal self.old.tables history top oids.now) result }
+        // S6 is of no catalogue that a configuration names.
+        ensures few { result ≡ Err StoreFault.TooLarge → MAX_TABLES < length self.old.tables }
         ensures tables { self.new.tables ≡ self.old.tables }
     {
         match self.judge_truncate(top, oids) {

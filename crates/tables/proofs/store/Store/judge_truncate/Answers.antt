@@ -3,8 +3,12 @@ use Rattle.tables.specs.declared.store_fault.StoreFault.TheVariants as faults
 use Rattle.tables.specs.History.{unless, is_any_held}
 use Rattle.tables.specs.Keeping.{StoreState}
 use Rattle.tables.specs.Emptying.{AreAtPlace, is_other_within}
-use Rattle.tables.proofs.Refusing.{within_held, truncate_is, oids_fit}
+use Rattle.tables.proofs.Refusing.{within_held, truncate_is, no_more, oids_fit}
 use Rattle.tables.proofs.store.Store.judge_truncate.Goals as goal
+
+pub returns-then-oids-gt-MAX_TRUNCATED-clause-few : goal.returns-then-oids-gt-MAX_TRUNCATED-clause-few
+returns-then-oids-gt-MAX_TRUNCATED-clause-few c _ =
+    omega (arith, c.if-oids-gt-MAX_TRUNCATED.true, no_more c.args.self.now.tables c.args.oids.now (sym c.has_tables.ensures ∙ c.if-not-has_tables.false) (sym c.repeats.ensures ∙ c.if-repeats.false))
 
 pub returns-then-is_held_within-clause-refused : goal.returns-then-is_held_within-clause-refused
 returns-then-is_held_within-clause-refused c h keeps =
