@@ -13,6 +13,8 @@ mod sender_calls;
 #[cfg(test)]
 mod store_calls;
 #[cfg(test)]
+mod store_row_calls;
+#[cfg(test)]
 mod tables_calls;
 #[cfg(test)]
 mod txlog_calls;

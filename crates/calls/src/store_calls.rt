@@ -11,13 +11,14 @@ enum Line {
     Insert(u32, i32, i64),
     Update(u32, i32, i32, i64),
     Delete(u32, i32),
+    Truncate(u32),
     Get(i32),
     Mark(u32),
     UndoTo(u32, usize),
     Forget(u32),
 }
 
-use Line::{Delete, Forget, Get, Insert, Mark, UndoTo, Update};
+use Line::{Delete, Forget, Get, Insert, Mark, Truncate, UndoTo, Update};
 
 #[derive(Clone, Copy, Debug, PartialEq)]
 enum Shown {
@@ -64,6 +65,7 @@ fn run_line(alloc: Global, store: &mut Store, line: Line) -> Result<Shown, Alloc
             Ok(outcome(store.update(top, ITEM, &key, item(alloc, to, n)?)))
         }
         Delete(top, id) => Ok(outcome(store.delete(top, ITEM, &key(alloc, id)?))),
+        Truncate(top) => Ok(outcome(store.truncate(top, &[ITEM]))),
         Get(id) => Ok(quantity_in(store.get(ITEM, &key(alloc, id)?))),
         Mark(top) => Ok(Count(store.mark(top))),
         UndoTo(top, mark) => {
@@ -144,9 +146,70 @@ const SAVEPOINTS: [(Line, Shown); 17] = [
     (Insert(703, 2, 1), Refused(StoreFault::KeyHeld)),
 ];
 
+const RELEASED: [(Line, Shown); 13] = [
+    (Insert(700, 1, 1), Done),
+    (Forget(700), Done),
+    // two savepoints, each with a change of one key; the inner one is released, which is no call
+    (Mark(701), Count(0)),
+    (Update(701, 1, 1, 2), Done),
+    (Mark(701), Count(1)),
+    (Update(701, 1, 1, 3), Done),
+    (Delete(702, 1), Refused(StoreFault::KeyHeld)),
+    (Get(1), Quantity(3)),
+    // the outer one is rolled back
+    (UndoTo(701, 0), Done),
+    (Get(1), Quantity(1)),
+    (Mark(701), Count(0)),
+    (Delete(702, 1), Done),
+    (Get(1), Nothing),
+];
+
+const TRUNCATES: [(Line, Shown); 32] = [
+    // beside another's key
+    (Insert(700, 1, 1), Done),
+    (Truncate(701), Refused(StoreFault::KeyHeld)),
+    (Forget(700), Done),
+    (Truncate(701), Done),
+    (Get(1), Nothing),
+    // it holds the table, but not against its own
+    (Insert(702, 2, 1), Refused(StoreFault::KeyHeld)),
+    (Update(702, 1, 1, 2), Refused(StoreFault::KeyHeld)),
+    (Delete(702, 1), Refused(StoreFault::KeyHeld)),
+    (Truncate(702), Refused(StoreFault::KeyHeld)),
+    (Insert(701, 2, 5), Done),
+    (Truncate(701), Done),
+    (Get(2), Nothing),
+    // rolled back, one after the other
+    (UndoTo(701, 2), Done),
+    (Get(2), Quantity(5)),
+    (UndoTo(701, 0), Done),
+    (Get(1), Quantity(1)),
+    (Get(2), Nothing),
+    // nothing is held any more
+    (Update(702, 1, 1, 3), Done),
+    // one's own key stays held where a truncate of it is rolled back, and the table does not
+    (Truncate(702), Done),
+    (UndoTo(702, 1), Done),
+    (Get(1), Quantity(3)),
+    (Delete(703, 1), Refused(StoreFault::KeyHeld)),
+    (Insert(703, 9, 9), Done),
+    (Forget(702), Done),
+    (Forget(703), Done),
+    // committed
+    (Truncate(704), Done),
+    (Forget(704), Done),
+    (Get(1), Nothing),
+    (Get(9), Nothing),
+    (Delete(705, 9), Refused(StoreFault::NoSuchRow)),
+    (Insert(705, 1, 8), Done),
+    (Get(1), Quantity(8)),
+];
+
 #[test]
 fn scripts_show_what_they_say(rt: HostRuntime) -> Result<(), AllocError> {
     assert_eq!(rt; run(rt.alloc(), &KEYS)?, KEYS.len());
     assert_eq!(rt; run(rt.alloc(), &SAVEPOINTS)?, SAVEPOINTS.len());
+    assert_eq!(rt; run(rt.alloc(), &RELEASED)?, RELEASED.len());
+    assert_eq!(rt; run(rt.alloc(), &TRUNCATES)?, TRUNCATES.len());
     Ok(())
 }

@@ -68,7 +68,7 @@ value_again (values.Int4 n) rest fits = rw ((signed32 Short).again n rest fits) 
 value_again (values.Int8 n) rest fits = rw ((signed64 Short).again n rest fits) refl
 value_again (values.Text text) rest fits = rw (text_codec.again text rest fits) refl
 
-value_codec : Codec value_at spell_value IsCodedValue
+pub value_codec : Codec value_at spell_value IsCodedValue
 unfolding value_at
 value_codec = choice_codec Short values_choose value_again
 
@@ -137,11 +137,11 @@ first_read (suc i) now initial first later read = later (omega arith)
 
 -- WHERE MEMORY IS WANTED
 
-is_read : {X E : Type 0} (r : Result X E) → IsOk r → (x : X) × (r ≡ Ok x)
+pub is_read : {X E : Type 0} (r : Result X E) → IsOk r → (x : X) × (r ≡ Ok x)
 is_read (Ok x) is = (x, refl)
 is_read (Err e) is = absurd cc
 
-is_there : {X : Type 0} (o : Option X) (P : X → Type 0) → IsSomeAnd o P → (x : X) × (o ≡ Some x) × P x
+pub is_there : {X : Type 0} (o : Option X) (P : X → Type 0) → IsSomeAnd o P → (x : X) × (o ≡ Some x) × P x
 is_there (Some x) P is = (x, refl, is)
 is_there None P is = absurd is
 

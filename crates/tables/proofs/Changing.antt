@@ -272,7 +272,7 @@ pub short_row : (o : Option ℕ) (n : ℕ) → is_some o ≡ true → MatchOptio
 short_row None n some h = absurd cc
 short_row (Some m) n some h = omega (arith, h.0, h.1)
 
-not_longer : (n m : ℕ) → n ≤ m → nat_lt m n ≡ false
+pub not_longer : (n m : ℕ) → n ≤ m → nat_lt m n ≡ false
 not_longer n m le = grind (arith, nat_tests)
 
 pub update_of : (s : StoreState) (top : ℕ) (key : Key) (row : List Value) (table : Table) (to : List ℕ) {A : Type 0} (r : Result A StoreFault) → Some table ≡ table_of key.oid s.tables →

@@ -30,6 +30,9 @@ front_of_row tables oid row = front_of oid _
 pub front_of_key : (key : Key) → take 4 (key_text key) ≡ int32 key.oid
 front_of_key key = front_of key.oid _
 
+pub front_of_table : (oid : ℕ) → take 4 (table_place oid) ≡ int32 oid
+front_of_table oid = front_of oid (255 ∷ [])
+
 as_same : (a b : List ℕ) → a ≡ b → same_key a b ≡ true
 as_same a b is = subst (λ (c : List ℕ). same_key a c ≡ true) is (same_self a)
 
@@ -40,11 +43,11 @@ or_true : (a b c : Bool) → (a || b) ≡ true → (a ≡ true → c ≡ true) �
 or_true true b c is f g = f refl
 or_true false b c is f g = g is
 
-left_true : (a b : Bool) → a ≡ true → (a || b) ≡ true
+pub left_true : (a b : Bool) → a ≡ true → (a || b) ≡ true
 left_true true b is = refl
 left_true false b is = absurd cc
 
-right_true : (a b : Bool) → b ≡ true → (a || b) ≡ true
+pub right_true : (a b : Bool) → b ≡ true → (a || b) ≡ true
 right_true true b is = refl
 right_true false b is = is
 
@@ -70,7 +73,7 @@ emptied_none top (x ∷ oids) k s none = emptied_none top oids k (cond (same_key
     by_test true = refl
     by_test false = none
 
-not_put : (oids : List ℕ) (k : List ℕ) → is_within oids k ≡ false → is_put k (all_emptied oids) ≡ false
+pub not_put : (oids : List ℕ) (k : List ℕ) → is_within oids k ≡ false → is_put k (all_emptied oids) ≡ false
 not_put [] k off = refl
 not_put (x ∷ oids) k off =
     by_test (same_key k (table_place x)) (place_within k x) (not_put oids k (or_right (same_key (take 4 k) (int32 x)) (is_within oids k) off))
@@ -108,7 +111,7 @@ rows_are tables (m ∷ ms) key s rows is =
 
 -- HOLDS
 
-places_put : (k : List ℕ) (tables : List Table) (change : TableChange) → is_among k (places_of tables change) ≡ is_put k (puts_of tables change)
+pub places_put : (k : List ℕ) (tables : List Table) (change : TableChange) → is_among k (places_of tables change) ≡ is_put k (puts_of tables change)
 places_put k tables (changes.Insert oid row) = refl
 places_put k tables (changes.Update oid old row) = refl
 places_put k tables (changes.Delete oid old) = refl
@@ -143,7 +146,7 @@ owner_by tables m k s =
     put_owner m.top (puts_of tables m.change) k (emptied m.change k s)
     ∙ ap (λ (o : Option ℕ). cond (is_put k (puts_of tables m.change)) m.top o) (emptied_owner m.change k s)
 
-and_false : (a b : Bool) → (a && b) ≡ false → b ≡ true → a ≡ false
+pub and_false : (a b : Bool) → (a && b) ≡ false → b ≡ true → a ≡ false
 and_false true true off on = absurd cc
 and_false true false off on = absurd cc
 and_false false b off on = refl
@@ -175,11 +178,11 @@ stays_owned tables x m (n ∷ ms) k s own off on is =
         subst (λ (o : Option ℕ). Follows o n.top) own (off.0 k on (left_true (is_put k (puts_of tables n.change)) (is_emptied n.change k) also))
     by_test false away = is
 
-and_left : (a b : Bool) → (a && b) ≡ true → a ≡ true
+pub and_left : (a b : Bool) → (a && b) ≡ true → a ≡ true
 and_left true b is = refl
 and_left false b is = absurd cc
 
-and_right : (a b : Bool) → (a && b) ≡ true → b ≡ true
+pub and_right : (a b : Bool) → (a && b) ≡ true → b ≡ true
 and_right true b is = is
 and_right false b is = absurd cc
 
@@ -210,7 +213,7 @@ held_is tables top ms k apart = by_test (is_held tables top ms k) refl
 
 -- WHAT IS NOT HELD MAY BE CHANGED
 
-follows_own : (top : ℕ) (o : Option ℕ) → is_other top o ≡ false → Follows o (Some top)
+pub follows_own : (top : ℕ) (o : Option ℕ) → is_other top o ≡ false → Follows o (Some top)
 follows_own top None off = tt
 follows_own top (Some x) off = by_test (eqb x top) refl off
   where
@@ -221,7 +224,7 @@ follows_own top (Some x) off = by_test (eqb x top) refl off
 abbrev pub Off : List Table → ℕ → List ℕ → Made → Type 0
 Off tables top p m = touches tables m.change p ≡ true → Follows m.top (Some top)
 
-emptied_put : (tables : List Table) (change : TableChange) (p : List ℕ) (oid : ℕ) → take 4 p ≡ int32 oid → is_emptied change p ≡ true → is_put (table_place oid) (puts_of tables change) ≡ true
+pub emptied_put : (tables : List Table) (change : TableChange) (p : List ℕ) (oid : ℕ) → take 4 p ≡ int32 oid → is_emptied change p ≡ true → is_put (table_place oid) (puts_of tables change) ≡ true
 emptied_put tables (changes.Insert x row) p oid front on = absurd cc
 emptied_put tables (changes.Update x old row) p oid front on = absurd cc
 emptied_put tables (changes.Delete x old) p oid front on = absurd cc

@@ -9,7 +9,9 @@ pub mod Lengths
 pub mod Members
 pub mod Names
 pub mod Outcomes
+pub mod Refusing
 pub mod Storing
 pub mod TableBodies
 pub mod TableLengths
+pub mod Truncating
 pub mod Undoing

@@ -12,9 +12,10 @@ use Rattle.tables.specs.declared.table_change.TableChange.{TableChange}
 use Rattle.tables.specs.Slots.{same_key, vacant, Entries, slot_at, put, HavePlaces, undone, undone_at}
 use Rattle.tables.specs.Rows.{Key, key_text}
 use Rattle.tables.specs.Tables.{FitsTableChange}
+use Rattle.tables.specs.Emptying.{Does}
 use Rattle.tables.specs.History.{Made, made, is_top, is_other, is_held, is_key_held, table_place, rows_after, rolled_back, count_of, forgotten}
-use Rattle.tables.specs.Keeping.{Journals, StoreState, journal_of, Put, put_at, put_all, noted_of, is_put, puts_of, emptied, is_emptied, touches, slot_by, slot_from, freed, is_in_journal, IsUndo, AreNotes, KeepsOff, nothing_at, Keeps, AreShort, SameSlots, Makes, IsSame, key_held, row_at}
-use Rattle.tables.proofs.Undoing.{slot_put, slot_undone, places_kept, place_made, undone_keeps, keys_same, same_self, short_put, short_there}
+use Rattle.tables.specs.Keeping.{Journals, StoreState, journal_of, Put, put_at, put_all, noted_of, is_put, puts_of, is_emptied, touches, slot_by, slot_from, freed, is_in_journal, IsUndo, AreNotes, KeepsOff, nothing_at, Keeps, AreShort, SameSlots, Makes, IsSame, key_held, row_at}
+use Rattle.tables.proofs.Undoing.{slot_put, slot_undone, places_kept, place_made, undone_keeps, keys_same, same_self, short_put, short_undone}
 use Rattle.tables.proofs.Histories.{all_map, all_more, emptied_off, top_self, slot_more, notes_more, notes_beside, apart_more, all_rolled, apart_rolled, undone_rolled, notes_rolled, notes_others, notes_count, rolled_all, rolled_twice}
 use Rattle.tables.proofs.Holding.{rows_are, held_is, OffAll, keeps_off}
 use Rattle.tables.proofs.Forgetting.{from_freed, notes_forgotten, notes_settled, unowned_vacant, apart_forgotten, fits_forgotten, freed_noted}
@@ -99,56 +100,73 @@ all_put all (p ∷ ps) among =
 
 -- A CHANGE
 
-emptied_not : (change : TableChange) (k : List ℕ) (s : Slot) → is_emptied change k ≡ false → emptied change k s ≡ s
-emptied_not change k s off = emptied_off change k s off
-
-pub keeps_made : (s new : StoreState) (top : ℕ) (change : TableChange) (h : List Made) → ((k : List ℕ) → is_emptied change k ≡ false) → FitsTableChange s.tables change →
-    ShortPuts (puts_of s.tables change) → AllByRecursion (OffAll s.tables top (puts_of s.tables change)) h → Makes top (puts_of s.tables change) s new → Keeps s h → Keeps new (h ++ made top change ∷ [])
-keeps_made s new top change h puts_alone fits short off makes keeps = with_tables new s.tables (h ++ m ∷ []) makes.tables (record {
-  stands = λ k. ap (λ (es : Entries). slot_at es k) makes.slots ∙ slot_all (Some top) ps s.slots k ∙ ap (put_at (Some top) ps k) (keeps.stands k)
-      ∙ sym (by_puts k (slot_from s.tables h k vacant)) ∙ sym (slot_more s.tables h m k vacant);
+-- a change of places that no other transaction holds
+pub keeps_does : (s new : StoreState) (top : ℕ) (change : TableChange) (h : List Made) → FitsTableChange s.tables change → AllByRecursion (λ e. KeepsOff s.tables e (made top change)) h →
+    Does top change s new → Keeps s h → Keeps new (h ++ made top change ∷ [])
+keeps_does s new top change h fits off does keeps = with_tables new s.tables (h ++ m ∷ []) does.tables (record {
+  stands = λ k. does.slots k ∙ ap (slot_by s.tables m k) (keeps.stands k) ∙ sym (slot_more s.tables h m k vacant);
   notes = λ x. by_own x (is_top x (Some top)) refl;
-  apart = apart_more s.tables h m keeps.apart (all_map (OffAll s.tables top ps) (λ e. KeepsOff s.tables e m) h (λ e free. keeps_off s.tables top e m refl puts_alone free) off);
-  places = λ x. subst (λ (es : Entries). AllByRecursion (HavePlaces es) (journal_of x new.journals)) (sym makes.slots) (places_of x (is_top x (Some top)) refl);
-  short = subst AreShort (sym makes.slots) (short_all (Some top) ps s.slots short keeps.short);
+  apart = apart_more s.tables h m keeps.apart off;
+  places = λ x. places_of x (is_top x (Some top)) refl;
+  short = does.short keeps.short;
   fits = all_more (λ e. FitsTableChange s.tables e.change) h m keeps.fits fits;
 })
   where
     m : Made
     m = made top change
 
-    ps : List Put
-    ps = puts_of s.tables change
-
-    by_puts : (k : List ℕ) (t : Slot) → slot_by s.tables m k t ≡ put_at (Some top) ps k t
-    by_puts k t = ap (put_at (Some top) ps k) (emptied_not change k t (puts_alone k))
-
-    undo : IsUndo s.tables m (λ k. slot_from s.tables h k (nothing_at k)) (noted_of (Some top) ps s.slots)
+    undo : IsUndo s.tables m (λ k. slot_from s.tables h k (nothing_at k)) does.undos
     undo = record {
-      restores = λ k. ap (λ (t : Slot). undone_at (noted_of (Some top) ps s.slots) k t) (by_puts k (slot_from s.tables h k vacant) ∙ ap (put_at (Some top) ps k) (sym (keeps.stands k)))
-          ∙ puts_undone (Some top) ps s.slots k ∙ keeps.stands k;
-      touched = puts_noted (λ k. touches s.tables change k ≡ true) (Some top) ps s.slots
-          (all_map (λ p. is_put p.0 ps ≡ true) (λ p. touches s.tables change p.0 ≡ true) ps (λ p on. left_true (is_put p.0 ps) (is_emptied change p.0) on) (all_put ps ps (λ k on. on)));
+      restores = λ k. ap (undone_at does.undos k) (ap (slot_by s.tables m k) (sym (keeps.stands k)) ∙ sym (does.slots k)) ∙ does.restore k ∙ keeps.stands k;
+      touched = does.touched;
     }
 
-    journal_is : (x : ℕ) (a : Bool) → is_top x (Some top) ≡ a → journal_of x new.journals ≡ cond a (journal_of x s.journals ++ noted_of (Some top) ps s.slots ∷ []) (journal_of x s.journals)
-    journal_is x a is = makes.journals x ∙ ap (λ (b : Bool). cond b (journal_of x s.journals ++ noted_of (Some top) ps s.slots ∷ []) (journal_of x s.journals)) is
+    journal_is : (x : ℕ) (a : Bool) → is_top x (Some top) ≡ a → journal_of x new.journals ≡ cond a (journal_of x s.journals ++ does.undos ∷ []) (journal_of x s.journals)
+    journal_is x a is = does.journals x ∙ ap (λ (b : Bool). cond b (journal_of x s.journals ++ does.undos ∷ []) (journal_of x s.journals)) is
 
     by_own : (x : ℕ) (a : Bool) → is_top x (Some top) ≡ a → AreNotes s.tables x (h ++ m ∷ []) nothing_at (journal_of x new.journals)
     by_own x true own =
         subst (AreNotes s.tables x (h ++ m ∷ []) nothing_at) (sym (journal_is x true own))
-        (notes_more s.tables x h m nothing_at (journal_of x s.journals) (noted_of (Some top) ps s.slots) own (keeps.notes x) undo)
+        (notes_more s.tables x h m nothing_at (journal_of x s.journals) does.undos own (keeps.notes x) undo)
     by_own x false own =
         subst (AreNotes s.tables x (h ++ m ∷ []) nothing_at) (sym (journal_is x false own)) (notes_beside s.tables x h m nothing_at (journal_of x s.journals) own (keeps.notes x))
 
-    kept : (x : ℕ) → AllByRecursion (HavePlaces (put_all (Some top) ps s.slots)) (journal_of x s.journals)
-    kept x = all_map (HavePlaces s.slots) (HavePlaces (put_all (Some top) ps s.slots)) (journal_of x s.journals) (λ us all. keeps_places (Some top) ps s.slots us all) (keeps.places x)
+    kept : (x : ℕ) → AllByRecursion (HavePlaces new.slots) (journal_of x s.journals)
+    kept x = all_map (HavePlaces s.slots) (HavePlaces new.slots) (journal_of x s.journals) does.places (keeps.places x)
 
-    places_of : (x : ℕ) (a : Bool) → is_top x (Some top) ≡ a → AllByRecursion (HavePlaces (put_all (Some top) ps s.slots)) (journal_of x new.journals)
+    places_of : (x : ℕ) (a : Bool) → is_top x (Some top) ≡ a → AllByRecursion (HavePlaces new.slots) (journal_of x new.journals)
     places_of x true own =
-        subst (AllByRecursion (HavePlaces (put_all (Some top) ps s.slots))) (sym (journal_is x true own))
-        (all_more (HavePlaces (put_all (Some top) ps s.slots)) (journal_of x s.journals) (noted_of (Some top) ps s.slots) (kept x) (has_places (Some top) ps s.slots))
-    places_of x false own = subst (AllByRecursion (HavePlaces (put_all (Some top) ps s.slots))) (sym (journal_is x false own)) (kept x)
+        subst (AllByRecursion (HavePlaces new.slots)) (sym (journal_is x true own)) (all_more (HavePlaces new.slots) (journal_of x s.journals) does.undos (kept x) does.there)
+    places_of x false own = subst (AllByRecursion (HavePlaces new.slots)) (sym (journal_is x false own)) (kept x)
+
+-- rows that are put
+does_puts : (s new : StoreState) (top : ℕ) (change : TableChange) → ((k : List ℕ) → is_emptied change k ≡ false) → ShortPuts (puts_of s.tables change) → Makes top (puts_of s.tables change) s new →
+    Does top change s new
+does_puts s new top change puts_alone short makes = record {
+  undos = noted_of (Some top) ps s.slots;
+  tables = makes.tables;
+  slots = λ k. after k ∙ ap (put_at (Some top) ps k) (sym (emptied_off change k (slot_at s.slots k) (puts_alone k)));
+  restore = λ k. ap (undone_at (noted_of (Some top) ps s.slots) k) (after k) ∙ puts_undone (Some top) ps s.slots k;
+  touched = puts_noted (λ k. touches s.tables change k ≡ true) (Some top) ps s.slots
+      (all_map (λ p. is_put p.0 ps ≡ true) (λ p. touches s.tables change p.0 ≡ true) ps (λ p on. left_true (is_put p.0 ps) (is_emptied change p.0) on) (all_put ps ps (λ k on. on)));
+  there = subst (λ (es : Entries). HavePlaces es (noted_of (Some top) ps s.slots)) (sym makes.slots) (has_places (Some top) ps s.slots);
+  places = λ us all. subst (λ (es : Entries). HavePlaces es us) (sym makes.slots) (keeps_places (Some top) ps s.slots us all);
+  short = λ all. subst AreShort (sym makes.slots) (short_all (Some top) ps s.slots short all);
+  journals = makes.journals;
+}
+  where
+    ps : List Put
+    ps = puts_of s.tables change
+
+    after : (k : List ℕ) → slot_at new.slots k ≡ put_at (Some top) ps k (slot_at s.slots k)
+    after k = ap (λ (es : Entries). slot_at es k) makes.slots ∙ slot_all (Some top) ps s.slots k
+
+pub keeps_made : (s new : StoreState) (top : ℕ) (change : TableChange) (h : List Made) → ((k : List ℕ) → is_emptied change k ≡ false) → FitsTableChange s.tables change →
+    ShortPuts (puts_of s.tables change) → AllByRecursion (OffAll s.tables top (puts_of s.tables change)) h → Makes top (puts_of s.tables change) s new → Keeps s h → Keeps new (h ++ made top change ∷ [])
+keeps_made s new top change h puts_alone fits short off makes keeps =
+    keeps_does s new top change h fits
+    (all_map (OffAll s.tables top (puts_of s.tables change)) (λ e. KeepsOff s.tables e (made top change)) h (λ e free. keeps_off s.tables top e (made top change) refl puts_alone free) off)
+    (does_puts s new top change puts_alone short makes) keeps
 
 -- NO CHANGE
 
@@ -174,13 +192,9 @@ same_puts s new top ps slots same made short back journals =
       slots = let P : Entries → Type 0 = λ es. SameSlots s.slots es in subst P (sym whole) (record {
         slots = λ k. slot_undone (put_all (Some top) ps s.slots) us k ∙ ap (λ (t : Slot). undone_at us k t) (slot_all (Some top) ps s.slots k) ∙ puts_undone (Some top) ps s.slots k;
         places = λ vs all. undone_keeps (put_all (Some top) ps s.slots) us vs (keeps_places (Some top) ps s.slots vs all);
-        short = λ all. short_undone (put_all (Some top) ps s.slots) us (puts_noted (λ k. length k ≤ MAX_KEY_LENGTH) (Some top) ps s.slots short) (short_all (Some top) ps s.slots short all);
+        short = λ all. short_undone (put_all (Some top) ps s.slots) us (has_places (Some top) ps s.slots) (short_all (Some top) ps s.slots short all);
       });
     }
-  where
-    short_undone : (es : Entries) (us : List Undo) → AllByRecursion (λ u. length u.key ≤ MAX_KEY_LENGTH) us → AreShort es → AreShort (undone es us)
-    short_undone es [] le all = all
-    short_undone es (u ∷ us) le all = short_put u.key u.before (undone es us) le.0 (short_undone es us le.1 all)
 
 -- UNDOING
 
@@ -211,7 +225,7 @@ keeps_popped s new top undos h same popped others back keeps = with_tables new s
   apart = apart_rolled s.tables top n h keeps.apart;
   places = λ x. subst (λ (es : Entries). AllByRecursion (HavePlaces es) (journal_of x new.journals)) (sym whole) (all_map (HavePlaces s.slots) (HavePlaces (undone s.slots undos)) (journal_of x new.journals)
       (λ us all. undone_keeps s.slots undos us all) (still x (nat_eq top x) refl));
-  short = subst AreShort (sym whole) (short_undone undos parts.1 keeps.short);
+  short = subst AreShort (sym whole) (short_undone s.slots undos parts.1 keeps.short);
   fits = all_rolled (λ m. FitsTableChange s.tables m.change) top n h keeps.fits;
 })
   where
@@ -242,10 +256,6 @@ keeps_popped s new top undos h same popped others back keeps = with_tables new s
     still : (x : ℕ) (a : Bool) → nat_eq top x ≡ a → AllByRecursion (HavePlaces s.slots) (journal_of x new.journals)
     still x true is = subst (λ (y : ℕ). AllByRecursion (HavePlaces s.slots) (journal_of y new.journals)) (top_of x is) parts.0
     still x false is = subst (AllByRecursion (HavePlaces s.slots)) (sym (others x is)) (keeps.places x)
-
-    short_undone : (us : List Undo) → HavePlaces s.slots us → AreShort s.slots → AreShort (undone s.slots us)
-    short_undone [] there all = all
-    short_undone (u ∷ us) there all = short_there u.key u.before (undone s.slots us) (undone_keeps s.slots us (u ∷ []) (there.0, tt)).0 (short_undone us there.1 all)
 
 -- as far as a loop has come
 abbrev pub Undoing : ℕ → ℕ → StoreState → List Made → Type 0
@@ -303,7 +313,7 @@ keeps_forgotten s new top h same journals slots places short keeps = with_tables
 pub row_is : (s : StoreState) (h : List Made) (key : Key) → Keeps s h → row_at s key ≡ rows_after s.tables h key
 row_is s h key keeps = ap (λ (t : Slot). t.row) (keeps.stands (key_text key)) ∙ rows_are s.tables h key vacant (λ k. None) refl
 
-place_held : (s : StoreState) (h : List Made) (top : ℕ) (k : List ℕ) → Keeps s h → is_other top (slot_at s.slots k).owner ≡ is_held s.tables top h k
+pub place_held : (s : StoreState) (h : List Made) (top : ℕ) (k : List ℕ) → Keeps s h → is_other top (slot_at s.slots k).owner ≡ is_held s.tables top h k
 place_held s h top k keeps = ap (λ (t : Slot). is_other top t.owner) (keeps.stands k) ∙ held_is s.tables top h k keeps.apart
 
 pub held_key : (s : StoreState) (h : List Made) (top : ℕ) (key : Key) → Keeps s h → key_held s top key ≡ is_key_held s.tables top h key

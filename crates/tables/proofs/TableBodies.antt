@@ -1,13 +1,14 @@
 -- What is read as a change of any kind was spelled so, and what was spelled is read again.
-use Rattle.std.proofs.Common.{◌≡◌, ℕ, ◌^◌, ◌<◌, cond, eqb, List, [], ◌++◌, length, Result, Ok, Err, refl, sym, subst, ◌∙◌}
-use Rattle.std.specs.Prelude.{IfOk}
+use Rattle.std.proofs.Common.{◌≡◌, ℕ, zero, suc, ◌^◌, ◌<◌, true, cond, eqb, List, [], ◌∷◌, ◌++◌, length, append_assoc, Option, Result, Ok, Err, refl, sym, ap, subst, inl, inr, ◌∙◌, arith}
+use Rattle.std.specs.Prelude.{IfOk, IsOk}
+use Rattle.std.specs.Int.{w16, w32}
 use Rattle.std.specs.List.{flat_map, AllByRecursion}
 use Rattle.std.specs.Option.{ok_or}
 use Rattle.std.proofs.lemmas.Bool.{eqb-true}
 use Rattle.std.proofs.lemmas.List.{append-nil, nil_from_length}
-use Rattle.frames.specs.Fields.{byte_at, int32}
+use Rattle.frames.specs.Fields.{byte_at, number_at, int16, int32}
 use Rattle.frames.specs.Steps.{◌>>=◌, repeat_at}
-use Rattle.frames.proofs.Codec.{IsBytes, bind_ok, passed, Codec, field, last_field, codec_of, counted, repeated, Chooses, no_choice, choice, choice_codec}
+use Rattle.frames.proofs.Codec.{IsBytes, IsBytes-rest, Takes, bind_ok, passed, Codec, field, last_field, codec_of, counted, repeated, Chooses, no_choice, choice, choice_codec}
 use Rattle.frames.proofs.Numbers.{number16, number32}
 use Rattle.tables.specs.declared.body.TheConstants.{INSERT_TAG}
 use Rattle.tables.specs.declared.table_body.TheConstants.{UPDATE_TAG, DELETE_TAG, TRUNCATE_TAG}
@@ -16,11 +17,11 @@ use Rattle.tables.specs.declared.fault.BodyFault.TheVariants.{Short, UnknownTag,
 use Rattle.tables.specs.declared.value.Value.{Value}
 use Rattle.tables.specs.declared.table_change.TableChange.{TableChange}
 use Rattle.tables.specs.declared.table_change.TableChange.TheVariants as changes
-use Rattle.tables.specs.Spelling.{spell_row}
+use Rattle.tables.specs.Spelling.{spell_row, spell_value}
 use Rattle.tables.specs.TableSpelling.{spell_oids, spell_change}
-use Rattle.tables.specs.Reading.{IsCodedRow, Gives}
-use Rattle.tables.specs.TableReading.{IsCodedOids, IsCodedChange, SpellsChange, oid_at, oids_at, update_at, change_tagged, table_change_at, table_body_at}
-use Rattle.tables.proofs.Bodies.{row_codec, insert_codec}
+use Rattle.tables.specs.Reading.{IsCodedRow, value_at, RowHasValue, InsertHasValue, Gives}
+use Rattle.tables.specs.TableReading.{IsCodedOids, IsCodedChange, SpellsChange, oid_at, oids_at, update_at, change_tagged, table_change_at, table_body_at, BeginsRow, is_row_tag, HoldsRow, HoldsNewRow, HoldsOid, HoldsPart, SecondHasValue, OidsHaveOne, ChangeHasPart}
+use Rattle.tables.proofs.Bodies.{row_codec, insert_codec, value_codec, is_read, is_there}
 
 oids_codec : Codec oids_at spell_oids IsCodedOids
 unfolding oids_at
@@ -71,3 +72,113 @@ is_found bytes (Err fault) fits e = tt
 
 pub is_only : (bytes : List ℕ) (r : Result TableChange BodyFault) → Gives r [] (table_body_at bytes) → (c : TableChange) → SpellsChange bytes c → Gives r [] (Ok (c, []))
 is_only bytes r e c h = let P : Result (TableChange × List ℕ) BodyFault → Type 0 = λ read. Gives r [] read in subst P (body_again bytes c h) e
+
+-- WHERE MEMORY IS WANTED
+
+-- the first OID is read at the first turn
+pub first_read : (i : ℕ) (now initial : List ℕ) → (i ≡ 0 → now ≡ initial) → (0 < i → IsOk (oid_at initial)) → IsOk (oid_at now) → IsOk (oid_at initial)
+first_read zero now initial first later read = subst (λ (bytes : List ℕ). IsOk (oid_at bytes)) (first refl) read
+first_read (suc i) now initial first later read = later (omega arith)
+
+begins : (bytes : List ℕ) → IsBytes bytes → RowHasValue bytes → BeginsRow bytes
+begins bytes fits h =
+    let count = is_there (number_at w16 bytes) (λ n. (0 < n.0) × IsOk (value_at n.1)) h in
+    let count_is = (number16 Short).takes bytes count.0.0 count.0.1 fits (ap (λ (o : Option (ℕ × List ℕ)). ok_or o Short) count.1) in
+    let value = is_read (value_at count.0.1) count.2.1 in
+    let value_is = value_codec.takes count.0.1 value.0.0 value.0.1 count_is.0.rest_fits value.1 in
+    record {
+      count = count.0.0;
+      value = value.0.0;
+      rest = value.0.1;
+      some = count.2.0;
+      few = count_is.1;
+      in_range = value_is.1;
+      text = count_is.0.parts ∙ ap (λ (bs : List ℕ). int16 count.0.0 ++ bs) value_is.0.parts;
+    }
+
+holds_row : (tag : ℕ) (bytes : List ℕ) → IsBytes bytes → is_row_tag tag ≡ true → InsertHasValue bytes → HoldsRow (tag ∷ bytes)
+holds_row tag bytes fits is h =
+    let oid = is_there (number_at w32 bytes) (λ m. RowHasValue m.1) h in
+    let oid_is = (number32 Short).takes bytes oid.0.0 oid.0.1 fits (ap (λ (o : Option (ℕ × List ℕ)). ok_or o Short) oid.1) in
+    record {
+      tag = tag;
+      oid = oid.0.0;
+      row = oid.0.1;
+      is_row = is;
+      begins = begins oid.0.1 oid_is.0.rest_fits oid.2;
+      text = ap (λ (bs : List ℕ). tag ∷ bs) oid_is.0.parts;
+    }
+
+holds_oid : (bytes : List ℕ) → IsBytes bytes → OidsHaveOne bytes → HoldsOid (TRUNCATE_TAG ∷ bytes)
+holds_oid bytes fits h =
+    let count = is_there (number_at w16 bytes) (λ n. (0 < n.0) × IsOk (oid_at n.1)) h in
+    let count_is = (number16 Short).takes bytes count.0.0 count.0.1 fits (ap (λ (o : Option (ℕ × List ℕ)). ok_or o Short) count.1) in
+    let oid = is_read (oid_at count.0.1) count.2.1 in
+    let oid_is = (number32 Short).takes count.0.1 oid.0.0 oid.0.1 count_is.0.rest_fits oid.1 in
+    record {
+      count = count.0.0;
+      oid = oid.0.0;
+      rest = oid.0.1;
+      some = count.2.0;
+      few = count_is.1;
+      in_range = oid_is.1;
+      text = ap (λ (bs : List ℕ). TRUNCATE_TAG ∷ bs) (count_is.0.parts ∙ ap (λ (bs : List ℕ). int16 count.0.0 ++ bs) oid_is.0.parts);
+    }
+
+-- the new row of an update, whose old one was read
+holds_new : (bytes : List ℕ) → IsBytes bytes → SecondHasValue bytes → HoldsPart (UPDATE_TAG ∷ bytes)
+unfolding int16
+holds_new bytes fits h = by_old h.first.1 refl
+  where
+    t : Takes bytes (int32 h.first.0 ++ spell_row h.first.1) h.rest × ((h.first.0 < 2 ^ 32) × IsCodedRow h.first.1)
+    t = insert_codec.takes bytes h.first h.rest fits h.read
+
+    behind : bytes ≡ int32 h.first.0 ++ (spell_row h.first.1 ++ h.rest)
+    behind = t.0.parts ∙ append_assoc (int32 h.first.0) (spell_row h.first.1) h.rest
+
+    by_old : (old : List Value) → h.first.1 ≡ old → HoldsPart (UPDATE_TAG ∷ bytes)
+    by_old [] is = inr (inl (record {
+      oid = h.first.0;
+      row = h.rest;
+      begins = begins h.rest t.0.rest_fits h.value;
+      text = ap (λ (bs : List ℕ). UPDATE_TAG ∷ bs) (behind ∙ ap (λ (old : List Value). int32 h.first.0 ++ (spell_row old ++ h.rest)) is);
+    }))
+    by_old (v ∷ vs) is =
+        let coded : IsCodedRow (v ∷ vs) = subst IsCodedRow is t.1.1 in
+        inl (record {
+          tag = UPDATE_TAG;
+          oid = h.first.0;
+          row = spell_row (v ∷ vs) ++ h.rest;
+          is_row = refl;
+          begins = record {
+            count = length (v ∷ vs);
+            value = v;
+            rest = flat_map spell_value vs ++ h.rest;
+            some = omega arith;
+            few = coded.0;
+            in_range = coded.1.0;
+            text = append_assoc (int16 (length (v ∷ vs))) (flat_map spell_value (v ∷ vs)) h.rest
+                ∙ ap (λ (bs : List ℕ). int16 (length (v ∷ vs)) ++ bs) (append_assoc (spell_value v) (flat_map spell_value vs) h.rest);
+          };
+          text = ap (λ (bs : List ℕ). UPDATE_TAG ∷ bs) (behind ∙ ap (λ (old : List Value). int32 h.first.0 ++ (spell_row old ++ h.rest)) is);
+        })
+
+pub is_held : (bytes : List ℕ) → IsBytes bytes → ChangeHasPart bytes → HoldsPart bytes
+is_held [] fits h = absurd h
+is_held (tag ∷ bytes) fits h =
+    elim h [
+      | inl a ↦ inl (holds_row tag bytes rest (rw a.0 refl) a.1)
+      | inr b ↦ elim b [
+        | inl u ↦ subst (λ (k : ℕ). HoldsPart (k ∷ bytes)) (sym u.0) (elim u.1 [
+          | inl first ↦ inl (holds_row UPDATE_TAG bytes rest refl first)
+          | inr second ↦ holds_new bytes rest second
+        ])
+        | inr d ↦ elim d [
+          | inl e ↦ inl (holds_row tag bytes rest (rw e.0 refl) e.1)
+          | inr o ↦ inr (inr (subst (λ (k : ℕ). HoldsOid (k ∷ bytes)) (sym o.0) (holds_oid bytes rest o.1)))
+        ]
+      ]
+    ]
+  where
+    rest : IsBytes bytes
+    rest = IsBytes-rest tag bytes fits

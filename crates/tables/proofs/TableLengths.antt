@@ -4,9 +4,12 @@ use Rattle.std.specs.List.{flat_map}
 use Rattle.frames.specs.Fields.{int16, int32}
 use Rattle.frames.proofs.Numbers.{length-int16, length-int32}
 use Rattle.tables.specs.declared.value.Value.{Value}
+use Rattle.tables.specs.declared.table.Table.{Table}
+use Rattle.tables.specs.declared.table_change.TableChange.{TableChange}
 use Rattle.tables.specs.declared.table_change.TableChange.TheVariants as changes
+use Rattle.tables.specs.Tables.{FitsTableChange}
 use Rattle.tables.specs.Spelling.{spell_row, row_length}
-use Rattle.tables.specs.TableSpelling.{spell_one, change_length}
+use Rattle.tables.specs.TableSpelling.{spell_one, change_length, IsShortChange}
 
 pub one_row_length : (tag oid : ℕ) (row : List Value) → length (spell_one tag oid row) ≡ 5 + row_length row
 one_row_length tag oid row = omega (arith, length-append (int32 oid) (spell_row row), length-int32 oid)
@@ -20,6 +23,13 @@ oids_length (x ∷ oids) = omega (arith, length-append (int32 x) (flat_map int32
 
 pub truncate_length : (oids : List ℕ) → change_length (changes.Truncate oids) ≡ 3 + 4 * length oids
 truncate_length oids = omega (arith, length-append (int16 (length oids)) (flat_map int32 oids), length-int16 (length oids), oids_length oids)
+
+-- what fits the tables can be written
+pub short_of_fits : (tables : List Table) (change : TableChange) → FitsTableChange tables change → IsShortChange change
+short_of_fits tables (changes.Insert oid row) fits = fits.short
+short_of_fits tables (changes.Update oid old row) fits = (fits.0.short, fits.1.short)
+short_of_fits tables (changes.Delete oid old) fits = fits.short
+short_of_fits tables (changes.Truncate oids) fits = fits.0
 
 pub insert_length : (oid : ℕ) (row : List Value) → change_length (changes.Insert oid row) ≡ 5 + row_length row
 insert_length oid row = one_row_length 1 oid row

@@ -182,18 +182,6 @@ short_put k v (e ∷ es) le all = by_test (same_key k e.0) (short_put k v es le 
 pub same_itself : (es new : Entries) → new ≡ es → SameSlots es new
 same_itself es new is = let P : Entries → Type 0 = λ l. SameSlots es l in subst P (sym is) (record { slots = λ j. refl; places = λ us all. all; short = λ all. all })
 
-pub put_back_same : (es made new : Entries) (k : List ℕ) (v before : Slot) → length k ≤ MAX_KEY_LENGTH → made ≡ put k v es → before ≡ slot_at es k →
-    (IsSome (lookup (same_key k) made) → new ≡ put k before made) → SameSlots es new
-put_back_same es made new k v before le put_is stood back =
-    let there : IsSome (lookup (same_key k) made) = subst (λ (l : Entries). IsSome (lookup (same_key k) l)) (sym put_is) (place_made k v es) in
-    let whole : new ≡ put k (slot_at es k) (put k v es) = back there ∙ ap (λ (l : Entries). put k before l) put_is ∙ ap (λ (s : Slot). put k s (put k v es)) stood in
-    let P : Entries → Type 0 = λ l. SameSlots es l in
-    subst P (sym whole) (record {
-      slots = put_twice k v es;
-      places = λ us all. places_kept k (slot_at es k) (put k v es) us (places_kept k v es us all);
-      short = λ all. short_put k (slot_at es k) (put k v es) le (short_put k v es le all);
-    })
-
 pub undo_same : (es made also new : Entries) (k : List ℕ) (v : Slot) (us : List Undo) → length k ≤ MAX_KEY_LENGTH → made ≡ put k v es → SameSlots made also →
     us ≡ record { key = k; before = slot_at es k } ∷ [] → (HavePlaces also us → new ≡ undone also us) → SameSlots es new
 undo_same es made also new k v us le put_is same noted back =
@@ -233,6 +221,10 @@ short_there k v (e ∷ es) there all = by_test (same_key k e.0) there (λ h. sho
     by_test : (a : Bool) → IsSome (cond a (Some e.1) (lookup (same_key k) es)) → (IsSome (lookup (same_key k) es) → AreShort (put k v es)) → AreShort (cond a ((e.0, v) ∷ es) (e ∷ put k v es))
     by_test true there rest = (all.0, all.1)
     by_test false there rest = (all.0, rest there)
+
+pub short_undone : (es : Entries) (us : List Undo) → HavePlaces es us → AreShort es → AreShort (undone es us)
+short_undone es [] there all = all
+short_undone es (u ∷ us) there all = short_there u.key u.before (undone es us) (undone_keeps es us (u ∷ []) (there.0, tt)).0 (short_undone es us there.1 all)
 
 pub record Frees (top : ℕ) (key : List ℕ) (old new : Entries) : Type 0 where
   pub slots : (place : List ℕ) → slot_at new place ≡ cond (same_key place key) (freed top (slot_at old place)) (slot_at old place)

@@ -1,9 +1,10 @@
 -- The history of a store: the changes that were made and not undone, the oldest first. What stands in the tables, what is
 -- held, and which change is refused, is told of the history alone.
-use Rattle.std.specs.Prelude.{◌≡◌, ℕ, ◌==◌, ◌∷◌, [], ◌++◌, Bool, false, ◌&&◌, ◌||◌, not, List, map, take, suc, zero, Option, Some, None, is_some, nat_lt, if◌then◌else◌}
-use Rattle.std.specs.List.{list_any}
+use Rattle.std.specs.Prelude.{◌≡◌, ℕ, ◌==◌, ◌∷◌, [], ◌++◌, Bool, false, ◌&&◌, ◌||◌, not, List, length, map, take, suc, zero, Option, Some, None, is_some, nat_lt, if◌then◌else◌}
+use Rattle.std.specs.List.{list_all, list_any}
 use Rattle.frames.specs.Fields.{int32}
 use Rattle.tables.specs.declared.row.TheConstants.{MAX_ROW_LENGTH}
+use Rattle.tables.specs.declared.table_body.TheConstants.{MAX_TRUNCATED}
 use Rattle.tables.specs.declared.value.Value.{Value}
 use Rattle.tables.specs.declared.table.Table.{Table}
 use Rattle.tables.specs.declared.table_change.TableChange.{TableChange}
@@ -82,6 +83,11 @@ is_held tables top history place = list_any (λ m. is_other top m.top && is_amon
 abbrev pub is_key_held : List Table → ℕ → List Made → Key → Bool
 is_key_held tables top history key = is_held tables top history (table_place key.oid) || is_held tables top history (key_text key)
 
+-- another holds one of these tables, or a key of one
+abbrev pub is_any_held : List Table → ℕ → List Made → List ℕ → Bool
+is_any_held tables top history oids =
+    list_any (λ m. is_other top m.top && list_any (is_within oids) (places_of tables m.change)) history
+
 -- UNDOING
 
 -- the history without the changes of a transaction behind its first ones
@@ -131,6 +137,17 @@ update_fault tables key row held there taken =
     unless (nat_lt MAX_ROW_LENGTH (row_length row)) faults.TooLarge (unless held faults.KeyHeld (
     unless (not there) faults.NoSuchRow (unless taken faults.DuplicateKey None)))))
 
+abbrev pub repeats : List ℕ → Bool
+repeats [] = false
+repeats (oid ∷ oids) = list_any (λ other. other == oid) oids || repeats oids
+
+-- S2 is of a list that is empty or names a table twice; S6 is of more tables than a body has room for
+abbrev pub truncate_fault : List Table → List ℕ → Bool → Option StoreFault
+truncate_fault tables oids held =
+    unless (not (list_all (λ oid. is_some (table_of oid tables)) oids)) faults.UnknownTable (
+    unless ((length oids == 0) || repeats oids) faults.RowShape (
+    unless (nat_lt MAX_TRUNCATED (length oids)) faults.TooLarge (unless held faults.KeyHeld None)))
+
 abbrev pub is_there : List Table → List Made → Key → Bool
 is_there tables history key = is_some (rows_after tables history key)
 
@@ -147,6 +164,9 @@ update_refusal tables history top key row =
     update_fault tables key row (is_key_held tables top history key || is_key_held tables top history (key_of tables key.oid row))
     (is_there tables history key)
     (not (same_key (key_text key) (row_place tables key.oid row)) && is_there tables history (key_of tables key.oid row))
+
+abbrev pub truncate_refusal : List Table → List Made → ℕ → List ℕ → Option StoreFault
+truncate_refusal tables history top oids = truncate_fault tables oids (is_any_held tables top history oids)
 
 -- the change that a call made, with the row that was there
 pub record Deletes (tables : List Table) (history : List Made) (key : Key) (change : TableChange) : Type 0 where

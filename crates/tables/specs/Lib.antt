@@ -1,4 +1,5 @@
 pub mod Config
+pub mod Emptying
 pub mod History
 pub mod Keeping
 pub mod Reading

@@ -6,6 +6,7 @@ use Rattle.std.specs.Str.{bytes_eq, is_utf8}
 use Rattle.tables.specs.declared.config_member.TheConstants.{MAX_NAME_LENGTH}
 use Rattle.tables.specs.declared.config_table.TheConstants.{MAX_COLUMNS}
 use Rattle.tables.specs.declared.row.TheConstants.{MAX_ROW_LENGTH}
+use Rattle.tables.specs.declared.table_body.TheConstants.{MAX_TRUNCATED}
 use Rattle.tables.specs.declared.kind.Kind.{Kind}
 use Rattle.tables.specs.declared.kind.Kind.TheVariants as kinds
 use Rattle.tables.specs.declared.identity.Identity.TheVariants as identities
@@ -110,4 +111,5 @@ abbrev pub FitsTableChange : List Table → TableChange → Type 0
 FitsTableChange tables (table_changes.Insert oid row) = FitsRow tables oid row
 FitsTableChange tables (table_changes.Update oid old row) = FitsRow tables oid old × FitsRow tables oid row
 FitsTableChange tables (table_changes.Delete oid old) = FitsRow tables oid old
-FitsTableChange tables (table_changes.Truncate oids) = AllByRecursion (λ oid. (oid < 2 ^ 32) × IsSome (table_of oid tables)) oids
+FitsTableChange tables (table_changes.Truncate oids) =
+    (length oids ≤ MAX_TRUNCATED) × AllByRecursion (λ oid. (oid < 2 ^ 32) × IsSome (table_of oid tables)) oids

@@ -1,16 +1,20 @@
 //! Which changes a store refuses, and the places of those that it does not.
 
-ghost use Rattle.std.specs.Prelude.{◌≡◌, ◌&&◌, ◌||◌, not, IfOk, OnOk, is_some, if◌then◌else◌};
-ghost use Rattle.tables.specs.Keeping.{AreShort, RefusedExactly, key_held, keys_fault, places_fault, row_at};
-ghost use Rattle.tables.specs.History.{delete_fault, insert_fault, is_other, row_place, table_place, unless, update_fault};
+ghost use Rattle.std.specs.Prelude.{◌≡◌, ◌<◌, ◌&&◌, ◌||◌, not, Err, IfOk, List, OnOk, is_some, length, if◌then◌else◌};
+ghost use Rattle.tables.specs.declared.config.TheConstants.{MAX_TABLES};
+ghost use Rattle.std.specs.List.{list_all};
+ghost use Rattle.tables.specs.Keeping.{AreShort, Keeps, RefusedExactly, key_held, keys_fault, places_fault, row_at};
+ghost use Rattle.tables.specs.History.{Made, delete_fault, insert_fault, is_other, repeats, row_place, table_place, truncate_refusal, unless, update_fault};
 ghost use Rattle.tables.specs.Rows.{key_of, key_text};
 ghost use Rattle.tables.specs.Slots.{same_key, slot_at};
-ghost use Rattle.tables.specs.Tables.{FitsRow};
+ghost use Rattle.tables.specs.Tables.{FitsRow, FitsTableChange, table_of};
 
 use crate::key::Place;
 use crate::row::Row;
 use crate::store::Store;
 use crate::store_fault::StoreFault;
+use crate::table_body::MAX_TRUNCATED;
+use crate::table_change::TableChange;
 
 impl Store {
     /// The place of a row that may be inserted.
@@ -128,6 +132,33 @@ impl Store {
         }
     }
 
+    /// Whether tables may be emptied.
+    pub(crate) fn judge_truncate(&self, top: u32, oids: &[u32]) -> Result<(), StoreFault>
+        ensures refused { (history : List Made) → Keeps self.now history → RefusedExactly (truncate_refusal self.now.tables history top oids.now) result }
+        ensures fits { OnOk result (FitsTableChange self.now.tables (TableChange.Truncate oids.now)) }
+        ensures few { result ≡ Err StoreFault.TooLarge → MAX_TABLES < length self.now.tables }
+    {
+        if !self.has_tables(oids) {
+            return Err(StoreFault::UnknownTable);
+        }
+        if oids.is_empty() || repeats(oids) {
+            return Err(StoreFault::RowShape);
+        }
+        if oids.len() > MAX_TRUNCATED {
+            return Err(StoreFault::TooLarge);
+        }
+        if self.slots.is_held_within(top, oids) {
+            return Err(StoreFault::KeyHeld);
+        }
+        Ok(())
+    }
+
+    fn has_tables(&self, oids: &[u32]) -> bool
+        ensures { result ≡ list_all (λ oid. is_some (table_of oid self.now.tables)) oids.now }
+    {
+        oids.iter().all(|oid| self.catalog.table(*oid).is_some())
+    }
+
     /// The place of a key at which a row stands that no other transaction holds.
     fn judge_key(&self, top: u32, oid: u32, key: &Row) -> Result<Place, StoreFault>
         ensures refused { AreShort self.now.slots → RefusedExactly (unless (key_held self.now top (record { oid = oid; values = key.now })) StoreFault.KeyHeld
@@ -175,4 +206,16 @@ impl Store {
             None => false,
         }
     }
+}
+
+/// Whether a table is named twice.
+fn repeats(oids: &[u32]) -> bool
+    ensures { result ≡ repeats oids.now }
+{
+    for (i, oid) in oids.iter().enumerate() {
+        if oids[i + 1..].contains(oid) {
+            return true;
+        }
+    }
+    false
 }

@@ -1,9 +1,10 @@
 //! The texts by which a store finds its places: those of rows' keys, and one for each table.
 
-ghost use Rattle.std.specs.Prelude.{◌≡◌, ◌+◌, ◌++◌, ◌∷◌, [], ◌<◌, ◌≤◌, MatchOption, length};
+ghost use Rattle.std.specs.Prelude.{◌≡◌, ◌+◌, ◌++◌, ◌∷◌, [], ◌<◌, ◌≤◌, MatchOption, length, take};
 ghost use Rattle.frames.specs.Fields.{int32, int64};
-ghost use Rattle.tables.specs.History.{table_place};
+ghost use Rattle.tables.specs.History.{is_within, table_place};
 ghost use Rattle.tables.specs.Rows.{key_text, key_values};
+ghost use Rattle.tables.specs.Slots.{same_key};
 ghost use Rattle.tables.specs.Spelling.{row_length, spell_value};
 
 use crate::body::{BOOL_TAG, INT4_TAG, INT8_TAG, NULL_TAG, TEXT_TAG};
@@ -167,4 +168,19 @@ impl Place {
         }
         place
     }
+}
+
+/// Whether a place is one of these tables.
+pub(crate) fn is_within(oids: &[u32], place: &[u8]) -> bool
+    ensures { result ≡ is_within oids.now place.now }
+{
+    oids.iter().any(|oid| is_of(*oid, place))
+}
+
+#[tactic(auto, unfolding(frames::specs::Fields::int32))]
+fn is_of(oid: u32, place: &[u8]) -> bool
+    ensures { result ≡ same_key (take 4 place.now) (int32 oid) }
+{
+    let front = &place[..place.len().min(4)];
+    front == oid.to_be_bytes().as_slice()
 }

@@ -10,6 +10,7 @@ mod config_fault;
 mod config_member;
 mod config_table;
 mod document;
+mod emptying;
 mod fault;
 mod identity;
 mod journals;

@@ -1,6 +1,7 @@
 //! What stands at a place of a store, and what stood there before a change.
 
 ghost use Rattle.std.specs.Prelude.{◌≡◌};
+ghost use Rattle.tables.specs.History.{is_other};
 ghost use Rattle.tables.specs.Keeping.{freed};
 ghost use Rattle.tables.specs.Slots.{vacant};
 
@@ -29,6 +30,16 @@ impl Slot {
         Slot {
             row: None,
             owner: None,
+        }
+    }
+
+    /// Whether another transaction holds it.
+    pub fn is_others(&self, top: u32) -> bool
+        ensures { result ≡ is_other top self.now.owner }
+    {
+        match self.owner {
+            Some(owner) => owner != top,
+            None => false,
         }
     }
 

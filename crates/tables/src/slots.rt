@@ -2,12 +2,13 @@
 
 ghost use Rattle.std.specs.Prelude.{List, ℕ, ◌≡◌, ◌≤◌, ◌++◌, ◌∷◌, [], IfOk, OnErr, OnOk, length, if◌then◌else◌};
 ghost use Rattle.std.specs.Option.{option_copied};
+ghost use Rattle.tables.specs.Emptying.{AreAtPlace, filled_within, is_other_within};
 ghost use Rattle.tables.specs.Keeping.{AreShort, SameSlots, freed, is_in_journal, is_noted, noted_of, put_all};
 ghost use Rattle.tables.specs.Slots.{HasPlace, HavePlaces, put, same_key, slot_at, undone};
 ghost use Rattle.tables.specs.declared.slot.Undo.{Undo as Noted};
 
 use crate::journals::Journal;
-use crate::key::MAX_KEY_LENGTH;
+use crate::key::{MAX_KEY_LENGTH, is_within};
 use crate::row::Row;
 use crate::slot::{Slot, Undo};
 use frames::Items;
@@ -59,6 +60,33 @@ impl Slots {
         }
     }
 
+    /// Whether another transaction holds one of these tables, or a key of one. It goes through all places.
+    pub fn is_held_within(&self, top: u32, oids: &[u32]) -> bool
+        ensures held { result ≡ is_other_within top oids.now self.now }
+        ensures places { AreAtPlace self.now }
+    {
+        for (place, slot) in self.by_place.iter() {
+            if slot.is_others(top) && is_within(oids, place.as_slice()) {
+                return true;
+            }
+        }
+        false
+    }
+
+    /// The places of these tables at which a row stands. It goes through all places.
+    pub fn rows_within(&self, oids: &[u32]) -> Result<Items<Items<u8>>, AllocError>
+        ensures { IfOk result (λ places. places ≡ filled_within oids.now self.now) }
+    {
+        let alloc = *self.by_place.allocator();
+        let mut places = Vec::new(alloc);
+        for (place, slot) in self.by_place.iter() {
+            if slot.row.is_some() && is_within(oids, place.as_slice()) {
+                places.push(Items::new(Vec::from_slice(alloc, place.as_slice())?))?;
+            }
+        }
+        Ok(Items::new(places))
+    }
+
     /// Puts a slot at a place, and answers what stood there. Without memory nothing changes.
     pub fn swap(&mut self, place: Vec<u8>, slot: Slot) -> Result<Slot, AllocError>
         ensures ok { OnOk result (self.new ≡ put place.items slot self.old) }
@@ -91,33 +119,27 @@ impl Slots {
         }
     }
 
-    /// Puts a row, or none, at a place for a transaction, and notes behind the others what stood there. Without memory
-    /// nothing is noted, and the same stands at each place.
-    fn note(
+    /// Puts a row, or none, at a place, with its holder, and notes behind the others what stood there. Without memory
+    /// nothing changes.
+    pub fn note(
         &mut self,
         undos: &mut Vec<Undo>,
-        top: u32,
+        owner: Option<u32>,
         place: &[u8],
         row: Option<Row>,
     ) -> Result<(), AllocError>
-        requires { length place.now ≤ MAX_KEY_LENGTH }
-        ensures ok { OnOk result (self.new ≡ put place.now (record { row = row; owner = Some top }) self.old) }
+        ensures ok { OnOk result (self.new ≡ put place.now (record { row = row; owner = owner }) self.old) }
         ensures noted { OnOk result (undos.new.items ≡ undos.old.items ++ record { key = place.now; before = slot_at self.old place.now } ∷ []) }
-        ensures err { OnErr result (SameSlots self.old self.new) }
+        ensures err { OnErr result (self.new ≡ self.old) }
         ensures err_notes { OnErr result (undos.new.items ≡ undos.old.items) }
     {
         let alloc = *self.by_place.allocator();
         let name = Vec::from_slice(alloc, place)?;
         let key = Items::new(Vec::from_slice(alloc, place)?);
-        let owner = Some(top);
+        undos.reserve(1)?;
         let before = self.swap(name, Slot { row, owner })?;
-        match undos.push(Undo { key, before }) {
-            Ok(()) => Ok(()),
-            Err(refused) => {
-                self.put_back(refused.value);
-                Err(AllocError)
-            }
-        }
+        undos.push_reserved(Undo { key, before });
+        Ok(())
     }
 
     /// Puts a row, or none, at a place for a transaction, and answers what stood there.
@@ -127,13 +149,12 @@ impl Slots {
         place: &[u8],
         row: Option<Row>,
     ) -> Result<Items<Undo>, AllocError>
-        requires { length place.now ≤ MAX_KEY_LENGTH }
         ensures ok { OnOk result (self.new ≡ put_all (Some top) ((place.now, row) ∷ []) self.old) }
         ensures noted { IfOk result (λ undos. undos ≡ noted_of (Some top) ((place.now, row) ∷ []) self.old) }
         ensures err { OnErr result (SameSlots self.old self.new) }
     {
         let mut undos = Vec::new(*self.by_place.allocator());
-        self.note(&mut undos, top, place, row)?;
+        self.note(&mut undos, Some(top), place, row)?;
         Ok(Items::new(undos))
     }
 
@@ -145,15 +166,14 @@ impl Slots {
         to: &[u8],
         row: Row,
     ) -> Result<Items<Undo>, AllocError>
-        requires from { length from.now ≤ MAX_KEY_LENGTH }
-        requires to { length to.now ≤ MAX_KEY_LENGTH }
+        requires { length from.now ≤ MAX_KEY_LENGTH }
         ensures ok { OnOk result (self.new ≡ put_all (Some top) ((from.now, None) ∷ (to.now, Some row) ∷ []) self.old) }
         ensures noted { IfOk result (λ undos. undos ≡ noted_of (Some top) ((from.now, None) ∷ (to.now, Some row) ∷ []) self.old) }
         ensures err { OnErr result (SameSlots self.old self.new) }
     {
         let mut undos = Vec::new(*self.by_place.allocator());
-        self.note(&mut undos, top, from, None)?;
-        match self.note(&mut undos, top, to, Some(row)) {
+        self.note(&mut undos, Some(top), from, None)?;
+        match self.note(&mut undos, Some(top), to, Some(row)) {
             Ok(()) => Ok(Items::new(undos)),
             Err(refused) => {
                 self.undo(Items::new(undos));

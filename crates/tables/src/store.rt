@@ -1,11 +1,14 @@
 //! The rows of tables, who holds them, and how changes of them are undone.
 
-ghost use Rattle.std.specs.Prelude.{◌≡◌, ◌==◌, ◌≤◌, ◌++◌, ◌∷◌, [], ◌&&◌, ◌||◌, not, IfErr, IfOk, IsTrue, OnErr, OnOk, List, length, is_some, if◌then◌else◌, ℕ};
+ghost use Rattle.std.specs.Prelude.{◌≡◌, ◌==◌, ◌≤◌, ◌++◌, ◌∷◌, [], ◌&&◌, ◌||◌, ◌<◌, not, Err, IfErr, IfOk, IsTrue, OnErr, OnOk, List, length, is_some, if◌then◌else◌, ℕ};
 ghost use Rattle.std.specs.Option.{option_copied};
+ghost use Rattle.tables.specs.declared.config.TheConstants.{MAX_TABLES};
 ghost use Rattle.tables.specs.Keeping.{AreShort, DeletesAt, IsSame, Keeps, Makes, UpdatesAt, RefusedExactly, RefusedOrMemory, journal_of, key_held, keys_fault, places_fault, row_at};
-ghost use Rattle.tables.specs.History.{Made, count_of, delete_fault, delete_refusal, forgotten, insert_fault, insert_refusal, is_other, made, rolled_back, row_place, rows_after, table_place, unless, update_fault, update_refusal, Deletes, Updates};
+ghost use Rattle.tables.specs.Emptying.{Does};
+ghost use Rattle.tables.specs.History.{Made, count_of, delete_fault, delete_refusal, forgotten, insert_fault, insert_refusal, is_other, made, rolled_back, row_place, rows_after, table_place, truncate_refusal, unless, update_fault, update_refusal, Deletes, Updates};
 ghost use Rattle.tables.specs.Rows.{key_of, key_text};
 ghost use Rattle.tables.specs.Slots.{HavePlaces, same_key, slot_at, undone};
+ghost use Rattle.tables.specs.TableSpelling.{IsShortChange};
 ghost use Rattle.tables.specs.Tables.{FitsRow, FitsTableChange};
 
 use crate::catalog::Catalog;
@@ -23,7 +26,8 @@ use std::marker::Model;
 /// The rows of a catalogue's tables, and what live transactions changed in them. A transaction is named by its xid.
 ///
 /// Contracts speak of the history of a store, the changes that were made and not undone (`Keeps`): each call says what
-/// becomes of it, and what is refused and what stands in the tables is told of it alone.
+/// becomes of it, and what is refused and what stands in the tables is told of it alone. A change that a call made can be
+/// written into the log: it fits the tables, its rows have at most 8,000 bytes and its body at most 16,005.
 #[derive(Drop)]
 pub struct Store {
     pub(crate) catalog: Catalog,
@@ -101,6 +105,7 @@ impl Store {
     pub fn insert(&mut self, top: u32, oid: u32, row: Row) -> Result<TableChange, StoreFault>
         ensures change { IfOk result (λ change. change ≡ TableChange.Insert oid row) }
         ensures fits { IfOk result (λ change. FitsTableChange self.old.tables change) }
+        ensures short { IfOk result IsShortChange }
         ensures ok { OnOk result ((history : List Made) → Keeps self.old history → Keeps self.new (history ++ made top (TableChange.Insert oid row) ∷ [])) }
         ensures err { OnErr result ((history : List Made) → Keeps self.old history → Keeps self.new history) }
         ensures refused { (history : List Made) → Keeps self.old history → RefusedOrMemory (insert_refusal self.old.tables history top oid row) result }
@@ -139,6 +144,7 @@ impl Store {
         row: Row,
     ) -> Result<TableChange, StoreFault>
         ensures fits { IfOk result (λ change. (history : List Made) → Keeps self.old history → FitsTableChange self.old.tables change) }
+        ensures short { IfOk result (λ change. (history : List Made) → Keeps self.old history → IsShortChange change) }
         ensures change { IfOk result (λ change. (history : List Made) → Keeps self.old history → Updates self.old.tables history (record { oid = oid; values = key.now }) row change) }
         ensures ok { IfOk result (λ change. (history : List Made) → Keeps self.old history → Keeps self.new (history ++ made top change ∷ [])) }
         ensures err { OnErr result ((history : List Made) → Keeps self.old history → Keeps self.new history) }
@@ -175,6 +181,7 @@ impl Store {
     /// Deletes the row with this key. S1, S2, S5, S4, S11 in this order.
     pub fn delete(&mut self, top: u32, oid: u32, key: &Row) -> Result<TableChange, StoreFault>
         ensures fits { IfOk result (λ change. (history : List Made) → Keeps self.old history → FitsTableChange self.old.tables change) }
+        ensures short { IfOk result (λ change. (history : List Made) → Keeps self.old history → IsShortChange change) }
         ensures change { IfOk result (λ change. (history : List Made) → Keeps self.old history → Deletes self.old.tables history (record { oid = oid; values = key.now }) change) }
         ensures ok { IfOk result (λ change. (history : List Made) → Keeps self.old history → Keeps self.new (history ++ made top change ∷ [])) }
         ensures err { OnErr result ((history : List Made) → Keeps self.old history → Keeps self.new history) }
@@ -197,6 +204,36 @@ impl Store {
         let old = self.old_row(place)?;
         self.put_one(top, place, None)?;
         Ok(TableChange::Delete(oid, old))
+    }
+
+    /// Empties tables, and holds them. S1, S2, S6, S5, S11 in this order. It goes through all places of the store.
+    pub fn truncate(&mut self, top: u32, oids: &[u32]) -> Result<TableChange, StoreFault>
+        ensures change { IfOk result (λ change. change ≡ TableChange.Truncate oids.now) }
+        ensures fits { IfOk result (λ change. FitsTableChange self.old.tables change) }
+        ensures short { IfOk result IsShortChange }
+        ensures ok { OnOk result ((history : List Made) → Keeps self.old history → Keeps self.new (history ++ made top (TableChange.Truncate oids.now) ∷ [])) }
+        ensures err { OnErr result ((history : List Made) → Keeps self.old history → Keeps self.new history) }
+        ensures refused { (history : List Made) → Keeps self.old history → RefusedOrMemory (truncate_refusal self.old.tables history top oids.now) result }
+        // S6 is of no catalogue that a configuration names.
+        ensures few { result ≡ Err StoreFault.TooLarge → MAX_TABLES < length self.old.tables }
+        ensures tables { self.new.tables ≡ self.old.tables }
+    {
+        match self.judge_truncate(top, oids) {
+            Ok(()) => self.empty(top, oids),
+            Err(fault) => Err(fault),
+        }
+    }
+
+    fn empty(&mut self, top: u32, oids: &[u32]) -> Result<TableChange, StoreFault>
+        ensures change { IfOk result (λ change. change ≡ TableChange.Truncate oids.now) }
+        ensures ok { OnOk result (Does top (TableChange.Truncate oids.now) self.old self.new) }
+        ensures err { OnErr result (IsSame self.old self.new) }
+        ensures memory { IfErr result (λ fault. fault ≡ StoreFault.Memory) }
+    {
+        let named = Vec::from_slice(self.alloc, oids)?;
+        let undos = self.slots.empty(self.alloc, top, oids)?;
+        self.note(top, undos)?;
+        Ok(TableChange::Truncate(Items::new(named)))
     }
 
     /// A copy of the row at a place.
@@ -237,7 +274,7 @@ impl Store {
     fn note(&mut self, top: u32, undos: Items<Undo>) -> Result<(), AllocError>
         ensures tables { self.new.tables ≡ self.old.tables }
         ensures slots { OnOk result (self.new.slots ≡ self.old.slots) }
-        ensures journals { OnOk result ((x : ℕ) → journal_of x self.new.journals ≡ (if x == top then journal_of x self.old.journals ++ undos ∷ [] else journal_of x self.old.journals)) }
+        ensures journals { OnOk result ((x : ℕ) → journal_of x self.new.journals ≡ (if top == x then journal_of x self.old.journals ++ undos ∷ [] else journal_of x self.old.journals)) }
         ensures undone { OnErr result (HavePlaces self.old.slots undos → self.new.slots ≡ undone self.old.slots undos) }
         ensures same { OnErr result ((x : ℕ) → journal_of x self.new.journals ≡ journal_of x self.old.journals) }
     {

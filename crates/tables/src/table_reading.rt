@@ -1,31 +1,36 @@
 //! How a change of any kind is read from its body.
 
-ghost use Rattle.std.specs.Prelude.{◌≡◌, [], IfOk, Ok};
+ghost use Rattle.std.specs.Prelude.{◌≡◌, ◌≢◌, ◌<◌, [], IfOk, IsOk, Ok, Err};
 ghost use Rattle.frames.specs.Steps.{repeat_at};
-ghost use Rattle.tables.specs.Reading.{Gives};
-ghost use Rattle.tables.specs.TableReading.{SpellsChange, oid_at, oids_at, table_body_at, table_change_at};
+ghost use Rattle.tables.specs.declared.fault.BodyFault.TheVariants.{Memory};
+ghost use Rattle.tables.specs.Reading.{Gives, InsertHasValue, insert_at};
+ghost use Rattle.tables.specs.TableReading.{ChangeHasPart, HoldsPart, KindHasPart, OidsHaveOne, SpellsChange, UpdateHasValue, change_tagged, oid_at, oids_at, table_body_at, table_change_at, update_at};
 ghost use Rattle.tables.specs.declared.table_change.TableChange.{TableChange as Changed};
 
 use crate::body::INSERT_TAG;
 use crate::fault::BodyFault;
 use crate::reading::row_of;
+use crate::row::Row;
 use crate::table_body::{DELETE_TAG, TRUNCATE_TAG, UPDATE_TAG};
 use crate::table_change::TableChange;
 use frames::{Cursor, Items};
 use std::alloc::Global;
 
-/// The change whose body these bytes are. The leftmost fault is answered, unless memory is refused before it.
+/// The change whose body these bytes are. The leftmost fault is answered, unless memory is refused before it, which can
+/// only be where there is something to keep.
 pub fn read_table_change(alloc: Global, bytes: &[u8]) -> Result<TableChange, BodyFault>
     ensures found { IfOk result (λ c. SpellsChange bytes.now c) }
     ensures only { (c : Changed) → SpellsChange bytes.now c → Gives result [] (Ok (c, [])) }
     ensures exact { Gives result [] (table_body_at bytes.now) }
+    ensures memory { result ≡ Err Memory → HoldsPart bytes.now }
 {
     whole(alloc, bytes)
 }
 
 #[tactic(auto, unfolding(crate::specs::TableReading::table_body_at))]
 fn whole(alloc: Global, bytes: &[u8]) -> Result<TableChange, BodyFault>
-    ensures { Gives result [] (table_body_at bytes.now) }
+    ensures exact { Gives result [] (table_body_at bytes.now) }
+    ensures memory { result ≡ Err Memory → ChangeHasPart bytes.now }
 {
     let mut cursor = Cursor::new(bytes);
     let change = change_of(alloc, &mut cursor)?;
@@ -36,25 +41,30 @@ fn whole(alloc: Global, bytes: &[u8]) -> Result<TableChange, BodyFault>
     }
 }
 
-#[tactic(auto, unfolding(crate::specs::TableReading::table_change_at, crate::specs::TableReading::update_at, crate::specs::Reading::insert_at))]
+#[tactic(auto, unfolding(crate::specs::TableReading::table_change_at))]
 fn change_of(alloc: Global, cursor: &mut Cursor<'_>) -> Result<TableChange, BodyFault>
-    ensures { Gives result cursor.new (table_change_at cursor.old) }
+    ensures exact { Gives result cursor.new (table_change_at cursor.old) }
+    ensures memory { result ≡ Err Memory → ChangeHasPart cursor.old }
 {
-    match cursor.u8().ok_or(BodyFault::Short)? {
+    let tag = cursor.u8().ok_or(BodyFault::Short)?;
+    kind_of(alloc, tag, cursor)
+}
+
+fn kind_of(alloc: Global, tag: u8, cursor: &mut Cursor<'_>) -> Result<TableChange, BodyFault>
+    ensures exact { Gives result cursor.new (change_tagged tag cursor.old) }
+    ensures memory { result ≡ Err Memory → KindHasPart tag cursor.old }
+{
+    match tag {
         INSERT_TAG => {
-            let oid = cursor.u32().ok_or(BodyFault::Short)?;
-            let row = row_of(alloc, cursor)?;
+            let (oid, row) = one_row_of(alloc, cursor)?;
             Ok(TableChange::Insert(oid, row))
         }
         UPDATE_TAG => {
-            let oid = cursor.u32().ok_or(BodyFault::Short)?;
-            let old = row_of(alloc, cursor)?;
-            let row = row_of(alloc, cursor)?;
+            let ((oid, old), row) = two_rows_of(alloc, cursor)?;
             Ok(TableChange::Update(oid, old, row))
         }
         DELETE_TAG => {
-            let oid = cursor.u32().ok_or(BodyFault::Short)?;
-            let old = row_of(alloc, cursor)?;
+            let (oid, old) = one_row_of(alloc, cursor)?;
             Ok(TableChange::Delete(oid, old))
         }
         TRUNCATE_TAG => Ok(TableChange::Truncate(oids_of(alloc, cursor)?)),
@@ -62,16 +72,40 @@ fn change_of(alloc: Global, cursor: &mut Cursor<'_>) -> Result<TableChange, Body
     }
 }
 
+/// A table's OID and a row of it.
+#[tactic(auto, unfolding(crate::specs::Reading::insert_at))]
+fn one_row_of(alloc: Global, cursor: &mut Cursor<'_>) -> Result<(u32, Row), BodyFault>
+    ensures exact { Gives result cursor.new (insert_at cursor.old) }
+    ensures memory { result ≡ Err Memory → InsertHasValue cursor.old }
+{
+    let oid = cursor.u32().ok_or(BodyFault::Short)?;
+    let row = row_of(alloc, cursor)?;
+    Ok((oid, row))
+}
+
+/// A table's OID, a row of it and another one.
+#[tactic(auto, unfolding(crate::specs::TableReading::update_at))]
+fn two_rows_of(alloc: Global, cursor: &mut Cursor<'_>) -> Result<((u32, Row), Row), BodyFault>
+    ensures exact { Gives result cursor.new (update_at cursor.old) }
+    ensures memory { result ≡ Err Memory → UpdateHasValue cursor.old }
+{
+    let first = one_row_of(alloc, cursor)?;
+    let row = row_of(alloc, cursor)?;
+    Ok((first, row))
+}
+
 #[tactic(auto, unfolding(crate::specs::TableReading::oids_at))]
 fn oids_of(alloc: Global, cursor: &mut Cursor<'_>) -> Result<Items<u32>, BodyFault>
-    ensures { Gives result cursor.new (oids_at cursor.old) }
+    ensures exact { Gives result cursor.new (oids_at cursor.old) }
+    ensures memory { result ≡ Err Memory → OidsHaveOne cursor.old }
 {
     let count = cursor.u16().ok_or(BodyFault::Short)?;
     counted(alloc, cursor, count)
 }
 
 fn counted(alloc: Global, cursor: &mut Cursor<'_>, count: u16) -> Result<Items<u32>, BodyFault>
-    ensures { Gives result cursor.new (repeat_at oid_at count cursor.old) }
+    ensures exact { Gives result cursor.new (repeat_at oid_at count cursor.old) }
+    ensures memory { result ≡ Err Memory → (0 < count) × IsOk (oid_at cursor.old) }
 {
     let mut oids = Vec::new(alloc);
     for _ in 0..count {
@@ -82,7 +116,8 @@ fn counted(alloc: Global, cursor: &mut Cursor<'_>, count: u16) -> Result<Items<u
 }
 
 fn oid_of(cursor: &mut Cursor<'_>) -> Result<u32, BodyFault>
-    ensures { Gives result cursor.new (oid_at cursor.old) }
+    ensures exact { Gives result cursor.new (oid_at cursor.old) }
+    ensures no_memory { result ≢ Err Memory }
 {
     let oid = cursor.u32().ok_or(BodyFault::Short)?;
     Ok(oid)

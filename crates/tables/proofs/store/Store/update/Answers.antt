@@ -5,6 +5,8 @@ use Rattle.tables.specs.Slots.{same_key, slot_at}
 use Rattle.tables.specs.Tables.{FitsTableChange}
 use Rattle.tables.specs.History.{Made, made, row_place, Updates, update_fault, update_refusal}
 use Rattle.tables.specs.Keeping.{Keeps, Makes, IsSame, UpdatesAt, key_held, row_at}
+use Rattle.tables.specs.TableSpelling.{IsShortChange}
+use Rattle.tables.proofs.TableLengths.{short_of_fits}
 use Rattle.tables.proofs.Outcomes.{on_err, if_ok, if_ok_both, refused_by, refused_there}
 use Rattle.tables.proofs.Storing.{keeps_same}
 use Rattle.tables.proofs.Changing.{update_made, update_fits, update_is, update_same, update_there}
@@ -15,6 +17,13 @@ returns-in-Ok-clause-fits c =
     let key : Key = record { oid = c.args.oid; values = c.args.key.now } in
     if_ok c.update_at.result (UpdatesAt c.args.self.now c.args.oid c.in-Ok.from c.args.row) (λ change. (h : List Made) → Keeps c.args.self.now h → FitsTableChange c.args.self.now.tables change)
     (λ change updates h keeps. update_fits c.args.self.now h key c.args.row c.in-Ok.from change c.ranges.oid.fits c.in-Ok.ensures.places.0 c.in-Ok.ensures.fits updates keeps) c.update_at.ensures.change
+
+pub returns-in-Ok-clause-short : goal.returns-in-Ok-clause-short
+returns-in-Ok-clause-short c =
+    let key : Key = record { oid = c.args.oid; values = c.args.key.now } in
+    if_ok c.update_at.result (UpdatesAt c.args.self.now c.args.oid c.in-Ok.from c.args.row) (λ change. (h : List Made) → Keeps c.args.self.now h → IsShortChange change)
+    (λ change updates h keeps. short_of_fits c.args.self.now.tables change
+    (update_fits c.args.self.now h key c.args.row c.in-Ok.from change c.ranges.oid.fits c.in-Ok.ensures.places.0 c.in-Ok.ensures.fits updates keeps)) c.update_at.ensures.change
 
 pub returns-in-Ok-clause-change : goal.returns-in-Ok-clause-change
 returns-in-Ok-clause-change c =
