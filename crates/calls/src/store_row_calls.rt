@@ -67,13 +67,24 @@ fn a_key_has_two_columns(rt: HostRuntime) -> Result<(), Fail> {
     assert!(rt; store.insert(700, PAIR, pair(alloc, "y", 3, 1)?).is_ok());
     let again = store.insert(700, PAIR, pair(alloc, "x", 9, 2)?);
     assert_eq!(rt; again, Err(StoreFault::DuplicateKey));
-    assert_eq!(rt; store.get(PAIR, &pair_key(alloc, "x", 2)?), Some(&pair(alloc, "x", 2, 2)?));
-    let moved = store.update(700, PAIR, &pair_key(alloc, "x", 2)?, pair(alloc, "y", 4, 2)?);
+    assert_eq!(rt;
+        store.get(PAIR, &pair_key(alloc, "x", 2)?),
+        Some(&pair(alloc, "x", 2, 2)?)
+    );
+    let moved = store.update(
+        700,
+        PAIR,
+        &pair_key(alloc, "x", 2)?,
+        pair(alloc, "y", 4, 2)?,
+    );
     let want = TableChange::Update(PAIR, pair(alloc, "x", 2, 2)?, pair(alloc, "y", 4, 2)?);
     assert_eq!(rt; moved, Ok(want));
     assert!(rt; store.get(PAIR, &pair_key(alloc, "x", 2)?).is_none());
     let gone = store.delete(700, PAIR, &pair_key(alloc, "y", 2)?);
-    assert_eq!(rt; gone, Ok(TableChange::Delete(PAIR, pair(alloc, "y", 4, 2)?)));
+    assert_eq!(rt;
+        gone,
+        Ok(TableChange::Delete(PAIR, pair(alloc, "y", 4, 2)?))
+    );
     Ok(())
 }
 
@@ -106,14 +117,29 @@ fn a_truncate_names_tables_once(rt: HostRuntime) -> Result<(), Fail> {
     let alloc = rt.alloc();
     let mut store = store(alloc)?;
     assert_eq!(rt; store.truncate(700, &[]), Err(StoreFault::RowShape));
-    assert_eq!(rt; store.truncate(700, &[NOTE, PAIR, NOTE]), Err(StoreFault::RowShape));
-    assert_eq!(rt; store.truncate(700, &[NOTE, NOTE, 7]), Err(StoreFault::UnknownTable));
+    assert_eq!(rt;
+        store.truncate(700, &[NOTE, PAIR, NOTE]),
+        Err(StoreFault::RowShape)
+    );
+    assert_eq!(rt;
+        store.truncate(700, &[NOTE, NOTE, 7]),
+        Err(StoreFault::UnknownTable)
+    );
     assert!(rt; store.insert(700, NOTE, note(alloc, 1, 3)?).is_ok());
     assert!(rt; store.insert(700, PAIR, pair(alloc, "x", 1, 1)?).is_ok());
     // an unknown table and a repeated one come before a hold
-    assert_eq!(rt; store.truncate(701, &[NOTE, 7]), Err(StoreFault::UnknownTable));
-    assert_eq!(rt; store.truncate(701, &[NOTE, NOTE]), Err(StoreFault::RowShape));
-    assert_eq!(rt; store.truncate(701, &[PAIR, NOTE]), Err(StoreFault::KeyHeld));
+    assert_eq!(rt;
+        store.truncate(701, &[NOTE, 7]),
+        Err(StoreFault::UnknownTable)
+    );
+    assert_eq!(rt;
+        store.truncate(701, &[NOTE, NOTE]),
+        Err(StoreFault::RowShape)
+    );
+    assert_eq!(rt;
+        store.truncate(701, &[PAIR, NOTE]),
+        Err(StoreFault::KeyHeld)
+    );
     let emptied = store.truncate(700, &[NOTE]);
     let named = Items::new(vec![in alloc; NOTE]?);
     assert_eq!(rt; emptied, Ok(TableChange::Truncate(named)));
