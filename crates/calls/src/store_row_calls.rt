@@ -1,6 +1,6 @@
-//! Calls of the store of tables: rows of other shapes, and lists of tables.
+//! Calls of the store of tables: keys of two columns, nulls, long rows, and lists of tables.
 
-use frames::{Items, Text};
+use frames::Text;
 use std::alloc::{AllocError, Global};
 use std::test::Fail;
 use tables::{Catalog, CatalogFault, Row, Store, StoreFault, TableChange, Value};
@@ -16,7 +16,7 @@ oid = 5
 schema = "public"
 name = "pair"
 key = ["b", "a"]
-columns = [["a", "text"], ["v", "int8"], ["b", "int4"]]
+columns = [["a", "int4"], ["v", "int4"], ["b", "int4"]]
 [[table]]
 oid = 6
 schema = "public"
@@ -25,98 +25,123 @@ key = ["id"]
 columns = [["id", "int4"], ["m", "text"]]
 "#;
 
-fn store(alloc: Global) -> Result<Store, CatalogFault> {
-    Ok(Store::new(alloc, Catalog::from_toml(alloc, TABLES)?))
+/// A call by a transaction. A row of public.note is told by its id and the length of its text; null is the id 0.
+#[derive(Clone, Copy)]
+enum Line {
+    Pair(u32, [i32; 3]),
+    MovePair(u32, [i32; 2], [i32; 3]),
+    DropPair(u32, [i32; 2]),
+    Note(u32, i32, usize),
+    DropNote(u32, i32),
+    Truncate(u32, [u32; 3]),
+    Empty(u32),
 }
 
-fn text(alloc: Global, text: &str) -> Result<Value, AllocError> {
-    Ok(Value::Text(Text::copy_of(alloc, text)?))
-}
+use Line::{DropNote, DropPair, Empty, MovePair, Note, Pair, Truncate};
 
-fn pair(alloc: Global, a: &str, v: i64, b: i32) -> Result<Row, AllocError> {
-    Ok(Row::new(vec![in alloc; text(alloc, a)?, Value::Int8(v), Value::Int4(b)]?))
-}
+const S1: Option<StoreFault> = Some(StoreFault::UnknownTable);
 
-fn pair_key(alloc: Global, a: &str, b: i32) -> Result<Row, AllocError> {
-    Ok(Row::new(vec![in alloc; text(alloc, a)?, Value::Int4(b)]?))
-}
+const S2: Option<StoreFault> = Some(StoreFault::RowShape);
 
-/// A row of public.note, whose coding has 12 bytes besides those of its text.
-fn note(alloc: Global, id: i32, text_len: usize) -> Result<Row, AllocError> {
-    let mut m = String::new(alloc);
-    for _ in 0..text_len {
-        m.push('x')?;
+const S3: Option<StoreFault> = Some(StoreFault::DuplicateKey);
+
+const S4: Option<StoreFault> = Some(StoreFault::NoSuchRow);
+
+const S5: Option<StoreFault> = Some(StoreFault::KeyHeld);
+
+const S6: Option<StoreFault> = Some(StoreFault::TooLarge);
+
+const LINES: [(Line, Option<StoreFault>); 22] = [
+    // a key of two columns
+    (Pair(700, [1, 1, 1]), None),
+    (Pair(700, [1, 2, 2]), None),
+    (Pair(700, [2, 3, 1]), None),
+    (Pair(700, [1, 9, 2]), S3),
+    (MovePair(700, [1, 2], [2, 1, 1]), S3),
+    (MovePair(700, [1, 2], [2, 4, 2]), None),
+    (DropPair(700, [1, 2]), S4),
+    (DropPair(700, [2, 2]), None),
+    (Pair(701, [1, 1, 1]), S5),
+    // a null in a key
+    (Note(700, 0, 1), S2),
+    (DropNote(700, 0), S2),
+    // a row of 8,001 bytes and one of 8,000: 12 bytes stand beside the text
+    (Note(700, 1, 7989), S6),
+    (Note(700, 1, 7988), None),
+    (Note(701, 1, 7989), S6),
+    // lists of tables, which are judged before what another holds
+    (Empty(700), S2),
+    (Truncate(701, [NOTE, PAIR, NOTE]), S2),
+    (Truncate(701, [NOTE, NOTE, 7]), S1),
+    (Truncate(701, [PAIR, 7, NOTE]), S1),
+    (Truncate(700, [NOTE, PAIR, 5]), S2),
+    (DropNote(701, 1), S5),
+    (DropNote(700, 1), None),
+    (DropNote(700, 1), S4),
+];
+
+fn id_of(id: i32) -> Value {
+    if id == 0 {
+        Value::Null
+    } else {
+        Value::Int4(id)
     }
-    Ok(Row::new(vec![in alloc; Value::Int4(id), text(alloc, m.as_str())?]?))
 }
 
-fn null_row(alloc: Global, len: usize) -> Result<Row, AllocError> {
+fn ints(alloc: Global, numbers: &[i32]) -> Result<Row, AllocError> {
     let mut values = Vec::new(alloc);
-    for _ in 0..len {
-        values.push(Value::Null)?;
+    for number in numbers {
+        values.push(id_of(*number))?;
     }
     Ok(Row::new(values))
 }
 
-#[test]
-fn a_key_has_two_columns(rt: HostRuntime) -> Result<(), Fail> {
-    let alloc = rt.alloc();
-    let mut store = store(alloc)?;
-    assert!(rt; store.insert(700, PAIR, pair(alloc, "x", 1, 1)?).is_ok());
-    assert!(rt; store.insert(700, PAIR, pair(alloc, "x", 2, 2)?).is_ok());
-    assert!(rt; store.insert(700, PAIR, pair(alloc, "y", 3, 1)?).is_ok());
-    let again = store.insert(700, PAIR, pair(alloc, "x", 9, 2)?);
-    assert_eq!(rt; again, Err(StoreFault::DuplicateKey));
-    assert_eq!(rt; store.get(PAIR, &pair_key(alloc, "x", 2)?), Some(&pair(alloc, "x", 2, 2)?));
-    let moved = store.update(700, PAIR, &pair_key(alloc, "x", 2)?, pair(alloc, "y", 4, 2)?);
-    let want = TableChange::Update(PAIR, pair(alloc, "x", 2, 2)?, pair(alloc, "y", 4, 2)?);
-    assert_eq!(rt; moved, Ok(want));
-    assert!(rt; store.get(PAIR, &pair_key(alloc, "x", 2)?).is_none());
-    let gone = store.delete(700, PAIR, &pair_key(alloc, "y", 2)?);
-    assert_eq!(rt; gone, Ok(TableChange::Delete(PAIR, pair(alloc, "y", 4, 2)?)));
-    Ok(())
+fn note(alloc: Global, id: i32, len: usize) -> Result<Row, AllocError> {
+    let mut text = String::new(alloc);
+    for _ in 0..len {
+        text.push('x')?;
+    }
+    let m = Text::copy_of(alloc, text.as_str())?;
+    Ok(Row::new(vec![in alloc; id_of(id), Value::Text(m)]?))
+}
+
+fn refusal(answer: Result<TableChange, StoreFault>) -> Option<StoreFault> {
+    answer.err()
+}
+
+fn run_line(
+    alloc: Global,
+    store: &mut Store,
+    line: Line,
+) -> Result<Option<StoreFault>, AllocError> {
+    let answer = match line {
+        Pair(top, row) => store.insert(top, PAIR, ints(alloc, &row)?),
+        MovePair(top, key, row) => {
+            let key = ints(alloc, &key)?;
+            store.update(top, PAIR, &key, ints(alloc, &row)?)
+        }
+        DropPair(top, key) => store.delete(top, PAIR, &ints(alloc, &key)?),
+        Note(top, id, len) => store.insert(top, NOTE, note(alloc, id, len)?),
+        DropNote(top, id) => store.delete(top, NOTE, &ints(alloc, &[id])?),
+        Truncate(top, oids) => store.truncate(top, &oids),
+        Empty(top) => store.truncate(top, &[]),
+    };
+    Ok(refusal(answer))
+}
+
+/// How many lines are answered with what stands beside them, up to the first that is not.
+fn run(alloc: Global) -> Result<usize, CatalogFault> {
+    let mut store = Store::new(alloc, Catalog::from_toml(alloc, TABLES)?);
+    for (i, (line, want)) in LINES.iter().enumerate() {
+        if run_line(alloc, &mut store, *line)? != *want {
+            return Ok(i);
+        }
+    }
+    Ok(LINES.len())
 }
 
 #[test]
-fn no_key_has_a_null(rt: HostRuntime) -> Result<(), Fail> {
-    let alloc = rt.alloc();
-    let mut store = store(alloc)?;
-    let inserted = store.insert(700, NOTE, null_row(alloc, 2)?);
-    assert_eq!(rt; inserted, Err(StoreFault::RowShape));
-    let deleted = store.delete(700, NOTE, &null_row(alloc, 1)?);
-    assert_eq!(rt; deleted, Err(StoreFault::RowShape));
-    let updated = store.update(700, NOTE, &null_row(alloc, 1)?, note(alloc, 1, 1)?);
-    assert_eq!(rt; updated, Err(StoreFault::RowShape));
-    assert!(rt; store.get(NOTE, &null_row(alloc, 1)?).is_none());
-    Ok(())
-}
-
-#[test]
-fn a_row_has_at_most_8000_bytes(rt: HostRuntime) -> Result<(), Fail> {
-    let alloc = rt.alloc();
-    let mut store = store(alloc)?;
-    let long = store.insert(700, NOTE, note(alloc, 1, 7989)?);
-    assert_eq!(rt; long, Err(StoreFault::TooLarge));
-    assert!(rt; store.insert(700, NOTE, note(alloc, 1, 7988)?).is_ok());
-    Ok(())
-}
-
-#[test]
-fn a_truncate_names_tables_once(rt: HostRuntime) -> Result<(), Fail> {
-    let alloc = rt.alloc();
-    let mut store = store(alloc)?;
-    assert_eq!(rt; store.truncate(700, &[]), Err(StoreFault::RowShape));
-    assert_eq!(rt; store.truncate(700, &[NOTE, PAIR, NOTE]), Err(StoreFault::RowShape));
-    assert_eq!(rt; store.truncate(700, &[NOTE, NOTE, 7]), Err(StoreFault::UnknownTable));
-    assert!(rt; store.insert(700, NOTE, note(alloc, 1, 3)?).is_ok());
-    assert!(rt; store.insert(700, PAIR, pair(alloc, "x", 1, 1)?).is_ok());
-    // an unknown table and a repeated one come before a hold
-    assert_eq!(rt; store.truncate(701, &[NOTE, 7]), Err(StoreFault::UnknownTable));
-    assert_eq!(rt; store.truncate(701, &[NOTE, NOTE]), Err(StoreFault::RowShape));
-    assert_eq!(rt; store.truncate(701, &[PAIR, NOTE]), Err(StoreFault::KeyHeld));
-    let emptied = store.truncate(700, &[NOTE]);
-    let named = Items::new(vec![in alloc; NOTE]?);
-    assert_eq!(rt; emptied, Ok(TableChange::Truncate(named)));
-    assert!(rt; store.get(PAIR, &pair_key(alloc, "x", 1)?).is_some());
+fn rows_and_lists_are_judged(rt: HostRuntime) -> Result<(), Fail> {
+    assert_eq!(rt; run(rt.alloc())?, LINES.len());
     Ok(())
 }
