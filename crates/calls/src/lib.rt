@@ -7,6 +7,8 @@ mod codec_calls;
 #[cfg(test)]
 mod publication_calls;
 #[cfg(test)]
+mod publisher_calls;
+#[cfg(test)]
 mod reorder_calls;
 #[cfg(test)]
 mod sender_calls;

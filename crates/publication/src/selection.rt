@@ -17,7 +17,7 @@ use frames::Items;
 use pgoutput::{Insert, Logical};
 use std::alloc::{AllocError, Global};
 use std::marker::Model;
-use tables::{Change, Row, Table};
+use tables::{Row, Table, TableChange};
 
 /// The tables that a sender publishes, each whole. Contracts see the list of them.
 ///
@@ -59,13 +59,14 @@ impl Selection {
         found(self.tables.as_slice(), oid)
     }
 
-    /// The message of a change, if it has one.
-    pub fn project(&self, change: &Change) -> Result<Projected, AllocError>
+    /// The message of a change, if it has one. Updates, deletes and truncates have none so far.
+    pub fn project(&self, change: &TableChange) -> Result<Projected, AllocError>
         ensures value { IfOk result (λ p. p ≡ projected (message self.now change.now)) }
         ensures fits { IfOk result (FitsProjected self.now) }
     {
         match change {
-            Change::Insert(oid, row) => self.inserted(*oid, row),
+            TableChange::Insert(oid, row) => self.inserted(*oid, row),
+            _ => Ok(Projected::Nothing),
         }
     }
 

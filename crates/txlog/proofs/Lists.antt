@@ -1,5 +1,5 @@
 -- Filters and tests of lists.
-use Rattle.std.proofs.Common.{◌≡◌, Bool, true, false, cond, ◌&&◌, ◌||◌, List, [], ◌∷◌, refl}
+use Rattle.std.proofs.Common.{◌≡◌, ℕ, zero, suc, Bool, true, false, cond, ◌&&◌, ◌||◌, List, [], ◌∷◌, map, take, refl, ap}
 use Rattle.std.specs.List.{filter, list_any, AllByRecursion}
 
 pub or_false : (b : Bool) → (b || false) ≡ b
@@ -38,3 +38,44 @@ swapped false false c d = refl
 pub list_any_or : {A : Type 0} (p q : A → Bool) (xs : List A) → list_any (λ x. p x || q x) xs ≡ (list_any p xs || list_any q xs)
 list_any_or p q [] = refl
 list_any_or p q (x ∷ xs) = rw (list_any_or p q xs) (swapped (p x) (q x) (list_any p xs) (list_any q xs))
+
+pub none_of : (ys : List ℕ) → list_any (λ (y : ℕ). false) ys ≡ false
+none_of [] = refl
+none_of (y ∷ ys) = none_of ys
+
+pub and_true : (b : Bool) → b ≡ (b && true)
+and_true true = refl
+and_true false = refl
+
+pub filter_all : {A : Type 0} (xs : List A) → filter (λ x. true) xs ≡ xs
+filter_all [] = refl
+filter_all (x ∷ xs) = ap (λ ys. x ∷ ys) (filter_all xs)
+
+pub map_agrees : {A B : Type 0} (f g : A → B) (xs : List A) → AllByRecursion (λ x. f x ≡ g x) xs → map f xs ≡ map g xs
+map_agrees f g [] same = refl
+map_agrees f g (x ∷ xs) same = rw (same.0, map_agrees f g xs same.1) refl
+
+pub map_twice : {A B C : Type 0} (g : B → C) (f : A → B) (xs : List A) → map g (map f xs) ≡ map (λ x. g (f x)) xs
+map_twice g f [] = refl
+map_twice g f (x ∷ xs) = ap (λ ys. g (f x) ∷ ys) (map_twice g f xs)
+
+pub each : {A : Type 0} (P : A → Type 0) → ((x : A) → P x) → (xs : List A) → AllByRecursion P xs
+each P every [] = tt
+each P every (x ∷ xs) = (every x, each P every xs)
+
+pub all_both : {A : Type 0} (P Q : A → Type 0) (xs : List A) → AllByRecursion P xs → AllByRecursion Q xs → AllByRecursion (λ x. P x × Q x) xs
+all_both P Q [] ps qs = tt
+all_both P Q (x ∷ xs) ps qs = ((ps.0, qs.0), all_both P Q xs ps.1 qs.1)
+
+pub all_filter : {A : Type 0} (P : A → Type 0) (p : A → Bool) (xs : List A) → AllByRecursion P xs → AllByRecursion P (filter p xs)
+all_filter P p [] all = tt
+all_filter P p (x ∷ xs) all = by_test (p x) (all_filter P p xs all.1)
+  where
+    by_test : (b : Bool) → AllByRecursion P (filter p xs) → AllByRecursion P (cond b (x ∷ filter p xs) (filter p xs))
+    by_test true rest = (all.0, rest)
+    by_test false rest = rest
+
+pub all_fewer : {A : Type 0} (P : A → Type 0) (n : ℕ) (xs : List A) → AllByRecursion P (take (suc n) xs) → AllByRecursion P (take n xs)
+all_fewer P zero xs all = tt
+all_fewer P (suc n) [] all = tt
+all_fewer P (suc n) (x ∷ xs) all = (all.0, all_fewer P n xs all.1)

@@ -5,11 +5,11 @@ use Rattle.std.specs.List.{filter, list_any, AllByRecursion}
 use Rattle.std.proofs.lemmas.Bool.{eqb-true}
 use Rattle.std.proofs.lemmas.List.{append-nil}
 use Rattle.std.proofs.lemmas.List.Elements.{filter-append}
-use Rattle.tables.specs.declared.change.Change.{Change}
+use Rattle.tables.specs.declared.table_change.TableChange.{TableChange}
 use Rattle.txlog.specs.declared.record.Record.{Record}
 use Rattle.txlog.specs.declared.record.Body.TheVariants.{Assign, Change as Changed, AbortSub, Abort, Commit}
 use Rattle.txlog.specs.Log.{is_named, is_assigned, chain, last_of, top_of, undoes, is_undone, is_dropped, ends, has_ended, Entry, entry_at, entries, is_kept, kept, IsOpen}
-use Rattle.txlog.proofs.Lists.{or_false, filter_agrees, all_agree, filter_twice, list_any_agrees}
+use Rattle.txlog.proofs.Lists.{or_false, and_true, none_of, filter_all, filter_agrees, all_agree, filter_twice, list_any_agrees}
 use Rattle.txlog.proofs.Laws.{entries-append, is_undone-one, has_ended-one, chain-append, chain-unassigned, top-kept, dropped-kept, KeepsChains, all_when, changes_named}
 
 -- whether a change is not dropped and its transaction has not ended
@@ -19,10 +19,6 @@ is_live_change log e = not (has_ended log (top_of log e.xid)) && not (is_dropped
 -- the changes of the transactions in progress, in order
 abbrev pub live_changes : List Record → List Entry
 live_changes log = filter (is_live_change log) (entries log)
-
-none_of : (ys : List ℕ) → list_any (λ (y : ℕ). false) ys ≡ false
-none_of [] = refl
-none_of (y ∷ ys) = none_of ys
 
 live-more : (log : List Record) (r : Record) (q : Entry → Bool) →
     AllByRecursion (λ e. is_live_change (log ++ r ∷ []) e ≡ (is_live_change log e && q e)) (entries log) →
@@ -44,10 +40,6 @@ not_dropped : (a d b : Bool) → (not a && not (d || b)) ≡ ((not a && not d) &
 not_dropped true d b = refl
 not_dropped false true b = refl
 not_dropped false false b = refl
-
-and_true : (b : Bool) → b ≡ (b && true)
-and_true true = refl
-and_true false = refl
 
 -- A transaction that ends takes its changes with it.
 live-end : (log : List Record) (r : Record) (t : ℕ) → KeepsChains r.body → ((x : ℕ) → ends x r.body ≡ (t == x)) → ((x : ℕ) → undoes x r.body ≡ false) → entry_at r.start r.body ≡ [] →
@@ -102,12 +94,8 @@ live-undo log start end s = undone (record { start = start; end = end; body = Ab
         ∙ ap (λ es. filter (λ e. not (list_any (λ y. s == y) (chain log e.xid))) (live_changes log) ++ filter (is_live_change (log ++ r ∷ [])) es) empty
         ∙ append-nil _
 
-filter_all : {A : Type 0} (xs : List A) → filter (λ x. true) xs ≡ xs
-filter_all [] = refl
-filter_all (x ∷ xs) = ap (λ ys. x ∷ ys) (filter_all xs)
-
 -- A change of an open xid is live_changes.
-pub live-change : (log : List Record) (start end x : ℕ) (c : Change) → IsOpen log x →
+pub live-change : (log : List Record) (start end x : ℕ) (c : TableChange) → IsOpen log x →
     live_changes (log ++ record { start = start; end = end; body = Changed x c } ∷ []) ≡ live_changes log ++ record { position = start; xid = x; change = c } ∷ []
 live-change log start end x c is_open = changed (record { start = start; end = end; body = Changed x c }) (record { position = start; xid = x; change = c }) (λ above y. refl) (λ y. refl) (λ y. refl) refl refl
   where

@@ -5,8 +5,9 @@ use Rattle.std.proofs.lemmas.Iterator.Adapters.{position_from-zero}
 use Rattle.std.proofs.lemmas.List.Quantifiers.{position-Some}
 use Rattle.std.proofs.Math.Seq.{take-append_seam}
 use Rattle.std.proofs.lemmas.Bool.{eqb-true, eqb-false, ne_eqb}
+use Rattle.txlog.specs.declared.savepoint.Savepoint.{Savepoint}
 use Rattle.txlog.specs.Log.{last_of}
-use Rattle.txlog.specs.Publishing.{LiveTransaction, is_live, savepoints_of, with_savepoints, without}
+use Rattle.txlog.specs.Publishing.{LiveTransaction, xids, is_live, savepoints_of, with_savepoints, without}
 use Rattle.txlog.specs.Invariants.{IsRising}
 
 pub eqb_comm : (a b : ℕ) → (a == b) ≡ (b == a)
@@ -28,16 +29,31 @@ found P xid (o ∷ live) is all =
     by_test (o.xid == xid) (savepoints_of xid live) is (λ same. let xid_is : o.xid ≡ xid = eqb-true o.xid xid same in
     subst (λ (n : ℕ). P (record { xid = n; savepoints = o.savepoints })) xid_is all.0) (λ rest. found P xid live rest all.1)
   where
-    by_test : (b : Bool) (others : List ℕ) → (b || is_live xid live) ≡ true →
+    by_test : (b : Bool) (others : List Savepoint) → (b || is_live xid live) ≡ true →
         (b ≡ true → P (record { xid = xid; savepoints = o.savepoints })) →
         (is_live xid live ≡ true → P (record { xid = xid; savepoints = others })) →
         P (record { xid = xid; savepoints = cond b o.savepoints others })
     by_test true others is here there = here refl
     by_test false others is here there = there is
 
+-- THE XIDS OF SAVEPOINTS
+
+pub xids_take : (n : ℕ) (savepoints : List Savepoint) → xids (take n savepoints) ≡ take n (xids savepoints)
+xids_take zero savepoints = refl
+xids_take (suc n) [] = refl
+xids_take (suc n) (s ∷ savepoints) = ap (λ (xs : List ℕ). s.xid ∷ xs) (xids_take n savepoints)
+
+pub xids_push : (savepoints : List Savepoint) (s : Savepoint) → xids (savepoints ++ s ∷ []) ≡ xids savepoints ++ s.xid ∷ []
+xids_push [] s = refl
+xids_push (first ∷ savepoints) s = ap (λ (xs : List ℕ). first.xid ∷ xs) (xids_push savepoints s)
+
+pub xids_length : (savepoints : List Savepoint) → length (xids savepoints) ≡ length savepoints
+xids_length [] = refl
+xids_length (s ∷ savepoints) = ap (λ (n : ℕ). suc n) (xids_length savepoints)
+
 -- OTHER SAVEPOINTS
 
-pub length-with_savepoints : (xid : ℕ) (xs : List ℕ) (live : List LiveTransaction) → length (with_savepoints xid xs live) ≡ length live
+pub length-with_savepoints : (xid : ℕ) (xs : List Savepoint) (live : List LiveTransaction) → length (with_savepoints xid xs live) ≡ length live
 length-with_savepoints xid xs [] = refl
 length-with_savepoints xid xs (o ∷ live) = by_test (o.xid == xid) (length-with_savepoints xid xs live)
   where
@@ -47,7 +63,7 @@ length-with_savepoints xid xs (o ∷ live) = by_test (o.xid == xid) (length-with
     by_test false e = ap (λ n. suc n) e
 
 -- what speaks of xids alone stays
-all_with_savepoints : (P : ℕ → Type 0) (xid : ℕ) (xs : List ℕ) (live : List LiveTransaction) → AllByRecursion (λ o. P o.xid) live → AllByRecursion (λ o. P o.xid) (with_savepoints xid xs live)
+all_with_savepoints : (P : ℕ → Type 0) (xid : ℕ) (xs : List Savepoint) (live : List LiveTransaction) → AllByRecursion (λ o. P o.xid) live → AllByRecursion (λ o. P o.xid) (with_savepoints xid xs live)
 all_with_savepoints P xid xs [] all = tt
 all_with_savepoints P xid xs (o ∷ live) all = by_test (o.xid == xid) (all_with_savepoints P xid xs live all.1)
   where
@@ -56,7 +72,7 @@ all_with_savepoints P xid xs (o ∷ live) all = by_test (o.xid == xid) (all_with
     by_test true rest = (all.0, all.1)
     by_test false rest = (all.0, rest)
 
-pub rising-with_savepoints : (xid : ℕ) (xs : List ℕ) (live : List LiveTransaction) → IsRising live → IsRising (with_savepoints xid xs live)
+pub rising-with_savepoints : (xid : ℕ) (xs : List Savepoint) (live : List LiveTransaction) → IsRising live → IsRising (with_savepoints xid xs live)
 rising-with_savepoints xid xs [] h = tt
 rising-with_savepoints xid xs (o ∷ live) h =
     by_test (o.xid == xid) (all_with_savepoints (λ n. o.xid < n) xid xs live h.0) (rising-with_savepoints xid xs live h.1)
@@ -74,7 +90,7 @@ apart_above Q xid P (p ∷ live) above all keep =
     (keep p all.0 (ne_eqb p.xid xid (λ is. let lt : xid < p.xid = above.0 in absurd (omega (arith, is)))), apart_above Q xid P live above.1 all.1 keep)
 
 -- the one changed transaction has Q, and so have all others
-pub all_changed : (P Q : LiveTransaction → Type 0) (xid : ℕ) (xs : List ℕ) (live : List LiveTransaction) → IsRising live → AllByRecursion P live →
+pub all_changed : (P Q : LiveTransaction → Type 0) (xid : ℕ) (xs : List Savepoint) (live : List LiveTransaction) → IsRising live → AllByRecursion P live →
     ((p : LiveTransaction) → P p → (p.xid == xid) ≡ false → Q p) → Q (record { xid = xid; savepoints = xs }) → AllByRecursion Q (with_savepoints xid xs live)
 all_changed P Q xid xs [] rising all keep here = tt
 all_changed P Q xid xs (o ∷ live) rising all keep here =
@@ -136,7 +152,7 @@ rising-push (p ∷ live) o below h = (all_append _ live (o ∷ []) h.0 (below.0,
 
 -- AT A PLACE
 
-changed_first : (f : List ℕ → List ℕ) (xid : ℕ) (live : List LiveTransaction) (place : ℕ) (d : LiveTransaction) → place < length live →
+changed_first : (f : List Savepoint → List Savepoint) (xid : ℕ) (live : List LiveTransaction) (place : ℕ) (d : LiveTransaction) → place < length live →
     ((get_or live place d).xid == xid) ≡ true → ((k : ℕ) → k < place → ((get_or live k d).xid == xid) ≡ false) →
     set live place (record { xid = (get_or live place d).xid; savepoints = f (get_or live place d).savepoints }) ≡ with_savepoints xid (f (savepoints_of xid live)) live
 changed_first f xid [] place d lt is before = absurd (omega arith)
@@ -144,12 +160,12 @@ changed_first f xid (o ∷ live) zero d lt is before = rw is refl
 changed_first f xid (o ∷ live) (suc n) d lt is before =
     let other : (o.xid == xid) ≡ false = before 0 (omega arith) in
     let later : savepoints_of xid live ≡ savepoints_of xid (o ∷ live) = rw other refl in
-    let kept : (xs : List ℕ) → o ∷ with_savepoints xid xs live ≡ with_savepoints xid xs (o ∷ live) = λ xs. rw other refl in
+    let kept : (xs : List Savepoint) → o ∷ with_savepoints xid xs live ≡ with_savepoints xid xs (o ∷ live) = λ xs. rw other refl in
     ap (λ rest. o ∷ rest) (changed_first f xid live n d (omega arith) is (λ k below. before (suc k) (omega arith)))
-    ∙ kept (f (savepoints_of xid live)) ∙ ap (λ (xs : List ℕ). with_savepoints xid (f xs) (o ∷ live)) later
+    ∙ kept (f (savepoints_of xid live)) ∙ ap (λ (xs : List Savepoint). with_savepoints xid (f xs) (o ∷ live)) later
 
 -- a transaction changed at its place is changed by its xid
-pub changed_at : (f : List ℕ → List ℕ) (xid : ℕ) (items live : List LiveTransaction) (place : ℕ) (old new : LiveTransaction) → items ≡ live →
+pub changed_at : (f : List Savepoint → List Savepoint) (xid : ℕ) (items live : List LiveTransaction) (place : ℕ) (old new : LiveTransaction) → items ≡ live →
     old ≡ get_or items place old → new ≡ record { xid = old.xid; savepoints = f old.savepoints } → Some place ≡ position (λ o. o.xid == xid) live →
     set items place new ≡ with_savepoints xid (f (savepoints_of xid live)) live
 changed_at f xid items live place old new same at is found_at =
@@ -159,7 +175,7 @@ changed_at f xid items live place old new same at is found_at =
     ∙ ap (set live place) (is ∙ ap (λ (o : LiveTransaction). record { xid = o.xid; savepoints = f o.savepoints }) here)
     ∙ changed_first f xid live place old first.0 first.1 first.2
 
-absent_from : (xid : ℕ) (xs : List ℕ) (i : ℕ) (live : List LiveTransaction) → position_from (λ o. o.xid == xid) i live ≡ None → with_savepoints xid xs live ≡ live
+absent_from : (xid : ℕ) (xs : List Savepoint) (i : ℕ) (live : List LiveTransaction) → position_from (λ o. o.xid == xid) i live ≡ None → with_savepoints xid xs live ≡ live
 absent_from xid xs i [] none = refl
 absent_from xid xs i (o ∷ live) none = by_test (o.xid == xid) none (absent_from xid xs (i + 1) live)
   where
@@ -169,7 +185,7 @@ absent_from xid xs i (o ∷ live) none = by_test (o.xid == xid) none (absent_fro
     by_test true none rest = cc
     by_test false none rest = ap (λ ls. o ∷ ls) (rest none)
 
-pub absent : (xid : ℕ) (xs : List ℕ) (live : List LiveTransaction) → position (λ o. o.xid == xid) live ≡ None → with_savepoints xid xs live ≡ live
+pub absent : (xid : ℕ) (xs : List Savepoint) (live : List LiveTransaction) → position (λ o. o.xid == xid) live ≡ None → with_savepoints xid xs live ≡ live
 absent xid xs live none = absent_from xid xs 0 live (sym (position_from-zero (λ o. o.xid == xid) live) ∙ none)
 
 pub last_at : (y : ℕ) (xs : List ℕ) → 0 < length xs → get_or xs (length xs - 1) 0 ≡ last_of y xs
@@ -179,12 +195,20 @@ last_at y (x ∷ z ∷ xs) lt =
     let e : length (x ∷ z ∷ xs) - 1 ≡ suc (length (z ∷ xs) - 1) = omega arith in
     rw e (last_at x (z ∷ xs) (omega arith))
 
+-- the same of savepoints
+pub last_savepoint : (y : ℕ) (savepoints : List Savepoint) (d : Savepoint) → 0 < length savepoints → (get_or savepoints (length savepoints - 1) d).xid ≡ last_of y (xids savepoints)
+last_savepoint y [] d lt = absurd (omega arith)
+last_savepoint y (p ∷ []) d lt = refl
+last_savepoint y (p ∷ q ∷ savepoints) d lt =
+    let e : length (p ∷ q ∷ savepoints) - 1 ≡ suc (length (q ∷ savepoints) - 1) = omega arith in
+    rw e (last_savepoint p.xid (q ∷ savepoints) d (omega arith))
+
 -- PUSHED AND TAKEN OFF
 
-with-here : (xid : ℕ) (xs : List ℕ) (o : LiveTransaction) (live : List LiveTransaction) → (o.xid == xid) ≡ true → with_savepoints xid xs (o ∷ live) ≡ record { xid = o.xid; savepoints = xs } ∷ live
+with-here : (xid : ℕ) (xs : List Savepoint) (o : LiveTransaction) (live : List LiveTransaction) → (o.xid == xid) ≡ true → with_savepoints xid xs (o ∷ live) ≡ record { xid = o.xid; savepoints = xs } ∷ live
 with-here xid xs o live is = rw is refl
 
-with-later : (xid : ℕ) (xs : List ℕ) (o : LiveTransaction) (live : List LiveTransaction) → (o.xid == xid) ≡ false → with_savepoints xid xs (o ∷ live) ≡ o ∷ with_savepoints xid xs live
+with-later : (xid : ℕ) (xs : List Savepoint) (o : LiveTransaction) (live : List LiveTransaction) → (o.xid == xid) ≡ false → with_savepoints xid xs (o ∷ live) ≡ o ∷ with_savepoints xid xs live
 with-later xid xs o live is = rw is refl
 
 of-here : (xid : ℕ) (o : LiveTransaction) (live : List LiveTransaction) → (o.xid == xid) ≡ true → savepoints_of xid (o ∷ live) ≡ o.savepoints
@@ -193,7 +217,7 @@ of-here xid o live is = rw is refl
 of-later : (xid : ℕ) (o : LiveTransaction) (live : List LiveTransaction) → (o.xid == xid) ≡ false → savepoints_of xid (o ∷ live) ≡ savepoints_of xid live
 of-later xid o live is = rw is refl
 
-with-again : (xid : ℕ) (xs ys : List ℕ) (live : List LiveTransaction) → with_savepoints xid ys (with_savepoints xid xs live) ≡ with_savepoints xid ys live
+with-again : (xid : ℕ) (xs ys : List Savepoint) (live : List LiveTransaction) → with_savepoints xid ys (with_savepoints xid xs live) ≡ with_savepoints xid ys live
 with-again xid xs ys [] = refl
 with-again xid xs ys (o ∷ live) = by_test (o.xid == xid) refl (with-again xid xs ys live)
   where
@@ -202,7 +226,7 @@ with-again xid xs ys (o ∷ live) = by_test (o.xid == xid) refl (with-again xid 
     by_test true is rest = ap (with_savepoints xid ys) (with-here xid xs o live is) ∙ with-here xid ys (record { xid = o.xid; savepoints = xs }) live is ∙ sym (with-here xid ys o live is)
     by_test false is rest = ap (with_savepoints xid ys) (with-later xid xs o live is) ∙ with-later xid ys o (with_savepoints xid xs live) is ∙ ap (λ ls. o ∷ ls) rest ∙ sym (with-later xid ys o live is)
 
-of-with : (xid : ℕ) (xs : List ℕ) (live : List LiveTransaction) → is_live xid live ≡ true → savepoints_of xid (with_savepoints xid xs live) ≡ xs
+of-with : (xid : ℕ) (xs : List Savepoint) (live : List LiveTransaction) → is_live xid live ≡ true → savepoints_of xid (with_savepoints xid xs live) ≡ xs
 of-with xid xs [] is = let never : false ≡ true = is in cc
 of-with xid xs (o ∷ live) is = by_test (o.xid == xid) refl is (of-with xid xs live)
   where
@@ -211,7 +235,7 @@ of-with xid xs (o ∷ live) is = by_test (o.xid == xid) refl is (of-with xid xs 
     by_test true is any rest = ap (savepoints_of xid) (with-here xid xs o live is) ∙ of-here xid (record { xid = o.xid; savepoints = xs }) live is
     by_test false is any rest = ap (savepoints_of xid) (with-later xid xs o live is) ∙ of-later xid o (with_savepoints xid xs live) is ∙ rest any
 
-with-own : (xid : ℕ) (live : List LiveTransaction) → with_savepoints xid (savepoints_of xid live) live ≡ live
+pub with-own : (xid : ℕ) (live : List LiveTransaction) → with_savepoints xid (savepoints_of xid live) live ≡ live
 with-own xid [] = refl
 with-own xid (o ∷ live) = by_test (o.xid == xid) refl (with-own xid live)
   where
@@ -221,10 +245,10 @@ with-own xid (o ∷ live) = by_test (o.xid == xid) refl (with-own xid live)
     by_test false is rest = ap (λ xs. with_savepoints xid xs (o ∷ live)) (of-later xid o live is) ∙ with-later xid (savepoints_of xid live) o live is ∙ ap (λ ls. o ∷ ls) rest
 
 -- a savepoint that was pushed is taken off again
-pub restored : (xid y n : ℕ) (live more less : List LiveTransaction) → is_live xid live ≡ true → n ≡ length (savepoints_of xid live) →
+pub restored : (xid : ℕ) (y : Savepoint) (n : ℕ) (live more less : List LiveTransaction) → is_live xid live ≡ true → n ≡ length (savepoints_of xid live) →
     more ≡ with_savepoints xid (savepoints_of xid live ++ y ∷ []) live → less ≡ with_savepoints xid (take n (savepoints_of xid more)) more → less ≡ live
 restored xid y n live more less is at pushed cut =
-    let xs : List ℕ = savepoints_of xid live ++ y ∷ [] in
+    let xs : List Savepoint = savepoints_of xid live ++ y ∷ [] in
     cut
     ∙ ap (λ ls. with_savepoints xid (take n (savepoints_of xid ls)) ls) pushed
     ∙ ap (λ ys. with_savepoints xid (take n ys) (with_savepoints xid xs live)) (of-with xid xs live is)

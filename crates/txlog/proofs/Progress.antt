@@ -7,8 +7,7 @@ use Rattle.txlog.specs.declared.record.Record.{Record}
 use Rattle.txlog.specs.declared.record.Body.{Body}
 use Rattle.txlog.specs.declared.record.Body.TheVariants.{Assign, Change as Changed, AbortSub, Abort, Commit}
 use Rattle.txlog.specs.Log.{assigns, is_assigned, chain_step, chain, last_of, top_of, undoes, is_undone, ends, IsOpen}
-use Rattle.txlog.specs.Publishing.{LiveTransaction}
-use Rattle.txlog.specs.Invariants.{IsNested, IsInProgress, xids_of}
+use Rattle.txlog.specs.Invariants.{IsNested, IsInProgress}
 use Rattle.txlog.proofs.LiveList.{all_append}
 use Rattle.txlog.proofs.Laws.{has_ended-one, is_assigned-one, is_undone-one, chain-append, chain-unassigned}
 
@@ -34,13 +33,13 @@ any-onto p [] [] none more = refl
 any-onto p (y ∷ below) [] none more = rw none.0 (any-onto p below [] none.1 tt)
 any-onto p below (x ∷ xs) none more = any-onto p (x ∷ below) xs (more.0, none) more.1
 
-pub IsOpen-innermost : (log : List Record) (next : ℕ) (o : LiveTransaction) → IsInProgress log next o → IsOpen log (last_of o.xid o.savepoints)
-IsOpen-innermost log next o h =
-    let whole : chain log (last_of o.xid o.savepoints) ≡ onto (o.xid ∷ []) o.savepoints =
-    chain-innermost log o.xid [] o.savepoints (chain-unassigned log o.xid h.top) h.nested in
+pub IsOpen-innermost : (log : List Record) (next : ℕ) (t : ℕ) (xs : List ℕ) → IsInProgress log next t xs → IsOpen log (last_of t xs)
+IsOpen-innermost log next t xs h =
+    let whole : chain log (last_of t xs) ≡ onto (t ∷ []) xs =
+    chain-innermost log t [] xs (chain-unassigned log t h.top) h.nested in
     record {
-      running = rw (whole, last_of-onto (last_of o.xid o.savepoints) o.xid [] o.savepoints) h.running;
-      undropped = rw whole (any-onto (is_undone log) (o.xid ∷ []) o.savepoints (h.undropped.0, tt) h.undropped.1);
+      running = rw (whole, last_of-onto (last_of t xs) t [] xs) h.running;
+      undropped = rw whole (any-onto (is_undone log) (t ∷ []) xs (h.undropped.0, tt) h.undropped.1);
     }
 
 nested-tops : (log : List Record) (t y : ℕ) (below xs : List ℕ) → last_of y below ≡ t → IsNested log (y ∷ below) xs → AllByRecursion (λ x. top_of log x ≡ t) xs
@@ -48,12 +47,12 @@ nested-tops log t y below [] is nested = tt
 nested-tops log t y below (x ∷ xs) is nested = (rw nested.0 is, nested-tops log t x (y ∷ below) xs is nested.2)
 
 -- the xids of a transaction have it as their top
-pub xids-top : (log : List Record) (next : ℕ) (o : LiveTransaction) → IsInProgress log next o → AllByRecursion (λ x. top_of log x ≡ o.xid) (xids_of o)
-xids-top log next o h = (rw (chain-unassigned log o.xid h.top) refl, nested-tops log o.xid o.xid [] o.savepoints refl h.nested)
+pub xids-top : (log : List Record) (next : ℕ) (t : ℕ) (xs : List ℕ) → IsInProgress log next t xs → AllByRecursion (λ x. top_of log x ≡ t) (t ∷ xs)
+xids-top log next t xs h = (rw (chain-unassigned log t h.top) refl, nested-tops log t t [] xs refl h.nested)
 
 -- CUT AT A DEPTH
 
-all_take : {A : Type 0} (P : A → Type 0) (n : ℕ) (xs : List A) → AllByRecursion P xs → AllByRecursion P (take n xs)
+pub all_take : {A : Type 0} (P : A → Type 0) (n : ℕ) (xs : List A) → AllByRecursion P xs → AllByRecursion P (take n xs)
 all_take P zero xs all = tt
 all_take P (suc n) [] all = tt
 all_take P (suc n) (x ∷ xs) all = (all.0, all_take P n xs all.1)
@@ -63,15 +62,15 @@ nested_take log zero below xs h = tt
 nested_take log (suc n) below [] h = tt
 nested_take log (suc n) below (x ∷ xs) h = (h.0, h.1, nested_take log n (x ∷ below) xs h.2)
 
-pub in_progress_cut : (log : List Record) (next n : ℕ) (o : LiveTransaction) → IsInProgress log next o → IsInProgress log next (record { xid = o.xid; savepoints = take n o.savepoints })
-in_progress_cut log next n o h = record {
-  below = (h.below.0, all_take _ n o.savepoints h.below.1);
+pub in_progress_cut : (log : List Record) (next n : ℕ) (t : ℕ) (xs : List ℕ) → IsInProgress log next t xs → IsInProgress log next t (take n xs)
+in_progress_cut log next n t xs h = record {
+  below = (h.below.0, all_take _ n xs h.below.1);
   top = h.top;
   running = h.running;
-  subs = all_take _ n o.savepoints h.subs;
-  undropped = (h.undropped.0, all_take _ n o.savepoints h.undropped.1);
-  nested = nested_take log n (o.xid ∷ []) o.savepoints h.nested;
-  deep = omega (arith, length-take n o.savepoints, h.deep);
+  subs = all_take _ n xs h.subs;
+  undropped = (h.undropped.0, all_take _ n xs h.undropped.1);
+  nested = nested_take log n (t ∷ []) xs h.nested;
+  deep = omega (arith, length-take n xs, h.deep);
 }
 
 -- ONE MORE RECORD
@@ -108,15 +107,15 @@ below-more : (next more : ℕ) (xs : List ℕ) → next ≤ more → AllByRecurs
 below-more next more [] le all = tt
 below-more next more (x ∷ xs) le all = (omega (arith, all.0), below-more next more xs le all.1)
 
-pub in_progress_quiet : (log : List Record) (r : Record) (next more : ℕ) (o : LiveTransaction) → next ≤ more → AllByRecursion (IsQuiet r.body) (xids_of o) →
-    IsInProgress log next o → IsInProgress (log ++ r ∷ []) more o
-in_progress_quiet log r next more o le quiet h = record {
-  below = below-more next more (xids_of o) le h.below;
-  top = is_assigned-one log r o.xid ∙ rw (h.top, quiet.0.assigned) refl;
-  running = has_ended-one log r o.xid ∙ rw (h.running, quiet.0.ended) refl;
-  subs = subs-more log r o.savepoints h.subs;
-  undropped = undropped-quiet log r (xids_of o) quiet h.undropped;
-  nested = nested-quiet log r (o.xid ∷ []) o.savepoints quiet.1 h.nested;
+pub in_progress_quiet : (log : List Record) (r : Record) (next more : ℕ) (t : ℕ) (xs : List ℕ) → next ≤ more → AllByRecursion (IsQuiet r.body) (t ∷ xs) →
+    IsInProgress log next t xs → IsInProgress (log ++ r ∷ []) more t xs
+in_progress_quiet log r next more t xs le quiet h = record {
+  below = below-more next more (t ∷ xs) le h.below;
+  top = is_assigned-one log r t ∙ rw (h.top, quiet.0.assigned) refl;
+  running = has_ended-one log r t ∙ rw (h.running, quiet.0.ended) refl;
+  subs = subs-more log r xs h.subs;
+  undropped = undropped-quiet log r (t ∷ xs) quiet h.undropped;
+  nested = nested-quiet log r (t ∷ []) xs quiet.1 h.nested;
   deep = h.deep;
 }
 
@@ -140,17 +139,17 @@ nested_push : (log : List Record) (x : ℕ) (below xs : List ℕ) → IsNested l
 nested_push log x below [] h is low = (is, low, tt)
 nested_push log x below (y ∷ xs) h is low = (h.0, h.1, nested_push log x (y ∷ below) xs h.2 is low)
 
-pub in_progress_push : (log : List Record) (next x : ℕ) (o : LiveTransaction) → IsInProgress log next o → x < next → is_assigned log x ≡ true → is_undone log x ≡ false →
-    chain log x ≡ x ∷ onto (o.xid ∷ []) o.savepoints → AllByRecursion (λ y. y < x) (xids_of o) → length o.savepoints < MAX_DEPTH →
-    IsInProgress log next (record { xid = o.xid; savepoints = o.savepoints ++ x ∷ [] })
-in_progress_push log next x o h lt sub undropped is low shallow = record {
-  below = (h.below.0, all_append _ o.savepoints (x ∷ []) h.below.1 (lt, tt));
+pub in_progress_push : (log : List Record) (next x : ℕ) (t : ℕ) (xs : List ℕ) → IsInProgress log next t xs → x < next → is_assigned log x ≡ true → is_undone log x ≡ false →
+    chain log x ≡ x ∷ onto (t ∷ []) xs → AllByRecursion (λ y. y < x) (t ∷ xs) → length xs < MAX_DEPTH →
+    IsInProgress log next t (xs ++ x ∷ [])
+in_progress_push log next x t xs h lt sub undropped is low shallow = record {
+  below = (h.below.0, all_append _ xs (x ∷ []) h.below.1 (lt, tt));
   top = h.top;
   running = h.running;
-  subs = all_append _ o.savepoints (x ∷ []) h.subs (sub, tt);
-  undropped = (h.undropped.0, all_append _ o.savepoints (x ∷ []) h.undropped.1 (undropped, tt));
-  nested = nested_push log x (o.xid ∷ []) o.savepoints h.nested is (all_onto (λ y. y < x) (o.xid ∷ []) o.savepoints (low.0, tt) low.1);
-  deep = omega (arith, shallow, length-append o.savepoints (x ∷ []));
+  subs = all_append _ xs (x ∷ []) h.subs (sub, tt);
+  undropped = (h.undropped.0, all_append _ xs (x ∷ []) h.undropped.1 (undropped, tt));
+  nested = nested_push log x (t ∷ []) xs h.nested is (all_onto (λ y. y < x) (t ∷ []) xs (low.0, tt) low.1);
+  deep = omega (arith, shallow, length-append xs (x ∷ []));
 }
 
 -- A SAVEPOINT AND WHAT IS BELOW IT
@@ -165,10 +164,10 @@ nested_at log zero below (x ∷ xs) lt h = h.1
 nested_at log (suc n) below (x ∷ xs) lt h = nested_at log n (x ∷ below) xs (omega arith) h.2
 
 -- the savepoint at a place is above all xids before it
-pub above_xids : (log : List Record) (next n : ℕ) (o : LiveTransaction) → IsInProgress log next o → n < length o.savepoints →
-    AllByRecursion (λ y. y < get_or o.savepoints n 0) (o.xid ∷ take n o.savepoints)
-above_xids log next n o h lt =
-    let both = all_from_onto (λ y. y < get_or o.savepoints n 0) (o.xid ∷ []) (take n o.savepoints) (nested_at log n (o.xid ∷ []) o.savepoints lt h.nested) in
+pub above_xids : (log : List Record) (next n : ℕ) (t : ℕ) (xs : List ℕ) → IsInProgress log next t xs → n < length xs →
+    AllByRecursion (λ y. y < get_or xs n 0) (t ∷ take n xs)
+above_xids log next n t xs h lt =
+    let both = all_from_onto (λ y. y < get_or xs n 0) (t ∷ []) (take n xs) (nested_at log n (t ∷ []) xs lt h.nested) in
     (both.0.0, both.1)
 
 pub last_of-take : (y n : ℕ) (xs : List ℕ) → n < length xs → last_of y (take (n + 1) xs) ≡ get_or xs n 0

@@ -1,36 +1,37 @@
 -- Whole logs with what they commit, as worked by hand: the definitions compute to it.
-use Rattle.std.proofs.Common.{◌≡◌, ℕ, pos, List, [], ◌∷◌, Some, None, take, refl}
+use Rattle.std.proofs.Common.{◌≡◌, ℕ, pos, true, false, List, [], ◌∷◌, Some, None, take, refl}
 use Rattle.std.specs.Prelude.{codes}
 use Rattle.frames.specs.Fields.{int16, int32, int64}
 use Rattle.tables.specs.declared.value.Value.TheVariants as values
-use Rattle.tables.specs.declared.change.Change.{Change}
-use Rattle.tables.specs.declared.change.Change.TheVariants as changes
+use Rattle.tables.specs.declared.table_change.TableChange.{TableChange}
+use Rattle.tables.specs.declared.table_change.TableChange.TheVariants as changes
 use Rattle.tables.specs.Rows.{Key}
 use Rattle.tables.specs.Tables.{builtin_tables}
 use Rattle.txlog.specs.declared.record.Record.{Record}
 use Rattle.txlog.specs.declared.record.Body.{Body}
 use Rattle.txlog.specs.declared.record.Body.TheVariants.{Assign, Change as Changed, AbortSub, Commit}
-use Rattle.txlog.specs.Rows.{rows_of, holds}
+use Rattle.tables.specs.History.{is_key_held}
+use Rattle.txlog.specs.Rows.{history_of, rows_of}
 use Rattle.txlog.specs.Log.{Entry, Transaction, IsWellFormedLog, committed}
 use Rattle.txlog.proofs.LiveChanges.{live_changes}
 
 -- inserts into public.item of a row with this id, name and quantity
-abbrev insert : ℕ → List ℕ → ℕ → Change
+abbrev insert : ℕ → List ℕ → ℕ → TableChange
 insert id name qty = changes.Insert 16384 (values.Int4 (pos id) ∷ values.Text name ∷ values.Int8 (pos qty) ∷ [])
 
-abbrev first : Change
+abbrev first : TableChange
 first = insert 1 (codes "a") 1
 
-abbrev second : Change
+abbrev second : TableChange
 second = insert 2 (codes "b") 2
 
-abbrev third : Change
+abbrev third : TableChange
 third = insert 3 (codes "c") 3
 
 abbrev at : ℕ → ℕ → Body → Record
 at start end body = record { start = start; end = end; body = body }
 
-abbrev entry : ℕ → ℕ → Change → Entry
+abbrev entry : ℕ → ℕ → TableChange → Entry
 entry position xid change = record { position = position; xid = xid; change = change }
 
 -- Two transactions that take turns; the second commits first.
@@ -145,9 +146,20 @@ rolled_back-third : rows_of builtin_tables rolled_back (item_key 3) ≡ Some (va
 unfolding int16 int32 int64
 rolled_back-third = refl
 
--- a transaction holds the keys of its changes, until they are rolled back
-rolled_back-held : holds builtin_tables (take 4 rolled_back) 700 ≡ item_key 1 ∷ item_key 2 ∷ []
+-- a transaction holds the keys of its changes until they are rolled back, and not against itself
+rolled_back-held : is_key_held builtin_tables 703 (history_of (take 4 rolled_back)) (item_key 1) ≡ true
+unfolding int16 int32 int64
 rolled_back-held = refl
 
-rolled_back-let_go : holds builtin_tables (take 5 rolled_back) 700 ≡ []
+rolled_back-own : is_key_held builtin_tables 700 (history_of (take 4 rolled_back)) (item_key 1) ≡ false
+unfolding int16 int32 int64
+rolled_back-own = refl
+
+rolled_back-let_go : is_key_held builtin_tables 703 (history_of (take 5 rolled_back)) (item_key 1) ≡ false
+unfolding int16 int32 int64
 rolled_back-let_go = refl
+
+-- what is committed is held by nobody
+released-let_go : is_key_held builtin_tables 703 (history_of released) (item_key 1) ≡ false
+unfolding int16 int32 int64
+released-let_go = refl

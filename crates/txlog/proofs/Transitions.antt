@@ -1,22 +1,23 @@
 -- What is true of a publisher stays true with each call.
-use Rattle.std.proofs.Common.{◌≡◌, ℕ, ℤ, ◌+◌, ◌-◌, ◌^◌, ◌<◌, ◌≤◌, ◌==◌, Bool, true, false, ◌||◌, List, [], ◌∷◌, ◌++◌, length, take, get_or, refl, ap, subst, ◌∙◌, arith, eq-eqb, length-append}
+use Rattle.std.proofs.Common.{◌≡◌, ℕ, ℤ, ◌+◌, ◌-◌, ◌^◌, ◌<◌, ◌≤◌, ◌==◌, Bool, true, false, ◌||◌, List, [], ◌∷◌, ◌++◌, length, take, get_or, refl, ap, subst, ◌∙◌, sym, arith, eq-eqb, length-append}
 use Rattle.std.specs.Prelude.{FitsSigned}
 use Rattle.std.specs.Int.{w64}
 use Rattle.std.specs.List.{list_any, AllByRecursion}
 use Rattle.std.proofs.lemmas.Bool.{ne_eqb}
 use Rattle.tables.specs.declared.table.Table.{Table}
-use Rattle.tables.specs.declared.change.Change.{Change}
-use Rattle.tables.specs.Tables.{FitsChange}
+use Rattle.tables.specs.declared.table_change.TableChange.{TableChange}
+use Rattle.tables.specs.Tables.{FitsTableChange}
 use Rattle.txlog.specs.declared.limits.TheConstants.{MAX_LIVE, MAX_DEPTH, MAX_RECORDS}
 use Rattle.txlog.specs.declared.record.TheConstants.{FIRST_POSITION, FIRST_XID}
+use Rattle.txlog.specs.declared.savepoint.Savepoint.{Savepoint}
 use Rattle.txlog.specs.declared.record.Record.{Record}
 use Rattle.txlog.specs.declared.record.Body.{Body}
 use Rattle.txlog.specs.declared.record.Body.TheVariants.{Assign, Change as Changed, AbortSub, Abort, Commit}
 use Rattle.txlog.specs.Log.{IsSized, IsOpen, IsNext, FitsBody, FitsRecord, size_of, end_of, names, is_named, assigns, is_assigned, chain, last_of, top_of, undoes, is_undone, ends}
-use Rattle.txlog.specs.Publishing.{LiveTransaction, PublisherState, record_after, room, is_live, savepoints_of, innermost, with_savepoints, without, begun, changed, saved, released, rolled_back, ended, after_commit, after_abort}
-use Rattle.txlog.specs.Invariants.{IsLog, IsInProgress, IsPublisher, xids_of}
+use Rattle.txlog.specs.Publishing.{LiveTransaction, PublisherState, xids, next_savepoint, record_after, room, is_live, savepoints_of, innermost, with_savepoints, without, begun, changed, saved, released, rolled_back, ended, after_commit, after_abort}
+use Rattle.txlog.specs.Invariants.{IsLog, IsInProgress, IsRunning, IsPublisher}
 use Rattle.txlog.proofs.Laws.{end_of-append, follows-append, WellFormedAfter-append, is_named-one, is_assigned-one, is_undone-one, chain-append, chain-unassigned, all_when}
-use Rattle.txlog.proofs.LiveList.{eqb_comm, all_append, found, length-with_savepoints, rising-with_savepoints, all_changed, all_without, rising-without, length-without, rising-push}
+use Rattle.txlog.proofs.LiveList.{eqb_comm, xids_take, xids_push, xids_length, all_append, found, length-with_savepoints, rising-with_savepoints, all_changed, all_without, rising-without, length-without, rising-push}
 use Rattle.txlog.proofs.Progress.{onto, chain-innermost, IsOpen-innermost, xids-top, in_progress_push, above_xids, last_of-take, all_at, in_progress_cut, IsQuiet, in_progress_quiet, tops_apart}
 
 -- THE LOG
@@ -91,9 +92,9 @@ new_publisher-IsPublisher tables records le = record {
   live = tt;
 }
 
-in_progress_later : (log : List Record) (next more : ℕ) → next ≤ more → (o : LiveTransaction) → IsInProgress log next o → IsInProgress log more o
-in_progress_later log next more le o h = record {
-  below = all_when _ _ (λ (x : ℕ) (lt : x < next). omega (arith, lt, le)) (xids_of o) h.below;
+in_progress_later : (log : List Record) (next more : ℕ) → next ≤ more → (t : ℕ) (xs : List ℕ) → IsInProgress log next t xs → IsInProgress log more t xs
+in_progress_later log next more le t xs h = record {
+  below = all_when _ _ (λ (x : ℕ) (lt : x < next). omega (arith, lt, le)) (t ∷ xs) h.below;
   top = h.top;
   running = h.running;
   subs = h.subs;
@@ -113,8 +114,8 @@ begun-IsPublisher s h few free =
       xids = omega (arith, longer, h.xids);
       few = omega (arith, longer, few);
       fresh = λ x above. h.fresh x (omega arith);
-      rising = rising-push s.live (record { xid = s.next_xid; savepoints = [] }) (all_when _ _ (λ (p : LiveTransaction) (running : IsInProgress s.log s.next_xid p). running.below.0) s.live h.live) h.rising;
-      live = all_append _ s.live (record { xid = s.next_xid; savepoints = [] } ∷ []) (all_when _ _ (in_progress_later s.log s.next_xid (s.next_xid + 1) (omega arith)) s.live h.live) (
+      rising = rising-push s.live (record { xid = s.next_xid; savepoints = [] }) (all_when _ _ (λ (p : LiveTransaction) (running : IsRunning s.log s.next_xid p). running.below.0) s.live h.live) h.rising;
+      live = all_append (IsRunning s.log (s.next_xid + 1)) s.live (record { xid = s.next_xid; savepoints = [] } ∷ []) (all_when (IsRunning s.log s.next_xid) (IsRunning s.log (s.next_xid + 1)) (λ p. in_progress_later s.log s.next_xid (s.next_xid + 1) (omega arith) p.xid (xids p.savepoints)) s.live h.live) (
         record {
           below = (omega arith, tt);
           top = unnamed assigns s.next_xid (unnamed-assigns s.next_xid) s.log (h.fresh s.next_xid (omega arith));
@@ -128,11 +129,16 @@ begun-IsPublisher s h few free =
       );
     }
 
+-- the same of fewer savepoints
+running_cut : (log : List Record) (next n t : ℕ) (savepoints : List Savepoint) → IsInProgress log next t (xids savepoints) → IsInProgress log next t (xids (take n savepoints))
+running_cut log next n t savepoints h =
+    subst (λ (ys : List ℕ). IsInProgress log next t ys) (sym (xids_take n savepoints)) (in_progress_cut log next n t (xids savepoints) h)
+
 pub released-IsPublisher : (s : PublisherState) (xid depth : ℕ) → IsPublisher s → is_live xid s.live ≡ true → IsPublisher (released xid depth s)
 released-IsPublisher s xid depth h is =
-    let xs : List ℕ = take (depth - 1) (savepoints_of xid s.live) in
-    let same : length (with_savepoints xid (take (depth - 1) (savepoints_of xid s.live)) s.live) ≡ length s.live = length-with_savepoints xid xs s.live in
-    let o : IsInProgress s.log s.next_xid (record { xid = xid; savepoints = savepoints_of xid s.live }) = found _ xid s.live is h.live in
+    let kept : List Savepoint = take (depth - 1) (savepoints_of xid s.live) in
+    let same : length (with_savepoints xid (take (depth - 1) (savepoints_of xid s.live)) s.live) ≡ length s.live = length-with_savepoints xid kept s.live in
+    let running : IsInProgress s.log s.next_xid xid (xids (savepoints_of xid s.live)) = found (IsRunning s.log s.next_xid) xid s.live is h.live in
     record {
       log = h.log;
       limit = h.limit;
@@ -140,37 +146,36 @@ released-IsPublisher s xid depth h is =
       xids = omega (arith, same, h.xids);
       few = omega (arith, same, h.few);
       fresh = h.fresh;
-      rising = rising-with_savepoints xid xs s.live h.rising;
-      live = all_changed (IsInProgress s.log s.next_xid) (IsInProgress s.log s.next_xid) xid xs s.live h.rising h.live (λ p running other. running)
-          (in_progress_cut s.log s.next_xid (depth - 1) (record { xid = xid; savepoints = savepoints_of xid s.live }) o);
+      rising = rising-with_savepoints xid kept s.live h.rising;
+      live = all_changed (IsRunning s.log s.next_xid) (IsRunning s.log s.next_xid) xid kept s.live h.rising h.live (λ p progress other. progress)
+          (running_cut s.log s.next_xid (depth - 1) xid (savepoints_of xid s.live) running);
     }
 
 -- CALLS THAT WRITE A RECORD
 
-all_innermost : (P : ℕ → Type 0) (y : ℕ) (xs : List ℕ) → AllByRecursion P (y ∷ xs) → P (last_of y xs)
+pub all_innermost : (P : ℕ → Type 0) (y : ℕ) (xs : List ℕ) → AllByRecursion P (y ∷ xs) → P (last_of y xs)
 all_innermost P y [] all = all.0
 all_innermost P y (x ∷ xs) all = all_innermost P x xs all.1
 
-open_at : (s : PublisherState) (xid : ℕ) → IsPublisher s → is_live xid s.live ≡ true →
-    IsInProgress s.log s.next_xid (record { xid = xid; savepoints = savepoints_of xid s.live })
-open_at s xid h is = found (IsInProgress s.log s.next_xid) xid s.live is h.live
+pub open_at : (s : PublisherState) (xid : ℕ) → IsPublisher s → is_live xid s.live ≡ true → IsInProgress s.log s.next_xid xid (xids (savepoints_of xid s.live))
+open_at s xid h is = found (IsRunning s.log s.next_xid) xid s.live is h.live
 
 all_quiet : (body : Body) → ((x : ℕ) → IsQuiet body x) → (xs : List ℕ) → AllByRecursion (IsQuiet body) xs
 all_quiet body quiet [] = tt
 all_quiet body quiet (x ∷ xs) = (quiet x, all_quiet body quiet xs)
 
 innermost_below : (s : PublisherState) (xid : ℕ) → IsPublisher s → is_live xid s.live ≡ true → innermost xid s.live < s.next_xid
-innermost_below s xid h is = all_innermost (λ x. x < s.next_xid) xid (savepoints_of xid s.live) (open_at s xid h is).below
+innermost_below s xid h is = all_innermost (λ x. x < s.next_xid) xid (xids (savepoints_of xid s.live)) (open_at s xid h is).below
 
-pub changed-IsPublisher : (s : PublisherState) (xid : ℕ) (change : Change) → IsPublisher s → is_live xid s.live ≡ true → 0 < room s →
-    FitsChange s.tables change → size_of (Changed (innermost xid s.live) change) ≤ 2 ^ 14 → IsPublisher (changed xid change s)
+pub changed-IsPublisher : (s : PublisherState) (xid : ℕ) (change : TableChange) → IsPublisher s → is_live xid s.live ≡ true → 0 < room s →
+    FitsTableChange s.tables change → size_of (Changed (innermost xid s.live) change) ≤ 2 ^ 14 → IsPublisher (changed xid change s)
 changed-IsPublisher s xid change h is free fits small =
     let body : Body = Changed (innermost xid s.live) change in
     let r : Record = record_after s.log (Changed (innermost xid s.live) change) in
     let below : innermost xid s.live < s.next_xid = innermost_below s xid h is in
     let longer : length (s.log ++ record_after s.log (Changed (innermost xid s.live) change) ∷ []) ≡ length s.log + 1 = length-append s.log (r ∷ []) in
     record {
-      log = log_grown s.tables s.log body h.log (IsOpen-innermost s.log s.next_xid (record { xid = xid; savepoints = savepoints_of xid s.live }) (open_at s xid h is))
+      log = log_grown s.tables s.log body h.log (IsOpen-innermost s.log s.next_xid xid (xids (savepoints_of xid s.live)) (open_at s xid h is))
           (omega (arith, h.limit, h.xids, h.reserve), fits) small (omega (arith, h.limit));
       limit = h.limit;
       reserve = omega (arith, longer, free);
@@ -178,23 +183,22 @@ changed-IsPublisher s xid change h is free fits small =
       few = h.few;
       fresh = fresh_grown s.log r s.next_xid s.next_xid (omega arith) h.fresh (λ x above. later_than (innermost xid s.live) s.next_xid x below above);
       rising = h.rising;
-      live = all_when _ _ (λ (p : LiveTransaction) (running : IsInProgress s.log s.next_xid p).
-          in_progress_quiet s.log r s.next_xid s.next_xid p (omega arith) (all_quiet body (λ x. record { assigned = refl; ended = refl; undone = refl }) (xids_of p)) running) s.live h.live;
+      live = all_when (IsRunning s.log s.next_xid) (IsRunning (s.log ++ r ∷ []) s.next_xid) (λ (p : LiveTransaction) (running : IsRunning s.log s.next_xid p).
+          in_progress_quiet s.log r s.next_xid s.next_xid p.xid (xids p.savepoints) (omega arith) (all_quiet body (λ x. record { assigned = refl; ended = refl; undone = refl }) (p.xid ∷ xids p.savepoints)) running) s.live h.live;
     }
 
 -- the end of another transaction does nothing to the xids of this one
-quiet_by_top : (log : List Record) (next y t : ℕ) (body : Body) (p : LiveTransaction) → IsInProgress log next p → top_of log y ≡ t → (p.xid == t) ≡ false →
-    ((x : ℕ) → (y == x) ≡ false → IsQuiet body x) → AllByRecursion (IsQuiet body) (xids_of p)
+quiet_by_top : (log : List Record) (next y t : ℕ) (body : Body) (p : LiveTransaction) → IsRunning log next p → top_of log y ≡ t → (p.xid == t) ≡ false →
+    ((x : ℕ) → (y == x) ≡ false → IsQuiet body x) → AllByRecursion (IsQuiet body) (p.xid ∷ xids p.savepoints)
 quiet_by_top log next y t body p running top other quiet =
-    all_when _ _ (λ (x : ℕ) (x_top : top_of log x ≡ p.xid). quiet x (tops_apart log y x t p.xid top x_top (eqb_comm t p.xid ∙ other))) (xids_of p) (xids-top log next p running)
+    all_when _ _ (λ (x : ℕ) (x_top : top_of log x ≡ p.xid). quiet x (tops_apart log y x t p.xid top x_top (eqb_comm t p.xid ∙ other))) (p.xid ∷ xids p.savepoints) (xids-top log next p.xid (xids p.savepoints) running)
 
 ended-IsPublisher : (s : PublisherState) (xid : ℕ) (body : Body) → IsPublisher s → is_live xid s.live ≡ true →
     (is_assigned s.log xid ≡ false → IsOpen s.log xid → IsNext s.log body) → (xid < 2 ^ 32 → FitsBody s.tables body) → size_of body ≤ 2 ^ 14 →
     ((x : ℕ) → names x body ≡ (x == xid)) → ((x : ℕ) → (xid == x) ≡ false → IsQuiet body x) → IsPublisher (ended xid body s)
 ended-IsPublisher s xid body h is next fits small naming quiet =
-    let o : IsInProgress s.log s.next_xid (record { xid = xid; savepoints = savepoints_of xid s.live }) = open_at s xid h is in
-    let alone : IsOpen s.log xid = IsOpen-innermost s.log s.next_xid (record { xid = xid; savepoints = [] })
-    (in_progress_cut s.log s.next_xid 0 (record { xid = xid; savepoints = savepoints_of xid s.live }) o) in
+    let o : IsInProgress s.log s.next_xid xid (xids (savepoints_of xid s.live)) = open_at s xid h is in
+    let alone : IsOpen s.log xid = IsOpen-innermost s.log s.next_xid xid [] (in_progress_cut s.log s.next_xid 0 xid (xids (savepoints_of xid s.live)) o) in
     let r : Record = record_after s.log body in
     let below : xid < s.next_xid = o.below.0 in
     let top : top_of s.log xid ≡ xid = rw (chain-unassigned s.log xid o.top) refl in
@@ -208,8 +212,8 @@ ended-IsPublisher s xid body h is next fits small naming quiet =
       few = omega (arith, fewer, h.few);
       fresh = fresh_grown s.log r s.next_xid s.next_xid (omega arith) h.fresh (λ x above. naming x ∙ later_than xid s.next_xid x below above);
       rising = rising-without xid s.live h.rising;
-      live = all_without (IsInProgress s.log s.next_xid) (IsInProgress (s.log ++ r ∷ []) s.next_xid) xid s.live h.live
-          (λ p running other. in_progress_quiet s.log r s.next_xid s.next_xid p (omega arith) (quiet_by_top s.log s.next_xid xid xid body p running top other quiet) running);
+      live = all_without (IsRunning s.log s.next_xid) (IsRunning (s.log ++ r ∷ []) s.next_xid) xid s.live h.live
+          (λ p running other. in_progress_quiet s.log r s.next_xid s.next_xid p.xid (xids p.savepoints) (omega arith) (quiet_by_top s.log s.next_xid xid xid body p running top other quiet) running);
     }
 
 pub after_commit-IsPublisher : (s : PublisherState) (xid : ℕ) (time : ℤ) → IsPublisher s → is_live xid s.live ≡ true → FitsSigned w64 time → IsPublisher (after_commit xid time s)
@@ -224,18 +228,19 @@ after_abort-IsPublisher s xid h is =
 
 pub saved-IsPublisher : (s : PublisherState) (xid : ℕ) → IsPublisher s → is_live xid s.live ≡ true → length (savepoints_of xid s.live) < MAX_DEPTH → 0 < room s → IsPublisher (saved xid s)
 saved-IsPublisher s xid h is shallow free =
-    let xs : List ℕ = savepoints_of xid s.live in
+    let open_ones : List Savepoint = savepoints_of xid s.live in
+    let more : List Savepoint = open_ones ++ next_savepoint xid s ∷ [] in
+    let xs : List ℕ = xids open_ones in
     let parent : ℕ = innermost xid s.live in
     let body : Body = Assign s.next_xid parent in
     let r : Record = record_after s.log body in
-    let o : LiveTransaction = record { xid = xid; savepoints = xs } in
-    let running : IsInProgress s.log s.next_xid o = open_at s xid h is in
+    let running : IsInProgress s.log s.next_xid xid xs = open_at s xid h is in
     let below : parent < s.next_xid = innermost_below s xid h is in
     let longer : length (s.log ++ r ∷ []) ≡ length s.log + 1 = length-append s.log (r ∷ []) in
-    let same : length (with_savepoints xid (xs ++ s.next_xid ∷ []) s.live) ≡ length s.live = length-with_savepoints xid (xs ++ s.next_xid ∷ []) s.live in
+    let same : length (with_savepoints xid more s.live) ≡ length s.live = length-with_savepoints xid more s.live in
     let unheard : is_named s.log s.next_xid ≡ false = h.fresh s.next_xid (omega arith) in
-    let quiet : (p : LiveTransaction) → IsInProgress s.log s.next_xid p → AllByRecursion (IsQuiet body) (xids_of p) =
-    λ p progress. all_when _ _ (λ (x : ℕ) (lt : x < s.next_xid). record { assigned = ne_eqb s.next_xid x (λ e. absurd (omega (arith, lt, e))); ended = refl; undone = refl }) (xids_of p) progress.below in
+    let quiet : (t : ℕ) (ys : List ℕ) → IsInProgress s.log s.next_xid t ys → AllByRecursion (IsQuiet body) (t ∷ ys) =
+    λ t ys progress. all_when _ _ (λ (x : ℕ) (lt : x < s.next_xid). record { assigned = ne_eqb s.next_xid x (λ e. absurd (omega (arith, lt, e))); ended = refl; undone = refl }) (t ∷ ys) progress.below in
     let chained : chain (s.log ++ r ∷ []) s.next_xid ≡ s.next_xid ∷ onto (xid ∷ []) xs =
     chain-append s.log r s.next_xid ∙ rw (eq-eqb s.next_xid s.next_xid refl) (ap (λ ys. s.next_xid ∷ ys) (chain-innermost s.log xid [] xs (chain-unassigned s.log xid running.top) running.nested)) in
     let assigned : is_assigned (s.log ++ r ∷ []) s.next_xid ≡ true =
@@ -243,7 +248,7 @@ saved-IsPublisher s xid h is shallow free =
     let undropped : is_undone (s.log ++ r ∷ []) s.next_xid ≡ false =
     is_undone-one s.log r s.next_xid ∙ rw (unnamed undoes s.next_xid (unnamed-undoes s.next_xid) s.log unheard) refl in
     record {
-      log = log_grown s.tables s.log body h.log (unheard, ne_eqb s.next_xid parent (λ e. absurd (omega (arith, below, e))), IsOpen-innermost s.log s.next_xid o running)
+      log = log_grown s.tables s.log body h.log (unheard, ne_eqb s.next_xid parent (λ e. absurd (omega (arith, below, e))), IsOpen-innermost s.log s.next_xid xid xs running)
           (omega (arith, h.limit, h.xids, h.reserve, free), omega (arith, below, h.limit, h.xids, h.reserve)) (omega arith) (omega (arith, h.limit, free));
       limit = h.limit;
       reserve = omega (arith, longer, same, free);
@@ -251,33 +256,34 @@ saved-IsPublisher s xid h is shallow free =
       few = omega (arith, same, h.few);
       fresh = fresh_grown s.log r s.next_xid (s.next_xid + 1) (omega arith) h.fresh
           (λ x above. rw (later_than s.next_xid (s.next_xid + 1) x (omega arith) above, later_than parent (s.next_xid + 1) x (omega (arith, below)) above) refl);
-      rising = rising-with_savepoints xid (xs ++ s.next_xid ∷ []) s.live h.rising;
-      live = all_changed (IsInProgress s.log s.next_xid) (IsInProgress (s.log ++ r ∷ []) (s.next_xid + 1)) xid (xs ++ s.next_xid ∷ []) s.live h.rising h.live
-          (λ p progress other. in_progress_quiet s.log r s.next_xid (s.next_xid + 1) p (omega arith) (quiet p progress) progress)
-          (in_progress_push (s.log ++ r ∷ []) (s.next_xid + 1) s.next_xid o (in_progress_quiet s.log r s.next_xid (s.next_xid + 1) o (omega arith) (quiet o running) running)
-          (omega arith) assigned undropped chained running.below shallow);
+      rising = rising-with_savepoints xid more s.live h.rising;
+      live = all_changed (IsRunning s.log s.next_xid) (IsRunning (s.log ++ r ∷ []) (s.next_xid + 1)) xid more s.live h.rising h.live
+          (λ p progress other. in_progress_quiet s.log r s.next_xid (s.next_xid + 1) p.xid (xids p.savepoints) (omega arith) (quiet p.xid (xids p.savepoints) progress) progress)
+          (subst (λ (ys : List ℕ). IsInProgress (s.log ++ r ∷ []) (s.next_xid + 1) xid ys) (sym (xids_push open_ones (next_savepoint xid s)))
+          (in_progress_push (s.log ++ r ∷ []) (s.next_xid + 1) s.next_xid xid xs (in_progress_quiet s.log r s.next_xid (s.next_xid + 1) xid xs (omega arith) (quiet xid xs running) running)
+          (omega arith) assigned undropped chained running.below (omega (arith, shallow, xids_length open_ones))));
     }
 
 pub rolled_back-IsPublisher : (s : PublisherState) (xid depth : ℕ) → IsPublisher s → is_live xid s.live ≡ true → 0 < depth → depth ≤ length (savepoints_of xid s.live) → 0 < room s → IsPublisher (rolled_back xid depth s)
 rolled_back-IsPublisher s xid depth h is some within free =
-    let xs : List ℕ = savepoints_of xid s.live in
+    let open_ones : List Savepoint = savepoints_of xid s.live in
+    let xs : List ℕ = xids open_ones in
     let n : ℕ = depth - 1 in
     let sub : ℕ = get_or xs n 0 in
-    let lt : n < length xs = omega (arith, some, within) in
+    let lt : n < length xs = omega (arith, some, within, xids_length open_ones) in
     let body : Body = AbortSub sub in
     let r : Record = record_after s.log body in
-    let o : LiveTransaction = record { xid = xid; savepoints = xs } in
-    let running : IsInProgress s.log s.next_xid o = open_at s xid h is in
-    let cut : IsInProgress s.log s.next_xid (record { xid = xid; savepoints = take n xs }) = in_progress_cut s.log s.next_xid n o running in
+    let running : IsInProgress s.log s.next_xid xid xs = open_at s xid h is in
+    let cut : IsInProgress s.log s.next_xid xid (take n xs) = in_progress_cut s.log s.next_xid n xid xs running in
     let below : sub < s.next_xid = all_at (λ x. x < s.next_xid) n xs lt running.below.1 in
     let longer : length (s.log ++ r ∷ []) ≡ length s.log + 1 = length-append s.log (r ∷ []) in
-    let same : length (with_savepoints xid (take n xs) s.live) ≡ length s.live = length-with_savepoints xid (take n xs) s.live in
+    let same : length (with_savepoints xid (take n open_ones) s.live) ≡ length s.live = length-with_savepoints xid (take n open_ones) s.live in
     let last : last_of xid (take (n + 1) xs) ≡ sub = last_of-take xid n xs lt in
-    let alive : IsOpen s.log sub = subst (λ (x : ℕ). IsOpen s.log x) last (IsOpen-innermost s.log s.next_xid (record { xid = xid; savepoints = take (n + 1) xs }) (in_progress_cut s.log s.next_xid (n + 1) o running)) in
-    let top : top_of s.log sub ≡ xid = all_at (λ x. top_of s.log x ≡ xid) n xs lt (xids-top s.log s.next_xid o running).1 in
+    let alive : IsOpen s.log sub = subst (λ (x : ℕ). IsOpen s.log x) last (IsOpen-innermost s.log s.next_xid xid (take (n + 1) xs) (in_progress_cut s.log s.next_xid (n + 1) xid xs running)) in
+    let top : top_of s.log sub ≡ xid = all_at (λ x. top_of s.log x ≡ xid) n xs lt (xids-top s.log s.next_xid xid xs running).1 in
     let quiet : (x : ℕ) → (sub == x) ≡ false → IsQuiet body x = λ x other. record { assigned = refl; ended = refl; undone = other } in
     let kept : AllByRecursion (IsQuiet body) (xid ∷ take n xs) =
-    all_when _ _ (λ (x : ℕ) (low : x < sub). quiet x (ne_eqb sub x (λ e. absurd (omega (arith, low, e))))) (xid ∷ take n xs) (above_xids s.log s.next_xid n o running lt) in
+    all_when _ _ (λ (x : ℕ) (low : x < sub). quiet x (ne_eqb sub x (λ e. absurd (omega (arith, low, e))))) (xid ∷ take n xs) (above_xids s.log s.next_xid n xid xs running lt) in
     record {
       log = log_grown s.tables s.log body h.log (all_at (λ x. is_assigned s.log x ≡ true) n xs lt running.subs, alive)
           (omega (arith, below, h.limit, h.xids, h.reserve)) (omega arith) (omega (arith, h.limit, free));
@@ -286,8 +292,9 @@ rolled_back-IsPublisher s xid depth h is some within free =
       xids = omega (arith, longer, same, h.xids);
       few = omega (arith, same, h.few);
       fresh = fresh_grown s.log r s.next_xid s.next_xid (omega arith) h.fresh (λ x above. later_than sub s.next_xid x below above);
-      rising = rising-with_savepoints xid (take n xs) s.live h.rising;
-      live = all_changed (IsInProgress s.log s.next_xid) (IsInProgress (s.log ++ r ∷ []) s.next_xid) xid (take n xs) s.live h.rising h.live
-          (λ p progress other. in_progress_quiet s.log r s.next_xid s.next_xid p (omega arith) (quiet_by_top s.log s.next_xid sub xid body p progress top other quiet) progress)
-          (in_progress_quiet s.log r s.next_xid s.next_xid (record { xid = xid; savepoints = take n xs }) (omega arith) kept cut);
+      rising = rising-with_savepoints xid (take n open_ones) s.live h.rising;
+      live = all_changed (IsRunning s.log s.next_xid) (IsRunning (s.log ++ r ∷ []) s.next_xid) xid (take n open_ones) s.live h.rising h.live
+          (λ p progress other. in_progress_quiet s.log r s.next_xid s.next_xid p.xid (xids p.savepoints) (omega arith) (quiet_by_top s.log s.next_xid sub xid body p progress top other quiet) progress)
+          (subst (λ (ys : List ℕ). IsInProgress (s.log ++ r ∷ []) s.next_xid xid ys) (sym (xids_take n open_ones))
+          (in_progress_quiet s.log r s.next_xid s.next_xid xid (take n xs) (omega arith) kept cut));
     }

@@ -1,15 +1,20 @@
 -- What sessions do to a publisher: each call as a function of its state, and the refusal that a call meets, if any. Want of
 -- memory apart, a call is refused exactly where there is such a refusal, and with the first one.
-use Rattle.std.specs.Prelude.{◌≡◌, ℕ, ◌+◌, ◌-◌, ◌==◌, ℤ, Bool, ◌||◌, not, List, [], ◌∷◌, ◌++◌, length, take, map, filter, slice_index, codes, nat_le, nat_lt, Option, Some, None, Result, Ok, Err, if◌then◌else◌}
+use Rattle.std.specs.Prelude.{◌≡◌, ℕ, ◌+◌, ◌-◌, ◌==◌, ℤ, Bool, ◌&&◌, ◌||◌, not, List, [], ◌∷◌, ◌++◌, length, take, map, filter, slice_index, codes, nat_le, nat_lt, Option, Some, None, Result, Ok, Err, if◌then◌else◌}
 use Rattle.std.specs.List.{list_any}
 use Rattle.std.specs.declared.sync.Arc.{Arc}
 use Rattle.tables.specs.declared.row.TheConstants.{MAX_ROW_LENGTH}
+use Rattle.tables.specs.declared.store_fault.StoreFault.{StoreFault}
+use Rattle.tables.specs.declared.store_fault.StoreFault.TheVariants as store_faults
 use Rattle.tables.specs.declared.value.Value.{Value}
 use Rattle.tables.specs.declared.table.Table.{Table}
-use Rattle.tables.specs.declared.change.Change.{Change}
-use Rattle.tables.specs.declared.change.Change.TheVariants as changes
+use Rattle.tables.specs.declared.table_change.TableChange.{TableChange}
+use Rattle.tables.specs.declared.table_change.TableChange.TheVariants as changes
+use Rattle.tables.specs.declared.table_body.TheConstants.{MAX_TRUNCATED}
 use Rattle.tables.specs.Spelling.{row_length}
-use Rattle.tables.specs.Tables.{table_of, fits_table}
+use Rattle.tables.specs.Rows.{Key}
+use Rattle.tables.specs.History as history
+use Rattle.tables.specs.History.{count_of}
 use Rattle.txlog.specs.declared.limits.TheConstants.{MAX_LIVE, MAX_DEPTH}
 use Rattle.txlog.specs.declared.record.TheConstants.{FIRST_POSITION, FIRST_XID}
 use Rattle.txlog.specs.declared.record.Record.{Record}
@@ -18,14 +23,19 @@ use Rattle.txlog.specs.declared.record.Body.TheVariants.{Assign, Change as Chang
 use Rattle.txlog.specs.declared.receipt.Receipt.{Receipt}
 use Rattle.txlog.specs.declared.fault.SessionFault.{SessionFault}
 use Rattle.txlog.specs.declared.fault.SessionFault.TheVariants as faults
+use Rattle.txlog.specs.declared.savepoint.Savepoint.{Savepoint}
 use Rattle.txlog.specs.Log.{end_of, last_of, size_of}
+use Rattle.txlog.specs.Rows.{history_of, rows_of}
 
 -- THE STATE
 
--- a live transaction: its xid, and the xids of its open savepoints, the outermost first
+-- a live transaction: its xid, and its open savepoints, the outermost first
 pub record LiveTransaction : Type 0 where
   pub xid : ℕ
-  pub savepoints : List ℕ
+  pub savepoints : List Savepoint
+
+abbrev pub xids : List Savepoint → List ℕ
+xids savepoints = map (λ s. s.xid) savepoints
 
 -- the tables, the greatest number of records, the log, the xid that comes next, and the live transactions in the order of
 -- their xids
@@ -49,16 +59,16 @@ room s = s.capacity - (length s.log + length s.live)
 abbrev pub is_live : ℕ → List LiveTransaction → Bool
 is_live xid live = list_any (λ o. o.xid == xid) live
 
-abbrev pub savepoints_of : ℕ → List LiveTransaction → List ℕ
+abbrev pub savepoints_of : ℕ → List LiveTransaction → List Savepoint
 savepoints_of xid [] = []
 savepoints_of xid (o ∷ live) = if o.xid == xid then o.savepoints else savepoints_of xid live
 
 -- the innermost open subtransaction, or the transaction
 abbrev pub innermost : ℕ → List LiveTransaction → ℕ
-innermost xid live = last_of xid (savepoints_of xid live)
+innermost xid live = last_of xid (xids (savepoints_of xid live))
 
 -- the live transactions, one of them with other savepoints
-abbrev pub with_savepoints : ℕ → List ℕ → List LiveTransaction → List LiveTransaction
+abbrev pub with_savepoints : ℕ → List Savepoint → List LiveTransaction → List LiveTransaction
 with_savepoints xid savepoints [] = []
 with_savepoints xid savepoints (o ∷ live) =
     if o.xid == xid then record { xid = o.xid; savepoints = savepoints } ∷ live else o ∷ with_savepoints xid savepoints live
@@ -80,14 +90,29 @@ abbrev pub begun : PublisherState → PublisherState
 begun s = record s { next_xid = s.next_xid + 1; live = s.live ++ record { xid = s.next_xid; savepoints = [] } ∷ [] }
 
 -- a change carries the xid of the innermost open subtransaction
-abbrev pub changed : ℕ → Change → PublisherState → PublisherState
+abbrev pub changed : ℕ → TableChange → PublisherState → PublisherState
 changed xid change s = with_record (Changed (innermost xid s.live) change) s
 
--- a savepoint takes the next xid, under the innermost open one
+-- the row with this key is taken for another, or taken away; the change holds the row that was there
+abbrev pub with_old : Option (List Value) → (List Value → PublisherState) → PublisherState → PublisherState
+with_old None change s = s
+with_old (Some old) change s = change old
+
+abbrev pub updated : ℕ → Key → List Value → PublisherState → PublisherState
+updated xid key row s = with_old (rows_of s.tables s.log key) (λ old. changed xid (changes.Update key.oid old row) s) s
+
+abbrev pub deleted : ℕ → Key → PublisherState → PublisherState
+deleted xid key s = with_old (rows_of s.tables s.log key) (λ old. changed xid (changes.Delete key.oid old) s) s
+
+-- a new savepoint has the next xid, and marks how many changes of its transaction stand
+abbrev pub next_savepoint : ℕ → PublisherState → Savepoint
+next_savepoint xid s = record { xid = s.next_xid; mark = count_of xid (history_of s.log) }
+
+-- it goes under the innermost open one
 abbrev pub saved : ℕ → PublisherState → PublisherState
 saved xid s = record (with_record (Assign s.next_xid (innermost xid s.live)) s) {
   next_xid = s.next_xid + 1;
-  live = with_savepoints xid (savepoints_of xid s.live ++ s.next_xid ∷ []) s.live;
+  live = with_savepoints xid (savepoints_of xid s.live ++ next_savepoint xid s ∷ []) s.live;
 }
 
 -- the savepoints of this depth and above are closed, and no record is written
@@ -96,7 +121,7 @@ released xid depth s = record s { live = with_savepoints xid (take (depth - 1) (
 
 -- the savepoint of this depth is rolled back, and it and those above are closed
 abbrev pub rolled_back : ℕ → ℕ → PublisherState → PublisherState
-rolled_back xid depth s = released xid depth (with_record (AbortSub (slice_index (savepoints_of xid s.live) (depth - 1))) s)
+rolled_back xid depth s = released xid depth (with_record (AbortSub (slice_index (xids (savepoints_of xid s.live)) (depth - 1))) s)
 
 -- a transaction ends by this record
 abbrev pub ended : ℕ → Body → PublisherState → PublisherState
@@ -130,17 +155,47 @@ begin_refusal s = if nat_le MAX_LIVE (length s.live) then Some faults.TooManyLiv
 abbrev pub live_refusal : ℕ → PublisherState → Option SessionFault → Option SessionFault
 live_refusal xid s other = if is_live xid s.live then other else Some faults.NoTransaction
 
--- whether a record can hold the change: each row is of at most 8,000 bytes
-abbrev pub fits_record : Change → Bool
-fits_record (changes.Insert oid row) = nat_le (row_length row) MAX_ROW_LENGTH
+-- whether a record can hold the change: each row is of at most 8,000 bytes, and at most 256 tables are truncated
+abbrev pub is_short_row : List Value → Bool
+is_short_row row = nat_le (row_length row) MAX_ROW_LENGTH
 
-abbrev pub row_refusal : Option Table → List Value → Option SessionFault → Option SessionFault
-row_refusal None row other = Some faults.UnknownTable
-row_refusal (Some table) row other =
-    if fits_table table row then (if nat_lt MAX_ROW_LENGTH (row_length row) then Some faults.TooLarge else other) else Some faults.RowShape
+abbrev pub fits_record : TableChange → Bool
+fits_record (changes.Insert oid row) = is_short_row row
+fits_record (changes.Update oid old row) = is_short_row old && is_short_row row
+fits_record (changes.Delete oid old) = is_short_row old
+fits_record (changes.Truncate oids) = nat_le (length oids) MAX_TRUNCATED
+
+-- what the tables refuse, as a refusal of the publisher
+abbrev pub fault_of : StoreFault → SessionFault
+fault_of store_faults.UnknownTable = faults.UnknownTable
+fault_of store_faults.RowShape = faults.RowShape
+fault_of store_faults.DuplicateKey = faults.DuplicateKey
+fault_of store_faults.NoSuchRow = faults.NoSuchRow
+fault_of store_faults.KeyHeld = faults.KeyHeld
+fault_of store_faults.TooLarge = faults.TooLarge
+fault_of store_faults.Memory = faults.Memory
+
+-- want of memory comes behind want of room
+abbrev pub fault_at : ℕ → StoreFault → SessionFault
+fault_at room store_faults.Memory = if room == 0 then faults.LogFull else faults.Memory
+fault_at room fault = fault_of fault
+
+-- what the tables refuse goes before the room
+abbrev pub tables_refusal : Option StoreFault → Option SessionFault → Option SessionFault
+tables_refusal None other = other
+tables_refusal (Some fault) other = Some (fault_of fault)
+
+abbrev pub change_refusal : ℕ → PublisherState → Option StoreFault → Option SessionFault
+change_refusal xid s refusal = live_refusal xid s (tables_refusal refusal (room_refusal s))
 
 abbrev pub insert_refusal : ℕ → ℕ → List Value → PublisherState → Option SessionFault
-insert_refusal xid oid row s = live_refusal xid s (row_refusal (table_of oid s.tables) row (room_refusal s))
+insert_refusal xid oid row s = change_refusal xid s (history.insert_refusal s.tables (history_of s.log) xid oid row)
+
+abbrev pub update_refusal : ℕ → Key → List Value → PublisherState → Option SessionFault
+update_refusal xid key row s = change_refusal xid s (history.update_refusal s.tables (history_of s.log) xid key row)
+
+abbrev pub delete_refusal : ℕ → Key → PublisherState → Option SessionFault
+delete_refusal xid key s = change_refusal xid s (history.delete_refusal s.tables (history_of s.log) xid key)
 
 abbrev pub savepoint_refusal : ℕ → PublisherState → Option SessionFault
 savepoint_refusal xid s =

@@ -1,12 +1,14 @@
--- What a log comes to: the rows that stand in the tables, and the keys that a transaction in progress holds.
-use Rattle.std.specs.Prelude.{ℕ, ◌==◌, Bool, false, ◌&&◌, not, List, [], map, filter, if◌then◌else◌}
-use Rattle.std.specs.List.{list_any, flat_map}
+-- What a log comes to: the changes that stand, and the rows that they leave in the tables. What a transaction in progress
+-- holds, and which changes of others are refused for it, is told of the changes that stand (History.antt of tables).
+use Rattle.std.specs.Prelude.{ℕ, ◌==◌, Bool, false, ◌&&◌, not, List, map, filter, Option, Some, None, if◌then◌else◌}
+use Rattle.std.specs.List.{list_any}
 use Rattle.tables.specs.declared.table.Table.{Table}
-use Rattle.tables.specs.Rows.{Key, Rows, no_rows, after_all, keys_of}
+use Rattle.tables.specs.Rows.{Rows}
+use Rattle.tables.specs.History.{Made, rows_after}
 use Rattle.txlog.specs.declared.record.Record.{Record}
 use Rattle.txlog.specs.declared.record.Body.{Body}
 use Rattle.txlog.specs.declared.record.Body.TheVariants.{Abort}
-use Rattle.txlog.specs.Log.{Entry, entries, top_of, is_dropped, has_ended, kept}
+use Rattle.txlog.specs.Log.{Entry, entries, top_of, is_dropped, has_ended}
 
 abbrev pub aborts : ℕ → Body → Bool
 aborts x (Abort xid) = xid == x
@@ -19,10 +21,20 @@ is_aborted log x = list_any (λ r. aborts x r.body) log
 abbrev pub stands : List Record → Entry → Bool
 stands log e = not (is_dropped log e.xid) && not (is_aborted log (top_of log e.xid))
 
--- the rows after all changes that stand, in the order of the log
-abbrev pub rows_of : List Table → List Record → Rows
-rows_of tables log = after_all tables (map (λ e. e.change) (filter (stands log) (entries log))) no_rows
+-- a transaction while it is in progress; nobody once it has ended
+abbrev pub while_live : List Record → ℕ → Option ℕ
+while_live log top = if has_ended log top then None else Some top
 
--- the keys of what a transaction has changed and not rolled back, until it ends
-abbrev pub holds : List Table → List Record → ℕ → List Key
-holds tables log top = if has_ended log top then [] else flat_map (λ e. keys_of tables e.change) (kept log top)
+abbrev pub made_by : List Record → Entry → Made
+made_by log e = record { top = while_live log (top_of log e.xid); change = e.change }
+
+-- the changes that stand, in the order of the log, each with its transaction while that is in progress
+abbrev pub standing : List Record → List Entry
+standing log = filter (stands log) (entries log)
+
+abbrev pub history_of : List Record → List Made
+history_of log = map (made_by log) (standing log)
+
+-- the rows after all changes that stand
+abbrev pub rows_of : List Table → List Record → Rows
+rows_of tables log = rows_after tables (history_of log)

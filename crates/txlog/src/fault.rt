@@ -2,9 +2,10 @@
 
 ghost use Rattle.std.specs.Prelude.{◌≡◌};
 ghost use Rattle.txlog.specs.declared.fault.SessionFault.TheVariants.{Memory};
-ghost use Rattle.txlog.specs.Publishing.{code_of};
+ghost use Rattle.txlog.specs.Publishing.{code_of, fault_of};
 
 use std::alloc::{AllocError, AllocFailed};
+use tables::StoreFault;
 use thiserror::Error;
 
 /// Why a session's call was refused. A refused call changes nothing.
@@ -74,5 +75,21 @@ impl<T: Drop> From<AllocFailed<T>> for SessionFault {
 
     fn from(_e: AllocFailed<T>) -> SessionFault {
         SessionFault::Memory
+    }
+}
+
+impl From<StoreFault> for SessionFault {
+    ghost from_gives = { λ fault e. e ≡ fault_of fault };
+
+    fn from(fault: StoreFault) -> SessionFault {
+        match fault {
+            StoreFault::UnknownTable => SessionFault::UnknownTable,
+            StoreFault::RowShape => SessionFault::RowShape,
+            StoreFault::DuplicateKey => SessionFault::DuplicateKey,
+            StoreFault::NoSuchRow => SessionFault::NoSuchRow,
+            StoreFault::KeyHeld => SessionFault::KeyHeld,
+            StoreFault::TooLarge => SessionFault::TooLarge,
+            StoreFault::Memory => SessionFault::Memory,
+        }
     }
 }

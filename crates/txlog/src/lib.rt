@@ -1,6 +1,7 @@
 //! The log of a publisher: what its sessions write, in one order. `Publisher` has the calls, `Record` is what they write.
 #![tactic(auto)]
 
+mod changing;
 mod fault;
 mod limits;
 mod live;
@@ -11,6 +12,7 @@ mod reading;
 mod receipt;
 mod record;
 mod running;
+mod savepoint;
 mod tx;
 
 pub use fault::SessionFault;

@@ -2,9 +2,10 @@
 
 ghost use Rattle.std.specs.Prelude.{◌≡◌, ◌==◌, ◌∷◌, ◌++◌, [], ◌<◌, IfSome, OnErr, OnOk, length, position, slice_index, take};
 ghost use Rattle.txlog.specs.Log.{last_of};
-ghost use Rattle.txlog.specs.Publishing.{is_live, savepoints_of, innermost, with_savepoints, without};
+ghost use Rattle.txlog.specs.Publishing.{is_live, savepoints_of, innermost, with_savepoints, without, xids};
 
 use crate::running::Running;
+use crate::savepoint::Savepoint;
 use std::alloc::{AllocError, Global};
 use std::marker::Model;
 
@@ -44,7 +45,7 @@ impl Live {
         self.running.iter().any(|running| running.xid() == xid)
     }
 
-    pub(crate) fn savepoints(&self, xid: u32) -> &[u32]
+    pub(crate) fn savepoints(&self, xid: u32) -> &[Savepoint]
         ensures { result.now ≡ savepoints_of xid self.now }
     {
         for running in &self.running {
@@ -85,7 +86,11 @@ impl Live {
         running.position(|running| running.xid() == xid)
     }
 
-    pub(crate) fn push_savepoint(&mut self, xid: u32, savepoint: u32) -> Result<(), AllocError>
+    pub(crate) fn push_savepoint(
+        &mut self,
+        xid: u32,
+        savepoint: Savepoint,
+    ) -> Result<(), AllocError>
         ensures ok { OnOk result (self.new ≡ with_savepoints xid (savepoints_of xid self.old ++ savepoint ∷ []) self.old) }
         ensures err { OnErr result (self.new ≡ self.old) }
     {
@@ -110,11 +115,11 @@ impl Live {
     }
 }
 
-fn last_or(xid: u32, savepoints: &[u32]) -> u32
-    ensures { result ≡ last_of xid savepoints.now }
+fn last_or(xid: u32, savepoints: &[Savepoint]) -> u32
+    ensures { result ≡ last_of xid (xids savepoints.now) }
 {
     match savepoints {
         [] => xid,
-        [.., last] => *last,
+        [.., last] => last.xid,
     }
 }

@@ -1,49 +1,51 @@
 //! The publisher: what sessions call to write the log.
 
-ghost use Rattle.std.specs.Prelude.{◌≡◌, ◌+◌, ◌-◌, ◌≤◌, ◌<◌, IfErr, IfOk, Ok, OnErr, OnOk, Some, None, drop, length, slice_index, take, true};
-ghost use Rattle.tables.specs.Tables.{FitsChange};
+ghost use Rattle.std.specs.Prelude.{◌≡◌, ◌+◌, ◌-◌, ◌≤◌, ◌<◌, IfErr, IfOk, Ok, OnErr, OnOk, Some, None, drop, length, slice_get, take, true};
+ghost use Rattle.std.specs.Option.{option_copied};
 ghost use Rattle.txlog.specs.Invariants.{IsPublisher};
-ghost use Rattle.txlog.specs.Publishing.{RefusedOrMemory, RefusedOrMemoryBack, RefusedExactly, after_abort, after_commit, new_publisher, begin_refusal, begun, changed, end_refusal, insert_refusal, is_live, log_end, receipt_of, release_refusal, released, rollback_refusal, rolled_back, room, saved, savepoint_refusal, savepoints_of, shared};
+ghost use Rattle.txlog.specs.Rows.{rows_of};
+ghost use Rattle.txlog.specs.Publishing.{RefusedOrMemory, RefusedOrMemoryBack, RefusedExactly, after_abort, after_commit, new_publisher, begin_refusal, begun, end_refusal, is_live, log_end, receipt_of, release_refusal, released, rollback_refusal, rolled_back, room, saved, savepoint_refusal, savepoints_of, shared};
 
 use crate::fault::SessionFault;
 use crate::limits::{MAX_DEPTH, MAX_LIVE, MAX_RECORDS};
 use crate::live::Live;
 use crate::log::Log;
-use crate::logged::LoggedChange;
 use crate::receipt::Receipt;
 use crate::record::{Body, FIRST_XID, Record};
+use crate::savepoint::Savepoint;
 use crate::tx::Tx;
 use std::alloc::{AllocError, Global};
 use std::marker::Model;
 use std::sync::Arc;
-use tables::{Catalog, Change, Row};
+use tables::{Catalog, Row, Store};
 
-/// The log, and the transactions that write it. A place in the log is kept in reserve for the end of each of them.
+/// The log, the transactions that write it, and the rows that it leaves in the tables (`rows_of`). A place in the log is kept
+/// in reserve for the end of each transaction.
 ///
-/// A session calls `begin` and gets a `Tx`. With it, in any order, it calls `insert`, `savepoint`, `rollback_to` and
-/// `release`, and last `commit`, `abort` or `leave`, which take the `Tx`. Sessions may take turns, call by call.
+/// A session calls `begin` and gets a `Tx`. With it, in any order, it calls `insert`, `update`, `delete`, `savepoint`,
+/// `rollback_to` and `release`, and last `commit`, `abort` or `leave`, which take the `Tx`. Sessions may take turns, call by call.
 ///
 /// Ok means that the one record of the call stands at the log's end; `begin`, `release` and `leave` write none. An error
 /// means that nothing has changed, so the call may be made again: S11 is want of memory, S7 a full log, S14 a `Tx` that is not
-/// live in this log, and the others say what is wrong with the call. `end` and `tail` may be called at any time.
-#[derive(Debug, Drop)]
+/// live in this log, and the others say what is wrong with the call. `get`, `end` and `tail` may be called at any time.
+#[derive(Drop)]
 pub struct Publisher {
-    catalog: Catalog,
+    pub(crate) store: Store,
     capacity: usize,
-    log: Log,
+    pub(crate) log: Log,
     next_xid: u32,
-    live: Live,
+    pub(crate) live: Live,
 }
 
 impl Model for Publisher {
     ghost use Rattle.txlog.specs.Publishing.{PublisherState};
-    ghost use Rattle.txlog.specs.Invariants.{IsPublisher};
+    ghost use Rattle.txlog.specs.Invariants.{KeepsLog};
 
     ghost Value = { PublisherState };
 
-    ghost view = { λ p. record { tables = p.catalog; capacity = p.capacity; log = p.log; next_xid = p.next_xid; live = p.live } };
+    ghost view = { λ p. record { tables = p.store.tables; capacity = p.capacity; log = p.log; next_xid = p.next_xid; live = p.live } };
 
-    ghost invariant = { λ p. IsPublisher (record { tables = p.catalog; capacity = p.capacity; log = p.log; next_xid = p.next_xid; live = p.live }) };
+    ghost invariant = { λ p. KeepsLog p.store (record { tables = p.store.tables; capacity = p.capacity; log = p.log; next_xid = p.next_xid; live = p.live }) };
 }
 
 impl Publisher {
@@ -55,7 +57,7 @@ impl Publisher {
         ensures err { IfErr result (λ e. e ≡ SessionFault.Memory) }
     {
         Ok(Publisher {
-            catalog,
+            store: Store::new(alloc, catalog),
             capacity: records,
             log: Log::new(alloc),
             next_xid: FIRST_XID,
@@ -66,7 +68,7 @@ impl Publisher {
     pub fn catalog(&self) -> &Catalog
         ensures { result.now ≡ self.now.tables }
     {
-        &self.catalog
+        self.store.catalog()
     }
 
     /// The position where the log ends.
@@ -85,8 +87,16 @@ impl Publisher {
         self.log.tail(place, max)
     }
 
+    /// The row with this key, committed or not. The key's values stand in table order.
+    pub fn get(&self, oid: u32, key: &Row) -> Option<&Row>
+        ensures row { option_copied result ≡ rows_of self.now.tables self.now.log (record { oid = oid; values = key.now }) }
+        ensures publisher { IsPublisher self.now }
+    {
+        self.store.get(oid, key)
+    }
+
     /// The records that may still be written.
-    fn room(&self) -> usize
+    pub(crate) fn room(&self) -> usize
         ensures { result ≡ room self.now }
     {
         self.capacity - (self.log.len() + self.live.len())
@@ -111,46 +121,6 @@ impl Publisher {
         Ok(Tx::new(xid))
     }
 
-    /// Inserts a row. S14, S1, S2, S6, S7, S11 in this order.
-    pub fn insert(&mut self, tx: &mut Tx, oid: u32, row: Row) -> Result<(), SessionFault>
-        ensures ok { OnOk result (self.new ≡ changed tx.old (Change.Insert oid row) self.old) }
-        ensures err { OnErr result (self.new ≡ self.old) }
-        ensures refused { RefusedOrMemory (insert_refusal tx.old oid row self.old) result }
-        ensures tx { tx.new ≡ tx.old }
-        ensures publisher { IsPublisher self.new }
-    {
-        let xid = tx.xid();
-        self.test_insert(xid, oid, &row)?;
-        let innermost = self.live.innermost(xid);
-        let change = LoggedChange::of(Change::Insert(oid, row));
-        self.log.push(Body::Change(innermost, change))?;
-        Ok(())
-    }
-
-    fn test_insert(&self, xid: u32, oid: u32, row: &Row) -> Result<(), SessionFault>
-        ensures refused { RefusedExactly (insert_refusal xid oid row.now self.now) result }
-        ensures live { OnOk result (is_live xid self.now.live ≡ true) }
-        ensures room { OnOk result (0 < room self.now) }
-        ensures fits { OnOk result (FitsChange self.now.tables (Change.Insert oid row.now)) }
-    {
-        if !self.live.contains(xid) {
-            return Err(SessionFault::NoTransaction);
-        }
-        let Some(table) = self.catalog.table(oid) else {
-            return Err(SessionFault::UnknownTable);
-        };
-        if !table.takes(row) {
-            return Err(SessionFault::RowShape);
-        }
-        if row.coded_len().is_none() {
-            return Err(SessionFault::TooLarge);
-        }
-        if self.room() == 0 {
-            return Err(SessionFault::LogFull);
-        }
-        Ok(())
-    }
-
     /// Commits the transaction. It is never refused for room; S14 and S11 give it back.
     pub fn commit(&mut self, tx: Tx, time: i64) -> Result<Receipt, (Tx, SessionFault)>
         ensures ok { IfOk result (λ receipt. (receipt ≡ receipt_of tx time self.old) × (self.new ≡ after_commit tx time self.old)) }
@@ -168,6 +138,7 @@ impl Publisher {
             Ok(()) => {}
             Err(_) => return Err((tx, SessionFault::Memory)),
         }
+        self.store.forget(xid);
         self.live.remove(xid);
         tx.spend();
         Ok(Receipt {
@@ -193,6 +164,8 @@ impl Publisher {
             Ok(()) => {}
             Err(_) => return Err((tx, SessionFault::Memory)),
         }
+        self.store.undo_to(xid, 0);
+        self.store.forget(xid);
         self.live.remove(xid);
         tx.spend();
         Ok(())
@@ -211,7 +184,12 @@ impl Publisher {
         let depth = self.test_savepoint(xid)?;
         let parent = self.live.innermost(xid);
         let savepoint = self.next_xid;
-        self.live.push_savepoint(xid, savepoint)?;
+        let mark = self.store.mark(xid);
+        let opened = Savepoint {
+            xid: savepoint,
+            mark,
+        };
+        self.live.push_savepoint(xid, opened)?;
         match self.log.push(Body::Assign(savepoint, parent)) {
             Ok(()) => {}
             Err(_) => {
@@ -253,18 +231,19 @@ impl Publisher {
     {
         let xid = tx.xid();
         let savepoint = self.test_rollback(xid, depth as usize)?;
-        self.log.push(Body::AbortSub(savepoint))?;
+        self.log.push(Body::AbortSub(savepoint.xid))?;
+        self.store.undo_to(xid, savepoint.mark);
         self.live.truncate_savepoints(xid, depth as usize - 1);
         Ok(())
     }
 
     /// The savepoint of this depth.
-    fn test_rollback(&self, xid: u32, depth: usize) -> Result<u32, SessionFault>
+    fn test_rollback(&self, xid: u32, depth: usize) -> Result<Savepoint, SessionFault>
         ensures refused { RefusedExactly (rollback_refusal xid depth self.now) result }
         ensures live { OnOk result (is_live xid self.now.live ≡ true) }
         ensures room { OnOk result (0 < room self.now) }
         ensures depth { OnOk result ((0 < depth) × (depth ≤ length (savepoints_of xid self.now.live))) }
-        ensures value { IfOk result (λ s. s ≡ slice_index (savepoints_of xid self.now.live) (depth - 1)) }
+        ensures value { IfOk result (λ s. slice_get (savepoints_of xid self.now.live) (depth - 1) ≡ Some s) }
     {
         if !self.live.contains(xid) {
             return Err(SessionFault::NoTransaction);

@@ -2,14 +2,15 @@
 
 ghost use Rattle.std.specs.Prelude.{◌≡◌, ◌∷◌, ◌++◌, [], OnErr, OnOk, length, take};
 
+use crate::savepoint::Savepoint;
 use std::alloc::{AllocError, Global};
 use std::marker::Model;
 
-/// A live transaction: its xid, and the xids of its open savepoints, the outermost first.
+/// A live transaction: its xid, and its open savepoints, the outermost first.
 #[derive(Debug, Drop)]
 pub(crate) struct Running {
     xid: u32,
-    savepoints: Vec<u32>,
+    savepoints: Vec<Savepoint>,
 }
 
 impl Model for Running {
@@ -36,13 +37,13 @@ impl Running {
         self.xid
     }
 
-    pub(crate) fn savepoints(&self) -> &[u32]
+    pub(crate) fn savepoints(&self) -> &[Savepoint]
         ensures { result.now ≡ self.now.savepoints }
     {
         self.savepoints.as_slice()
     }
 
-    pub(crate) fn push(&mut self, savepoint: u32) -> Result<(), AllocError>
+    pub(crate) fn push(&mut self, savepoint: Savepoint) -> Result<(), AllocError>
         ensures ok { OnOk result (self.new ≡ record self.old { savepoints = self.old.savepoints ++ savepoint ∷ [] }) }
         ensures err { OnErr result (self.new ≡ self.old) }
     {

@@ -4,9 +4,14 @@ use Rattle.std.specs.Prelude.{Result, Ok, Err, IfOk, OnErr, slice_get, slice_set
 use Rattle.std.proofs.lemmas.List.{map-set, take_at, drop_at, length-take, take-append-drop}
 use Rattle.std.proofs.lemmas.Option.{slice_get_read, slice_get_within}
 use Rattle.std.proofs.Math.Seq.{map-set_same, drop-cons}
+use Rattle.tables.specs.declared.value.Value.{Value}
+use Rattle.tables.specs.declared.column.Column.{Column}
+use Rattle.tables.specs.declared.table.Table.{Table}
+use Rattle.tables.specs.Tables.{table_named}
 use Rattle.txlog.specs.declared.record.Record.{Record}
 use Rattle.txlog.specs.declared.fault.SessionFault.{SessionFault}
-use Rattle.txlog.specs.Publishing.{PublisherState, IsRefusalOrMemory}
+use Rattle.txlog.specs.Publishing.{PublisherState, IsRefusalOrMemory, insert_refusal}
+use Rattle.schedule.specs.declared.event.Literal.{Literal}
 use Rattle.schedule.specs.declared.answer.Answer.{Answer}
 use Rattle.schedule.specs.declared.answer.Answer.TheVariants as answers
 use Rattle.schedule.specs.declared.fault.WorldFault.{WorldFault}
@@ -15,7 +20,8 @@ use Rattle.world.specs.declared.session.Session.{Session}
 use Rattle.world.specs.declared.start.Start.{Start}
 use Rattle.world.specs.declared.machine.Machine.{Machine}
 use Rattle.world.specs.State.{StartState, WorldState, NamedTx, xid_of, without_name}
-use Rattle.world.specs.SessionLines.{Ask, SessionState, IsCalled, IsAnswered, if_known}
+use Rattle.world.specs.SessionLines.{Ask, SessionState, IsCalled, IsAnswered, if_known, insert_refused}
+use Rattle.world.specs.Rows.{row_in}
 use Rattle.world.specs.ConnectionLines.{Acts, ActsAt}
 use Rattle.world.specs.Machine.{named_tx, sessions_state, IsNamedAt, Called, start_state, shown, ActsIn, IsOpenAt, IsOpenStartAt}
 use Rattle.world.proofs.Names.{same_inside}
@@ -103,3 +109,13 @@ acted_at name place action m new a at acts =
       acts = acts.acts;
       is = ap (λ (l : List StartState). record (shown m) { starts = l }) (acts.is ∙ sym (at.changed acts.after));
     }
+
+-- a row that is read by the columns of its table, and refused there
+pub insert_refused_by : (tables found_in : List Table) (name told : List ℕ) (t : Table) (columns : List Column) (literals : List Literal) (row : List Value) (xid : ℕ) (p : PublisherState) (fault : SessionFault) →
+    Some t ≡ table_named told found_in → told ≡ name → found_in ≡ tables → row ≡ row_in columns literals → columns ≡ t.columns →
+    IsRefusalOrMemory (insert_refusal xid t.oid row p) fault → IsRefusalOrMemory (insert_refused (table_named name tables) xid literals p) fault
+insert_refused_by tables found_in name told t columns literals row xid p fault found is_name is_tables is_row is_columns refused =
+    let there : Some t ≡ table_named name tables = found ∙ ap (λ (n : List ℕ). table_named n found_in) is_name ∙ ap (table_named name) is_tables in
+    let same : row ≡ row_in t.columns literals = is_row ∙ ap (λ (cs : List Column). row_in cs literals) is_columns in
+    subst (λ (o : Option Table). IsRefusalOrMemory (insert_refused o xid literals p) fault) there
+    (subst (λ (r : List Value). IsRefusalOrMemory (insert_refusal xid t.oid r p) fault) same refused)

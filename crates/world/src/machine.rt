@@ -23,7 +23,6 @@ use txlog::Publisher;
 const NO_SLOT: &str = "-";
 
 /// A publisher, its sessions by name, every start of a sender, and where the open ones stand, in order.
-#[derive(Debug)]
 pub(crate) struct Machine {
     pub(crate) publications: Publications,
     pub(crate) publisher: Publisher,

@@ -20,7 +20,7 @@ use thiserror::Error;
 ///
 /// `new` makes one and `step` does an event in it; `run` is both for a list of events. An event that happens answers
 /// `Done`, or the refusal of the part that it asked. One that doesn't happen is a `WorldFault`, and changes nothing.
-#[derive(Debug, Drop)]
+#[derive(Drop)]
 pub struct World {
     machine: Machine,
     answers: Vec<Answer>,

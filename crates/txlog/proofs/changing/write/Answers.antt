@@ -1,0 +1,5 @@
+use Rattle.txlog.proofs.Calls.{change_fits}
+use Rattle.txlog.proofs.changing.write.Goals as goal
+
+pub push-requires : goal.push-requires
+push-requires c = record { fits = change_fits c.args.log.now c.args.at.innermost c.args.change c.of.result c.requires.short c.requires.fits c.of.ensures }

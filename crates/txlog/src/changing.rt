@@ -1,0 +1,136 @@
+//! How sessions change rows: the tables take the change, and the log a record of it.
+
+ghost use Rattle.std.specs.Prelude.{◌≡◌, ◌+◌, ◌∷◌, ◌++◌, [], ◌<◌, ◌^◌, IfErr, IfOk, List, OnErr, OnOk, false, true};
+ghost use Rattle.tables.specs.History.{Made, count_of, rolled_back};
+ghost use Rattle.tables.specs.Keeping.{Keeps};
+ghost use Rattle.tables.specs.TableSpelling.{IsShortChange};
+ghost use Rattle.txlog.specs.Invariants.{IsPublisher};
+ghost use Rattle.txlog.specs.Log.{end_of};
+ghost use Rattle.txlog.specs.Publishing.{RefusedOrMemory, changed, deleted, delete_refusal, fault_at, innermost, insert_refusal, is_live, record_after, room, update_refusal, updated};
+ghost use Rattle.txlog.specs.Rows.{history_of};
+ghost use Rattle.txlog.specs.declared.record.TheConstants.{FIRST_POSITION};
+
+use crate::fault::SessionFault;
+use crate::log::Log;
+use crate::logged::LoggedChange;
+use crate::publisher::Publisher;
+use crate::record::Body;
+use crate::tx::Tx;
+use tables::{Row, Store, StoreFault, TableChange};
+
+/// A change that is about to be made: its transaction, the innermost open subtransaction, how many changes of the transaction
+/// stand before it, and the room of the log.
+#[derive(Clone, Copy)]
+struct Changing {
+    xid: u32,
+    innermost: u32,
+    mark: usize,
+    room: usize,
+}
+
+impl Publisher {
+    /// Inserts a row. S14, S1, S2, S6, S5, S3, S7, S11 in this order.
+    pub fn insert(&mut self, tx: &mut Tx, oid: u32, row: Row) -> Result<(), SessionFault>
+        ensures ok { OnOk result (self.new ≡ changed tx.old (TableChange.Insert oid row) self.old) }
+        ensures err { OnErr result (self.new ≡ self.old) }
+        ensures refused { RefusedOrMemory (insert_refusal tx.old oid row self.old) result }
+        ensures tx { tx.new ≡ tx.old }
+        ensures publisher { IsPublisher self.new }
+    {
+        let at = self.changing(tx)?;
+        match self.store.insert(at.xid, oid, row) {
+            Ok(change) => write(&mut self.store, &mut self.log, at, change),
+            Err(fault) => Err(refusal(fault, at.room)),
+        }
+    }
+
+    /// Puts a row in the place of the one with this key, whose key it may change. S14, S1, S2, S6, S5, S4, S3, S7, S11 in this
+    /// order.
+    pub fn update(&mut self, tx: &mut Tx, oid: u32, key: &Row, row: Row) -> Result<(), SessionFault>
+        ensures ok { OnOk result (self.new ≡ updated tx.old (record { oid = oid; values = key.now }) row self.old) }
+        ensures err { OnErr result (self.new ≡ self.old) }
+        ensures refused { RefusedOrMemory (update_refusal tx.old (record { oid = oid; values = key.now }) row self.old) result }
+        ensures tx { tx.new ≡ tx.old }
+        ensures publisher { IsPublisher self.new }
+    {
+        let at = self.changing(tx)?;
+        match self.store.update(at.xid, oid, key, row) {
+            Ok(change) => write(&mut self.store, &mut self.log, at, change),
+            Err(fault) => Err(refusal(fault, at.room)),
+        }
+    }
+
+    /// Deletes the row with this key. S14, S1, S2, S5, S4, S7, S11 in this order.
+    pub fn delete(&mut self, tx: &mut Tx, oid: u32, key: &Row) -> Result<(), SessionFault>
+        ensures ok { OnOk result (self.new ≡ deleted tx.old (record { oid = oid; values = key.now }) self.old) }
+        ensures err { OnErr result (self.new ≡ self.old) }
+        ensures refused { RefusedOrMemory (delete_refusal tx.old (record { oid = oid; values = key.now }) self.old) result }
+        ensures tx { tx.new ≡ tx.old }
+        ensures publisher { IsPublisher self.new }
+    {
+        let at = self.changing(tx)?;
+        match self.store.delete(at.xid, oid, key) {
+            Ok(change) => write(&mut self.store, &mut self.log, at, change),
+            Err(fault) => Err(refusal(fault, at.room)),
+        }
+    }
+
+    /// What a change of a live transaction needs.
+    fn changing(&self, tx: &Tx) -> Result<Changing, SessionFault>
+        ensures live { IfOk result (λ at. (at.xid ≡ tx.now) × (is_live tx.now self.now.live ≡ true)) }
+        ensures innermost { IfOk result (λ at. at.innermost ≡ innermost tx.now self.now.live) }
+        ensures mark { IfOk result (λ at. at.mark ≡ count_of tx.now (history_of self.now.log)) }
+        ensures room { IfOk result (λ at. at.room ≡ room self.now) }
+        ensures err { IfErr result (λ fault. (fault ≡ SessionFault.NoTransaction) × (is_live tx.now self.now.live ≡ false)) }
+    {
+        let xid = tx.xid();
+        if !self.live.contains(xid) {
+            return Err(SessionFault::NoTransaction);
+        }
+        Ok(Changing {
+            xid,
+            innermost: self.live.innermost(xid),
+            mark: self.store.mark(xid),
+            room: self.room(),
+        })
+    }
+}
+
+/// Writes the record of a change that the store has made. Where the log has no room or no memory, the change is undone.
+fn write(
+    store: &mut Store,
+    log: &mut Log,
+    at: Changing,
+    change: TableChange,
+) -> Result<(), SessionFault>
+    requires short { IsShortChange change }
+    requires fits { end_of FIRST_POSITION log.old + 2 ^ 14 < 2 ^ 64 }
+    ensures ok { OnOk result ((log.new ≡ log.old ++ record_after log.old (Body.Change at.innermost change) ∷ []) × (store.new ≡ store.old)) }
+    ensures room { OnOk result (0 < at.room) }
+    ensures err { OnErr result (log.new ≡ log.old) }
+    ensures undone { OnErr result ((history : List Made) → Keeps store.old history → Keeps store.new (rolled_back at.xid at.mark history)) }
+    ensures refused { IfErr result (λ fault. fault ≡ fault_at at.room StoreFault.Memory) }
+    ensures tables { store.new.tables ≡ store.old.tables }
+{
+    if at.room == 0 {
+        store.undo_to(at.xid, at.mark);
+        return Err(SessionFault::LogFull);
+    }
+    match log.push(Body::Change(at.innermost, LoggedChange::of(change))) {
+        Ok(()) => Ok(()),
+        Err(_) => {
+            store.undo_to(at.xid, at.mark);
+            Err(SessionFault::Memory)
+        }
+    }
+}
+
+/// Why the publisher refuses what the store refused: want of memory comes behind want of room.
+fn refusal(fault: StoreFault, room: usize) -> SessionFault
+    ensures { result ≡ fault_at room fault }
+{
+    match fault {
+        StoreFault::Memory if room == 0 => SessionFault::LogFull,
+        other => SessionFault::from(other),
+    }
+}
