@@ -23,13 +23,14 @@ enum Line {
     Insert(i32, i64),
     Update(i32, i32, i64),
     Delete(i32),
+    Truncate,
     Savepoint,
     Release(u32),
     Rollback(u32),
     Get(i32),
 }
 
-use Line::{Delete, Get, Insert, Release, Rollback, Savepoint, Update};
+use Line::{Delete, Get, Insert, Release, Rollback, Savepoint, Truncate, Update};
 
 #[derive(Clone, Copy, Debug, PartialEq)]
 enum Shown {
@@ -82,6 +83,7 @@ fn show(
             outcome(publisher.update(tx, ITEM, &key, item(rt, alloc, to, n)))
         }
         Delete(id) => outcome(publisher.delete(tx, ITEM, &key(rt, alloc, id))),
+        Truncate => outcome(publisher.truncate(tx, &[ITEM])),
         Savepoint => outcome(publisher.savepoint(tx)),
         Release(depth) => outcome(publisher.release(tx, depth)),
         Rollback(depth) => outcome(publisher.rollback_to(tx, depth)),
@@ -145,11 +147,21 @@ const COMMITTED: [(Who, Line, Shown); 16] = [
 ];
 
 /// B has aborted, and with it its rows of the keys 1 and 3.
-const ABORTED: [(Who, Line, Shown); 4] = [
+const ABORTED: [(Who, Line, Shown); 13] = [
     (A, Get(1), Quantity(3)),
     (A, Get(2), Nothing),
     (A, Get(3), Nothing),
     (A, Insert(3, 8), Done),
+    // a truncate is refused beside another's key; it holds its table until it is undone
+    (B, Truncate, Refused(SessionFault::KeyHeld)),
+    (A, Savepoint, Done),
+    (A, Truncate, Done),
+    (A, Get(1), Nothing),
+    (B, Insert(4, 1), Refused(SessionFault::KeyHeld)),
+    (B, Truncate, Refused(SessionFault::KeyHeld)),
+    (A, Rollback(1), Done),
+    (A, Get(1), Quantity(3)),
+    (B, Insert(4, 1), Done),
 ];
 
 fn committed(rt: &impl Abort, publisher: &mut Publisher, tx: Tx) -> Tx {

@@ -197,6 +197,9 @@ update_refusal xid key row s = change_refusal xid s (history.update_refusal s.ta
 abbrev pub delete_refusal : ℕ → Key → PublisherState → Option SessionFault
 delete_refusal xid key s = change_refusal xid s (history.delete_refusal s.tables (history_of s.log) xid key)
 
+abbrev pub truncate_refusal : ℕ → List ℕ → PublisherState → Option SessionFault
+truncate_refusal xid oids s = change_refusal xid s (history.truncate_refusal s.tables (history_of s.log) xid oids)
+
 abbrev pub savepoint_refusal : ℕ → PublisherState → Option SessionFault
 savepoint_refusal xid s =
     live_refusal xid s (if nat_le MAX_DEPTH (length (savepoints_of xid s.live)) then Some faults.TooDeep else room_refusal s)

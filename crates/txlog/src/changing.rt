@@ -6,7 +6,7 @@ ghost use Rattle.tables.specs.Keeping.{Keeps};
 ghost use Rattle.tables.specs.TableSpelling.{IsShortChange};
 ghost use Rattle.txlog.specs.Invariants.{IsPublisher};
 ghost use Rattle.txlog.specs.Log.{end_of};
-ghost use Rattle.txlog.specs.Publishing.{RefusedOrMemory, changed, deleted, delete_refusal, fault_at, innermost, insert_refusal, is_live, record_after, room, update_refusal, updated};
+ghost use Rattle.txlog.specs.Publishing.{RefusedOrMemory, changed, deleted, delete_refusal, fault_at, innermost, insert_refusal, is_live, record_after, room, truncate_refusal, update_refusal, updated};
 ghost use Rattle.txlog.specs.Rows.{history_of};
 ghost use Rattle.txlog.specs.declared.record.TheConstants.{FIRST_POSITION};
 
@@ -70,6 +70,21 @@ impl Publisher {
     {
         let at = self.changing(tx)?;
         match self.store.delete(at.xid, oid, key) {
+            Ok(change) => write(&mut self.store, &mut self.log, at, change),
+            Err(fault) => Err(refusal(fault, at.room)),
+        }
+    }
+
+    /// Empties tables, and holds them. S14, S1, S2, S6, S5, S7, S11 in this order.
+    pub fn truncate(&mut self, tx: &mut Tx, oids: &[u32]) -> Result<(), SessionFault>
+        ensures ok { OnOk result (self.new ≡ changed tx.old (TableChange.Truncate oids.now) self.old) }
+        ensures err { OnErr result (self.new ≡ self.old) }
+        ensures refused { RefusedOrMemory (truncate_refusal tx.old oids.now self.old) result }
+        ensures tx { tx.new ≡ tx.old }
+        ensures publisher { IsPublisher self.new }
+    {
+        let at = self.changing(tx)?;
+        match self.store.truncate(at.xid, oids) {
             Ok(change) => write(&mut self.store, &mut self.log, at, change),
             Err(fault) => Err(refusal(fault, at.room)),
         }
