@@ -1,2 +1,5 @@
 pub mod XLogData
 pub mod Keepalive
+pub mod Server
+pub mod Status
+pub mod Reading

@@ -5,5 +5,12 @@ use Rattle.std.specs.Int.{w64, cast_unsigned}
 use Rattle.frames.specs.Fields.{int64}
 use Rattle.copyboth.specs.declared.xlogdata.TheConstants.{XLOGDATA}
 
+-- what contracts see of one
+pub record XLogDataBody : Type 0 where
+  pub start : ℕ
+  pub end : ℕ
+  pub clock : ℤ
+  pub payload : List ℕ
+
 abbrev pub xlogdata : ℕ → ℕ → ℤ → List ℕ → List ℕ
 xlogdata start end clock payload = XLOGDATA ∷ (int64 start ++ (int64 end ++ (int64 (cast_unsigned w64 clock) ++ payload)))

@@ -1,11 +1,13 @@
-//! Primary keepalive, the server's position between pieces of the stream: its writer.
+//! Primary keepalive, the server's position between pieces of the stream: its type, its reader and its writer.
 
 ghost use Rattle.std.specs.Prelude.{◌≡◌, ◌++◌, OnOk, OnErr};
 ghost use Rattle.frames.specs.Putting.{Puts};
 ghost use Rattle.copyboth.specs.Keepalive.{keepalive, ask_byte};
+ghost use Rattle.copyboth.specs.Reading.{Gives, ask_at, ended, keepalive_at};
 
+use crate::fault::CopyFault;
 use bytes::BytesMut;
-use frames::{put_byte, put_int64};
+use frames::{Cursor, put_byte, put_int64};
 use std::alloc::AllocError;
 
 /// The kind byte of a primary keepalive.
@@ -15,6 +17,17 @@ pub const KEEPALIVE: u8 = b'k';
 pub const ASKS: u8 = 1;
 
 pub const SILENT: u8 = 0;
+
+/// A primary keepalive (PostgreSQL 15, 55.4).
+#[derive(Clone, Copy, Debug, PartialEq, Eq)]
+pub struct Keepalive {
+    /// The end of the log at the server.
+    pub end: u64,
+    /// The server's clock, in microseconds since 2000-01-01.
+    pub clock: i64,
+    /// Whether the client should answer at once.
+    pub ask: bool,
+}
 
 /// Adds the body of a primary keepalive (PostgreSQL 15, 55.4) at the end of `out`; refused, adds nothing.
 ///
@@ -51,8 +64,42 @@ fn put_keepalive(end: u64, clock: i64, ask: bool, out: &mut BytesMut) -> Result<
     Ok(())
 }
 
-fn byte_of(ask: bool) -> u8
+pub(crate) fn byte_of(ask: bool) -> u8
     ensures { result ≡ ask_byte ask }
 {
     if ask { ASKS } else { SILENT }
+}
+
+/// What stands behind the kind byte, up to the end.
+pub(crate) fn keepalive_of(cursor: &mut Cursor<'_>) -> Result<Keepalive, CopyFault>
+    ensures { result ≡ keepalive_at cursor.old }
+{
+    let end = cursor.u64().ok_or(CopyFault::Short)?;
+    let clock = cursor.u64().ok_or(CopyFault::Short)?;
+    let ask = ask_of(cursor)?;
+    ended_at(cursor)?;
+    Ok(Keepalive {
+        end,
+        clock: clock.cast_signed(),
+        ask,
+    })
+}
+
+/// Whether an answer is asked for: by 1, and by no other byte.
+pub(crate) fn ask_of(cursor: &mut Cursor<'_>) -> Result<bool, CopyFault>
+    ensures { Gives result cursor.new (ask_at cursor.old) }
+{
+    let byte = cursor.u8().ok_or(CopyFault::Short)?;
+    Ok(byte == ASKS)
+}
+
+/// Nothing may stand behind a body.
+pub(crate) fn ended_at(cursor: &Cursor<'_>) -> Result<(), CopyFault>
+    ensures { result ≡ ended cursor.now }
+{
+    if cursor.rest().is_empty() {
+        Ok(())
+    } else {
+        Err(CopyFault::Trailing)
+    }
 }

@@ -1,8 +1,15 @@
-//! The bodies of the streaming replication protocol that stand inside CopyData in the copy-both state: their writers.
+//! The bodies of the streaming replication protocol that stand inside CopyData in the copy-both state: their writers and
+//! readers.
 #![tactic(auto, using(frames::proofs::Putting::in_place))]
 
+mod fault;
 mod keepalive;
+mod server_body;
+mod status;
 mod xlogdata;
 
-pub use keepalive::{ASKS, KEEPALIVE, SILENT, write_keepalive};
-pub use xlogdata::{XLOGDATA, write_xlogdata};
+pub use fault::CopyFault;
+pub use keepalive::{ASKS, KEEPALIVE, Keepalive, SILENT, write_keepalive};
+pub use server_body::{ServerBody, read_server};
+pub use status::{STATUS, Status, read_client, write_status};
+pub use xlogdata::{XLOGDATA, XLogData, write_xlogdata};

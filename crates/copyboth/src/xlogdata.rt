@@ -1,15 +1,39 @@
-//! XLogData, a piece of the stream of changes: its writer.
+//! XLogData, a piece of the stream of changes: its type, its reader and its writer.
 
 ghost use Rattle.std.specs.Prelude.{◌≡◌, ◌++◌, OnOk, OnErr};
 ghost use Rattle.frames.specs.Putting.{Puts};
 ghost use Rattle.copyboth.specs.XLogData.{xlogdata};
+ghost use Rattle.copyboth.specs.Reading.{xlogdata_at};
 
+use crate::fault::CopyFault;
 use bytes::BytesMut;
-use frames::{put_byte, put_bytes, put_int64};
+use frames::{Cursor, put_byte, put_bytes, put_int64};
 use std::alloc::AllocError;
+use std::marker::Model;
 
 /// The kind byte of XLogData.
 pub const XLOGDATA: u8 = b'w';
+
+/// An XLogData (PostgreSQL 15, 55.4). Contracts see what it holds as a list of bytes.
+#[derive(Debug, Drop)]
+pub struct XLogData<'a> {
+    /// The position at which the data starts.
+    pub start: u64,
+    /// The end of the log at the server.
+    pub end: u64,
+    /// The server's clock, in microseconds since 2000-01-01.
+    pub clock: i64,
+    /// The data: one logical message.
+    pub payload: &'a [u8],
+}
+
+impl<'a> Model for XLogData<'a> {
+    ghost use Rattle.copyboth.specs.XLogData.{XLogDataBody};
+
+    ghost Value = { XLogDataBody };
+
+    ghost view = { λ m. record { start = m.start; end = m.end; clock = m.clock; payload = m.payload.now } };
+}
 
 /// Adds the body of an XLogData (PostgreSQL 15, 55.4) at the end of `out`; refused, adds nothing.
 ///
@@ -51,4 +75,19 @@ fn put_xlogdata(
     put_int64(out, clock.cast_unsigned())?;
     put_bytes(out, payload)?;
     Ok(())
+}
+
+/// What stands behind the kind byte.
+pub(crate) fn xlogdata_of<'a>(cursor: &mut Cursor<'a>) -> Result<XLogData<'a>, CopyFault>
+    ensures { result ≡ xlogdata_at cursor.old }
+{
+    let start = cursor.u64().ok_or(CopyFault::Short)?;
+    let end = cursor.u64().ok_or(CopyFault::Short)?;
+    let clock = cursor.u64().ok_or(CopyFault::Short)?;
+    Ok(XLogData {
+        start,
+        end,
+        clock: clock.cast_signed(),
+        payload: cursor.rest(),
+    })
 }

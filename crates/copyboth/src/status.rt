@@ -1,0 +1,102 @@
+//! Standby status update, how far a client is: its type, its reader and its writer.
+
+ghost use Rattle.std.specs.Prelude.{◌≡◌, ◌++◌, IfOk, Ok, OnOk, OnErr};
+ghost use Rattle.frames.specs.Putting.{Puts};
+ghost use Rattle.copyboth.specs.Reading.{FaultIs, client_at, status_at};
+ghost use Rattle.copyboth.specs.Status.{SpellsStatus, client_fault, status};
+
+use crate::fault::CopyFault;
+use crate::keepalive::{ask_of, byte_of, ended_at};
+use bytes::BytesMut;
+use frames::{Cursor, put_byte, put_int64};
+use std::alloc::AllocError;
+
+/// The kind byte of a standby status update.
+pub const STATUS: u8 = b'r';
+
+/// A standby status update (PostgreSQL 15, 55.4). Its positions are those of the last byte plus one.
+#[derive(Clone, Copy, Debug, PartialEq, Eq)]
+pub struct Status {
+    /// What the client has written.
+    pub written: u64,
+    /// What it has flushed.
+    pub flushed: u64,
+    /// What it has applied.
+    pub applied: u64,
+    /// The client's clock, in microseconds since 2000-01-01.
+    pub clock: i64,
+    /// Whether the server should answer at once.
+    pub ask: bool,
+}
+
+/// Adds the body of a standby status update at the end of `out`; refused, adds nothing.
+///
+/// ```text
+/// Byte1('r') | Int64 written | Int64 flushed | Int64 applied | Int64 clock | Byte1 1: answer at once, 0: no need
+/// ```
+pub fn write_status(message: &Status, out: &mut BytesMut) -> Result<(), AllocError>
+    ensures ok { OnOk result (out.new.items ≡ out.old.items ++ status message.now) }
+    ensures err { OnErr result (out.new.items ≡ out.old.items) }
+{
+    let length = out.len();
+    let written = put_status(message, out);
+    if written.is_err() {
+        out.truncate(length);
+    }
+    written
+}
+
+fn put_status(message: &Status, out: &mut BytesMut) -> Result<(), AllocError>
+    ensures { Puts result out.old.items out.new.items (status message.now) }
+{
+    put_byte(out, STATUS)?;
+    put_int64(out, message.written)?;
+    put_int64(out, message.flushed)?;
+    put_int64(out, message.applied)?;
+    put_int64(out, message.clock.cast_unsigned())?;
+    put_byte(out, byte_of(message.ask))?;
+    Ok(())
+}
+
+/// The status that the bytes of a client spell, all of them.
+///
+/// B1 where the bytes end inside a field, B2 where the first byte is another, B3 at bytes behind a status.
+pub fn read_client(bytes: &[u8]) -> Result<Status, CopyFault>
+    // What is read is spelled so,
+    ensures found { IfOk result (λ s. SpellsStatus bytes.now s) }
+    // what is spelled is read,
+    ensures only { (s : Status) → SpellsStatus bytes.now s → result ≡ Ok s }
+    // and a fault is answered where it stands.
+    ensures fault { FaultIs result (client_fault bytes.now) }
+{
+    client_of(bytes)
+}
+
+fn client_of(bytes: &[u8]) -> Result<Status, CopyFault>
+    ensures { result ≡ client_at bytes.now }
+{
+    let mut cursor = Cursor::new(bytes);
+    match cursor.u8().ok_or(CopyFault::Short)? {
+        STATUS => status_of(&mut cursor),
+        _ => Err(CopyFault::UnknownKind),
+    }
+}
+
+/// What stands behind the kind byte, up to the end.
+fn status_of(cursor: &mut Cursor<'_>) -> Result<Status, CopyFault>
+    ensures { result ≡ status_at cursor.old }
+{
+    let written = cursor.u64().ok_or(CopyFault::Short)?;
+    let flushed = cursor.u64().ok_or(CopyFault::Short)?;
+    let applied = cursor.u64().ok_or(CopyFault::Short)?;
+    let clock = cursor.u64().ok_or(CopyFault::Short)?;
+    let ask = ask_of(cursor)?;
+    ended_at(cursor)?;
+    Ok(Status {
+        written,
+        flushed,
+        applied,
+        clock: clock.cast_signed(),
+        ask,
+    })
+}
