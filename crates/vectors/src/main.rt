@@ -8,6 +8,7 @@ mod catalog_text;
 mod command_text;
 mod config_text;
 mod conversations;
+mod copy_body;
 mod event_line;
 mod expanded;
 mod field;

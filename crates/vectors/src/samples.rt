@@ -3,6 +3,7 @@
 use crate::catalog_text::catalog_answer;
 use crate::command_text::{command_answer, position_answer};
 use crate::config_text::config_answer;
+use crate::copy_body::{client_answer, server_answer};
 use crate::event_line::event_answer;
 use crate::field::field_answer;
 use crate::framing::{back_answer, front_answer, startup_answer};
@@ -96,6 +97,8 @@ fn bytes_answer(alloc: Global, call: &str, given: &Given) -> Result<Answer> {
         "read_startup" => startup_answer(alloc, given),
         "read_front" => front_answer(alloc, given),
         "read_back" => back_answer(alloc, given),
+        "read_server" => server_answer(alloc, given),
+        "read_client" => client_answer(alloc, given),
         "read_logical" => logical_answer(alloc, given.all()),
         "read_body" => body_answer(alloc, given.all()),
         "word" => word_answer(alloc, given.all()),
