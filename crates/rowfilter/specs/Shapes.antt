@@ -5,13 +5,21 @@ use Rattle.rowfilter.specs.declared.expression.Expression.{Expression}
 use Rattle.rowfilter.specs.declared.expression.Expression.TheVariants as expressions
 use Rattle.rowfilter.specs.declared.operand.Operand.{Operand}
 use Rattle.rowfilter.specs.declared.operand.Operand.TheVariants as operands
-use Rattle.rowfilter.specs.Conditions.{Condition, Column, Literal, Compare, Is, Not, And, Or}
-use Rattle.rowfilter.specs.Truth.{Datum, Missing, Flag, Number, Bytes}
+use Rattle.rowfilter.specs.declared.literal.Literal.{Literal as Written}
+use Rattle.rowfilter.specs.declared.literal.Literal.TheVariants as literals
+use Rattle.rowfilter.specs.Conditions.{Datum, Missing, Flag, Number, Bytes, Condition, Column, Literal, Compare, Is, Not, And, Or}
+
+-- the value of a literal
+abbrev pub literal_datum : Written → Datum
+literal_datum literals.Null = Missing
+literal_datum (literals.Bool b) = Flag b
+literal_datum (literals.Number n) = Number n
+literal_datum (literals.Text bytes) = Bytes bytes
 
 -- the tree of an expression, without its boxes
 abbrev pub shape : Expression → Condition
 shape (expressions.Column place) = Column place
-shape (expressions.Literal value) = Literal value
+shape (expressions.Literal value) = Literal (literal_datum value)
 shape (expressions.Compare' how p a q b) = Compare how (shape a) (shape b)
 shape (expressions.Is' question negated p a) = Is question negated (shape a)
 shape (expressions.Not' p a) = Not (shape a)

@@ -1,5 +1,5 @@
 -- What a condition is of a row: true, false or unknown (PostgreSQL 15, 9.1 and 9.2, and 31.3.1 of row filters).
-use Rattle.std.specs.Prelude.{ℕ, Bool, true, false, not, ℤ, List, Option, Some, None, slice_get}
+use Rattle.std.specs.Prelude.{Bool, true, false, not, List, Option, Some, None, slice_get}
 use Rattle.std.specs.declared.cmp.Ordering.{Ordering}
 use Rattle.std.specs.Ordering.{nat_cmp, int_cmp, bool_cmp, is_eq, is_ne, is_lt, is_gt, is_le, is_ge}
 use Rattle.std.specs.Cmp.Lexicographic.{slice_cmp}
@@ -11,7 +11,7 @@ use Rattle.rowfilter.specs.declared.comparison.Comparison.{Comparison}
 use Rattle.rowfilter.specs.declared.comparison.Comparison.TheVariants.{Equal, NotEqual, Less, Greater, LessOrEqual, GreaterOrEqual}
 use Rattle.rowfilter.specs.declared.question.Question.{Question}
 use Rattle.rowfilter.specs.declared.question.Question.TheVariants as questions
-use Rattle.rowfilter.specs.Conditions.{Condition, Column, Literal, Compare, Is, Not, And, Or}
+use Rattle.rowfilter.specs.Conditions.{Datum, Missing, Flag, Number, Bytes, Condition, Column, Literal, Compare, Is, Not, And, Or}
 
 -- ---- three values
 
@@ -36,13 +36,6 @@ abbrev pub either : Truth → Truth → Truth
 either a b = opposite (both (opposite a) (opposite b))
 
 -- ---- values
-
--- a value as conditions see it: numbers of both widths are alike, and unknown is null
-pub data Datum : Type 0 where
-  Missing : Datum
-  Flag : Bool → Datum
-  Number : ℤ → Datum
-  Bytes : List ℕ → Datum
 
 abbrev pub datum_of : Value → Datum
 datum_of values.Null = Missing
@@ -104,7 +97,7 @@ datum_at (Some value) = datum_of value
 -- what an operand or a condition is in a row
 abbrev pub value_in : List Value → Condition → Datum
 value_in row (Column place) = datum_at (slice_get row place)
-value_in row (Literal value) = datum_of value
+value_in row (Literal datum) = datum
 value_in row (Compare how a b) = datum_of_truth (compared how (value_in row a) (value_in row b))
 value_in row (Is question negated a) = Flag (negated_if negated (asked question (value_in row a)))
 value_in row (Not a) = datum_of_truth (opposite (truth_of (value_in row a)))

@@ -5,6 +5,7 @@ ghost use Rattle.rowfilter.specs.Truth.{value_in};
 ghost use Rattle.rowfilter.specs.Shapes.{gathered, seen, shape};
 
 use crate::comparison::Comparison;
+use crate::literal::Literal;
 use crate::operand::Operand;
 use crate::question::Question;
 use crate::truth::Truth;
@@ -16,7 +17,7 @@ use tables::Value;
 pub(crate) enum Expression {
     /// The column at this place of its table.
     Column(usize),
-    Literal(Value),
+    Literal(Literal),
     Compare(Comparison, Box<Expression>, Box<Expression>),
     /// IS, or IS NOT where the flag is set.
     Is(Question, bool, Box<Expression>),
@@ -35,7 +36,7 @@ impl Expression {
                 Some(value) => Operand::of_value(value),
                 None => Operand::Null,
             },
-            Expression::Literal(value) => Operand::of_value(value),
+            Expression::Literal(literal) => Operand::of_literal(literal),
             Expression::Compare(how, a, b) => {
                 Operand::of_truth(a.evaluate(row).compared(*how, b.evaluate(row)))
             }

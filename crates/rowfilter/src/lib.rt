@@ -1,11 +1,15 @@
 //! Row filters: conditions over the row of a table, and which rows they are true of.
 #![tactic(auto)]
 
+mod class;
 mod comparison;
 mod expression;
 mod filter;
+mod lexer;
+mod literal;
 mod operand;
 mod question;
+mod token;
 mod truth;
 
 pub use filter::Filter;

@@ -2,9 +2,10 @@
 
 ghost use Rattle.std.specs.Prelude.{◌≡◌, option_map};
 ghost use Rattle.rowfilter.specs.Truth.{asked, compared, datum_of, datum_of_truth, ordering_of, truth_of};
-ghost use Rattle.rowfilter.specs.Shapes.{seen};
+ghost use Rattle.rowfilter.specs.Shapes.{literal_datum, seen};
 
 use crate::comparison::Comparison;
+use crate::literal::Literal;
 use crate::question::Question;
 use crate::truth::Truth;
 use std::cmp::Ordering;
@@ -16,7 +17,7 @@ pub(crate) enum Operand<'a> {
     Null,
     Bool(bool),
     Number(i64),
-    Text(&'a str),
+    Text(&'a [u8]),
 }
 
 impl<'a> Operand<'a> {
@@ -28,7 +29,18 @@ impl<'a> Operand<'a> {
             Value::Bool(b) => Operand::Bool(*b),
             Value::Int4(n) => Operand::Number(i64::from(*n)),
             Value::Int8(n) => Operand::Number(*n),
-            Value::Text(text) => Operand::Text(text.as_str()),
+            Value::Text(text) => Operand::Text(text.as_str().as_bytes()),
+        }
+    }
+
+    pub(crate) fn of_literal(literal: &'a Literal) -> Operand<'a>
+        ensures { seen result ≡ literal_datum literal.now }
+    {
+        match literal {
+            Literal::Null => Operand::Null,
+            Literal::Bool(b) => Operand::Bool(*b),
+            Literal::Number(n) => Operand::Number(*n),
+            Literal::Text(bytes) => Operand::Text(bytes.as_slice()),
         }
     }
 
