@@ -1,5 +1,6 @@
 -- The tokens that are read from a text are those that it spells.
 use Rattle.std.proofs.Common.{◌≡◌, ◌≢◌, ℕ, ◌<◌, ◌≤◌, Bool, true, false, cond, eqb, List, [], ◌∷◌, ◌++◌, length, Option, Some, None, refl, sym, ap, subst, ◌∙◌, append_assoc, arith}
+use Rattle.std.specs.List.{list_any}
 use Rattle.std.specs.Char.{is_ascii_digit}
 use Rattle.std.proofs.lemmas.Bool.{eqb-true}
 use Rattle.std.proofs.lemmas.Bool.Decides.{nat_tests}
@@ -10,7 +11,7 @@ use Rattle.rowfilter.specs.declared.token.Token.{Token}
 use Rattle.rowfilter.specs.declared.token.Token.TheVariants.{Word, Number, Quoted, Text, Mark, Pair, Stray}
 use Rattle.rowfilter.specs.declared.token.TheConstants.{NAME_QUOTE, TEXT_QUOTE, MINUS}
 use Rattle.rowfilter.specs.Tokens.{is_blank, is_first, is_later, is_mark, is_pair, doubled, spelled, without_minus, Each, begins, IsWhole, StartsWith, Spells}
-use Rattle.rowfilter.specs.Lexing.{is_of, run_of, after_run, quoted_at, closed, signed_at, one_mark, mark_at, token_behind, token_from, token_at, Lexes}
+use Rattle.rowfilter.specs.Lexing.{is_of, run_of, after_run, quoted_at, closed, signed_at, one_mark, mark_at, token_behind, token_from, token_at, Lexes, is_stray}
 use Rattle.rowfilter.proofs.Pieces.{if_true, if_false, run_takes, run_again, found, quoted_takes, quoted_again}
 
 -- ---- what is read is spelled
@@ -305,3 +306,39 @@ lexes_once text (t ∷ a) (u ∷ b) one other =
     let same = same_token t one.0 u other.0 (sym one.1 ∙ other.1) in
     let aligned : Lexes one.0 b = subst (λ (rest : List ℕ). Lexes rest b) (sym same.1) other.2 in
     ap (λ (x : Token). x ∷ a) same.0 ∙ ap (λ (l : List Token). u ∷ l) (lexes_once one.0 a b one.2 aligned)
+
+-- ---- no token is stray
+
+none_stray : (tokens : List Token) → list_any is_stray tokens ≡ false → NoneStray tokens
+none_stray [] none = tt
+none_stray (Word w ∷ tokens) none = ((λ is. absurd cc), none_stray tokens none)
+none_stray (Number w ∷ tokens) none = ((λ is. absurd cc), none_stray tokens none)
+none_stray (Quoted n ∷ tokens) none = ((λ is. absurd cc), none_stray tokens none)
+none_stray (Text t ∷ tokens) none = ((λ is. absurd cc), none_stray tokens none)
+none_stray (Mark b ∷ tokens) none = ((λ is. absurd cc), none_stray tokens none)
+none_stray (Pair b c ∷ tokens) none = ((λ is. absurd cc), none_stray tokens none)
+none_stray (Stray ∷ tokens) none = absurd cc
+
+whole_none : (token : Token) (rest : List ℕ) → IsWhole token rest → is_stray token ≡ false
+whole_none (Word w) rest whole = refl
+whole_none (Number w) rest whole = refl
+whole_none (Quoted n) rest whole = refl
+whole_none (Text t) rest whole = refl
+whole_none (Mark b) rest whole = refl
+whole_none (Pair b c) rest whole = refl
+whole_none Stray rest whole = absurd whole
+
+spelled_none : (text : List ℕ) (tokens : List Token) → Spells text tokens → list_any is_stray tokens ≡ false
+spelled_none text [] spells = refl
+spelled_none text (token ∷ tokens) spells = rw (whole_none token spells.0 spells.1.whole) (spelled_none spells.0 tokens spells.2)
+
+pub tokens_found : (text : List ℕ) (tokens : List Token) → Lexes text tokens → list_any is_stray tokens ≡ false → Spells text tokens
+tokens_found text tokens lexes none = lexes_spells text tokens (none_stray tokens none) lexes
+
+pub tokens_only : (text : List ℕ) (tokens other : List Token) → Lexes text tokens → Spells text other → tokens ≡ other
+tokens_only text tokens other lexes spells = lexes_once text tokens other lexes (spells_lexes text other spells)
+
+pub tokens_none : (text : List ℕ) (tokens other : List Token) → Lexes text tokens → list_any is_stray tokens ≡ true → Spells text other → ⊥
+tokens_none text tokens other lexes some spells =
+    let none : list_any is_stray tokens ≡ false = ap (list_any is_stray) (tokens_only text tokens other lexes spells) ∙ spelled_none text other spells in
+    absurd (let never : true ≡ false = sym some ∙ none in cc)

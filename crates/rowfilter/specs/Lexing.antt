@@ -1,5 +1,9 @@
 -- Reading tokens from the front of a text. Where none begins, the rest of the text is one of its own, which no filter has.
-use Rattle.std.specs.Prelude.{◌≡◌, ℕ, ◌==◌, List, [], ◌∷◌, ◌++◌, Option, Some, None, option_map, Bool, true, false, if◌then◌else◌}
+use Rattle.std.specs.Prelude.{Result, Ok, Err, ◌≡◌, ℕ, ◌==◌, List, [], ◌∷◌, ◌++◌, Option, Some, None, option_map, Bool, true, false, if◌then◌else◌}
+use Rattle.std.specs.declared.vec.Vec.{Vec}
+use Rattle.std.specs.declared.alloc.Global.{Global}
+use Rattle.rowfilter.specs.declared.fault.FilterFault.{FilterFault}
+use Rattle.rowfilter.specs.declared.fault.FilterFault.TheVariants.{Memory}
 use Rattle.std.specs.Borrow.{Bor}
 use Rattle.std.specs.Char.{is_ascii_digit}
 use Rattle.rowfilter.specs.declared.class.Class.{Class}
@@ -76,3 +80,13 @@ lent_token found = (found.0, found.1.now)
 
 abbrev pub lent : Option (Token × Bor (List ℕ)) → Option (Token × List ℕ)
 lent found = option_map (λ x. (x.0, x.1.now)) found
+
+abbrev pub is_stray : Token → Bool
+is_stray Stray = true
+is_stray _ = false
+
+-- A call that gives these tokens, unless memory ran out.
+abbrev pub GivesTokens : Result (Vec Token Global) FilterFault → List Token → Type 0
+GivesTokens (Ok x) tokens = x.items ≡ tokens
+GivesTokens (Err Memory) tokens = Unit {0}
+GivesTokens (Err _) tokens = ⊥

@@ -1,14 +1,18 @@
 //! From the text of a filter to its tokens.
 
-ghost use Rattle.std.specs.Prelude.{◌≡◌, ◌≤◌, ◌∷◌, ◌++◌, [], IfOk, IfSome, Some, MatchOption, option_map, length, false};
+ghost use Rattle.std.specs.Prelude.{◌⊎◌, List, IfErr, ◌≡◌, ◌≤◌, ◌∷◌, ◌++◌, [], IfOk, IfSome, Some, MatchOption, option_map, length, false};
+ghost use Rattle.std.specs.List.{list_any};
 ghost use Rattle.std.specs.Char.{is_ascii_digit};
 ghost use Rattle.rowfilter.specs.declared.token.Token.TheVariants.{Number, Quoted, Text, Word};
+ghost use Rattle.rowfilter.specs.declared.token.Token.{Token};
+ghost use Rattle.rowfilter.specs.declared.fault.FilterFault.TheVariants.{Memory, Syntax};
 ghost use Rattle.rowfilter.specs.declared.token.TheConstants.{NAME_QUOTE, TEXT_QUOTE};
 ghost use Rattle.rowfilter.specs.declared.class.Class.TheVariants as classes;
-ghost use Rattle.rowfilter.specs.Tokens.{begins, is_first, is_mark, is_pair};
-ghost use Rattle.rowfilter.specs.Lexing.{Lexes, after_run, closed, in_front, lent, lent_token, mark_at, one_mark, quoted_at, run_of, signed_at, token_at, token_behind, token_from};
+ghost use Rattle.rowfilter.specs.Tokens.{Spells, begins, is_first, is_mark, is_pair};
+ghost use Rattle.rowfilter.specs.Lexing.{GivesTokens, is_stray, Lexes, after_run, closed, in_front, lent, lent_token, mark_at, one_mark, quoted_at, run_of, signed_at, token_at, token_behind, token_from};
 
 use crate::class::Class;
+use crate::fault::FilterFault;
 use crate::token::{MINUS, NAME_QUOTE, TEXT_QUOTE, Token};
 use frames::Items;
 use std::alloc::{AllocError, Global};
@@ -220,8 +224,8 @@ fn token_of(alloc: Global, text: &[u8]) -> Result<Option<(Token, &[u8])>, AllocE
     Ok(Some(token_behind(alloc, *b, front, tail)?))
 }
 
-/// The tokens of a text, one behind the other.
-pub(crate) fn tokens_of(alloc: Global, text: &[u8]) -> Result<Vec<Token>, AllocError>
+/// The tokens of a text, one behind the other; the last one is stray where it has none.
+fn tokens_of(alloc: Global, text: &[u8]) -> Result<Vec<Token>, AllocError>
     ensures { IfOk result (λ tokens. Lexes text.now tokens.items) }
 {
     let mut tokens = Vec::new(alloc);
@@ -229,6 +233,32 @@ pub(crate) fn tokens_of(alloc: Global, text: &[u8]) -> Result<Vec<Token>, AllocE
     while let Some((token, rest)) = token_of(alloc, place)? {
         tokens.push(token)?;
         place = rest;
+    }
+    Ok(tokens)
+}
+
+fn is_stray(token: &Token) -> bool
+    ensures { result ≡ is_stray token.now }
+{
+    matches!(token, Token::Stray)
+}
+
+fn has_stray(tokens: &[Token]) -> bool
+    ensures { result ≡ list_any is_stray tokens.now }
+{
+    tokens.iter().any(|token| is_stray(token))
+}
+
+/// The tokens that the text spells; Syntax where it spells none.
+#[tactic(auto, using(crate::proofs::Lexemes::tokens_found, crate::proofs::Lexemes::tokens_only, crate::proofs::Lexemes::tokens_none))]
+pub(crate) fn read_tokens(alloc: Global, text: &str) -> Result<Vec<Token>, FilterFault>
+    ensures found { IfOk result (λ tokens. Spells text.now tokens.items) }
+    ensures only { (tokens : List Token) → Spells text.now tokens → GivesTokens result tokens }
+    ensures fault { IfErr result (λ e. (e ≡ Syntax) ⊎ (e ≡ Memory)) }
+{
+    let tokens = tokens_of(alloc, text.as_bytes())?;
+    if has_stray(tokens.as_slice()) {
+        return Err(FilterFault::Syntax);
     }
     Ok(tokens)
 }

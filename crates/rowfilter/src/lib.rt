@@ -4,6 +4,7 @@
 mod class;
 mod comparison;
 mod expression;
+mod fault;
 mod filter;
 mod lexer;
 mod literal;
@@ -12,5 +13,6 @@ mod question;
 mod token;
 mod truth;
 
+pub use fault::FilterFault;
 pub use filter::Filter;
 pub use truth::Truth;
