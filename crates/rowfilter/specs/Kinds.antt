@@ -3,17 +3,13 @@ use Rattle.std.specs.Prelude.{◌≡◌, Bool, true, false, ◌&&◌, List, Opti
 use Rattle.tables.specs.declared.column.Column.{Column as TableColumn}
 use Rattle.tables.specs.declared.kind.Kind.TheVariants as kinds
 use Rattle.tables.specs.declared.kind.Kind.{Kind}
+use Rattle.rowfilter.specs.declared.sort.Sort.{Sort}
+use Rattle.rowfilter.specs.declared.sort.Sort.TheVariants.{Any, Truths, Numbers, Texts}
 use Rattle.rowfilter.specs.declared.question.Question.{Question}
 use Rattle.rowfilter.specs.declared.question.Question.TheVariants as questions
 use Rattle.rowfilter.specs.Conditions.{Datum, Missing, Flag, Number, Bytes, Condition, Column, Literal, Compare, Is, Not, And, Or}
 
 -- int4 and int8 are both whole numbers; null is of any kind
-pub data Sort : Type 0 where
-  AnySort : Sort
-  Truths : Sort
-  Numbers : Sort
-  Texts : Sort
-
 abbrev pub sort_of_kind : Kind → Sort
 sort_of_kind kinds.Bool = Truths
 sort_of_kind kinds.Int4 = Numbers
@@ -21,14 +17,14 @@ sort_of_kind kinds.Int8 = Numbers
 sort_of_kind kinds.Text = Texts
 
 abbrev pub sort_of_datum : Datum → Sort
-sort_of_datum Missing = AnySort
+sort_of_datum Missing = Any
 sort_of_datum (Flag b) = Truths
 sort_of_datum (Number n) = Numbers
 sort_of_datum (Bytes text) = Texts
 
 abbrev pub are_compared : Sort → Sort → Bool
-are_compared AnySort b = true
-are_compared a AnySort = true
+are_compared Any b = true
+are_compared a Any = true
 are_compared Truths Truths = true
 are_compared Numbers Numbers = true
 are_compared Texts Texts = true
@@ -36,7 +32,7 @@ are_compared _ _ = false
 
 -- bool, or null, stands as a condition
 abbrev pub is_truth : Sort → Bool
-is_truth AnySort = true
+is_truth Any = true
 is_truth Truths = true
 is_truth _ = false
 

@@ -2,15 +2,17 @@
 
 ghost use Rattle.std.specs.Prelude.{◌≡◌, OnOk};
 ghost use Rattle.rowfilter.specs.Truth.{value_in};
+ghost use Rattle.rowfilter.specs.Kinds.{sort_of};
 ghost use Rattle.rowfilter.specs.Shapes.{gathered, seen, shape};
 
 use crate::comparison::Comparison;
 use crate::literal::Literal;
 use crate::operand::Operand;
 use crate::question::Question;
+use crate::sort::{Sort, truths_if};
 use crate::truth::Truth;
 use std::alloc::AllocError;
-use tables::Value;
+use tables::{Column, Value};
 
 /// A condition, or an operand of one.
 #[derive(Debug, Drop)]
@@ -69,6 +71,26 @@ impl Expression {
             Expression::Compare(_, a, b) | Expression::And(a, b) | Expression::Or(a, b) => {
                 a.gather(columns)?;
                 b.gather(columns)
+            }
+        }
+    }
+
+    /// Of what kind it is over these columns; None where it names none of them, or kinds don't go together.
+    pub(crate) fn sort(&self, columns: &[Column]) -> Option<Sort>
+        ensures { result ≡ sort_of columns.now (shape self.now) }
+    {
+        match self {
+            Expression::Column(place) => Some(Sort::of_kind(columns.get(*place)?.kind)),
+            Expression::Literal(literal) => Some(Sort::of_literal(literal)),
+            Expression::Compare(_, a, b) => {
+                truths_if(a.sort(columns)?.is_compared(b.sort(columns)?))
+            }
+            Expression::Is(question, _, a) => truths_if(a.sort(columns)?.is_asked(*question)),
+            Expression::Not(a) => truths_if(a.sort(columns)?.is_truth()),
+            Expression::And(a, b) | Expression::Or(a, b) => {
+                let left = a.sort(columns)?;
+                let right = b.sort(columns)?;
+                truths_if(left.is_truth() && right.is_truth())
             }
         }
     }

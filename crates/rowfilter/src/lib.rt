@@ -10,6 +10,7 @@ mod lexer;
 mod literal;
 mod operand;
 mod question;
+mod sort;
 mod token;
 mod truth;
 
