@@ -1,4 +1,4 @@
--- What a condition is of a row: true, false or unknown (PostgreSQL 15, 9.1 and 9.2, and 31.3.1 of row filters).
+-- What a condition is of a row: true, false or unknown (PostgreSQL 15, 9.1, 9.2 and 31.3).
 use Rattle.std.specs.Prelude.{Bool, true, false, not, List, Option, Some, None, slice_get}
 use Rattle.std.specs.declared.cmp.Ordering.{Ordering}
 use Rattle.std.specs.Ordering.{nat_cmp, int_cmp, bool_cmp, is_eq, is_ne, is_lt, is_gt, is_le, is_ge}
