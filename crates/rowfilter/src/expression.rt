@@ -1,0 +1,97 @@
+//! A condition as a tree, and what it is in a row.
+
+ghost use Rattle.std.specs.Prelude.{◌≡◌, OnOk};
+ghost use Rattle.rowfilter.specs.Truth.{value_in};
+ghost use Rattle.rowfilter.specs.Kinds.{sort_of};
+ghost use Rattle.rowfilter.specs.Shapes.{gathered, seen, shape};
+
+use crate::comparison::Comparison;
+use crate::literal::Literal;
+use crate::operand::Operand;
+use crate::question::Question;
+use crate::sort::{Sort, truths_if};
+use crate::truth::Truth;
+use std::alloc::AllocError;
+use tables::{Column, Value};
+
+/// A condition, or an operand of one.
+#[derive(Debug, Drop)]
+pub(crate) enum Expression {
+    /// The column at this place of its table.
+    Column(usize),
+    Literal(Literal),
+    Compare(Comparison, Box<Expression>, Box<Expression>),
+    /// IS, or IS NOT where the flag is set.
+    Is(Question, bool, Box<Expression>),
+    Not(Box<Expression>),
+    And(Box<Expression>, Box<Expression>),
+    Or(Box<Expression>, Box<Expression>),
+}
+
+impl Expression {
+    /// What it is in the row of these values.
+    pub(crate) fn evaluate<'a>(&'a self, row: &'a [Value]) -> Operand<'a>
+        ensures { seen result ≡ value_in row.now (shape self.now) }
+    {
+        match self {
+            Expression::Column(place) => match row.get(*place) {
+                Some(value) => Operand::of_value(value),
+                None => Operand::Null,
+            },
+            Expression::Literal(literal) => Operand::of_literal(literal),
+            Expression::Compare(how, a, b) => {
+                Operand::of_truth(a.evaluate(row).compared(*how, b.evaluate(row)))
+            }
+            Expression::Is(question, is_negated, a) => {
+                Operand::Bool(a.evaluate(row).is(*question) != *is_negated)
+            }
+            Expression::Not(a) => Operand::of_truth(a.evaluate(row).truth().not()),
+            Expression::And(a, b) => {
+                Operand::of_truth(a.evaluate(row).truth().and(b.evaluate(row).truth()))
+            }
+            Expression::Or(a, b) => {
+                Operand::of_truth(a.evaluate(row).truth().or(b.evaluate(row).truth()))
+            }
+        }
+    }
+
+    /// Adds the columns that it names and that aren't there yet.
+    pub(crate) fn gather(&self, columns: &mut Vec<usize>) -> Result<(), AllocError>
+        ensures { OnOk result (columns.new.items ≡ gathered (shape self.now) columns.old.items) }
+    {
+        match self {
+            Expression::Column(place) => {
+                if !columns.as_slice().contains(place) {
+                    columns.push(*place)?;
+                }
+                Ok(())
+            }
+            Expression::Literal(_) => Ok(()),
+            Expression::Is(_, _, a) | Expression::Not(a) => a.gather(columns),
+            Expression::Compare(_, a, b) | Expression::And(a, b) | Expression::Or(a, b) => {
+                a.gather(columns)?;
+                b.gather(columns)
+            }
+        }
+    }
+
+    /// Of what kind it is over these columns; None where it names none of them, or kinds don't go together.
+    pub(crate) fn sort(&self, columns: &[Column]) -> Option<Sort>
+        ensures { result ≡ sort_of columns.now (shape self.now) }
+    {
+        match self {
+            Expression::Column(place) => Some(Sort::of_kind(columns.get(*place)?.kind)),
+            Expression::Literal(literal) => Some(Sort::of_literal(literal)),
+            Expression::Compare(_, a, b) => {
+                truths_if(a.sort(columns)?.is_compared(b.sort(columns)?))
+            }
+            Expression::Is(question, _, a) => truths_if(a.sort(columns)?.is_asked(*question)),
+            Expression::Not(a) => truths_if(a.sort(columns)?.is_truth()),
+            Expression::And(a, b) | Expression::Or(a, b) => {
+                let left = a.sort(columns)?;
+                let right = b.sort(columns)?;
+                truths_if(left.is_truth() && right.is_truth())
+            }
+        }
+    }
+}
