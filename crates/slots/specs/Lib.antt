@@ -1,1 +1,4 @@
 pub mod Directories
+pub mod Standings
+pub mod Facts
+pub mod Rule

@@ -3,6 +3,16 @@
 
 mod directory;
 mod fault;
+mod lease;
+mod rule;
+mod seat;
+mod standing;
+mod step;
 
 pub use directory::Directory;
 pub use fault::SlotFault;
+pub use lease::Lease;
+pub use rule::SlotName;
+pub use seat::SlotSeat;
+pub use standing::Standing;
+pub use step::{SlotKind, SlotStep, View};
