@@ -5,13 +5,13 @@ use Rattle.slots.specs.declared.step.SlotKind.TheVariants.{Create, Claim, Read, 
 use Rattle.slots.specs.declared.step.SlotStep.{SlotStep}
 
 pub record Facts : Type 0 where
-  pub state : ℕ              -- what its last step on the state word left
-  pub position : ℕ           -- what its last step on the position left
-  pub held : Bool            -- it took the place, and didn't release it since
-  pub known : Option ℕ       -- the position that its last read or raise left, since it took the place
-  pub top : ℕ                -- the greatest position that was found or left
-  pub gone : Bool            -- "dropped" was found or left
-  pub rising : Bool          -- no position was found below an earlier one
+  pub state : ℕ  -- what its last step on the state word left
+  pub position : ℕ  -- what its last step on the position left
+  pub held : Bool  -- it took the place, and didn't release it since
+  pub known : Option ℕ  -- the position that its last read or raise left, since it took the place
+  pub top : ℕ  -- the greatest position that was found or left
+  pub gone : Bool  -- "dropped" was found or left
+  pub rising : Bool  -- no position was found below an earlier one
 
 -- before any step: never made, at position 0
 abbrev pub no_facts : Facts

@@ -2,3 +2,4 @@ pub mod Directories
 pub mod Standings
 pub mod Facts
 pub mod Rule
+pub mod Seats

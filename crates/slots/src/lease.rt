@@ -8,7 +8,6 @@ use std::marker::PhantomData;
 /// A place that a seat holds. It must be spent, by the seat that claimed it.
 pub struct Lease<L: SlotName> {
     pub place: usize,
-    pub by: u64,
-    pub of: PhantomData<L>,
-    pub ghost inside: { place < 16 },
+    pub(crate) of: PhantomData<L>,
+    ghost inside: { place < 16 },
 }

@@ -8,6 +8,7 @@ mod rule;
 mod seat;
 mod standing;
 mod step;
+mod table;
 
 pub use directory::Directory;
 pub use fault::SlotFault;
@@ -16,3 +17,4 @@ pub use rule::SlotName;
 pub use seat::SlotSeat;
 pub use standing::Standing;
 pub use step::{SlotKind, SlotStep, View};
+pub use table::{PLACES, SlotTable};

@@ -1,6 +1,6 @@
 //! How a slot place stands, and the word that says so.
 
-ghost use Rattle.std.specs.Prelude.{◌≡◌};
+ghost use Rattle.std.specs.Prelude.{◌≡◌, ◌<◌, ◌^◌};
 ghost use Rattle.slots.specs.Standings.{standing_of, word_of};
 
 /// How a place stands. A place is made once, and never used again after a drop.
@@ -24,6 +24,20 @@ impl Standing {
             1 => Standing::Free,
             2 => Standing::Dropped,
             _ => Standing::Held(word - 3),
+        }
+    }
+
+    /// The word that says so.
+    pub fn word(self) -> u64
+        requires { word_of self < 2 ^ 64 }
+        ensures word { result ≡ word_of self }
+        ensures back { standing_of result ≡ self }
+    {
+        match self {
+            Standing::Never => 0,
+            Standing::Free => 1,
+            Standing::Dropped => 2,
+            Standing::Held(seat) => seat + 3,
         }
     }
 }
