@@ -4,3 +4,4 @@ pub mod Moves
 pub mod Steps
 pub mod Seating
 pub mod Holding
+pub mod Creating

@@ -1,5 +1,5 @@
 -- The rule holds of a new table, and a seat more keeps it.
-use Rattle.std.proofs.Common.{◌≡◌, ℕ, zero, suc, ◌+◌, ◌<◌, ◌≤◌, ◌≢◌, ◌⊎◌, inl, inr, Bool, true, false, List, [], ◌∷◌, ◌++◌, length, replicate, get_or, set, sym, refl, ap, ◌∙◌, subst, arith, ⊎_elim, length-set, length-append}
+use Rattle.std.proofs.Common.{◌≡◌, ℕ, zero, suc, ◌+◌, ◌<◌, ◌≤◌, ◌≢◌, ◌⊎◌, inl, inr, Bool, true, false, List, [], ◌∷◌, ◌++◌, length, replicate, get_or, set, sym, refl, ap, ◌∙◌, subst, arith, ⊎_elim, length-set, length-append, cond, ne_eqb}
 use Rattle.std.specs.Prelude.{slice_index}
 use Rattle.std.proofs.lemmas.Bool.{false≢true}
 use mathlib.Core.Option.{some, some-ne-none, some-injective}
@@ -10,6 +10,7 @@ use Rattle.slots.specs.declared.step.View.{View}
 use Rattle.slots.specs.Standings.{held_by}
 use Rattle.slots.specs.Facts.{Facts, facts, no_facts}
 use Rattle.slots.specs.Rule.{Agrees, Leaves, Kept, first_view, one_more, newest}
+use Rattle.slots.specs.Seats.{IsFresh}
 use Rattle.slots.proofs.Moves.{St, at_one}
 use Rattle.slots.proofs.Steps.{within}
 
@@ -97,3 +98,9 @@ splits id v some_seat s kept at = record {
 
     none_there : (u : View) → newest v ≡ u → 0 < u.seats → ⊥
     none_there u e more = let n : u.seats ≡ 0 = ap (λ (w : View). w.seats) (sym e) in omega arith
+
+pub newest_is_fresh : (seats n : ℕ) (v : View) → v ≡ newest (record { number = 0; seats = suc n; steps = [] }) → IsFresh seats v
+newest_is_fresh seats n v e = subst (IsFresh seats) (sym e) (refl, sym (ap (λ (b : Bool). cond b seats 0) (ne_eqb (suc n) 0 (λ h. omega arith))))
+
+pub first_is_fresh : (seats n : ℕ) (v : View) → n ≡ seats → v ≡ record { number = 0; seats = n; steps = [] } → IsFresh seats v
+first_is_fresh seats n v is e = subst (IsFresh seats) (sym e) (refl, is)

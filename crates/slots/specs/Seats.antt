@@ -1,5 +1,5 @@
 -- What the calls of a table say of the seat that makes them.
-use Rattle.std.specs.Prelude.{◌≡◌, ℕ, suc, ◌+◌, ◌<◌, true, cond, ◌==◌, List, [], ◌∷◌, ◌++◌, max}
+use Rattle.std.specs.Prelude.{◌≡◌, ℕ, suc, ◌+◌, ◌<◌, true, cond, ◌==◌, List, [], length, ◌∷◌, ◌++◌, max}
 use Rattle.slots.specs.declared.fault.SlotFault.{SlotFault}
 use Rattle.slots.specs.declared.fault.SlotFault.TheVariants.{Missing, InUse}
 use Rattle.slots.specs.declared.step.SlotKind.{SlotKind}
@@ -37,3 +37,29 @@ passed place (found ∷ founds) = slot_step Create place found found ∷ passed 
 -- the steps of a create that took this place, raised it to the position and released it
 abbrev pub created : ℕ → ℕ → List ℕ → ℕ → ℕ → List SlotStep
 created place seat founds found position = passed 0 founds ++ slot_step Create place 0 (held_by seat) ∷ slot_step Raise place found (max found position) ∷ slot_step Release place (held_by seat) 1 ∷ []
+
+-- a create found these words at the places from `place` on, and none of them was 0
+abbrev pub AreTaken : View → ℕ → List ℕ → Type 0
+AreTaken v place [] = Unit {0}
+AreTaken v place (found ∷ founds) = (found ≡ 0 → ⊥) × StandsAs v place found × AreTaken v (suc place) founds
+
+-- a create took this place, the first that was never made
+pub record Created (old : View) (position place : ℕ) (new : View) : Type 0 where
+  pub founds : List ℕ
+  pub count : length founds ≡ place
+  pub taken : AreTaken old 0 founds
+  pub never : StandsAs old place 0
+  pub found : ℕ
+  pub follows : FollowsOn old place found
+  pub steps : new ≡ with_steps old (created place old.number founds found position)
+
+-- a create found each of the 16 places taken
+pub record NoneLeft (old new : View) : Type 0 where
+  pub founds : List ℕ
+  pub count : length founds ≡ 16
+  pub taken : AreTaken old 0 founds
+  pub steps : new ≡ with_steps old (passed 0 founds)
+
+-- the view of a new seat, of as many: the one of number 0 knows how many there are
+abbrev pub IsFresh : ℕ → View → Type 0
+IsFresh seats v = (v.steps ≡ []) × (v.seats ≡ cond (v.number == 0) seats 0)

@@ -4,6 +4,7 @@
 mod directory;
 mod fault;
 mod lease;
+mod opened;
 mod rule;
 mod seat;
 mod standing;
@@ -13,6 +14,7 @@ mod table;
 pub use directory::Directory;
 pub use fault::SlotFault;
 pub use lease::Lease;
+pub use opened::OpenedSlots;
 pub use rule::SlotName;
 pub use seat::SlotSeat;
 pub use standing::Standing;

@@ -14,12 +14,12 @@ pub struct SlotSeat<L: SlotName> {
 }
 
 impl<L: SlotName> Model for SlotSeat<L> {
-    ghost use Rattle.std.specs.Prelude.{◌≡◌, ◌<◌, ◌^◌, []};
+    ghost use Rattle.std.specs.Prelude.{◌≡◌, ◌≤◌, ◌^◌, []};
     ghost use Rattle.slots.specs.declared.step.View.{View};
 
     ghost Value = { View };
 
     ghost view = { λ s. s.seat.me.0 };
 
-    ghost invariant = { λ s. (s.seat.table_id ≡ L.table) × (s.seat.me.0.number ≡ s.number) × (s.seat.me.1 ≡ []) × (s.number < 2 ^ 63) };
+    ghost invariant = { λ s. (s.seat.table_id ≡ L.table) × (s.seat.me.0.number ≡ s.number) × (s.seat.me.1 ≡ []) × (s.number ≤ 2 ^ 63) };
 }

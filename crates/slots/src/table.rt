@@ -2,9 +2,9 @@
 
 ghost use Rattle.std.specs.Prelude.{◌≡◌, ℕ, List, ◌+◌, ◌++◌, ◌<◌, ◌≢◌, All, IfOk, MatchOption, MatchResult, [], length, max, vec_len};
 ghost use Rattle.slots.specs.Rule.{slot_step, with_step};
-ghost use Rattle.slots.specs.Seats.{Did, DidAt, Holds, IsRefusal, created, passed, with_steps};
+ghost use Rattle.slots.specs.Seats.{Created, Did, DidAt, Holds, IsRefusal, NoneLeft};
 ghost use Rattle.slots.specs.Standings.{held_by};
-ghost use Rattle.slots.specs.declared.fault.SlotFault.{SlotFault};
+ghost use Rattle.slots.specs.declared.fault.SlotFault.TheVariants.{NoPlace};
 ghost use Rattle.slots.specs.declared.step.SlotKind.TheVariants.{Claim, Create, Raise, Read, Release, Retire};
 
 use crate::fault::SlotFault;
@@ -30,6 +30,43 @@ pub struct SlotTable<L: SlotName> {
 }
 
 impl<L: SlotName> SlotTable<L> {
+    /// Takes the place if it was never made.
+    #[tactic(auto, using(crate::proofs::Holding::created_holds))]
+    fn take_new(&self, seat: &mut SlotSeat<L>, place: usize) -> Option<Lease<L>>
+        requires { place < 16 }
+        ensures { MatchOption result
+            ((found : ℕ) × (found ≢ 0) × Did Create place found found seat.old seat.new)
+            (λ lease. (lease.place ≡ place) × Holds place seat.new × Did Create place 0 (held_by seat.old.number) seat.old seat.new) }
+    {
+        let never = Standing::Never.word();
+        let mine = Standing::Held(seat.number).word();
+        let shared = &self.table.shared;
+        let found = shared.compare_exchange::<Creates>(&mut seat.seat, place, never, mine);
+        match Standing::of_word(found) {
+            Standing::Never => Some(Lease {
+                place,
+                of: PhantomData,
+            }),
+            _ => None,
+        }
+    }
+
+    /// Makes a slot at the first place that was never made, and confirms this position. It is free then. With no such place it is L4.
+    pub fn create(&self, seat: &mut SlotSeat<L>, position: u64) -> Result<usize, SlotFault>
+        ensures { MatchResult result
+            (λ place. (place < 16) × Created seat.old position place seat.new)
+            (λ e. (e ≡ NoPlace) × NoneLeft seat.old seat.new) }
+    {
+        for place in 0..PLACES {
+            if let Some(mut lease) = self.take_new(seat, place) {
+                self.confirm(seat, &mut lease, position);
+                self.release(seat, lease);
+                return Ok(place);
+            }
+        }
+        Err(SlotFault::NoPlace)
+    }
+
     /// One compare and exchange, which takes a free place. A held one is L2, one that was never made or was dropped L1.
     #[tactic(auto, using(crate::proofs::Holding::claimed_holds))]
     pub fn claim(&self, seat: &mut SlotSeat<L>, place: usize) -> Result<Lease<L>, SlotFault>
