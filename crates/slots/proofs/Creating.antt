@@ -1,13 +1,13 @@
 -- A create, place by place.
-use Rattle.std.proofs.Common.{◌≡◌, ℕ, suc, ◌+◌, ◌<◌, ◌≤◌, true, max, List, [], ◌∷◌, ◌++◌, length, sym, refl, ap, ◌∙◌, subst, arith, append_assoc, append-nil}
+use Rattle.std.proofs.Common.{◌≡◌, ℕ, suc, ◌+◌, ◌≤◌, max, List, [], ◌∷◌, ◌++◌, length, sym, refl, ap, ◌∙◌, subst, arith, append_assoc, append-nil}
 use Rattle.std.proofs.lemmas.List.{length_push}
 use Rattle.slots.specs.declared.step.SlotKind.TheVariants.{Create, Raise, Release}
 use Rattle.slots.specs.declared.step.SlotStep.{SlotStep}
 use Rattle.slots.specs.declared.step.View.{View}
 use Rattle.slots.specs.Standings.{held_by}
 use Rattle.slots.specs.Facts.{Facts, facts, facts_after}
-use Rattle.slots.specs.Rule.{StandsAs, FollowsOn, slot_step, with_step}
-use Rattle.slots.specs.Seats.{Holds, Did, DidAt, with_steps, passed, created, AreTaken, Created, NoneLeft}
+use Rattle.slots.specs.Rule.{StandsAs, slot_step, with_step}
+use Rattle.slots.specs.Seats.{Did, DidAt, with_steps, passed, AreTaken, Created}
 use Rattle.slots.proofs.Facts.{facts_here, facts_there}
 
 passed_snoc : (i : ℕ) (xs : List ℕ) (x : ℕ) → passed i (xs ++ x ∷ []) ≡ passed i xs ++ slot_step Create (i + length xs) x x ∷ []
@@ -59,8 +59,8 @@ module _ (v : View) (n : ℕ) (u : View) (so_far : Passed v n u) where
     taken = taken_snoc v 0 so_far.founds x so_far.taken not (subst (λ (p : ℕ). StandsAs v p x) (sym at) (stands_back v u n x same_facts same_number same_seats did.1));
     steps = did.0 ∙ ap (λ (z : View). with_step z (slot_step Create n x x)) so_far.steps
         ∙ ap (λ (l : List SlotStep). record { number = v.number; seats = v.seats; steps = l })
-            (append_assoc v.steps (passed 0 so_far.founds) (slot_step Create n x x ∷ [])
-            ∙ ap (λ (l : List SlotStep). v.steps ++ l) (ap (λ (p : ℕ). passed 0 so_far.founds ++ slot_step Create p x x ∷ []) (sym at) ∙ sym (passed_snoc 0 so_far.founds x)));
+        (append_assoc v.steps (passed 0 so_far.founds) (slot_step Create n x x ∷ [])
+        ∙ ap (λ (l : List SlotStep). v.steps ++ l) (ap (λ (p : ℕ). passed 0 so_far.founds ++ slot_step Create p x x ∷ []) (sym at) ∙ sym (passed_snoc 0 so_far.founds x)));
   }
 
   pub one_created : (a b w : View) (found position to : ℕ) → Did Create n 0 (held_by u.number) u a → to ≡ max found position → DidAt Raise n found to a b

@@ -1,5 +1,5 @@
 -- What one more step adds to the facts of a place.
-use Rattle.std.proofs.Common.{◌≡◌, ℕ, Bool, true, false, cond, eqb, List, [], ◌∷◌, ◌++◌, refl, ap, ◌∙◌, eq-eqb, ne_eqb}
+use Rattle.std.proofs.Common.{◌≡◌, ℕ, Bool, cond, eqb, List, [], ◌∷◌, ◌++◌, refl, ap, ◌∙◌, eq-eqb, ne_eqb}
 use Rattle.slots.specs.declared.step.SlotStep.{SlotStep}
 use Rattle.slots.specs.Facts.{Facts, facts, facts_from, facts_after, no_facts}
 

@@ -1,8 +1,8 @@
 -- Which steps keep a place held.
-use Rattle.std.proofs.Common.{◌≡◌, ℕ, ◌+◌, ◌-◌, true, List, [], ◌∷◌, sym, refl, ap, ◌∙◌, subst, arith}
+use Rattle.std.proofs.Common.{◌≡◌, ℕ, ◌+◌, ◌-◌, List, sym, refl, ap, ◌∙◌, subst, arith}
 use Rattle.slots.specs.declared.step.SlotKind.TheVariants.{Create, Claim, Read, Raise}
 use Rattle.slots.specs.declared.step.View.{View}
-use Rattle.slots.specs.Facts.{Facts, facts}
+use Rattle.slots.specs.Facts.{Facts}
 use Rattle.slots.specs.Rule.{slot_step, with_step}
 use Rattle.slots.specs.Seats.{Holds}
 use Rattle.slots.proofs.Facts.{facts_here}

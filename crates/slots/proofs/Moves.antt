@@ -1,16 +1,16 @@
 -- A step of one seat on one word keeps the rule, where it keeps what the rule says of its place.
-use Rattle.std.proofs.Common.{◌≡◌, ℕ, zero, suc, ◌+◌, ◌-◌, ◌<◌, ◌≤◌, ◌≢◌, ◌⊎◌, inl, inr, List, [], ◌∷◌, ◌++◌, length, get_or, set, sym, refl, ap, ◌∙◌, subst, arith, ⊎_elim, length-set, get_or-set_same, get_or-set_other}
+use Rattle.std.proofs.Common.{◌≡◌, ℕ, zero, suc, ◌+◌, ◌<◌, ◌≢◌, List, [], ◌∷◌, ◌++◌, length, set, sym, refl, ap, ◌∙◌, subst, arith, ⊎_elim, length-set}
 use Rattle.std.specs.Prelude.{slice_index}
 use Rattle.std.proofs.lemmas.Bool.{cases_eq}
 use mathlib.Core.Option.{some, some-ne-none}
 use lib.ListN.{get_elem?}
-use Rattle.atomic_table.specs.Table.{State, Me, Act, keeps, stepped}
+use Rattle.atomic_table.specs.Table.{State}
 use Rattle.atomic_table.proofs.Lists.{at_set}
 use Rattle.slots.specs.declared.step.SlotStep.{SlotStep}
 use Rattle.slots.specs.declared.step.View.{View}
 use Rattle.slots.specs.Facts.{Facts, facts}
 use Rattle.slots.specs.Rule.{Agrees, Leaves, Kept, with_step}
-use Rattle.slots.proofs.Facts.{facts_here, facts_there}
+use Rattle.slots.proofs.Facts.{facts_there}
 
 abbrev pub St : Type 0
 St = State (Unit {0}) View

@@ -1,17 +1,16 @@
 -- The rule holds of a new table, and a seat more keeps it.
-use Rattle.std.proofs.Common.{◌≡◌, ℕ, zero, suc, ◌+◌, ◌<◌, ◌≤◌, ◌≢◌, ◌⊎◌, inl, inr, Bool, true, false, List, [], ◌∷◌, ◌++◌, length, replicate, get_or, set, sym, refl, ap, ◌∙◌, subst, arith, ⊎_elim, length-set, length-append, cond, ne_eqb}
+use Rattle.std.proofs.Common.{◌≡◌, ℕ, zero, suc, ◌+◌, ◌<◌, ◌⊎◌, inl, inr, Bool, List, [], ◌∷◌, ◌++◌, length, replicate, get_or, set, sym, refl, ap, ◌∙◌, subst, arith, ⊎_elim, length-set, length-append, cond, ne_eqb}
 use Rattle.std.specs.Prelude.{slice_index}
 use Rattle.std.proofs.lemmas.Bool.{false≢true}
 use mathlib.Core.Option.{some, some-ne-none, some-injective}
 use lib.ListN.{get_elem?}
-use Rattle.atomic_table.specs.Table.{State, Splits, opening}
+use Rattle.atomic_table.specs.Table.{Splits, opening}
 use Rattle.atomic_table.proofs.Lists.{at_set}
 use Rattle.slots.specs.declared.step.View.{View}
 use Rattle.slots.specs.Standings.{held_by}
-use Rattle.slots.specs.Facts.{Facts, facts, no_facts}
+use Rattle.slots.specs.Facts.{facts, no_facts}
 use Rattle.slots.specs.Rule.{Agrees, Leaves, Kept, first_view, one_more, newest}
 use Rattle.slots.specs.Seats.{IsFresh}
-use Rattle.slots.proofs.Moves.{St, at_one}
 use Rattle.slots.proofs.Steps.{within}
 
 at_end : (l : List View) (a b : View) (j : ℕ) → get_elem? (l ++ a ∷ []) j ≡ some b → (get_elem? l j ≡ some b) ⊎ ((j ≡ length l) × (a ≡ b))

@@ -1,5 +1,5 @@
 -- What the steps of one seat say of one place. The words of a place: 0 was never made, 1 is free, 2 was dropped, n + 3 is held by seat n.
-use Rattle.std.specs.Prelude.{ℕ, ◌==◌, Bool, true, false, ◌&&◌, ◌||◌, not, cond, List, [], ◌∷◌, ◌++◌, Option, Some, None, max, nat_lt}
+use Rattle.std.specs.Prelude.{ℕ, ◌==◌, Bool, true, false, ◌&&◌, ◌||◌, not, cond, List, [], ◌∷◌, Option, Some, None, max, nat_lt}
 use Rattle.slots.specs.declared.step.SlotKind.{SlotKind}
 use Rattle.slots.specs.declared.step.SlotKind.TheVariants.{Create, Claim, Read, Raise, Release, Retire}
 use Rattle.slots.specs.declared.step.SlotStep.{SlotStep}

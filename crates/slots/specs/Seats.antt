@@ -1,5 +1,5 @@
 -- What the calls of a table say of the seat that makes them.
-use Rattle.std.specs.Prelude.{◌≡◌, ℕ, suc, ◌+◌, ◌<◌, true, cond, ◌==◌, List, [], length, ◌∷◌, ◌++◌, max}
+use Rattle.std.specs.Prelude.{◌≡◌, ℕ, suc, ◌<◌, true, cond, ◌==◌, List, [], length, ◌∷◌, ◌++◌, max}
 use Rattle.slots.specs.declared.fault.SlotFault.{SlotFault}
 use Rattle.slots.specs.declared.fault.SlotFault.TheVariants.{Missing, InUse}
 use Rattle.slots.specs.declared.step.SlotKind.{SlotKind}

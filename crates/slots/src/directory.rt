@@ -12,7 +12,7 @@ use std::collections::BTreeMap;
 #[derive(Drop)]
 pub struct Directory {
     alloc: Global,
-    pub places: BTreeMap<String, usize>,
+    places: BTreeMap<String, usize>,
 }
 
 impl Directory {

@@ -62,6 +62,12 @@ impl OpenedSlots {
             seat: first,
             of: PhantomData,
         })?;
-        Ok((SlotTable { table, of: PhantomData }, others))
+        Ok((
+            SlotTable {
+                table,
+                of: PhantomData,
+            },
+            others,
+        ))
     }
 }

@@ -23,10 +23,10 @@ pub const PLACES: usize = 16;
 /// The places of slots. Each call is made by a thread's own seat, takes no memory and waits for nobody.
 #[derive(Drop)]
 pub struct SlotTable<L: SlotName> {
-    pub table: Table<(), View, (), Law, Global>,
-    pub of: PhantomData<L>,
-    pub ghost named: { table.shared.table_id ≡ L.table },
-    pub ghost wide: { table.shared.table_id.words ≡ 32 },
+    pub(crate) table: Table<(), View, (), Law, Global>,
+    pub(crate) of: PhantomData<L>,
+    ghost named: { table.shared.table_id ≡ L.table },
+    ghost wide: { table.shared.table_id.words ≡ 32 },
 }
 
 impl<L: SlotName> SlotTable<L> {

@@ -1,4 +1,4 @@
-use Rattle.std.proofs.Common.{◌≡◌, ℕ, suc, ◌+◌, ◌<◌, All, List, [], length, sym, ap, subst, ◌∙◌, arith, rules}
+use Rattle.std.proofs.Common.{◌≡◌, ℕ, suc, ◌+◌, ◌<◌, All, [], length, sym, ap, subst, ◌∙◌, arith}
 use Rattle.std.proofs.lemmas.List.{length_push}
 use Rattle.std.proofs.lemmas.List.Elements.{All-push}
 use Rattle.slots.specs.declared.step.View.{View}
@@ -33,8 +33,7 @@ loop-preserved g c =
     let items = c.in_ok-push.ensures.items in
     let longer : length c.push.new.self.items ≡ length c.loop.others.items + 1 = ap length items ∙ length_push c.loop.others.items _ in
     let count = c.loop.invariant.2 in
-    let seats : suc (length c.loop.others.items) + 1 ≡ suc (length c.push.new.self.items) = omega (arith, longer) in
-    (
+    let seats : suc (length c.loop.others.items) + 1 ≡ suc (length c.push.new.self.items) = omega (arith, longer) in (
       split.0 ∙ c.loop.invariant.0,
       split.2 ∙ ap (λ m. (one_more m.0, m.1)) c.loop.invariant.1 ∙ ap (λ (n : ℕ). (with_seats n, [])) seats,
       omega (arith, longer, count),
@@ -49,8 +48,7 @@ returns g c =
     let ends = c.loop.auto.counter-end c.requires.seats in
     let reached = c.loop-test.false in
     let ok = c.push-2.new.self.ok in
-    let done : suc (length c.loop.others.items) ≡ c.args.seats = omega (arith, count, ends, reached) in
-    (
+    let done : suc (length c.loop.others.items) ≡ c.args.seats = omega (arith, count, ends, reached) in (
       omega (arith, longer, done, ok),
       subst (All (IsFresh c.args.seats)) (sym items) (All-push (IsFresh c.args.seats) c.loop.others.items _ c.loop.invariant.3 (first_is_fresh c.args.seats (suc (length c.loop.others.items)) _ done (ap (λ m. m.0) c.loop.invariant.1))),
     )

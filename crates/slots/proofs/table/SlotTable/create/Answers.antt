@@ -11,8 +11,7 @@ returns-in-Some g c =
     let at = c.in-Some.ensures.0 in
     let raised = c.confirm.ensures.raised in
     let kept = ap (λ l. l.place) c.confirm.ensures.lease.0 in
-    let low = c.loop-place-test.true in
-    (
+    let low = c.loop-place-test.true in (
       omega (arith, low),
       one_created c.args.seat.now c.loop-place.place c.loop-place.seat c.loop-place.invariant c.take_new.new.seat c.confirm.new.seat c.release.new.seat raised.0 c.args.position c.confirm.result
           c.in-Some.ensures.2
