@@ -79,7 +79,8 @@ impl<L: SlotName> SlotTable<L> {
         let mine = Standing::Held(seat.number).word();
         let shared = &self.table.shared;
         let found = shared.compare_exchange::<Claims>(&mut seat.seat, place, free, mine);
-        match Standing::of_word(found) {
+        let standing = Standing::of_word(found);
+        match standing {
             Standing::Free => Ok(Lease {
                 place,
                 of: PhantomData,
