@@ -60,6 +60,10 @@ pub record NoneLeft (old new : View) : Type 0 where
   pub taken : AreTaken old 0 founds
   pub steps : new ≡ with_steps old (passed 0 founds)
 
+-- the view of the first of as many new seats
+abbrev pub first_of : ℕ → View
+first_of seats = record { number = 0; seats = seats; steps = [] }
+
 -- the view of a new seat, of as many: the one of number 0 knows how many there are
 abbrev pub IsFresh : ℕ → View → Type 0
 IsFresh seats v = (v.steps ≡ []) × (v.seats ≡ cond (v.number == 0) seats 0)

@@ -1,8 +1,9 @@
 //! A table of slots before it is named.
 
-ghost use Rattle.std.specs.Prelude.{◌≡◌, ◌<◌, All, IfOk, [], vec_len};
+ghost use Rattle.std.specs.Prelude.{◌≡◌, ◌<◌, ◌++◌, ◌∷◌, All, IfOk, List, [], vec_len};
 ghost use Rattle.slots.specs.Rule.{first_view};
-ghost use Rattle.slots.specs.Seats.{IsFresh};
+ghost use Rattle.slots.specs.Seats.{IsFresh, first_of};
+ghost use Rattle.slots.specs.declared.step.View.{View};
 
 use crate::rule::{Law, Seats, SlotName};
 use crate::seat::SlotSeat;
@@ -40,7 +41,7 @@ impl OpenedSlots {
     ) -> Result<(SlotTable<L>, Vec<SlotSeat<L>>), AllocError>
         requires name { self.first.table_id ≡ L.table }
         requires seats { 0 < seats }
-        ensures { IfOk result (λ made. (vec_len made.1 ≡ seats) × All (IsFresh seats) made.1.items) }
+        ensures { IfOk result (λ made. (vec_len made.1 ≡ seats) × All (IsFresh seats) made.1.items × ((others : List View) × (made.1.items ≡ others ++ first_of seats ∷ []))) }
     {
         let OpenedSlots {
             alloc,

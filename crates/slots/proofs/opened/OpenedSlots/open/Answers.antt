@@ -1,4 +1,4 @@
-use Rattle.std.proofs.Common.{◌≡◌, ℕ, suc, ◌+◌, ◌<◌, All, [], length, sym, ap, subst, ◌∙◌, arith}
+use Rattle.std.proofs.Common.{◌≡◌, ℕ, suc, ◌+◌, ◌<◌, All, [], ◌∷◌, ◌++◌, length, sym, ap, subst, ◌∙◌, arith}
 use Rattle.std.proofs.lemmas.List.{length_push}
 use Rattle.std.proofs.lemmas.List.Elements.{All-push}
 use Rattle.slots.specs.declared.step.View.{View}
@@ -51,4 +51,5 @@ returns g c =
     let done : suc (length c.loop.others.items) ≡ c.args.seats = omega (arith, count, ends, reached) in (
       omega (arith, longer, done, ok),
       subst (All (IsFresh c.args.seats)) (sym items) (All-push (IsFresh c.args.seats) c.loop.others.items _ c.loop.invariant.3 (first_is_fresh c.args.seats (suc (length c.loop.others.items)) _ done (ap (λ m. m.0) c.loop.invariant.1))),
+      (c.loop.others.items, items ∙ ap (λ (v : View). c.loop.others.items ++ v ∷ []) (ap (λ m. m.0) c.loop.invariant.1 ∙ ap with_seats done)),
     )
