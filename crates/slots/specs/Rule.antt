@@ -24,7 +24,7 @@ pub record Agrees (state position seat : ℕ) (f : Facts) : Type 0 where
 abbrev pub Leaves : List ℕ → ℕ → View → Type 0
 Leaves words p v = (slice_index words p ≡ (facts p v.steps).state) × (slice_index words (16 + p) ≡ (facts p v.steps).position)
 
-abbrev Slots : Type 0
+abbrev pub Slots : Type 0
 Slots = State (Unit {0}) View
 
 abbrev Seated : Type 0

@@ -1,5 +1,7 @@
 -- What the calls of a table say of the seat that makes them.
 use Rattle.std.specs.Prelude.{◌≡◌, ℕ, suc, ◌<◌, true, cond, ◌==◌, List, [], length, ◌∷◌, ◌++◌, max}
+use mathlib.Core.Option.{some}
+use lib.ListN.{get_elem?}
 use Rattle.slots.specs.declared.fault.SlotFault.{SlotFault}
 use Rattle.slots.specs.declared.fault.SlotFault.TheVariants.{Missing, InUse}
 use Rattle.slots.specs.declared.step.SlotKind.{SlotKind}
@@ -7,12 +9,16 @@ use Rattle.slots.specs.declared.step.SlotKind.TheVariants.{Create, Raise, Releas
 use Rattle.slots.specs.declared.step.SlotStep.{SlotStep}
 use Rattle.slots.specs.declared.step.View.{View}
 use Rattle.slots.specs.Facts.{facts}
-use Rattle.slots.specs.Rule.{StandsAs, FollowsOn, slot_step, with_step}
+use Rattle.slots.specs.Rule.{Slots, StandsAs, FollowsOn, slot_step, with_step}
 use Rattle.slots.specs.Standings.{held_by}
 
 -- the seat of this view holds the place: it took it, and didn't release it since
 abbrev pub Holds : ℕ → View → Type 0
 Holds place v = (facts place v.steps).held ≡ true
+
+-- two seats that hold one place are one seat
+abbrev pub HasOneHolder : Slots → Type 0
+HasOneHolder s = (p j k : ℕ) (v w : View) → p < 16 → get_elem? s.views j ≡ some v → get_elem? s.views k ≡ some w → Holds p v → Holds p w → j ≡ k
 
 abbrev pub with_steps : View → List SlotStep → View
 with_steps v ss = record { number = v.number; seats = v.seats; steps = v.steps ++ ss }

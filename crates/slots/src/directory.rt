@@ -1,8 +1,6 @@
 //! The names of slots, each with its place in a table.
 
 ghost use Rattle.std.specs.Prelude.{◌≡◌, ℕ, List, IfErr, None, OnErr, OnOk, Some};
-ghost use Rattle.slots.specs.declared.fault.SlotFault.{SlotFault};
-ghost use Rattle.slots.specs.declared.fault.SlotFault.TheVariants.{Exists, Memory};
 
 use crate::fault::SlotFault;
 use std::alloc::Global;

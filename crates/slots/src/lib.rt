@@ -15,7 +15,7 @@ pub use directory::Directory;
 pub use fault::SlotFault;
 pub use lease::Lease;
 pub use opened::OpenedSlots;
-pub use rule::SlotName;
+pub use rule::{SlotName, no_slot_has_two_holders};
 pub use seat::SlotSeat;
 pub use standing::Standing;
 pub use step::{SlotKind, SlotStep, View};

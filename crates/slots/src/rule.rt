@@ -1,5 +1,8 @@
 //! The rule of slots, and what each kind of step tells.
 
+ghost use Rattle.slots.specs.Rule.{Kept, Slots};
+ghost use Rattle.slots.specs.Seats.{HasOneHolder};
+
 use crate::step::View;
 use atomic_table::{Play, Split, TableRule};
 use std::marker::Brand;
@@ -21,12 +24,17 @@ impl SlotName for Brand {
 pub struct Law;
 
 impl TableRule<(), View, ()> for Law {
-    ghost use Rattle.slots.specs.Rule.{Kept, first_view};
+    ghost use Rattle.slots.specs.Rule.{first_view};
 
     ghost holds = { λ _ s. Kept s };
 
     ghost first = { λ _. first_view };
 }
+
+/// Under the rule no slot has two holders.
+pub fn no_slot_has_two_holders()
+    ensures { (s : Slots) → Kept s → HasOneHolder s }
+{}
 
 pub struct Creates;
 

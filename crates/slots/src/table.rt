@@ -1,6 +1,6 @@
 //! A table of slots, which threads share without a lock.
 
-ghost use Rattle.std.specs.Prelude.{◌≡◌, ℕ, List, ◌+◌, ◌++◌, ◌<◌, ◌≢◌, All, IfOk, MatchOption, MatchResult, [], length, max, vec_len};
+ghost use Rattle.std.specs.Prelude.{◌≡◌, ℕ, ◌<◌, ◌≢◌, MatchOption, MatchResult, max};
 ghost use Rattle.slots.specs.Rule.{slot_step, with_step};
 ghost use Rattle.slots.specs.Seats.{Created, Did, DidAt, Holds, IsRefusal, NoneLeft};
 ghost use Rattle.slots.specs.Standings.{held_by};
