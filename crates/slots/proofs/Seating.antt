@@ -1,0 +1,105 @@
+-- The rule holds of a new table, and a seat more keeps it.
+use Rattle.std.proofs.Common.{◌≡◌, ℕ, zero, suc, ◌+◌, ◌<◌, ◌⊎◌, inl, inr, Bool, List, [], ◌∷◌, ◌++◌, length, replicate, get_or, set, sym, refl, ap, ◌∙◌, subst, arith, ⊎_elim, length-set, length-append, cond, ne_eqb}
+use Rattle.std.specs.Prelude.{slice_index}
+use Rattle.std.proofs.lemmas.Bool.{false≢true}
+use mathlib.Core.Option.{some, some-ne-none, some-injective}
+use lib.ListN.{get_elem?}
+use Rattle.atomic_table.specs.Table.{Splits, opening}
+use Rattle.atomic_table.proofs.Lists.{at_set}
+use Rattle.slots.specs.declared.step.View.{View}
+use Rattle.slots.specs.Standings.{held_by}
+use Rattle.slots.specs.Facts.{facts, no_facts}
+use Rattle.slots.specs.Rule.{Agrees, Leaves, Kept, first_view, one_more, newest}
+use Rattle.slots.specs.Seats.{IsFresh}
+use Rattle.slots.proofs.Steps.{within}
+
+at_end : (l : List View) (a b : View) (j : ℕ) → get_elem? (l ++ a ∷ []) j ≡ some b → (get_elem? l j ≡ some b) ⊎ ((j ≡ length l) × (a ≡ b))
+at_end [] a b zero e = inr (refl, some-injective a b e)
+at_end [] a b (suc j) e = absurd (some-ne-none b (sym e))
+at_end (x ∷ xs) a b zero e = inl e
+at_end (x ∷ xs) a b (suc j) e = ⊎_elim inl (λ t. inr (ap suc t.0, t.1)) (at_end xs a b j e)
+
+-- what a seat with no steps knows of a place that it isn't named by
+knows_nothing : (x y id : ℕ) → (x ≡ held_by id → ⊥) → Agrees x y id no_facts
+knows_nothing x y id not = record {
+  named = λ h. absurd (false≢true h);
+  held = λ h. absurd (not h);
+  above = omega arith;
+  last = λ h. absurd (false≢true h);
+  stays = λ h. absurd (false≢true h);
+  rises = refl;
+}
+
+abbrev pub zeros : ℕ → List ℕ
+zeros n = replicate n 0
+
+zeros_are_zero : (n i : ℕ) → get_or (zeros n) i 0 ≡ 0
+zeros_are_zero zero i = refl
+zeros_are_zero (suc n) zero = refl
+zeros_are_zero (suc n) (suc i) = zeros_are_zero n i
+
+pub opens : Kept (opening (zeros 32) [] first_view)
+opens = record {
+  wide = refl;
+  numbered = λ k u is. let e = first_is k u is in (ap (λ (w : View). w.number) (sym e.1) ∙ sym e.0, λ _. ap (λ (w : View). w.seats) e.1);
+  first = λ k u is _. (first_is k u is).0;
+  names = λ p low. let z = zeros_are_zero 32 p in omega arith;
+  places = λ p k u low is. subst (λ (w : View). Agrees (slice_index (zeros 32) p) (slice_index (zeros 32) (16 + p)) k (facts p w.steps)) (first_is k u is).1
+      (knows_nothing _ _ k (λ e. let z = zeros_are_zero 32 p in omega arith));
+  alone = λ _ p k u low is. subst (λ (w : View). Leaves (zeros 32) p w) (first_is k u is).1 (zeros_are_zero 32 p, zeros_are_zero 32 (16 + p));
+}
+  where
+    first_is : (k : ℕ) (u : View) → get_elem? (first_view ∷ []) k ≡ some u → (k ≡ 0) × (first_view ≡ u)
+    first_is zero u e = (refl, some-injective first_view u e)
+    first_is (suc k) u e = absurd (some-ne-none u (sym e))
+
+pub splits : (id : ℕ) (v : View) → 0 < v.seats → Splits Kept id v (one_more v) (newest v)
+splits id v some_seat s kept at = record {
+  wide = kept.wide;
+  numbered = λ k u is. ⊎_elim
+      (λ old. ⊎_elim
+      (λ t. (ap (λ (w : View). w.number) (sym t.1) ∙ (kept.numbered id v at).0 ∙ sym t.0, λ _. let l = longer in let c = count in let n : v.seats + 1 ≡ u.seats = ap (λ (w : View). w.seats) t.1 in omega arith))
+      (λ t. ((kept.numbered k u t.1).0, λ more. absurd (t.0 (kept.first k u t.1 more ∙ sym (kept.first id v at some_seat)))))
+      (at_set s.views id k (one_more v) u old))
+      (λ t. (ap (λ (w : View). w.number) (sym t.1) ∙ sym count ∙ sym same ∙ sym t.0, λ more. absurd (none_there u t.1 more)))
+      (at_end set_views (newest v) u k is);
+  first = λ k u is more. ⊎_elim
+      (λ old. ⊎_elim
+      (λ t. t.0 ∙ kept.first id v at some_seat)
+      (λ t. kept.first k u t.1 more)
+      (at_set s.views id k (one_more v) u old))
+      (λ t. absurd (none_there u t.1 more))
+      (at_end set_views (newest v) u k is);
+  names = λ p low. let n = kept.names p low in let l = longer in omega arith;
+  places = λ p k u low is. ⊎_elim
+      (λ old. ⊎_elim
+      (λ t. subst (λ (w : View). Agrees (slice_index s.words p) (slice_index s.words (16 + p)) k (facts p w.steps)) t.1
+      (subst (λ (j : ℕ). Agrees (slice_index s.words p) (slice_index s.words (16 + p)) j (facts p v.steps)) (sym t.0) (kept.places p id v low at)))
+      (λ t. kept.places p k u low t.1)
+      (at_set s.views id k (one_more v) u old))
+      (λ t. subst (λ (w : View). Agrees (slice_index s.words p) (slice_index s.words (16 + p)) k (facts p w.steps)) t.1
+      (knows_nothing _ _ k (λ e. let n = kept.names p low in let is_last = t.0 in let l = same in omega arith)))
+      (at_end set_views (newest v) u k is);
+  alone = λ one. let l = longer in let m = within s.views id v at in absurd (omega arith);
+}
+  where
+    set_views : List View
+    set_views = set s.views id (one_more v)
+
+    same : length set_views ≡ length s.views
+    same = length-set s.views id (one_more v)
+
+    count : length s.views ≡ v.seats
+    count = (kept.numbered id v at).1 some_seat
+
+    longer : length (set_views ++ newest v ∷ []) ≡ suc (length s.views)
+    longer = let l = length-append set_views (newest v ∷ []) in let e = same in omega arith
+
+    none_there : (u : View) → newest v ≡ u → 0 < u.seats → ⊥
+    none_there u e more = let n : u.seats ≡ 0 = ap (λ (w : View). w.seats) (sym e) in omega arith
+
+pub newest_is_fresh : (seats n : ℕ) (v : View) → v ≡ newest (record { number = 0; seats = suc n; steps = [] }) → IsFresh seats v
+newest_is_fresh seats n v e = subst (IsFresh seats) (sym e) (refl, sym (ap (λ (b : Bool). cond b seats 0) (ne_eqb (suc n) 0 (λ h. omega arith))))
+
+pub first_is_fresh : (seats n : ℕ) (v : View) → n ≡ seats → v ≡ record { number = 0; seats = n; steps = [] } → IsFresh seats v
+first_is_fresh seats n v is e = subst (IsFresh seats) (sym e) (refl, is)

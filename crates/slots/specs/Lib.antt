@@ -1,0 +1,5 @@
+pub mod Directories
+pub mod Standings
+pub mod Facts
+pub mod Rule
+pub mod Seats

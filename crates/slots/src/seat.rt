@@ -1,0 +1,25 @@
+//! A seat at a table of slots.
+
+use crate::rule::SlotName;
+use crate::step::View;
+use atomic_table::Seat;
+use std::marker::{Model, PhantomData};
+
+/// What a thread takes its steps with. Contracts see its view: its own steps, which stand in proofs alone.
+#[derive(Drop)]
+pub struct SlotSeat<L: SlotName> {
+    pub(crate) number: u64,
+    pub(crate) seat: Seat<(), View>,
+    pub(crate) of: PhantomData<L>,
+}
+
+impl<L: SlotName> Model for SlotSeat<L> {
+    ghost use Rattle.std.specs.Prelude.{◌≡◌, ◌≤◌, ◌^◌, []};
+    ghost use Rattle.slots.specs.declared.step.View.{View};
+
+    ghost Value = { View };
+
+    ghost view = { λ s. s.seat.me.0 };
+
+    ghost invariant = { λ s. (s.seat.table_id ≡ L.table) × (s.seat.me.0.number ≡ s.number) × (s.seat.me.1 ≡ []) × (s.number ≤ 2 ^ 63) };
+}

@@ -1,0 +1,143 @@
+//! A table of slots, which threads share without a lock.
+
+ghost use Rattle.std.specs.Prelude.{◌≡◌, ℕ, ◌<◌, ◌≢◌, MatchOption, MatchResult, max};
+ghost use Rattle.slots.specs.Rule.{slot_step, with_step};
+ghost use Rattle.slots.specs.Seats.{Created, Did, DidAt, Holds, IsRefusal, NoneLeft};
+ghost use Rattle.slots.specs.Standings.{held_by};
+ghost use Rattle.slots.specs.declared.fault.SlotFault.TheVariants.{NoPlace};
+ghost use Rattle.slots.specs.declared.step.SlotKind.TheVariants.{Claim, Create, Raise, Read, Release, Retire};
+
+use crate::fault::SlotFault;
+use crate::lease::Lease;
+use crate::rule::{Claims, Creates, Law, Raises, Reads, Releases, Retires, SlotName};
+use crate::seat::SlotSeat;
+use crate::standing::Standing;
+use crate::step::View;
+use atomic_table::Table;
+use std::alloc::Global;
+use std::marker::PhantomData;
+
+/// How many slots a table can have, dropped ones counted.
+pub const PLACES: usize = 16;
+
+/// The places of slots. Each call is made by a thread's own seat, takes no memory and waits for nobody.
+#[derive(Drop)]
+pub struct SlotTable<L: SlotName> {
+    pub(crate) table: Table<(), View, (), Law, Global>,
+    pub(crate) of: PhantomData<L>,
+    ghost named: { table.shared.table_id ≡ L.table },
+    ghost wide: { table.shared.table_id.words ≡ 32 },
+}
+
+impl<L: SlotName> SlotTable<L> {
+    /// Takes the place if it was never made.
+    #[tactic(auto, using(crate::proofs::Holding::created_holds))]
+    fn take_new(&self, seat: &mut SlotSeat<L>, place: usize) -> Option<Lease<L>>
+        requires { place < 16 }
+        ensures { MatchOption result
+            ((found : ℕ) × (found ≢ 0) × Did Create place found found seat.old seat.new)
+            (λ lease. (lease.place ≡ place) × Holds place seat.new × Did Create place 0 (held_by seat.old.number) seat.old seat.new) }
+    {
+        let never = Standing::Never.word();
+        let mine = Standing::Held(seat.number).word();
+        let shared = &self.table.shared;
+        let found = shared.compare_exchange::<Creates>(&mut seat.seat, place, never, mine);
+        match Standing::of_word(found) {
+            Standing::Never => Some(Lease {
+                place,
+                of: PhantomData,
+            }),
+            _ => None,
+        }
+    }
+
+    /// Makes a slot at the first place that was never made, and confirms this position. It is free then. With no such place it is L4.
+    pub fn create(&self, seat: &mut SlotSeat<L>, position: u64) -> Result<usize, SlotFault>
+        ensures { MatchResult result
+            (λ place. (place < 16) × Created seat.old position place seat.new)
+            (λ e. (e ≡ NoPlace) × NoneLeft seat.old seat.new) }
+    {
+        for place in 0..PLACES {
+            if let Some(mut lease) = self.take_new(seat, place) {
+                self.confirm(seat, &mut lease, position);
+                self.release(seat, lease);
+                return Ok(place);
+            }
+        }
+        Err(SlotFault::NoPlace)
+    }
+
+    /// One compare and exchange, which takes a free place. A held one is L2, one that was never made or was dropped L1.
+    #[tactic(auto, using(crate::proofs::Holding::claimed_holds))]
+    pub fn claim(&self, seat: &mut SlotSeat<L>, place: usize) -> Result<Lease<L>, SlotFault>
+        requires { place < 16 }
+        ensures { MatchResult result
+            (λ lease. (lease.place ≡ place) × Holds place seat.new × Did Claim place 1 (held_by seat.old.number) seat.old seat.new)
+            (λ e. (found : ℕ) × IsRefusal e found × Did Claim place found found seat.old seat.new) }
+    {
+        let free = Standing::Free.word();
+        let mine = Standing::Held(seat.number).word();
+        let shared = &self.table.shared;
+        let found = shared.compare_exchange::<Claims>(&mut seat.seat, place, free, mine);
+        let standing = Standing::of_word(found);
+        match standing {
+            Standing::Free => Ok(Lease {
+                place,
+                of: PhantomData,
+            }),
+            Standing::Never | Standing::Dropped => Err(SlotFault::Missing),
+            Standing::Held(_) => Err(SlotFault::InUse),
+        }
+    }
+
+    /// Raises the confirmed position, and answers it: the greater of the old and the new.
+    pub fn confirm(&self, seat: &mut SlotSeat<L>, lease: &mut Lease<L>, position: u64) -> u64
+        requires { Holds lease.old.place seat.old }
+        ensures raised { (found : ℕ) × (result ≡ max found position) × DidAt Raise lease.old.place found result seat.old seat.new }
+        ensures lease { (lease.new ≡ lease.old) × Holds lease.new.place seat.new }
+    {
+        let shared = &self.table.shared;
+        let word = PLACES + lease.place;
+        let found = shared.fetch_max::<Raises>(&mut seat.seat, word, position);
+        found.max(position)
+    }
+
+    /// The confirmed position.
+    pub fn confirmed(&self, seat: &mut SlotSeat<L>, lease: &Lease<L>) -> u64
+        requires { Holds lease.now.place seat.old }
+        ensures read { DidAt Read lease.now.place result result seat.old seat.new }
+        ensures lease { Holds lease.now.place seat.new }
+    {
+        let shared = &self.table.shared;
+        shared.load::<Reads>(&mut seat.seat, PLACES + lease.place)
+    }
+
+    /// Makes the place free.
+    pub fn release(&self, seat: &mut SlotSeat<L>, lease: Lease<L>)
+        requires { Holds lease.place seat.old }
+        ensures { seat.new ≡ with_step seat.old (slot_step Release lease.place (held_by seat.old.number) 1) }
+    {
+        let Lease { place, of: _ } = lease;
+        let free = Standing::Free.word();
+        let shared = &self.table.shared;
+        shared.store::<Releases>(&mut seat.seat, place, free)
+    }
+
+    /// One compare and exchange, which drops a free place. A held one is L2, one that was never made or was dropped L1.
+    pub fn drop_slot(&self, seat: &mut SlotSeat<L>, place: usize) -> Result<(), SlotFault>
+        requires { place < 16 }
+        ensures { MatchResult result
+            (λ _. Did Retire place 1 2 seat.old seat.new)
+            (λ e. (found : ℕ) × IsRefusal e found × Did Retire place found found seat.old seat.new) }
+    {
+        let free = Standing::Free.word();
+        let dropped = Standing::Dropped.word();
+        let shared = &self.table.shared;
+        let found = shared.compare_exchange::<Retires>(&mut seat.seat, place, free, dropped);
+        match Standing::of_word(found) {
+            Standing::Free => Ok(()),
+            Standing::Never | Standing::Dropped => Err(SlotFault::Missing),
+            Standing::Held(_) => Err(SlotFault::InUse),
+        }
+    }
+}
