@@ -42,7 +42,7 @@ data_takes rest m fits e =
     let v = (signed64 Short).takes b.0.1 c.0.0 c.0.1 u.0.rest_fits c.1 in
     let made : XLogDataBody = record { start = a.0.0; end = b.0.0; clock = c.0.0; payload = c.0.1 } in
     let text : rest ≡ int64 a.0.0 ++ (int64 b.0.0 ++ (int64 (cast_unsigned w64 c.0.0) ++ c.0.1)) =
-      t.0.parts ∙ ap (λ (l : List ℕ). int64 a.0.0 ++ l) (u.0.parts ∙ ap (λ (l : List ℕ). int64 b.0.0 ++ l) v.0.parts) in
+    t.0.parts ∙ ap (λ (l : List ℕ). int64 a.0.0 ++ l) (u.0.parts ∙ ap (λ (l : List ℕ). int64 b.0.0 ++ l) v.0.parts) in
     let P : XLogDataBody → Type 0 = λ n. SpellsXLogData (XLOGDATA ∷ rest) n in
     subst P (ok_is CopyFault made m c.2) (record { start = t.1; end = u.1; clock = v.1; text = ap (λ (l : List ℕ). XLOGDATA ∷ l) text })
 
@@ -73,7 +73,7 @@ keepalive_takes rest k fits e =
     let u = (signed64 Short).takes a.0.1 b.0.0 b.0.1 t.0.rest_fits b.1 in
     let c = ask_takes b.0.1 (keepalive_made a.0.0 b.0.0) k b.2 in
     let text : rest ≡ int64 a.0.0 ++ (int64 (cast_unsigned w64 b.0.0) ++ (c.0 ∷ [])) =
-      t.0.parts ∙ ap (λ (l : List ℕ). int64 a.0.0 ++ l) (u.0.parts ∙ ap (λ (l : List ℕ). int64 (cast_unsigned w64 b.0.0) ++ l) c.1) in
+    t.0.parts ∙ ap (λ (l : List ℕ). int64 a.0.0 ++ l) (u.0.parts ∙ ap (λ (l : List ℕ). int64 (cast_unsigned w64 b.0.0) ++ l) c.1) in
     let P : Keepalive → Type 0 = λ n. SpellsKeepalive (KEEPALIVE ∷ rest) n in
     subst P c.2 (record { end = t.1; clock = u.1; ask = c.0; asks = refl; text = ap (λ (l : List ℕ). KEEPALIVE ∷ l) text })
 
@@ -106,8 +106,8 @@ status_takes rest s fits e =
     let w = (signed64 Short).takes c.0.1 d.0.0 d.0.1 v.0.rest_fits d.1 in
     let f = ask_takes d.0.1 (status_made a.0.0 b.0.0 c.0.0 d.0.0) s d.2 in
     let text : rest ≡ int64 a.0.0 ++ (int64 b.0.0 ++ (int64 c.0.0 ++ (int64 (cast_unsigned w64 d.0.0) ++ (f.0 ∷ [])))) =
-      t.0.parts ∙ ap (λ (l : List ℕ). int64 a.0.0 ++ l) (u.0.parts ∙ ap (λ (l : List ℕ). int64 b.0.0 ++ l) (v.0.parts ∙ ap (λ (l : List ℕ). int64 c.0.0 ++ l)
-      (w.0.parts ∙ ap (λ (l : List ℕ). int64 (cast_unsigned w64 d.0.0) ++ l) f.1))) in
+    t.0.parts ∙ ap (λ (l : List ℕ). int64 a.0.0 ++ l) (u.0.parts ∙ ap (λ (l : List ℕ). int64 b.0.0 ++ l) (v.0.parts ∙ ap (λ (l : List ℕ). int64 c.0.0 ++ l)
+    (w.0.parts ∙ ap (λ (l : List ℕ). int64 (cast_unsigned w64 d.0.0) ++ l) f.1))) in
     let P : Status → Type 0 = λ n. SpellsStatus (STATUS ∷ rest) n in
     subst P f.2 (record { written = t.1; flushed = u.1; applied = v.1; clock = w.1; ask = f.0; asks = refl; text = ap (λ (l : List ℕ). STATUS ∷ l) text })
 
