@@ -5,7 +5,7 @@ use pgoutput::{Cell, Insert, Logical};
 use publication::{Projected, PubFault, Publications, Selection};
 use std::alloc::{AllocError, Global};
 use std::test::Fail;
-use tables::{Catalog, Row, TableChange, Value};
+use tables::{Catalog, Change, Row, Value};
 
 /// The publications over the table public.item.
 fn publications(alloc: Global) -> Result<Publications, AllocError> {
@@ -46,9 +46,9 @@ fn a_publication_without_its_table_selects_none(rt: HostRuntime) -> Result<(), F
 }
 
 /// The insert of 1 and 7, and no name, into the table of this OID.
-fn insert(alloc: Global, oid: u32) -> Result<TableChange, Fail> {
+fn insert(alloc: Global, oid: u32) -> Result<Change, Fail> {
     let values = vec![in alloc; Value::Int4(1), Value::Null, Value::Int8(7)]?;
-    Ok(TableChange::Insert(oid, Row::new(values)))
+    Ok(Change::Insert(oid, Row::new(values)))
 }
 
 /// What `p` makes of that insert.

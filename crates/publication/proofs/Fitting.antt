@@ -27,8 +27,8 @@ use Rattle.tables.specs.declared.column.Column.{Column}
 use Rattle.tables.specs.declared.value.Value.{Value}
 use Rattle.tables.specs.declared.value.Value.TheVariants as values
 use Rattle.tables.specs.declared.table.Table.{Table}
-use Rattle.tables.specs.declared.table_change.TableChange.{TableChange}
-use Rattle.tables.specs.declared.table_change.TableChange.TheVariants as changes
+use Rattle.tables.specs.declared.change.Change.{Change}
+use Rattle.tables.specs.declared.change.Change.TheVariants as changes
 use Rattle.tables.specs.Spelling.{spell_value, row_length}
 use Rattle.tables.specs.Tables.{table_of, fits_table, IsValue}
 use Rattle.stream.specs.Items.{IsShortMessage, FitsRelationOf}
@@ -205,11 +205,11 @@ insert_fits selection t row found table in_range stands =
     }
 
 -- what Rust's values are
-abbrev pub IsChange : TableChange → Type 0
+abbrev pub IsChange : Change → Type 0
 IsChange (changes.Insert oid row) = AllByRecursion IsValue row
 IsChange change = Unit {0}
 
-pub message_fits : (selection : List Table) (c : TableChange) (m : Logical) → AllByRecursion FitsTable selection → IsChange c → message selection c ≡ Some m → MessageFits selection m
+pub message_fits : (selection : List Table) (c : Change) (m : Logical) → AllByRecursion FitsTable selection → IsChange c → message selection c ≡ Some m → MessageFits selection m
 message_fits selection (changes.Update oid old row) m tables in_range e = absurd cc
 message_fits selection (changes.Delete oid old) m tables in_range e = absurd cc
 message_fits selection (changes.Truncate oids) m tables in_range e = absurd cc

@@ -10,8 +10,8 @@ use Rattle.tables.specs.declared.row.TheConstants.{MAX_ROW_LENGTH}
 use Rattle.tables.specs.declared.value.Value.{Value}
 use Rattle.tables.specs.declared.value.Value.TheVariants as values
 use Rattle.tables.specs.declared.table.Table.{Table}
-use Rattle.tables.specs.declared.table_change.TableChange.{TableChange}
-use Rattle.tables.specs.declared.table_change.TableChange.TheVariants as changes
+use Rattle.tables.specs.declared.change.Change.{Change}
+use Rattle.tables.specs.declared.change.Change.TheVariants as changes
 use Rattle.tables.specs.Spelling.{row_length}
 use Rattle.tables.specs.Tables.{table_of, fits_table}
 use Rattle.std.specs.List.{AllByRecursion}
@@ -38,7 +38,7 @@ inserted_in None row = None
 inserted_in (Some table) row =
     if stands_in table row then Some (logical.Insert (record { oid = table.oid; new = map cell_of row })) else None
 
-abbrev pub message : List Table → TableChange → Option Logical
+abbrev pub message : List Table → Change → Option Logical
 message selection (changes.Insert oid row) = inserted_in (table_of oid selection) row
 message selection change = None
 

@@ -17,7 +17,7 @@ use frames::Items;
 use pgoutput::{Insert, Logical};
 use std::alloc::{AllocError, Global};
 use std::marker::Model;
-use tables::{Row, Table, TableChange};
+use tables::{Change, Row, Table};
 
 /// The tables that a sender publishes, each whole. Contracts see the list of them.
 ///
@@ -60,12 +60,12 @@ impl Selection {
     }
 
     /// The message of a change, if it has one. Updates, deletes and truncates have none so far.
-    pub fn project(&self, change: &TableChange) -> Result<Projected, AllocError>
+    pub fn project(&self, change: &Change) -> Result<Projected, AllocError>
         ensures value { IfOk result (λ p. p ≡ projected (message self.now change.now)) }
         ensures fits { IfOk result (FitsProjected self.now) }
     {
         match change {
-            TableChange::Insert(oid, row) => self.inserted(*oid, row),
+            Change::Insert(oid, row) => self.inserted(*oid, row),
             _ => Ok(Projected::Nothing),
         }
     }

@@ -1,5 +1,5 @@
-pub mod Bodies
 pub mod Catalogs
+pub mod ChangeBodies
 pub mod Changing
 pub mod Forgetting
 pub mod Histories
@@ -10,8 +10,7 @@ pub mod Members
 pub mod Names
 pub mod Outcomes
 pub mod Refusing
+pub mod RowBodies
 pub mod Storing
-pub mod TableBodies
-pub mod TableLengths
 pub mod Truncating
 pub mod Undoing

@@ -6,7 +6,5 @@ pub mod Reading
 pub mod Rows
 pub mod Slots
 pub mod Spelling
-pub mod TableReading
-pub mod TableSpelling
 pub mod Tables
 pub use Rattle.frames.specs.Fields

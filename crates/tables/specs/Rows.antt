@@ -1,12 +1,10 @@
--- The rows of tables after changes, and the keys that a change touches.
+-- Where rows stand: the keys of tables, and the row at each.
 use Rattle.std.specs.Prelude.{ℕ, List, [], ◌∷◌, ◌++◌, Option, Some, None, if◌then◌else◌}
 use Rattle.std.specs.List.{flat_map}
 use Rattle.frames.specs.Fields.{int32}
 use Rattle.tables.specs.declared.value.Value.{Value}
 use Rattle.tables.specs.declared.column.Column.{Column}
 use Rattle.tables.specs.declared.table.Table.{Table}
-use Rattle.tables.specs.declared.change.Change.{Change}
-use Rattle.tables.specs.declared.change.Change.TheVariants as changes
 use Rattle.tables.specs.Spelling.{spell_value}
 use Rattle.tables.specs.Tables.{table_of}
 use Rattle.tables.specs.Slots.{same_key}
@@ -40,15 +38,3 @@ no_rows key = None
 
 abbrev pub with_row : Key → Option (List Value) → Rows → Rows
 with_row key row rows other = if same_key (key_text other) (key_text key) then row else rows other
-
--- an insert puts its row at its key
-abbrev pub after : List Table → Change → Rows → Rows
-after tables (changes.Insert oid row) rows = with_row (key_of tables oid row) (Some row) rows
-
-abbrev pub after_all : List Table → List Change → Rows → Rows
-after_all tables [] rows = rows
-after_all tables (c ∷ cs) rows = after_all tables cs (after tables c rows)
-
--- the keys at which a change finds or puts a row
-abbrev pub keys_of : List Table → Change → List Key
-keys_of tables (changes.Insert oid row) = key_of tables oid row ∷ []

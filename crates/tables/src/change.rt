@@ -1,10 +1,17 @@
-//! What a session changed, as the log keeps it.
+//! What a session changed in the tables.
 
 use crate::row::Row;
+use frames::Items;
 
-/// A change of rows, by the table's OID. Its body in the log is a tag by its kind, the OID and its rows.
+/// A change of tables, by their OIDs.
 #[derive(Debug, Drop, PartialEq)]
 pub enum Change {
     /// The table and its new row.
     Insert(u32, Row),
+    /// The table, the row that was there, and the row in its place.
+    Update(u32, Row, Row),
+    /// The table and the row that was there.
+    Delete(u32, Row),
+    /// The tables that were emptied, in the order of the call.
+    Truncate(Items<u32>),
 }

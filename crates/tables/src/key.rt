@@ -7,9 +7,9 @@ ghost use Rattle.tables.specs.Rows.{key_text, key_values};
 ghost use Rattle.tables.specs.Slots.{same_key};
 ghost use Rattle.tables.specs.Spelling.{row_length, spell_value};
 
-use crate::body::{BOOL_TAG, INT4_TAG, INT8_TAG, NULL_TAG, TEXT_TAG};
 use crate::column::Column;
 use crate::row::{MAX_ROW_LENGTH, Row};
+use crate::row_body::{BOOL_TAG, INT4_TAG, INT8_TAG, NULL_TAG, TEXT_TAG};
 use crate::value::Value;
 use std::marker::Model;
 

@@ -1,9 +1,10 @@
 //! The tables that a publisher knows, their rows, and the changes of rows as the log keeps them.
 #![tactic(auto)]
 
-mod body;
 mod catalog;
 mod change;
+mod change_body;
+mod change_reading;
 mod column;
 mod config;
 mod config_fault;
@@ -17,24 +18,23 @@ mod journals;
 mod judging;
 mod key;
 mod kind;
-mod reading;
 mod row;
+mod row_body;
+mod row_reading;
 mod slot;
 mod slots;
 mod store;
 mod store_fault;
 mod table;
-mod table_body;
-mod table_change;
-mod table_reading;
 mod value;
 
-pub use body::{
-    BOOL_TAG, INSERT_TAG, INT4_TAG, INT8_TAG, MAX_BODY_LENGTH, NULL_TAG, TEXT_TAG, body_len,
-    write_body,
-};
 pub use catalog::Catalog;
 pub use change::Change;
+pub use change_body::{
+    DELETE_TAG, INSERT_TAG, MAX_BODY_LENGTH, MAX_TRUNCATED, TRUNCATE_TAG, UPDATE_TAG, body_len,
+    write_body,
+};
+pub use change_reading::read_body;
 pub use column::Column;
 pub use config::MAX_TABLES;
 pub use config_fault::{CatalogFault, Member, Misfit};
@@ -44,14 +44,9 @@ pub use document::read_document;
 pub use fault::BodyFault;
 pub use identity::Identity;
 pub use kind::Kind;
-pub use reading::read_body;
 pub use row::{MAX_ROW_LENGTH, Row};
+pub use row_body::{BOOL_TAG, INT4_TAG, INT8_TAG, NULL_TAG, TEXT_TAG};
 pub use store::Store;
 pub use store_fault::StoreFault;
 pub use table::Table;
-pub use table_body::{
-    DELETE_TAG, MAX_TRUNCATED, TRUNCATE_TAG, UPDATE_TAG, table_change_len, write_table_change,
-};
-pub use table_change::TableChange;
-pub use table_reading::read_table_change;
 pub use value::Value;

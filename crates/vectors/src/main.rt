@@ -5,6 +5,7 @@
 #![tactic(auto)]
 
 mod catalog_text;
+mod change_body;
 mod command_text;
 mod config_text;
 mod conversations;
@@ -19,7 +20,6 @@ mod message;
 mod play;
 mod random;
 mod report;
-mod row_body;
 mod sample;
 mod samples;
 mod schedules;

@@ -1,6 +1,7 @@
 //! Files of samples, one on each line.
 
 use crate::catalog_text::catalog_answer;
+use crate::change_body::body_answer;
 use crate::command_text::{command_answer, position_answer};
 use crate::config_text::config_answer;
 use crate::copy_body::{client_answer, server_answer};
@@ -11,7 +12,6 @@ use crate::given::Given;
 use crate::message::logical_answer;
 use crate::random::random_answer;
 use crate::report::Report;
-use crate::row_body::body_answer;
 use crate::sample::{Answer, Sample};
 use crate::told::{code_answer, text_answer};
 use crate::wording::word_answer;

@@ -1,4 +1,4 @@
-//! How a change is written into the log: the lengths and bytes of its body.
+//! How a row is written into the log.
 #![tactic(auto, using(frames::proofs::Putting::extends_itself, frames::proofs::Putting::extends_more, frames::proofs::Putting::extends_back))]
 
 ghost use Rattle.std.specs.Prelude.{◌≡◌, ◌++◌, ◌∷◌, [], ◌<◌, ◌≤◌, ◌^◌, OnErr, OnOk, length, if◌then◌else◌};
@@ -6,19 +6,12 @@ ghost use Rattle.std.specs.List.{flat_map};
 ghost use Rattle.frames.specs.Fields.{int16, int32, int64};
 ghost use Rattle.frames.specs.Putting.{Puts};
 ghost use Rattle.tables.specs.declared.row.TheConstants.{MAX_ROW_LENGTH};
-ghost use Rattle.tables.specs.Spelling.{IsShort, body_length, row_length, spell_body, spell_row, spell_value};
+ghost use Rattle.tables.specs.Spelling.{row_length, spell_row, spell_value};
 
-use crate::change::Change;
 use crate::row::Row;
 use crate::value::Value;
 use bytes::{BufMut, BytesMut};
 use std::alloc::AllocError;
-
-/// The longest body of a change in bytes: that of an update, with two rows.
-pub const MAX_BODY_LENGTH: usize = 16_005;
-
-/// The first byte of a change's body, by the kind of change.
-pub const INSERT_TAG: u8 = 1;
 
 /// The first byte of a value in a row, by its kind.
 pub const NULL_TAG: u8 = 0;
@@ -30,57 +23,6 @@ pub const INT4_TAG: u8 = 2;
 pub const INT8_TAG: u8 = 3;
 
 pub const TEXT_TAG: u8 = 4;
-
-/// The length of the change's body in bytes.
-#[tactic(auto, using(crate::proofs::Lengths::lengths))]
-pub fn body_len(change: &Change) -> usize
-    requires { IsShort change.now }
-    ensures value { result ≡ body_length change.now }
-    ensures bounded { result ≤ MAX_BODY_LENGTH }
-{
-    match change {
-        Change::Insert(oid, row) => insert_len(*oid, row),
-    }
-}
-
-#[tactic(auto, using(crate::proofs::Lengths::body_length_is))]
-fn insert_len(oid: u32, row: &Row) -> usize
-    requires { row_length row.now ≤ MAX_ROW_LENGTH }
-    ensures value { result ≡ body_length (Change.Insert oid row.now) }
-    ensures bounded { result ≤ MAX_BODY_LENGTH }
-{
-    match row.coded_len() {
-        Some(len) => 5 + len,
-        None => unreachable!(),
-    }
-}
-
-/// Adds the change's body, or, where memory is refused, nothing.
-pub fn write_body(change: &Change, out: &mut BytesMut) -> Result<(), AllocError>
-    requires { IsShort change.now }
-    ensures ok { OnOk result (out.new.items ≡ out.old.items ++ spell_body change.now) }
-    ensures err { OnErr result (out.new.items ≡ out.old.items) }
-{
-    let start = out.len();
-    let written = put_body(change, out);
-    if written.is_err() {
-        out.truncate(start);
-    }
-    written
-}
-
-fn put_body(change: &Change, out: &mut BytesMut) -> Result<(), AllocError>
-    requires { IsShort change.now }
-    ensures { Puts result out.old.items out.new.items (spell_body change.now) }
-{
-    match change {
-        Change::Insert(oid, row) => {
-            out.put_u8(INSERT_TAG)?;
-            put_int32(out, *oid)?;
-            put_row(row, out)
-        }
-    }
-}
 
 pub(crate) fn put_row(row: &Row, out: &mut BytesMut) -> Result<(), AllocError>
     requires { row_length row.now ≤ MAX_ROW_LENGTH }

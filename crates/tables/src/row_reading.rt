@@ -1,58 +1,17 @@
-//! How a change is read from its body.
+//! How a row is read from the body of a change.
 
-ghost use Rattle.std.specs.Prelude.{◌≡◌, ◌≢◌, ◌<◌, [], IfOk, IsOk, Ok, Err};
+ghost use Rattle.std.specs.Prelude.{◌≡◌, ◌≢◌, ◌<◌, IsOk, Err};
 ghost use Rattle.std.specs.Int.{w32, w64};
 ghost use Rattle.frames.specs.Steps.{letter_at, signed_at, repeat_at};
-ghost use Rattle.tables.specs.Reading.{Gives, SpellsBody, RowHasValue, ChangeHasValue, HoldsValue, body_at, bool_of, change_at, row_at, text_at, value_at};
+ghost use Rattle.tables.specs.Reading.{Gives, RowHasValue, bool_of, row_at, text_at, value_at};
 ghost use Rattle.tables.specs.declared.fault.BodyFault.TheVariants.{Short, BadBool, Memory};
 
-use crate::body::{BOOL_TAG, INSERT_TAG, INT4_TAG, INT8_TAG, NULL_TAG, TEXT_TAG};
-use crate::change::Change;
 use crate::fault::BodyFault;
 use crate::row::Row;
+use crate::row_body::{BOOL_TAG, INT4_TAG, INT8_TAG, NULL_TAG, TEXT_TAG};
 use crate::value::Value;
 use frames::{Cursor, Items, Text, utf8_of};
 use std::alloc::Global;
-
-/// The change whose body these bytes are. The leftmost fault is answered.
-pub fn read_body(alloc: Global, bytes: &[u8]) -> Result<Change, BodyFault>
-    ensures found { IfOk result (λ c. SpellsBody bytes.now c) }
-    ensures only { (c : Change) → SpellsBody bytes.now c → Gives result [] (Ok (c, [])) }
-    ensures exact { Gives result [] (body_at bytes.now) }
-    // Memory is wanted for values alone, so once the first of them is read.
-    ensures memory { result ≡ Err Memory → HoldsValue bytes.now }
-{
-    whole(alloc, bytes)
-}
-
-#[tactic(auto, unfolding(crate::specs::Reading::body_at))]
-fn whole(alloc: Global, bytes: &[u8]) -> Result<Change, BodyFault>
-    ensures exact { Gives result [] (body_at bytes.now) }
-    ensures memory { result ≡ Err Memory → ChangeHasValue bytes.now }
-{
-    let mut cursor = Cursor::new(bytes);
-    let change = change_of(alloc, &mut cursor)?;
-    if cursor.rest().is_empty() {
-        Ok(change)
-    } else {
-        Err(BodyFault::Trailing)
-    }
-}
-
-#[tactic(auto, unfolding(crate::specs::Reading::change_at, crate::specs::Reading::insert_at))]
-fn change_of(alloc: Global, cursor: &mut Cursor<'_>) -> Result<Change, BodyFault>
-    ensures exact { Gives result cursor.new (change_at cursor.old) }
-    ensures memory { result ≡ Err Memory → ChangeHasValue cursor.old }
-{
-    match cursor.u8().ok_or(BodyFault::Short)? {
-        INSERT_TAG => {
-            let oid = cursor.u32().ok_or(BodyFault::Short)?;
-            let row = row_of(alloc, cursor)?;
-            Ok(Change::Insert(oid, row))
-        }
-        _ => Err(BodyFault::UnknownTag),
-    }
-}
 
 #[tactic(auto, unfolding(crate::specs::Reading::row_at))]
 pub(crate) fn row_of(alloc: Global, cursor: &mut Cursor<'_>) -> Result<Row, BodyFault>
