@@ -17,7 +17,6 @@ mod store_calls;
 #[cfg(test)]
 mod store_row_calls;
 #[cfg(test)]
-#[cfg(test)]
 mod tables_calls;
 #[cfg(test)]
 mod txlog_calls;

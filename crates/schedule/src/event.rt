@@ -9,6 +9,12 @@ pub enum Event {
     Begin(Text),
     /// `insert T TABLE (row)`: the table's name is schema, a dot and name.
     Insert(Text, Text, Items<Literal>),
+    /// `update T TABLE (key) (row)`: the key has a value for each column of the primary key, in table order.
+    Update(Text, Text, Items<Literal>, Items<Literal>),
+    /// `delete T TABLE (key)`
+    Delete(Text, Text, Items<Literal>),
+    /// `truncate T TABLE ..`: one table or more.
+    Truncate(Text, Items<Text>),
     /// `savepoint T`
     Savepoint(Text),
     /// `rollback T N`: N is the savepoint's depth, 1 the outermost.

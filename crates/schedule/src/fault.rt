@@ -48,6 +48,9 @@ impl Display for BadEvent {
         match &self.event {
             Event::Begin(name) => write!(f, "transaction {} is in progress", name.as_str()),
             Event::Insert(name, _, _)
+            | Event::Update(name, _, _, _)
+            | Event::Delete(name, _, _)
+            | Event::Truncate(name, _)
             | Event::Savepoint(name)
             | Event::Rollback(name, _)
             | Event::Release(name, _)

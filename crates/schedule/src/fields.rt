@@ -1,6 +1,8 @@
 //! The fields of a line, which single spaces separate.
 
+use crate::event::Literal;
 use crate::fault::WorldFault;
+use crate::literals::row_in;
 use frames::{Items, Text};
 use replcmd::parse_position;
 use std::alloc::Global;
@@ -35,8 +37,8 @@ impl<'a> Fields<'a> {
         Ok(word)
     }
 
-    /// All that is left of the line, as its last field.
-    pub(crate) fn remainder(&mut self) -> Result<&'a str, WorldFault> {
+    /// All that is left of the line.
+    fn remainder(&mut self) -> Result<&'a str, WorldFault> {
         self.rest.take().ok_or(WorldFault::BadEvent)
     }
 
@@ -51,6 +53,28 @@ impl<'a> Fields<'a> {
     /// Any text without a space.
     pub(crate) fn text(&mut self, alloc: Global) -> Result<Text, WorldFault> {
         Ok(Text::copy_of(alloc, self.word()?)?)
+    }
+
+    /// All the fields that are left, one at least: texts without a space.
+    pub(crate) fn texts(&mut self, alloc: Global) -> Result<Items<Text>, WorldFault> {
+        let mut texts = Vec::new(alloc);
+        for text in self.remainder()?.split(' ') {
+            if text.is_empty() {
+                return Err(WorldFault::BadEvent);
+            }
+            texts.push(Text::copy_of(alloc, text)?)?;
+        }
+        Ok(Items::new(texts))
+    }
+
+    /// Values in parentheses. Spaces may stand in their texts.
+    pub(crate) fn row(&mut self, alloc: Global) -> Result<Items<Literal>, WorldFault> {
+        let (row, behind) = row_in(alloc, self.remainder()?)?;
+        if !behind.is_empty() {
+            let next = behind.strip_prefix(' ').ok_or(WorldFault::BadEvent)?;
+            self.rest = Some(next);
+        }
+        Ok(row)
     }
 
     /// The name of a transaction or a connection.

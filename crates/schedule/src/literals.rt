@@ -1,52 +1,41 @@
-//! The rows of a schedule: values in parentheses, which commas separate.
+//! The rows and keys of a schedule: values in parentheses, which commas separate.
 
 use crate::event::Literal;
 use crate::fault::WorldFault;
 use frames::{Items, Text};
 use std::alloc::Global;
 
-/// The values of a row such as `(1,'ab',null)`. There are none in `()`.
-pub(crate) fn row_of(alloc: Global, text: &str) -> Result<Items<Literal>, WorldFault> {
+/// The values of the row that a text begins with, such as `(1,'ab',null)`, and what stands behind it. There are none in `()`.
+pub(crate) fn row_in(alloc: Global, text: &str) -> Result<(Items<Literal>, &str), WorldFault> {
     let inner = text.strip_prefix('(').ok_or(WorldFault::BadEvent)?;
     let mut values = Vec::new(alloc);
-    if inner == ")" {
-        return Ok(Items::new(values));
+    if let Some(behind) = inner.strip_prefix(')') {
+        return Ok((Items::new(values), behind));
     }
     let mut rest = inner;
     // A value and what ends it take a byte at least, so these turns read the whole row.
     for _ in 0..inner.len() {
-        let (value, behind) = literal_of(alloc, rest)?;
+        let (value, ending) = literal_of(alloc, rest)?;
         values.push(value)?;
-        match behind {
-            Some(more) => rest = more,
-            None => return Ok(Items::new(values)),
+        if let Some(behind) = ending.strip_prefix(')') {
+            return Ok((Items::new(values), behind));
         }
+        rest = ending.strip_prefix(',').ok_or(WorldFault::BadEvent)?;
     }
     Err(WorldFault::BadEvent)
 }
 
-/// The value that a text begins with, and the values behind it.
-fn literal_of(alloc: Global, text: &str) -> Result<(Literal, Option<&str>), WorldFault> {
+/// The value that a text begins with, and what stands behind it.
+fn literal_of(alloc: Global, text: &str) -> Result<(Literal, &str), WorldFault> {
     if let Some(quoted) = text.strip_prefix('\'') {
         let (content, behind) = quoted_text(alloc, quoted)?;
-        return Ok((Literal::Text(Text::new(content)), more_of(behind)?));
+        return Ok((Literal::Text(Text::new(content)), behind));
     }
     let end = text
         .find(|c: char| c == ',' || c == ')')
         .ok_or(WorldFault::BadEvent)?;
     let (word, behind) = text.split_at_checked(end).ok_or(WorldFault::BadEvent)?;
-    Ok((word_of(word)?, more_of(behind)?))
-}
-
-/// What stands behind a value: more values behind a comma, or none behind the bracket that ends the row.
-fn more_of(text: &str) -> Result<Option<&str>, WorldFault> {
-    if text == ")" {
-        return Ok(None);
-    }
-    match text.strip_prefix(',') {
-        Some(more) => Ok(Some(more)),
-        None => Err(WorldFault::BadEvent),
-    }
+    Ok((word_of(word)?, behind))
 }
 
 /// The content of a quoted text, in which a doubled quote stands for one, and what follows the quote that closes it.

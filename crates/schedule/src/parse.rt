@@ -3,7 +3,6 @@
 use crate::event::Event;
 use crate::fault::WorldFault;
 use crate::fields::Fields;
-use crate::literals::row_of;
 use frames::Text;
 use std::alloc::Global;
 
@@ -24,6 +23,9 @@ fn event_of(alloc: Global, word: &str, fields: &mut Fields<'_>) -> Result<Event,
     match word {
         "begin" => Ok(Event::Begin(fields.name(alloc)?)),
         "insert" => insert(alloc, fields),
+        "update" => update(alloc, fields),
+        "delete" => delete(alloc, fields),
+        "truncate" => truncate(alloc, fields),
         "savepoint" => Ok(Event::Savepoint(fields.name(alloc)?)),
         "rollback" => {
             let (name, depth) = name_and_count(alloc, fields)?;
@@ -75,8 +77,29 @@ fn name_and_time(alloc: Global, fields: &mut Fields<'_>) -> Result<(Text, i64), 
 fn insert(alloc: Global, fields: &mut Fields<'_>) -> Result<Event, WorldFault> {
     let name = fields.name(alloc)?;
     let table = fields.text(alloc)?;
-    let row = row_of(alloc, fields.remainder()?)?;
+    let row = fields.row(alloc)?;
     Ok(Event::Insert(name, table, row))
+}
+
+fn update(alloc: Global, fields: &mut Fields<'_>) -> Result<Event, WorldFault> {
+    let name = fields.name(alloc)?;
+    let table = fields.text(alloc)?;
+    let key = fields.row(alloc)?;
+    let row = fields.row(alloc)?;
+    Ok(Event::Update(name, table, key, row))
+}
+
+fn delete(alloc: Global, fields: &mut Fields<'_>) -> Result<Event, WorldFault> {
+    let name = fields.name(alloc)?;
+    let table = fields.text(alloc)?;
+    let key = fields.row(alloc)?;
+    Ok(Event::Delete(name, table, key))
+}
+
+fn truncate(alloc: Global, fields: &mut Fields<'_>) -> Result<Event, WorldFault> {
+    let name = fields.name(alloc)?;
+    let tables = fields.texts(alloc)?;
+    Ok(Event::Truncate(name, tables))
 }
 
 fn start(alloc: Global, fields: &mut Fields<'_>) -> Result<Event, WorldFault> {

@@ -45,6 +45,7 @@ fn is_short(change: &Change) -> bool
     }
 }
 
+#[derive(Clone, Copy)]
 struct Shown<'a>(&'a Change);
 
 impl fmt::Display for Shown<'_> {
@@ -66,6 +67,7 @@ impl fmt::Display for Shown<'_> {
     }
 }
 
+#[derive(Clone, Copy)]
 struct Values<'a>(&'a Row);
 
 impl fmt::Display for Values<'_> {

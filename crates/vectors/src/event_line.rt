@@ -3,8 +3,9 @@
 use crate::sample::Answer;
 use crate::shown::{Position, Quoted};
 use anyhow::{Context, Result};
-use frames::Text;
-use std::alloc::{AllocError, Global};
+use frames::{Items, Text};
+use std::alloc::Global;
+use std::fmt;
 use world::{Event, Literal};
 
 /// The sample is a line between double quotes, in which `\r` stands for a carriage return.
@@ -15,13 +16,9 @@ pub fn event_answer(alloc: Global, given: &str) -> Result<Answer> {
 
 fn parsed(alloc: Global, line: &str) -> Result<Answer> {
     match Event::parse(alloc, line) {
-        Ok(event) => event_meaning(alloc, &event),
+        Ok(event) => Ok(Answer::Meaning(format!(in alloc; "{}", Shown(&event))?)),
         Err(fault) => Ok(Answer::Fault(fault.to_string(alloc)?)),
     }
-}
-
-fn event_meaning(alloc: Global, event: &Event) -> Result<Answer> {
-    Ok(Answer::Meaning(shown_event(alloc, event)?))
 }
 
 fn line_of(alloc: Global, given: &str) -> Result<String> {
@@ -30,74 +27,87 @@ fn line_of(alloc: Global, given: &str) -> Result<String> {
     Ok(line.replace(alloc, "\\r", "\r")?)
 }
 
-fn shown_event(alloc: Global, event: &Event) -> Result<String, AllocError> {
-    match event {
-        Event::Begin(name) => shown_call(alloc, "begin", name),
-        Event::Insert(name, table, row) => {
-            let name = name.as_str();
-            let table = table.as_str();
-            let row = shown_literals(alloc, row.as_slice())?;
-            format!(in alloc; "insert {name} {table}{row}")
+#[derive(Clone, Copy)]
+struct Shown<'a>(&'a Event);
+
+impl fmt::Display for Shown<'_> {
+    fn fmt<W: fmt::Write>(&self, f: &mut fmt::Formatter<W>) -> fmt::Result {
+        match self.0 {
+            Event::Begin(name) => write!(f, "begin {}", name.as_str()),
+            Event::Insert(name, table, row) => {
+                write!(
+                    f,
+                    "insert {} {}{}",
+                    name.as_str(),
+                    table.as_str(),
+                    Literals(row)
+                )
+            }
+            Event::Update(name, table, key, row) => {
+                write!(
+                    f,
+                    "update {} {}{}",
+                    name.as_str(),
+                    table.as_str(),
+                    Literals(key)
+                )?;
+                write!(f, " to{}", Literals(row))
+            }
+            Event::Delete(name, table, key) => {
+                write!(
+                    f,
+                    "delete {} {}{}",
+                    name.as_str(),
+                    table.as_str(),
+                    Literals(key)
+                )
+            }
+            Event::Truncate(name, tables) => {
+                write!(f, "truncate {}{}", name.as_str(), Names(tables))
+            }
+            Event::Savepoint(name) => write!(f, "savepoint {}", name.as_str()),
+            Event::Rollback(name, depth) => write!(f, "rollback {} {depth}", name.as_str()),
+            Event::Release(name, depth) => write!(f, "release {} {depth}", name.as_str()),
+            Event::Commit(name, time) => write!(f, "commit {} {time}", name.as_str()),
+            Event::Abort(name) => write!(f, "abort {}", name.as_str()),
+            Event::Start(name, slot, position, publications) => {
+                write!(f, "start {} {}", name.as_str(), slot.as_str())?;
+                write!(f, " {}{}", Position(*position), Names(publications))
+            }
+            Event::Read(name, most, clock) => write!(f, "read {} {most} {clock}", name.as_str()),
+            Event::Keepalive(name, clock) => write!(f, "keepalive {} {clock}", name.as_str()),
+            Event::Drain(name, most) => write!(f, "drain {} {most}", name.as_str()),
+            Event::Cut(name) => write!(f, "cut {}", name.as_str()),
         }
-        Event::Savepoint(name) => shown_call(alloc, "savepoint", name),
-        Event::Rollback(name, depth) => shown_number(alloc, "rollback", name, i64::from(*depth)),
-        Event::Release(name, depth) => shown_number(alloc, "release", name, i64::from(*depth)),
-        Event::Commit(name, time) => shown_number(alloc, "commit", name, *time),
-        Event::Abort(name) => shown_call(alloc, "abort", name),
-        Event::Start(name, slot, position, publications) => {
-            shown_start(alloc, name, slot, *position, publications.as_slice())
-        }
-        Event::Read(name, most, clock) => {
-            let name = name.as_str();
-            format!(in alloc; "read {name} {most} {clock}")
-        }
-        Event::Keepalive(name, clock) => shown_number(alloc, "keepalive", name, *clock),
-        Event::Drain(name, most) => shown_number(alloc, "drain", name, i64::from(*most)),
-        Event::Cut(name) => shown_call(alloc, "cut", name),
     }
 }
 
-fn shown_call(alloc: Global, word: &str, name: &Text) -> Result<String, AllocError> {
-    let name = name.as_str();
-    format!(in alloc; "{word} {name}")
-}
+#[derive(Clone, Copy)]
+struct Names<'a>(&'a Items<Text>);
 
-fn shown_number(alloc: Global, word: &str, name: &Text, number: i64) -> Result<String, AllocError> {
-    let name = name.as_str();
-    format!(in alloc; "{word} {name} {number}")
-}
-
-fn shown_start(
-    alloc: Global,
-    name: &Text,
-    slot: &Text,
-    position: u64,
-    publications: &[Text],
-) -> Result<String, AllocError> {
-    let name = name.as_str();
-    let slot = slot.as_str();
-    let position = Position(position);
-    let mut shown = format!(in alloc; "start {name} {slot} {position}")?;
-    for publication in publications {
-        let publication = publication.as_str();
-        write!(shown, " {publication}")?;
+impl fmt::Display for Names<'_> {
+    fn fmt<W: fmt::Write>(&self, f: &mut fmt::Formatter<W>) -> fmt::Result {
+        for name in self.0.as_slice() {
+            write!(f, " {}", name.as_str())?;
+        }
+        Ok(())
     }
-    Ok(shown)
 }
 
-fn shown_literals(alloc: Global, literals: &[Literal]) -> Result<String, AllocError> {
-    let mut shown = String::new(alloc);
-    for literal in literals {
-        match literal {
-            Literal::Null => shown.push_str(" null")?,
-            Literal::Bool(b) => write!(shown, " {b}")?,
-            Literal::Integer(n) => write!(shown, " {n}")?,
-            Literal::Huge => shown.push_str(" huge")?,
-            Literal::Text(text) => {
-                let text = Quoted(text.as_str());
-                write!(shown, " {text}")?;
+#[derive(Clone, Copy)]
+struct Literals<'a>(&'a Items<Literal>);
+
+impl fmt::Display for Literals<'_> {
+    fn fmt<W: fmt::Write>(&self, f: &mut fmt::Formatter<W>) -> fmt::Result {
+        for literal in self.0.as_slice() {
+            match literal {
+                Literal::Null => write!(f, " null")?,
+                Literal::Bool(b) => write!(f, " {b}")?,
+                Literal::Integer(n) => write!(f, " {n}")?,
+                Literal::Huge => write!(f, " huge")?,
+                Literal::Text(text) => write!(f, " {}", Quoted(text.as_str()))?,
             }
         }
+        Ok(())
     }
-    Ok(shown)
 }
