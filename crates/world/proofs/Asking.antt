@@ -10,7 +10,7 @@ use Rattle.tables.specs.declared.table.Table.{Table}
 use Rattle.tables.specs.Tables.{table_named}
 use Rattle.txlog.specs.declared.record.Record.{Record}
 use Rattle.txlog.specs.declared.fault.SessionFault.{SessionFault}
-use Rattle.txlog.specs.Publishing.{PublisherState, IsRefusalOrMemory, insert_refusal}
+use Rattle.txlog.specs.Publishing.{PublisherState, IsRefusalOrMemory, insert_refusal, update_refusal, delete_refusal}
 use Rattle.schedule.specs.declared.event.Literal.{Literal}
 use Rattle.schedule.specs.declared.answer.Answer.{Answer}
 use Rattle.schedule.specs.declared.answer.Answer.TheVariants as answers
@@ -19,9 +19,9 @@ use Rattle.world.specs.declared.action.Action.{Action}
 use Rattle.world.specs.declared.session.Session.{Session}
 use Rattle.world.specs.declared.start.Start.{Start}
 use Rattle.world.specs.declared.machine.Machine.{Machine}
-use Rattle.world.specs.State.{StartState, WorldState, NamedTx, xid_of, without_name}
-use Rattle.world.specs.SessionLines.{Ask, SessionState, IsCalled, IsAnswered, if_known, insert_refused}
-use Rattle.world.specs.Rows.{row_in}
+use Rattle.world.specs.State.{StartState, NamedTx, xid_of, without_name}
+use Rattle.world.specs.SessionLines.{IsCalled, IsAnswered, if_known, insert_refused, update_refused, delete_refused}
+use Rattle.world.specs.Rows.{row_in, key_columns}
 use Rattle.world.specs.ConnectionLines.{Acts, ActsAt}
 use Rattle.world.specs.Machine.{named_tx, sessions_state, IsNamedAt, Called, start_state, shown, ActsIn, IsOpenAt, IsOpenStartAt}
 use Rattle.world.proofs.Names.{same_inside}
@@ -110,12 +110,41 @@ acted_at name place action m new a at acts =
       is = ap (λ (l : List StartState). record (shown m) { starts = l }) (acts.is ∙ sym (at.changed acts.after));
     }
 
--- a row that is read by the columns of its table, and refused there
-pub insert_refused_by : (tables found_in : List Table) (name told : List ℕ) (t : Table) (columns : List Column) (literals : List Literal) (row : List Value) (xid : ℕ) (p : PublisherState) (fault : SessionFault) →
-    Some t ≡ table_named told found_in → told ≡ name → found_in ≡ tables → row ≡ row_in columns literals → columns ≡ t.columns →
-    IsRefusalOrMemory (insert_refusal xid t.oid row p) fault → IsRefusalOrMemory (insert_refused (table_named name tables) xid literals p) fault
-insert_refused_by tables found_in name told t columns literals row xid p fault found is_name is_tables is_row is_columns refused =
-    let there : Some t ≡ table_named name tables = found ∙ ap (λ (n : List ℕ). table_named n found_in) is_name ∙ ap (table_named name) is_tables in
-    let same : row ≡ row_in t.columns literals = is_row ∙ ap (λ (cs : List Column). row_in cs literals) is_columns in
+-- ---- tables by name
+
+-- OIDs behind others
+abbrev pub behind : List ℕ → Option (List ℕ) → Option (List ℕ)
+behind oids None = None
+behind oids (Some more) = Some (oids ++ more)
+
+-- the table that was found is that of the name
+pub found_by : (tables found_in : List Table) (name told : List ℕ) (t : Table) → Some t ≡ table_named told found_in → told ≡ name → found_in ≡ tables → Some t ≡ table_named name tables
+found_by tables found_in name told t found is_name is_tables = found ∙ ap (λ (n : List ℕ). table_named n found_in) is_name ∙ ap (table_named name) is_tables
+
+pub row_by : (columns : List Column) (t : Table) (literals : List Literal) (row : List Value) → row ≡ row_in columns literals → columns ≡ t.columns → row ≡ row_in t.columns literals
+row_by columns t literals row is_row is_columns = is_row ∙ ap (λ (cs : List Column). row_in cs literals) is_columns
+
+pub key_by : (columns : List Column) (t : Table) (literals : List Literal) (key : List Value) → key ≡ row_in (key_columns columns) literals → columns ≡ t.columns → key ≡ row_in (key_columns t.columns) literals
+key_by columns t literals key is_key is_columns = is_key ∙ ap (λ (cs : List Column). row_in (key_columns cs) literals) is_columns
+
+-- what the publisher refuses is refused to the line
+pub insert_refused_by : (t : Table) (found : Option Table) (literals : List Literal) (row : List Value) (xid : ℕ) (p : PublisherState) (fault : SessionFault) → Some t ≡ found → row ≡ row_in t.columns literals →
+    IsRefusalOrMemory (insert_refusal xid t.oid row p) fault → IsRefusalOrMemory (insert_refused found xid literals p) fault
+insert_refused_by t found literals row xid p fault there is refused =
     subst (λ (o : Option Table). IsRefusalOrMemory (insert_refused o xid literals p) fault) there
-    (subst (λ (r : List Value). IsRefusalOrMemory (insert_refusal xid t.oid r p) fault) same refused)
+    (subst (λ (r : List Value). IsRefusalOrMemory (insert_refusal xid t.oid r p) fault) is refused)
+
+pub update_refused_by : (t : Table) (found : Option Table) (key_literals literals : List Literal) (key row : List Value) (xid : ℕ) (p : PublisherState) (fault : SessionFault) →
+    Some t ≡ found → key ≡ row_in (key_columns t.columns) key_literals → row ≡ row_in t.columns literals →
+    IsRefusalOrMemory (update_refusal xid (record { oid = t.oid; values = key }) row p) fault → IsRefusalOrMemory (update_refused found xid key_literals literals p) fault
+update_refused_by t found key_literals literals key row xid p fault there is_key is_row refused =
+    subst (λ (o : Option Table). IsRefusalOrMemory (update_refused o xid key_literals literals p) fault) there
+    (subst (λ (k : List Value). IsRefusalOrMemory (update_refusal xid (record { oid = t.oid; values = k }) (row_in t.columns literals) p) fault) is_key
+    (subst (λ (r : List Value). IsRefusalOrMemory (update_refusal xid (record { oid = t.oid; values = key }) r p) fault) is_row refused))
+
+pub delete_refused_by : (t : Table) (found : Option Table) (literals : List Literal) (key : List Value) (xid : ℕ) (p : PublisherState) (fault : SessionFault) →
+    Some t ≡ found → key ≡ row_in (key_columns t.columns) literals →
+    IsRefusalOrMemory (delete_refusal xid (record { oid = t.oid; values = key }) p) fault → IsRefusalOrMemory (delete_refused found xid literals p) fault
+delete_refused_by t found literals key xid p fault there is_key refused =
+    subst (λ (o : Option Table). IsRefusalOrMemory (delete_refused o xid literals p) fault) there
+    (subst (λ (k : List Value). IsRefusalOrMemory (delete_refusal xid (record { oid = t.oid; values = k }) p) fault) is_key refused)

@@ -1,6 +1,6 @@
 -- The machine between two events: a longer log leaves every start served, a call or an act is its event in the world.
 use Rattle.std.proofs.Common.{◌≡◌, ◌+◌, length, ℕ, ℤ, Bool, true, false, List, [], ◌∷◌, ◌++◌, map, Option, Some, None, refl, sym, ap, subst, ◌∙◌, option_map, arith}
-use Rattle.std.specs.Prelude.{Result, Ok, Err, IfOk, OnErr, is_some, not, slice_get}
+use Rattle.std.specs.Prelude.{Result, Ok, Err, IfOk, OnErr, is_some, not}
 use Rattle.std.specs.List.{AllByRecursion}
 use Rattle.std.proofs.lemmas.Option.{slice_get-map}
 use Rattle.std.proofs.lemmas.List.{length-map, map-append}
@@ -41,6 +41,9 @@ stepped : (e : Event) (old : WorldState) (p : PublisherState) (ss : List Session
     → IsStep old e a (record old { publisher = p; transactions = map named_tx ss })
 stepped (events.Begin t) old p ss a calls = record { called = calls; is = refl }
 stepped (events.Insert t table row) old p ss a calls = record { called = calls; is = refl }
+stepped (events.Update t table key row) old p ss a calls = record { called = calls; is = refl }
+stepped (events.Delete t table key) old p ss a calls = record { called = calls; is = refl }
+stepped (events.Truncate t names) old p ss a calls = record { called = calls; is = refl }
 stepped (events.Savepoint t) old p ss a calls = record { called = calls; is = refl }
 stepped (events.Rollback t depth) old p ss a calls = record { called = calls; is = refl }
 stepped (events.Release t depth) old p ss a calls = record { called = calls; is = refl }
@@ -72,6 +75,9 @@ pub bad_call : (e : Event) (w : WorldState)
     → is_some (ask_of e w.publisher w.transactions) ≡ false → is_bad e w ≡ true
 bad_call (events.Begin t) w start read keepalive drain cut bad = ap not bad
 bad_call (events.Insert t table row) w start read keepalive drain cut bad = ap not bad
+bad_call (events.Update t table key row) w start read keepalive drain cut bad = ap not bad
+bad_call (events.Delete t table key) w start read keepalive drain cut bad = ap not bad
+bad_call (events.Truncate t names) w start read keepalive drain cut bad = ap not bad
 bad_call (events.Savepoint t) w start read keepalive drain cut bad = ap not bad
 bad_call (events.Rollback t depth) w start read keepalive drain cut bad = ap not bad
 bad_call (events.Release t depth) w start read keepalive drain cut bad = ap not bad

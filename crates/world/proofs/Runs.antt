@@ -1,5 +1,5 @@
 -- What is true of the machine between two events is the headline; and a run that goes on is a run.
-use Rattle.std.proofs.Common.{◌≡◌, ◌+◌, ◌<◌, length, ℕ, true, false, List, [], ◌∷◌, ◌++◌, map, take, Option, Some, refl, sym, ap, subst, ◌∙◌}
+use Rattle.std.proofs.Common.{◌≡◌, ◌+◌, ◌<◌, length, ℕ, true, false, List, [], ◌∷◌, ◌++◌, map, take, refl, sym, ap, subst, ◌∙◌}
 use Rattle.std.specs.Prelude.{◌↔◌, slice_index_or}
 use Rattle.std.proofs.lemmas.List.{take_more}
 use Rattle.std.proofs.lemmas.Option.{slice_get_read}
@@ -21,7 +21,7 @@ use Rattle.world.specs.declared.start.Walsender.{Walsender}
 use Rattle.world.specs.declared.start.Walsender.TheVariants as walsenders
 use Rattle.world.specs.declared.machine.Machine.{Machine}
 use Rattle.world.specs.State.{WorldState}
-use Rattle.world.specs.Law.{read_by, Streams, BeginsStream, IsExact, Headline}
+use Rattle.world.specs.Law.{read_by, IsExact, Headline}
 use Rattle.world.specs.Steps.{IsStep, is_bad, IsRun, StopsAt}
 use Rattle.world.specs.Machine.{IsServed, IsServedBy, IsStreaming, IsMachine, state_with, start_state, shown}
 use Rattle.world.proofs.Streams.{read_by_place}

@@ -1,5 +1,5 @@
 -- A batch that a sender was fed is the read that a line asked for, and leaves its connection served.
-use Rattle.std.proofs.Common.{◌≡◌, ◌<◌, ◌≤◌, ◌+◌, ◌^◌, ℕ, ℤ, suc, Bool, true, false, leb, List, [], ◌∷◌, ◌++◌, length, take, drop, Option, Some, None, refl, sym, ap, subst, ◌∙◌, append_assoc, arith}
+use Rattle.std.proofs.Common.{◌≡◌, ◌<◌, ◌≤◌, ◌+◌, ◌^◌, ℕ, ℤ, suc, Bool, true, false, leb, List, [], ◌∷◌, ◌++◌, length, take, drop, refl, sym, ap, subst, ◌∙◌, append_assoc, arith}
 use Rattle.std.specs.Prelude.{FitsSigned, ◌↔◌, Result, Err}
 use Rattle.std.specs.List.{AllByRecursion}
 use Rattle.std.specs.Int.{w64}
@@ -28,7 +28,7 @@ use Rattle.world.specs.declared.start.Walsender.TheVariants as walsenders
 use Rattle.world.specs.State.{StartState}
 use Rattle.world.specs.Law.{read_by}
 use Rattle.world.specs.ConnectionLines.{unread, after_action, after_reading, BreaksDown, Acts}
-use Rattle.world.specs.Machine.{IsStreaming, IsReading, IsServing, WasStreaming, IsServedBy, state_with}
+use Rattle.world.specs.Machine.{IsStreaming, IsReading, IsServing, IsServedBy, state_with}
 use Rattle.sender.proofs.Sections.{all_front, all_back, followed, follows_parts, starts_below, section_may_follow}
 use Rattle.world.proofs.Ranges.{published_fit, published_late}
 use Rattle.world.proofs.Streams.{stream_read, stream_kept_alive, stream_moved, stream_new, read_by_place}

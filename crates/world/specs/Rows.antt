@@ -1,6 +1,6 @@
--- The row that the literals of a line spell. An integer takes the kind of its column; what doesn't fit the column becomes a
+-- The row or the key that the literals of a line spell. An integer takes the kind of its column; what doesn't fit the column becomes a
 -- value of another kind, so that no table takes the row.
-use Rattle.std.specs.Prelude.{ℕ, ℤ, pos, negsuc, ◌^◌, Bool, false, nat_lt, drop, List, [], ◌∷◌, if◌then◌else◌}
+use Rattle.std.specs.Prelude.{ℤ, pos, negsuc, ◌^◌, Bool, false, nat_lt, drop, filter, List, [], ◌∷◌, if◌then◌else◌}
 use Rattle.tables.specs.declared.kind.Kind.{Kind}
 use Rattle.tables.specs.declared.kind.Kind.TheVariants as kinds
 use Rattle.tables.specs.declared.value.Value.{Value}
@@ -36,3 +36,7 @@ first_kind (c ∷ columns) = c.kind
 abbrev pub row_in : List Column → List Literal → List Value
 row_in columns [] = []
 row_in columns (l ∷ ls) = value_in (first_kind columns) l ∷ row_in (drop 1 columns) ls
+
+-- the columns of the primary key, in table order
+abbrev pub key_columns : List Column → List Column
+key_columns columns = filter (λ c. c.is_key) columns

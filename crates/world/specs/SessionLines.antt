@@ -3,16 +3,17 @@ use Rattle.std.specs.Prelude.{◌≡◌, ℕ, List, [], ◌∷◌, ◌++◌, Opt
 use Rattle.tables.specs.declared.table.Table.{Table}
 use Rattle.tables.specs.declared.change.Change.TheVariants as changes
 use Rattle.tables.specs.Tables.{table_named}
+use Rattle.tables.specs.Rows.{Key}
 use Rattle.txlog.specs.declared.fault.SessionFault.{SessionFault}
 use Rattle.txlog.specs.declared.fault.SessionFault.TheVariants as faults
-use Rattle.txlog.specs.Publishing.{PublisherState, IsRefusalOrMemory, begun, changed, saved, rolled_back, released, after_commit, after_abort, begin_refusal, insert_refusal, savepoint_refusal, rollback_refusal, release_refusal, end_refusal}
+use Rattle.txlog.specs.Publishing.{PublisherState, IsRefusalOrMemory, begun, changed, updated, deleted, saved, rolled_back, released, after_commit, after_abort, begin_refusal, insert_refusal, update_refusal, delete_refusal, truncate_refusal, savepoint_refusal, rollback_refusal, release_refusal, end_refusal}
 use Rattle.schedule.specs.declared.event.Event.{Event}
 use Rattle.schedule.specs.declared.event.Event.TheVariants as events
 use Rattle.schedule.specs.declared.event.Literal.{Literal}
 use Rattle.schedule.specs.declared.answer.Answer.{Answer}
 use Rattle.schedule.specs.declared.answer.Answer.TheVariants as answers
 use Rattle.world.specs.State.{NamedTx, xid_of, without_name}
-use Rattle.world.specs.Rows.{row_in}
+use Rattle.world.specs.Rows.{row_in, key_columns}
 
 -- a call: the refusal that it meets, if any, and the publisher and the names that it leaves where it is done
 pub record Ask : Type 0 where
@@ -29,6 +30,43 @@ abbrev pub inserted_in : Option Table → ℕ → List Literal → PublisherStat
 inserted_in None xid row p = p
 inserted_in (Some table) xid row p = changed xid (changes.Insert table.oid (row_in table.columns row)) p
 
+-- a key has a literal for each column of the primary key, in table order
+abbrev pub key_in : Table → List Literal → Key
+key_in table key = record { oid = table.oid; values = row_in (key_columns table.columns) key }
+
+abbrev pub update_refused : Option Table → ℕ → List Literal → List Literal → PublisherState → Option SessionFault
+update_refused None xid key row p = Some faults.UnknownTable
+update_refused (Some table) xid key row p = update_refusal xid (key_in table key) (row_in table.columns row) p
+
+abbrev pub updated_in : Option Table → ℕ → List Literal → List Literal → PublisherState → PublisherState
+updated_in None xid key row p = p
+updated_in (Some table) xid key row p = updated xid (key_in table key) (row_in table.columns row) p
+
+abbrev pub delete_refused : Option Table → ℕ → List Literal → PublisherState → Option SessionFault
+delete_refused None xid key p = Some faults.UnknownTable
+delete_refused (Some table) xid key p = delete_refusal xid (key_in table key) p
+
+abbrev pub deleted_in : Option Table → ℕ → List Literal → PublisherState → PublisherState
+deleted_in None xid key p = p
+deleted_in (Some table) xid key p = deleted xid (key_in table key) p
+
+-- the OIDs of the tables of these names, in order; none where one of them is not known
+abbrev pub with_oid : Option Table → Option (List ℕ) → Option (List ℕ)
+with_oid (Some table) (Some oids) = Some (table.oid ∷ oids)
+with_oid table oids = None
+
+abbrev pub oids_named : List Table → List (List ℕ) → Option (List ℕ)
+oids_named tables [] = Some []
+oids_named tables (name ∷ names) = with_oid (table_named name tables) (oids_named tables names)
+
+abbrev pub truncate_refused : Option (List ℕ) → ℕ → PublisherState → Option SessionFault
+truncate_refused None xid p = Some faults.UnknownTable
+truncate_refused (Some oids) xid p = truncate_refusal xid oids p
+
+abbrev pub truncated_in : Option (List ℕ) → ℕ → PublisherState → PublisherState
+truncated_in None xid p = p
+truncated_in (Some oids) xid p = changed xid (changes.Truncate oids) p
+
 -- a name that is in use
 abbrev pub if_known : Option ℕ → (ℕ → Ask) → Option Ask
 if_known None ask = None
@@ -44,6 +82,9 @@ if_new (Some xid) ask = None
 abbrev pub ask_of : Event → PublisherState → List NamedTx → Option Ask
 ask_of (events.Begin t) p ts = if_new (xid_of t ts) (record { refusal = begin_refusal p; done = begun p; transactions = ts ++ record { name = t; xid = p.next_xid } ∷ [] })
 ask_of (events.Insert t table row) p ts = if_known (xid_of t ts) (λ xid. record { refusal = insert_refused (table_named table p.tables) xid row p; done = inserted_in (table_named table p.tables) xid row p; transactions = ts })
+ask_of (events.Update t table key row) p ts = if_known (xid_of t ts) (λ xid. record { refusal = update_refused (table_named table p.tables) xid key row p; done = updated_in (table_named table p.tables) xid key row p; transactions = ts })
+ask_of (events.Delete t table key) p ts = if_known (xid_of t ts) (λ xid. record { refusal = delete_refused (table_named table p.tables) xid key p; done = deleted_in (table_named table p.tables) xid key p; transactions = ts })
+ask_of (events.Truncate t names) p ts = if_known (xid_of t ts) (λ xid. record { refusal = truncate_refused (oids_named p.tables names) xid p; done = truncated_in (oids_named p.tables names) xid p; transactions = ts })
 ask_of (events.Savepoint t) p ts = if_known (xid_of t ts) (λ xid. record { refusal = savepoint_refusal xid p; done = saved xid p; transactions = ts })
 ask_of (events.Rollback t depth) p ts = if_known (xid_of t ts) (λ xid. record { refusal = rollback_refusal xid depth p; done = rolled_back xid depth p; transactions = ts })
 ask_of (events.Release t depth) p ts = if_known (xid_of t ts) (λ xid. record { refusal = release_refusal xid depth p; done = released xid depth p; transactions = ts })

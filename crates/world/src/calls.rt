@@ -28,6 +28,23 @@ pub(crate) fn call(
         Event::Insert(name, table, row) => {
             insert(publisher, sessions, alloc, name, table, row.as_slice())
         }
+        Event::Update(name, table, key, row) => {
+            update(
+                publisher,
+                sessions,
+                alloc,
+                name,
+                table,
+                key.as_slice(),
+                row.as_slice(),
+            )
+        }
+        Event::Delete(name, table, key) => {
+            delete(publisher, sessions, alloc, name, table, key.as_slice())
+        }
+        Event::Truncate(name, names) => {
+            truncate(publisher, sessions, alloc, name, names.as_slice())
+        }
         Event::Savepoint(name) => savepoint(publisher, sessions, name),
         Event::Rollback(name, depth) => rollback(publisher, sessions, name, *depth),
         Event::Release(name, depth) => release(publisher, sessions, name, *depth),
@@ -102,6 +119,57 @@ fn insert(
 {
     let place = known_place(sessions.as_slice(), name)?;
     Ok(sessions[place].insert(publisher, alloc, table, row)?)
+}
+
+fn update(
+    publisher: &mut Publisher,
+    sessions: &mut Vec<Session>,
+    alloc: Global,
+    name: &Text,
+    table: &Text,
+    key: &[Literal],
+    row: &[Literal],
+) -> Result<Answer, WorldFault>
+    ensures calls { IfOk result (λ a. IsCallOf (Event.Update name.now table.now key.now row.now) publisher.old sessions.old.items a publisher.new sessions.new.items) }
+    ensures bad { result ≡ Err WorldFault.BadEvent → IsNone (ask_of (Event.Update name.now table.now key.now row.now) publisher.old (map named_tx sessions.old.items)) }
+    ensures err { OnErr result (sessions_state publisher.new sessions.new.items ≡ sessions_state publisher.old sessions.old.items) }
+    ensures grows { Grows publisher.old.log publisher.new.log }
+{
+    let place = known_place(sessions.as_slice(), name)?;
+    Ok(sessions[place].update(publisher, alloc, table, key, row)?)
+}
+
+fn delete(
+    publisher: &mut Publisher,
+    sessions: &mut Vec<Session>,
+    alloc: Global,
+    name: &Text,
+    table: &Text,
+    key: &[Literal],
+) -> Result<Answer, WorldFault>
+    ensures calls { IfOk result (λ a. IsCallOf (Event.Delete name.now table.now key.now) publisher.old sessions.old.items a publisher.new sessions.new.items) }
+    ensures bad { result ≡ Err WorldFault.BadEvent → IsNone (ask_of (Event.Delete name.now table.now key.now) publisher.old (map named_tx sessions.old.items)) }
+    ensures err { OnErr result (sessions_state publisher.new sessions.new.items ≡ sessions_state publisher.old sessions.old.items) }
+    ensures grows { Grows publisher.old.log publisher.new.log }
+{
+    let place = known_place(sessions.as_slice(), name)?;
+    Ok(sessions[place].delete(publisher, alloc, table, key)?)
+}
+
+fn truncate(
+    publisher: &mut Publisher,
+    sessions: &mut Vec<Session>,
+    alloc: Global,
+    name: &Text,
+    names: &[Text],
+) -> Result<Answer, WorldFault>
+    ensures calls { IfOk result (λ a. IsCallOf (Event.Truncate name.now names.now) publisher.old sessions.old.items a publisher.new sessions.new.items) }
+    ensures bad { result ≡ Err WorldFault.BadEvent → IsNone (ask_of (Event.Truncate name.now names.now) publisher.old (map named_tx sessions.old.items)) }
+    ensures err { OnErr result (sessions_state publisher.new sessions.new.items ≡ sessions_state publisher.old sessions.old.items) }
+    ensures grows { Grows publisher.old.log publisher.new.log }
+{
+    let place = known_place(sessions.as_slice(), name)?;
+    Ok(sessions[place].truncate(publisher, alloc, names)?)
 }
 
 fn savepoint(

@@ -77,6 +77,9 @@ impl Machine {
         match event {
             Event::Begin(name) => is_known(self.sessions.as_slice(), name),
             Event::Insert(name, _, _)
+            | Event::Update(name, _, _, _)
+            | Event::Delete(name, _, _)
+            | Event::Truncate(name, _)
             | Event::Savepoint(name)
             | Event::Rollback(name, _)
             | Event::Release(name, _)

@@ -1,7 +1,7 @@
-//! The rows of lines.
+//! The rows and keys of lines.
 
-ghost use Rattle.std.specs.Prelude.{◌≡◌, ◌++◌, IfOk, drop};
-ghost use Rattle.world.specs.Rows.{row_in, value_in, integer_in, huge_in, first_kind};
+ghost use Rattle.std.specs.Prelude.{◌≡◌, ◌++◌, IfOk, drop, length};
+ghost use Rattle.world.specs.Rows.{row_in, value_in, integer_in, huge_in, first_kind, key_columns};
 
 use schedule::Literal;
 use std::alloc::{AllocError, Global};
@@ -24,6 +24,39 @@ pub(crate) fn row_of(
         left = rest;
     }
     Ok(Row::new(values))
+}
+
+/// The same of a key, whose literals belong to the columns of the primary key, in table order.
+pub(crate) fn key_of(
+    alloc: Global,
+    columns: &[Column],
+    literals: &[Literal],
+) -> Result<Row, AllocError>
+    ensures { IfOk result (λ key. key ≡ row_in (key_columns columns.now) literals.now) }
+{
+    let mut values = Vec::with_capacity(alloc, literals.len())?;
+    let mut left = columns;
+    for literal in literals {
+        let (kind, rest) = first_key_of(left);
+        values.push(value_of(alloc, kind, literal)?)?;
+        left = rest;
+    }
+    Ok(Row::new(values))
+}
+
+/// The kind of the first column of the primary key, and the columns behind it.
+fn first_key_of(columns: &[Column]) -> (Kind, &[Column])
+    ensures kind { result.0 ≡ first_kind (key_columns columns.now) }
+    ensures rest { key_columns result.1.now ≡ drop 1 (key_columns columns.now) }
+{
+    let mut left = columns;
+    while let [column, rest @ ..] = left {
+        if column.is_key {
+            return (column.kind, rest);
+        }
+        left = rest;
+    }
+    (Kind::Int8, left)
 }
 
 /// The kind of the first column, and the columns behind it.

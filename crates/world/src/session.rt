@@ -3,13 +3,14 @@
 ghost use Rattle.std.specs.Prelude.{◌≡◌, ◌<◌, map, length, None, IfErr, IfOk, IfSome, OnErr, OnOk};
 ghost use Rattle.tables.specs.Tables.{table_named};
 ghost use Rattle.txlog.specs.Publishing.{IsRefusalOrMemory, saved, rolled_back, released, after_commit, after_abort, savepoint_refusal, rollback_refusal, release_refusal, end_refusal};
-ghost use Rattle.world.specs.SessionLines.{insert_refused, inserted_in};
+ghost use Rattle.world.specs.SessionLines.{delete_refused, deleted_in, insert_refused, inserted_in, oids_named, truncate_refused, truncated_in, update_refused, updated_in};
 ghost use Rattle.world.specs.Machine.{Called, Grows, named_tx, place_from};
 
-use crate::rows::row_of;
-use frames::Text;
+use crate::rows::{key_of, row_of};
+use frames::{Items, Text};
 use schedule::{Answer, Literal};
 use std::alloc::{AllocError, Global};
+use tables::Catalog;
 use txlog::{Publisher, SessionFault, Tx};
 
 /// A transaction in progress, by the name that a schedule gives it.
@@ -39,6 +40,75 @@ impl Session {
         let oid = table.oid;
         let row = row_of(alloc, table.columns.as_slice(), row)?;
         match publisher.insert(&mut self.tx, oid, row) {
+            Ok(()) => return Ok(Answer::Done),
+            Err(fault) => return Ok(Answer::Session(fault)),
+        }
+    }
+
+    /// Puts a row in the place of the one with this key.
+    pub(crate) fn update(
+        &mut self,
+        publisher: &mut Publisher,
+        alloc: Global,
+        table: &Text,
+        key: &[Literal],
+        row: &[Literal],
+    ) -> Result<Answer, AllocError>
+        ensures called { IfOk result (λ a. Called (update_refused (table_named table.now publisher.old.tables) self.old.tx key.now row.now publisher.old) (updated_in (table_named table.now publisher.old.tables) self.old.tx key.now row.now publisher.old) publisher.old a publisher.new) }
+        ensures same { self.new ≡ self.old }
+        ensures err { OnErr result (publisher.new ≡ publisher.old) }
+        ensures grows { Grows publisher.old.log publisher.new.log }
+    {
+        let Some(table) = publisher.catalog().named(table.as_str()) else {
+            return Ok(Answer::Session(SessionFault::UnknownTable));
+        };
+        let oid = table.oid;
+        let key = key_of(alloc, table.columns.as_slice(), key)?;
+        let row = row_of(alloc, table.columns.as_slice(), row)?;
+        match publisher.update(&mut self.tx, oid, &key, row) {
+            Ok(()) => return Ok(Answer::Done),
+            Err(fault) => return Ok(Answer::Session(fault)),
+        }
+    }
+
+    pub(crate) fn delete(
+        &mut self,
+        publisher: &mut Publisher,
+        alloc: Global,
+        table: &Text,
+        key: &[Literal],
+    ) -> Result<Answer, AllocError>
+        ensures called { IfOk result (λ a. Called (delete_refused (table_named table.now publisher.old.tables) self.old.tx key.now publisher.old) (deleted_in (table_named table.now publisher.old.tables) self.old.tx key.now publisher.old) publisher.old a publisher.new) }
+        ensures same { self.new ≡ self.old }
+        ensures err { OnErr result (publisher.new ≡ publisher.old) }
+        ensures grows { Grows publisher.old.log publisher.new.log }
+    {
+        let Some(table) = publisher.catalog().named(table.as_str()) else {
+            return Ok(Answer::Session(SessionFault::UnknownTable));
+        };
+        let oid = table.oid;
+        let key = key_of(alloc, table.columns.as_slice(), key)?;
+        match publisher.delete(&mut self.tx, oid, &key) {
+            Ok(()) => return Ok(Answer::Done),
+            Err(fault) => return Ok(Answer::Session(fault)),
+        }
+    }
+
+    pub(crate) fn truncate(
+        &mut self,
+        publisher: &mut Publisher,
+        alloc: Global,
+        names: &[Text],
+    ) -> Result<Answer, AllocError>
+        ensures called { IfOk result (λ a. Called (truncate_refused (oids_named publisher.old.tables names.now) self.old.tx publisher.old) (truncated_in (oids_named publisher.old.tables names.now) self.old.tx publisher.old) publisher.old a publisher.new) }
+        ensures same { self.new ≡ self.old }
+        ensures err { OnErr result (publisher.new ≡ publisher.old) }
+        ensures grows { Grows publisher.old.log publisher.new.log }
+    {
+        let Some(oids) = oids_of(alloc, publisher.catalog(), names)? else {
+            return Ok(Answer::Session(SessionFault::UnknownTable));
+        };
+        match publisher.truncate(&mut self.tx, oids.as_slice()) {
             Ok(()) => return Ok(Answer::Done),
             Err(fault) => return Ok(Answer::Session(fault)),
         }
@@ -106,6 +176,24 @@ impl Session {
             Err((tx, fault)) => return Err((Session { name, tx }, fault)),
         }
     }
+}
+
+/// The OIDs of the tables of these names, in order, unless one of them is not known.
+fn oids_of(
+    alloc: Global,
+    catalog: &Catalog,
+    names: &[Text],
+) -> Result<Option<Items<u32>>, AllocError>
+    ensures { IfOk result (λ oids. oids ≡ oids_named catalog.now names.now) }
+{
+    let mut oids = Vec::with_capacity(alloc, names.len())?;
+    for name in names {
+        match catalog.named(name.as_str()) {
+            Some(table) => oids.push(table.oid)?,
+            None => return Ok(None),
+        }
+    }
+    Ok(Some(Items::new(oids)))
 }
 
 /// The place of the transaction of this name.
