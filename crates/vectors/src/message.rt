@@ -1,6 +1,6 @@
 //! Logical messages: what is read is written again as it stood.
 
-ghost use Rattle.pgoutput.specs.Logical.{IsShort};
+ghost use Rattle.pgoutput.specs.Logical.{FitsLogical, IsShort};
 
 use crate::sample::Answer;
 use crate::shown::{Position, Quoted};
@@ -8,7 +8,7 @@ use anyhow::{Result, ensure};
 use bytes::BytesMut;
 use pgoutput::{
     Cell, Column, Delete, Insert, Logical, OldTuple, Relation, Truncate, Update, read_logical,
-    write_logical,
+    write_logical, written_and_read,
 };
 use std::alloc::{AllocError, Global};
 
@@ -20,11 +20,17 @@ pub fn logical_answer(alloc: Global, bytes: &[u8]) -> Result<Answer> {
 }
 
 fn meaning(alloc: Global, message: &Logical, bytes: &[u8]) -> Result<String>
-    requires { IsShort message.now }
+    requires range { FitsLogical message.now }
+    requires short { IsShort message.now }
 {
     let mut out = BytesMut::new(alloc);
     write_logical(message, &mut out)?;
     ensure!(out.as_slice() == bytes, "is written in another way");
+    let again = written_and_read(alloc, message)?;
+    ensure!(
+        again == *message,
+        "is another message when it is read again"
+    );
     Ok(shown_message(alloc, message)?)
 }
 

@@ -2,7 +2,7 @@
 
 use crate::sample::Answer;
 use anyhow::{Result, ensure};
-use std::alloc::Global;
+use std::alloc::{AllocError, Global};
 use world::{Config, SimFault, simulate};
 
 /// The table public.item.
@@ -15,10 +15,41 @@ key = ['id']
 columns = [['id', 'int4'], ['name', 'text'], ['qty', 'int8']]
 ";
 
+/// How a publisher is configured: with the table public.item and a log for 65,536 records, unless others are named.
+#[derive(Drop)]
+pub struct Setting {
+    pub records: u32,
+    tables: String,
+}
+
+impl Setting {
+    pub fn new(alloc: Global) -> Self {
+        Setting {
+            records: 65_536,
+            tables: String::new(alloc),
+        }
+    }
+
+    /// Adds a line of the configuration.
+    pub fn add_tables(&mut self, line: &str) -> Result<(), AllocError> {
+        self.tables.push_str(line)?;
+        self.tables.push('\n')
+    }
+
+    fn text(&self, alloc: Global) -> Result<String, AllocError> {
+        let tables = match self.tables.as_str() {
+            "" => ITEM,
+            others => others,
+        };
+        let records = self.records;
+        format!(in alloc; "[server]\nsystemid = '1'\nrecords = {records}\nchunks = 1\n{tables}")
+    }
+}
+
 /// What the schedule prints, or why it is refused.
-pub fn played(alloc: Global, records: usize, text: &str) -> Result<Answer> {
+pub fn played(alloc: Global, setting: &Setting, text: &str) -> Result<Answer> {
     let mut output = Vec::new(alloc);
-    match refusal(alloc, records, text, &mut output)? {
+    match refusal(alloc, setting, text, &mut output)? {
         None => Ok(Answer::Meaning(String::from_utf8(output)?)),
         Some(fault) => {
             ensure!(output.is_empty(), "prints something, though it is refused");
@@ -30,11 +61,11 @@ pub fn played(alloc: Global, records: usize, text: &str) -> Result<Answer> {
 /// Why the schedule is refused, or None where it printed what it says.
 fn refusal(
     alloc: Global,
-    records: usize,
+    setting: &Setting,
     text: &str,
     output: &mut Vec<u8>,
 ) -> Result<Option<String>> {
-    let config = config_of(alloc, records)?;
+    let config = config_of(alloc, setting)?;
     let mut input = text.as_bytes();
     match simulate(alloc, config, &mut input, output) {
         Ok(()) => Ok(None),
@@ -47,10 +78,7 @@ fn shown_fault(alloc: Global, fault: &SimFault) -> Result<String> {
     Ok(fault.to_string(alloc)?)
 }
 
-/// The table public.item, and a log for so many records.
-fn config_of(alloc: Global, records: usize) -> Result<Config> {
-    let server = format!(in alloc; "systemid = '1'\nrecords = {records}\nchunks = 1")?;
-    let server = server.as_str();
-    let text = format!(in alloc; "[server]\n{server}\n{ITEM}")?;
+fn config_of(alloc: Global, setting: &Setting) -> Result<Config> {
+    let text = setting.text(alloc)?;
     Ok(Config::from_toml(alloc, text.as_str())?)
 }

@@ -1,14 +1,11 @@
 //! Files of schedules, each with what it prints.
 
 use crate::expanded::{add_lines, add_printed};
-use crate::play::played;
+use crate::play::{Setting, played};
 use crate::report::Report;
 use crate::sample::Said;
 use anyhow::{Context, Result};
 use std::alloc::Global;
-
-/// The records that a log has room for where the file's head doesn't say it.
-const RECORDS: usize = 65_536;
 
 /// What begins the first line of a schedule, and its name follows.
 const NAMED: &str = "== ";
@@ -38,9 +35,9 @@ impl Case {
 
 pub fn judge_schedules(alloc: Global, text: &str) -> Result<Report> {
     let mut report = Report::new(alloc);
-    let records = records_of(text)?;
+    let setting = setting_of(alloc, text)?;
     for case in cases_of(alloc, text)? {
-        let answer = played(alloc, records, case.schedule.as_str())?;
+        let answer = played(alloc, &setting, case.schedule.as_str())?;
         if answer.is_as_said(case.said()) {
             report.hold();
         } else {
@@ -50,19 +47,23 @@ pub fn judge_schedules(alloc: Global, text: &str) -> Result<Report> {
     Ok(report)
 }
 
-/// For how many records the log has room.
-fn records_of(text: &str) -> Result<usize> {
+/// What the file's head says of the server and its tables.
+fn setting_of(alloc: Global, text: &str) -> Result<Setting> {
+    let mut setting = Setting::new(alloc);
     for line in text.split('\n') {
         if line.starts_with(NAMED) {
             break;
         }
         if let Some(number) = line.strip_prefix("records ") {
-            return number
-                .parse::<usize>()
-                .context("reading a number of records");
+            setting.records = number
+                .parse::<u32>()
+                .context("reading a number of records")?;
+        }
+        if let Some(tables) = line.strip_prefix("| ") {
+            setting.add_tables(tables)?;
         }
     }
-    Ok(RECORDS)
+    Ok(setting)
 }
 
 fn cases_of(alloc: Global, text: &str) -> Result<Vec<Case>> {
