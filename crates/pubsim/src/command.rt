@@ -34,6 +34,9 @@ lines that begin with # are passed over. T is a transaction's name and C a conne
 
   begin T                  a transaction begins
   insert T TABLE (ROW)     it inserts a row, as in (1,'ab',7)
+  update T TABLE (KEY) (ROW)  the row with this key becomes this one, as in (1) (2,'ab',7)
+  delete T TABLE (KEY)     it deletes the row with this key
+  truncate T TABLE ..      it empties tables
   savepoint T              it sets a savepoint
   rollback T N             it rolls back to its Nth savepoint, counted from the outermost
   release T N              it releases its Nth savepoint and those inside it
