@@ -1,0 +1,2 @@
+mod StatusFrames
+mod Bodies

@@ -2,7 +2,6 @@
 
 ghost use Rattle.std.specs.Prelude.{◌≡◌};
 ghost use Rattle.client.specs.Subscriber.{are_told, columns_of, fits, fits_old, judged};
-ghost use Rattle.std.specs.Option.{option_copied};
 ghost use Rattle.pgoutput.specs.OldTuple.{cells_of};
 
 use crate::fault::ClientFault;
@@ -23,7 +22,7 @@ pub(crate) fn judge(tables: &Tables, message: &Logical) -> Result<(), ClientFaul
         Logical::Insert(message) => judge_cells(columns_in(tables, message.oid)?, &message.new),
         Logical::Update(message) => {
             let columns = columns_in(tables, message.oid)?;
-            judge_old(columns, message.old.as_ref())?;
+            judge_old(columns, &message.old)?;
             judge_cells(columns, &message.new)
         }
         Logical::Delete(message) => {
@@ -54,10 +53,10 @@ fn judge_cells(columns: usize, cells: &Items<Cell>) -> Result<(), ClientFault>
     }
 }
 
-fn judge_old(columns: usize, old: Option<&OldTuple>) -> Result<(), ClientFault>
-    ensures { result ≡ fits_old columns (option_copied old) }
+fn judge_old(columns: usize, row: &Option<OldTuple>) -> Result<(), ClientFault>
+    ensures { result ≡ fits_old columns row.now }
 {
-    match old {
+    match row {
         Some(old) => judge_cells(columns, cells_in(old)),
         None => Ok(()),
     }

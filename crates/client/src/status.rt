@@ -38,6 +38,7 @@ pub(crate) fn status_frame(position: u64, clock: i64, ask: bool) -> [u8; 39]
 }
 
 /// Writes a number at a place.
+#[tactic(auto, unfolding(frames::specs::Fields::int64))]
 fn put_number(out: &mut [u8], at: usize, number: u64)
     requires { at + 8 ≤ length out.old }
     ensures value { take (at + 8) out.new ≡ take at out.old ++ int64 number }
