@@ -1,17 +1,18 @@
-use Rattle.std.proofs.Common.{rules, ◌≡◌, ◌<◌, ◌++◌, [], None, Ok, IfErr, OnErr, OnOk, length, false, true, ℕ, ◌+◌, ◌-◌, ◌*◌, ◌≤◌, ◌/◌, ◌%◌, Bool, nat_eq, nat_lt, List, ◌∷◌, slice_index_or, slice_set, bit_and, bit_or, Fits, w8, w32, w64, Bor, MutBor}
-use Rattle.frames.specs.Frame.{frame}
-use Rattle.frames.specs.declared.copy_data.TheConstants.{COPY_DATA}
-use Rattle.copyboth.specs.Status.{status}
-use Rattle.client.specs.Subscriber.{resting}
-use Rattle.client.specs.Taking.{HasTaken, Reached, Stops, StopsAfter, Takes}
-use Rattle.client.specs.Words.{Waits}
-use Rattle.client.specs.Law.{Follows}
+use Rattle.client.specs.Taking.{Stops}
+use Rattle.client.proofs.Reaching.{passed, reached_one, stopped}
 use Rattle.client.proofs.applier.Applier.step.Goals as goal
 
--- src/applier.rt:146:9
 pub returns-in_err-apply-clause-err : goal.returns-in_err-apply-clause-err
-returns-in_err-apply-clause-err c = ?
+returns-in_err-apply-clause-err c =
+    let subscriber = c.self.inside.progress in
+    let unread = c.self.inside.unread.items in
+    let word = rw (c.in-Some.is, c.as_slice.ensures) at c.in_ok-word.ensures in
+    let stops = stopped subscriber unread c.in-Some.word c.in-Some.size c.in_err-apply.field-0.0 c.apply.new.self word.2 c.in_err-apply.ensures in
+    rw (← c.self.view_is) (passed (λ e. Stops e subscriber unread) c.from_residual-in_err-apply.result c.in_err-apply.field-0.0 c.from_residual-in_err-apply.ensures.1 stops)
 
--- src/applier.rt:134:5
 pub returns-clause-more : goal.returns-clause-more
-returns-clause-more c = ?
+returns-clause-more c = λ _.
+    let subscriber = c.self.inside.progress in
+    let unread = c.self.inside.unread.items in
+    let word = rw (c.in-Some.is, c.as_slice.ensures) at c.in_ok-word.ensures in
+    rw (← c.self.view_is, c.advance.ensures.items) (reached_one subscriber unread c.in-Some.word c.in-Some.size c.apply.new.self word.2 c.in_ok-apply.ensures)

@@ -1,15 +1,9 @@
-use Rattle.std.proofs.Common.{◌≡◌, ◌<◌, ◌++◌, [], None, Ok, IfErr, OnErr, OnOk, length, false, true, ℕ, ◌+◌, ◌-◌, ◌*◌, ◌≤◌}
-use Rattle.frames.specs.Frame.{frame}
-use Rattle.frames.specs.declared.copy_data.TheConstants.{COPY_DATA}
-use Rattle.copyboth.specs.Status.{status}
-use Rattle.client.specs.Subscriber.{resting}
-use Rattle.client.specs.Taking.{HasTaken, Reached, Stops, StopsAfter, Takes}
-use Rattle.client.specs.Words.{Waits}
-use Rattle.client.specs.Law.{Follows}
+use Rattle.std.proofs.Common.{◌≡◌, ◌++◌, length}
+use Rattle.client.specs.Taking.{Reached}
 use Rattle.client.proofs.applier.Applier.take_words.Given as goal
 
 abbrev pub invariant-loop : goal.invariant-loop
-invariant-loop l = ?
+invariant-loop l = Reached l.fn.self.subscriber (l.fn.self.unread ++ l.bytes) l.self.subscriber l.self.unread × (l.self.fault ≡ l.fn.self.fault)
 
 abbrev pub decreases-loop : goal.decreases-loop
-decreases-loop l = ?
+decreases-loop l = length l.self.unread
