@@ -1,0 +1,3 @@
+mod StatusFrames
+mod Bodies
+mod Reaching

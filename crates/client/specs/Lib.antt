@@ -1,0 +1,4 @@
+pub mod Words
+pub mod Subscriber
+pub mod Taking
+pub mod Law

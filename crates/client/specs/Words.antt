@@ -1,0 +1,97 @@
+-- What stands at the front of a server's bytes: a word of the stream, or what is none (PostgreSQL 15, 55.4, 55.5 and 55.7).
+use Rattle.std.specs.Prelude.{◌≡◌, ℕ, ◌+◌, ◌<◌, ◌≤◌, List, [], ◌∷◌, ◌++◌, length, take, Option, Some, None, Result, Ok, Err}
+use Rattle.frames.specs.Frame.{frame}
+use Rattle.frames.specs.Back.{framed_back}
+use Rattle.frames.specs.declared.copy_data.TheConstants.{COPY_DATA}
+use Rattle.frames.specs.declared.frame.TheConstants.{FRAME_LIMIT}
+use Rattle.frames.specs.declared.fault.FrameFault.{FrameFault}
+use Rattle.frames.specs.declared.back.Back.{Back}
+use Rattle.frames.specs.declared.back.Back.TheVariants.{CopyData, ErrorResponse}
+use Rattle.copyboth.specs.Server.{SpellsXLogData, SpellsKeepalive}
+use Rattle.pgoutput.specs.declared.logical.Logical.{Logical}
+use Rattle.pgoutput.specs.Logical.{SpellsLogical}
+use Rattle.stream.specs.declared.word.Word.{Word}
+use Rattle.stream.specs.declared.word.Word.TheVariants as words
+use Rattle.client.specs.declared.fault.ClientFault.{ClientFault}
+use Rattle.client.specs.declared.fault.ClientFault.TheVariants.{Frame, Order, UnknownRelation, Server, Memory}
+
+-- What a CopyData holds says the word: a keepalive, of whose last byte 1 asks and every other doesn't, or an XLogData
+-- with one logical message.
+abbrev pub Says : List ℕ → Word → Type 0
+Says body (words.Keepalive k) = SpellsKeepalive body (record { end = k.position; clock = k.clock; ask = k.ask })
+Says body (words.XLogData x) = (payload : List ℕ) × SpellsXLogData body (record { start = x.start; end = x.end; clock = x.clock; payload = payload }) × SpellsLogical payload x.message
+
+-- The text is the frame of a word, and no longer than a frame may be.
+pub record SpellsWord (text : List ℕ) (w : Word) : Type 0 where
+  pub body : List ℕ
+  pub frame : text ≡ frame COPY_DATA body
+  pub short : 4 + length body ≤ FRAME_LIMIT
+  pub says : Says body w
+
+-- The text is the frames of these words, one behind the other.
+abbrev pub AreSpelled : List ℕ → List Word → Type 0
+AreSpelled text [] = text ≡ []
+AreSpelled text (w ∷ ws) = (front rest : List ℕ) × (text ≡ front ++ rest) × SpellsWord front w × AreSpelled rest ws
+
+-- No frame stands whole at the front, and none is ruled out.
+abbrev pub Waits : List ℕ → Type 0
+Waits rest = framed_back rest ≡ Ok None
+
+-- ---- what is no word
+
+-- a frame that has no place in a stream: a CopyData that says no word, and any other but an ErrorResponse
+abbrev pub IsNoWord : Back → Type 0
+IsNoWord (CopyData m) = (w : Word) → Says m.bytes w → ⊥
+IsNoWord (ErrorResponse m) = ⊥
+IsNoWord _ = Unit {0}
+
+abbrev pub IsError : Back → Type 0
+IsError (ErrorResponse m) = Unit {0}
+IsError _ = ⊥
+
+-- what is at the front, where a frame is there whole or can't be
+abbrev pub Holds : (Back → Type 0) → Type 0 → Result (Option (Back × ℕ)) FrameFault → Type 0
+Holds Whole Faulty (Ok (Some f)) = Whole f.0
+Holds Whole Faulty (Ok None) = ⊥
+Holds Whole Faulty (Err e) = Faulty
+
+-- Why no word is read at the front: what is there is no frame of a stream, or the server's ErrorResponse is there, or
+-- memory ran out.
+abbrev pub IsUnread : ClientFault → List ℕ → Type 0
+IsUnread Frame rest = Holds IsNoWord (Unit {0}) (framed_back rest)
+IsUnread Server rest = Holds IsError ⊥ (framed_back rest)
+IsUnread Memory rest = Unit {0}
+IsUnread Order rest = ⊥
+IsUnread UnknownRelation rest = ⊥
+
+-- what reading the word at the front answers: the word and how many bytes it takes, or why there is none
+abbrev pub Reads : List ℕ → Result (Option (Word × ℕ)) ClientFault → Type 0
+Reads bytes (Ok (Some x)) = (0 < x.1) × (x.1 ≤ length bytes) × SpellsWord (take x.1 bytes) x.0
+Reads bytes (Ok None) = Waits bytes
+Reads bytes (Err e) = IsUnread e bytes
+
+-- ---- from the inside out: the message of a payload, the word of a CopyData's body, that of a frame
+
+abbrev pub ReadsMessage : List ℕ → Result Logical ClientFault → Type 0
+ReadsMessage payload (Ok m) = SpellsLogical payload m
+ReadsMessage payload (Err Frame) = (m : Logical) → SpellsLogical payload m → ⊥
+ReadsMessage payload (Err Memory) = Unit {0}
+ReadsMessage payload (Err e) = ⊥
+
+abbrev pub ReadsBody : List ℕ → Result Word ClientFault → Type 0
+ReadsBody body (Ok w) = Says body w
+ReadsBody body (Err Frame) = (w : Word) → Says body w → ⊥
+ReadsBody body (Err Memory) = Unit {0}
+ReadsBody body (Err e) = ⊥
+
+-- a CopyData that says this word
+abbrev pub IsWord : Back → Word → Type 0
+IsWord (CopyData m) w = Says m.bytes w
+IsWord _ w = ⊥
+
+abbrev pub ReadsFrame : Back → Result Word ClientFault → Type 0
+ReadsFrame frame (Ok w) = IsWord frame w
+ReadsFrame frame (Err Frame) = IsNoWord frame
+ReadsFrame frame (Err Server) = IsError frame
+ReadsFrame frame (Err Memory) = Unit {0}
+ReadsFrame frame (Err e) = ⊥

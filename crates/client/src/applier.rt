@@ -1,0 +1,150 @@
+//! An applier: the bytes of a stream in, applied transactions out.
+
+ghost use Rattle.std.specs.Prelude.{◌≡◌, ◌<◌, ◌++◌, [], None, Ok, IfErr, OnErr, OnOk, length, false, true};
+ghost use Rattle.frames.specs.Frame.{frame};
+ghost use Rattle.frames.specs.declared.copy_data.TheConstants.{COPY_DATA};
+ghost use Rattle.copyboth.specs.Status.{status};
+ghost use Rattle.client.specs.Subscriber.{resting};
+ghost use Rattle.client.specs.Taking.{HasTaken, Reached, Stops, StopsAfter, Takes};
+ghost use Rattle.client.specs.Words.{Waits};
+ghost use Rattle.client.specs.Law.{Follows};
+
+use crate::fault::ClientFault;
+use crate::progress::Progress;
+use crate::reading::read_word;
+use crate::status::status_frame;
+use bytes::BytesMut;
+use std::alloc::Global;
+use std::marker::Model;
+use stream::Published;
+
+/// Applies the published transactions of a stream, each once.
+///
+/// `take` is given what the server sends after its CopyBothResponse, in any cuts. Of each transaction that is whole it keeps
+/// what a subscriber applies, unless its commit record starts below `position()`: then it was applied before. So a subscriber
+/// whose connection was lost may call `reconnect` and ask for the stream again from its position or below.
+///
+/// After a fault `take` answers it again until `reconnect`. What stood whole before the fault counts.
+#[derive(Debug, Drop)]
+pub struct Applier {
+    alloc: Global,
+    progress: Progress,
+    /// What has come and isn't a whole frame yet.
+    unread: BytesMut,
+    fault: Option<ClientFault>,
+}
+
+impl Model for Applier {
+    ghost use Rattle.client.specs.Taking.{ApplierState};
+
+    ghost Value = { ApplierState };
+
+    ghost view = { λ a. record { subscriber = a.progress; unread = a.unread.items; fault = a.fault } };
+}
+
+impl Applier {
+    /// The applier of a subscriber that has applied nothing, at position 0.
+    pub fn new(alloc: Global) -> Self
+        ensures value { result ≡ record { subscriber = resting 0 []; unread = []; fault = None } }
+        ensures taken { HasTaken result.subscriber result [] }
+    {
+        Applier {
+            alloc,
+            progress: Progress::new(alloc),
+            unread: BytesMut::new(alloc),
+            fault: None,
+        }
+    }
+
+    /// The greatest of the ends of the transactions that came whole and the numbers of the keepalives.
+    pub fn position(&self) -> u64
+        ensures { result ≡ self.now.subscriber.position }
+    {
+        self.progress.position()
+    }
+
+    /// The transactions that were applied, in order.
+    pub fn applied(&self) -> &[Published]
+        ensures { result.now ≡ self.now.subscriber.applied }
+    {
+        self.progress.applied()
+    }
+
+    /// The frame that tells the server how far the subscriber is: a CopyData with a standby status update (PostgreSQL 15,
+    /// 55.4), whose three positions are `position()`. `clock` is in microseconds since 2000-01-01; `ask` asks the server for a
+    /// keepalive at once.
+    pub fn status(&self, clock: i64, ask: bool) -> [u8; 39]
+        ensures { result ≡ frame COPY_DATA (status (record {
+            written = self.now.subscriber.position;
+            flushed = self.now.subscriber.position;
+            applied = self.now.subscriber.position;
+            clock = clock;
+            ask = ask;
+        })) }
+    {
+        status_frame(self.progress.position(), clock, ask)
+    }
+
+    /// For a connection that begins: forgets what wasn't read, the tables that were told, a transaction that isn't whole, and
+    /// a fault.
+    pub fn reconnect(&mut self)
+        ensures value { self.new ≡ record { subscriber = resting self.old.subscriber.position self.old.subscriber.applied; unread = []; fault = None } }
+        ensures taken { HasTaken self.new.subscriber self.new [] }
+    {
+        self.progress.reconnect();
+        self.unread.clear();
+        self.fault = None;
+    }
+
+    /// Takes what comes next of the stream.
+    ///
+    /// K1 where it is no frame of a stream: none that a server sends, another than CopyData and ErrorResponse, or a CopyData
+    /// that holds no message or keepalive. K2 at Begin inside a transaction, any other message outside one, a Commit whose
+    /// position isn't its Begin's, and a tuple with another count of cells than its table has columns. K3 at a table that
+    /// wasn't told on this connection. K4 at an ErrorResponse. K5 for memory.
+    pub fn take(&mut self, bytes: &[u8]) -> Result<(), ClientFault>
+        // Whole words are taken one after the other; a fault is answered where it stands.
+        ensures takes { Takes self.old self.new bytes.now result }
+        // Over a stream nothing but want of memory is refused, and what stands whole is gained.
+        ensures follows { Follows self.old self.new bytes.now result }
+    {
+        if let Some(fault) = self.fault {
+            return Err(fault);
+        }
+        let taken = self.take_words(bytes);
+        if let Err(fault) = taken {
+            self.fault = Some(fault);
+        }
+        taken
+    }
+
+    /// Takes all words that what is unread and these bytes hold.
+    fn take_words(&mut self, bytes: &[u8]) -> Result<(), ClientFault>
+        ensures ok { OnOk result (Reached self.old.subscriber (self.old.unread ++ bytes.now) self.new.subscriber self.new.unread) }
+        ensures waits { OnOk result (Waits self.new.unread) }
+        ensures err { IfErr result (λ e. StopsAfter self.old.subscriber (self.old.unread ++ bytes.now) self.new.subscriber e) }
+        ensures fault { self.new.fault ≡ self.old.fault }
+    {
+        self.unread.extend_from_slice(bytes)?;
+        while self.step()? {}
+        Ok(())
+    }
+
+    /// Takes the word at the front; false: no frame is there whole.
+    fn step(&mut self) -> Result<bool, ClientFault>
+        ensures more { result ≡ Ok true → Reached self.old.subscriber self.old.unread self.new.subscriber self.new.unread }
+        ensures fewer { result ≡ Ok true → length self.new.unread < length self.old.unread }
+        ensures none { result ≡ Ok false → self.new ≡ self.old }
+        ensures waits { result ≡ Ok false → Waits self.new.unread }
+        ensures err { IfErr result (λ e. Stops e self.old.subscriber self.old.unread) }
+        ensures unchanged { OnErr result (self.new ≡ self.old) }
+        ensures fault { self.new.fault ≡ self.old.fault }
+    {
+        let Some((word, size)) = read_word(self.alloc, self.unread.as_slice())? else {
+            return Ok(false);
+        };
+        self.progress.apply(word)?;
+        self.unread.advance(size);
+        Ok(true)
+    }
+}

@@ -1,0 +1,14 @@
+//! The subscriber's side of a stream: bytes in, and each published transaction applied once.
+#![tactic(auto)]
+
+mod applier;
+mod fault;
+mod half;
+mod judging;
+mod progress;
+mod reading;
+mod status;
+
+pub use applier::Applier;
+pub use fault::ClientFault;
+pub use stream::{Published as Applied, PublishedChange};

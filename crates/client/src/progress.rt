@@ -1,0 +1,148 @@
+//! How far a subscriber is, and what each word makes of it.
+
+ghost use Rattle.std.specs.Prelude.{◌≡◌, [], None};
+ghost use Rattle.client.specs.Subscriber.{after_word, after_message, begun, changed, committed, kept_alive, told, resting, Makes};
+
+use crate::fault::ClientFault;
+use crate::half::Half;
+use crate::judging::{Tables, judge};
+use indexmap::IndexMap;
+use pgoutput::{Begin, Commit, Logical, Relation};
+use std::alloc::Global;
+use std::marker::Model;
+use stream::{Keepalive, Published, Word};
+
+/// A subscriber: what it has applied, and what it knows since it connected.
+#[derive(Debug, Drop)]
+pub(crate) struct Progress {
+    alloc: Global,
+    position: u64,
+    applied: Vec<Published>,
+    tables: Tables,
+    half: Option<Half>,
+}
+
+impl Model for Progress {
+    ghost use Rattle.client.specs.Subscriber.{Subscriber};
+
+    ghost Value = { Subscriber };
+
+    ghost view = { λ p. record { position = p.position; applied = p.applied.items; tables = p.tables.entries; half = p.half } };
+}
+
+impl Progress {
+    pub(crate) fn new(alloc: Global) -> Self
+        ensures { result ≡ resting 0 [] }
+    {
+        Progress {
+            alloc,
+            position: 0,
+            applied: Vec::new(alloc),
+            tables: IndexMap::new(alloc),
+            half: None,
+        }
+    }
+
+    pub(crate) fn position(&self) -> u64
+        ensures { result ≡ self.now.position }
+    {
+        self.position
+    }
+
+    pub(crate) fn applied(&self) -> &[Published]
+        ensures { result.now ≡ self.now.applied }
+    {
+        self.applied.as_slice()
+    }
+
+    /// Forgets what hangs on the connection.
+    pub(crate) fn reconnect(&mut self)
+        ensures { self.new ≡ resting self.old.position self.old.applied }
+    {
+        self.tables = IndexMap::new(self.alloc);
+        self.half = None;
+    }
+
+    pub(crate) fn apply(&mut self, word: Word) -> Result<(), ClientFault>
+        ensures { Makes result self.old self.new (after_word self.old word) }
+    {
+        match word {
+            Word::Keepalive(keepalive) => {
+                self.keep_alive(&keepalive);
+                Ok(())
+            }
+            Word::XLogData(data) => self.hear(data.start, data.message),
+        }
+    }
+
+    fn hear(&mut self, position: u64, message: Logical) -> Result<(), ClientFault>
+        ensures { Makes result self.old self.new (after_message self.old position message) }
+    {
+        match message {
+            Logical::Begin(begin) => self.begin(begin),
+            Logical::Relation(relation) => self.tell(&relation),
+            Logical::Commit(commit) => self.commit(&commit),
+            change => self.change(position, change),
+        }
+    }
+
+    fn keep_alive(&mut self, keepalive: &Keepalive)
+        ensures { self.new ≡ kept_alive self.old.half self.old keepalive.now }
+    {
+        if self.half.is_none() {
+            self.position = self.position.max(keepalive.position);
+        }
+    }
+
+    fn begin(&mut self, begin: Begin) -> Result<(), ClientFault>
+        ensures { Makes result self.old self.new (begun self.old.half self.old begin) }
+    {
+        if self.half.is_some() {
+            return Err(ClientFault::Order);
+        }
+        self.half = Some(Half::new(self.alloc, begin));
+        Ok(())
+    }
+
+    fn tell(&mut self, relation: &Relation) -> Result<(), ClientFault>
+        ensures { Makes result self.old self.new (told self.old.half self.old relation.now) }
+    {
+        if self.half.is_none() {
+            return Err(ClientFault::Order);
+        }
+        self.tables.insert(relation.oid, relation.columns.len())?;
+        Ok(())
+    }
+
+    fn change(&mut self, position: u64, message: Logical) -> Result<(), ClientFault>
+        ensures { Makes result self.old self.new (changed self.old.half self.old position message) }
+    {
+        let Some(half) = &mut self.half else {
+            return Err(ClientFault::Order);
+        };
+        judge(&self.tables, &message)?;
+        half.push(position, message)?;
+        Ok(())
+    }
+
+    /// Memory is asked for before anything changes.
+    fn commit(&mut self, commit: &Commit) -> Result<(), ClientFault>
+        ensures { Makes result self.old self.new (committed self.old.half self.old commit.now) }
+    {
+        let Some(half) = &self.half else {
+            return Err(ClientFault::Order);
+        };
+        let start = half.position();
+        if commit.position != start {
+            return Err(ClientFault::Order);
+        }
+        self.applied.reserve(1)?;
+        if let Some(half) = self.half.take() {
+            if self.position <= start {
+                self.applied.push_reserved(half.commit(commit));
+            }
+        }
+        self.position = self.position.max(commit.end);
+        Ok(())
+    }
+}
