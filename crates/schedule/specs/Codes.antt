@@ -5,6 +5,8 @@ use Rattle.publication.specs.declared.fault.PubFault.{PubFault}
 use Rattle.publication.specs.declared.fault.PubFault.TheVariants as pubs
 use Rattle.sender.specs.declared.fault.SendFault.{SendFault}
 use Rattle.sender.specs.declared.fault.SendFault.TheVariants as sends
+use Rattle.client.specs.declared.fault.ClientFault.{ClientFault}
+use Rattle.client.specs.declared.fault.ClientFault.TheVariants as clients
 use Rattle.schedule.specs.declared.answer.Answer.{Answer}
 use Rattle.schedule.specs.declared.answer.Answer.TheVariants as answers
 use Rattle.schedule.specs.declared.answer.SlotFault.{SlotFault}
@@ -22,6 +24,13 @@ sender_code sends.Memory = codes "G2"
 sender_code sends.Failed = codes "G3"
 sender_code sends.Gap = codes "G4"
 
+abbrev pub subscriber_code : ClientFault → List ℕ
+subscriber_code clients.Frame = codes "K1"
+subscriber_code clients.Order = codes "K2"
+subscriber_code clients.UnknownRelation = codes "K3"
+subscriber_code clients.Server = codes "K4"
+subscriber_code clients.Memory = codes "K5"
+
 -- the code of a refusal; an event that was done has none
 abbrev pub answer_code : Answer → Option (List ℕ)
 answer_code answers.Done = None
@@ -29,3 +38,4 @@ answer_code (answers.Session fault) = Some (code_of fault)
 answer_code (answers.Slot fault) = Some (slot_code fault)
 answer_code (answers.Publication fault) = Some (publication_code fault)
 answer_code (answers.Sender fault) = Some (sender_code fault)
+answer_code (answers.Subscriber fault) = Some (subscriber_code fault)

@@ -1,10 +1,11 @@
 //! What an event answered.
 
+use client::ClientFault;
 use publication::PubFault;
 use sender::SendFault;
 use txlog::SessionFault;
 
-/// What an event that happened answered: it was done, or the part of the publisher that it asked refused it.
+/// What an event that happened answered: it was done, or the part that it asked refused it.
 #[derive(Clone, Copy, Debug, PartialEq, Eq)]
 pub enum Answer {
     Done,
@@ -12,6 +13,7 @@ pub enum Answer {
     Slot(SlotFault),
     Publication(PubFault),
     Sender(SendFault),
+    Subscriber(ClientFault),
 }
 
 /// Why a slot was refused. There are no slots yet, so none has a name.

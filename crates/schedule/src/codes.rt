@@ -4,6 +4,7 @@ ghost use Rattle.std.specs.Prelude.{◌≡◌, option_map};
 ghost use Rattle.schedule.specs.Codes.{answer_code};
 
 use crate::answer::{Answer, SlotFault};
+use client::ClientFault;
 use publication::PubFault;
 use sender::SendFault;
 
@@ -21,6 +22,11 @@ impl Answer {
             Answer::Sender(SendFault::Memory) => Some("G2"),
             Answer::Sender(SendFault::Failed) => Some("G3"),
             Answer::Sender(SendFault::Gap) => Some("G4"),
+            Answer::Subscriber(ClientFault::Frame) => Some("K1"),
+            Answer::Subscriber(ClientFault::Order) => Some("K2"),
+            Answer::Subscriber(ClientFault::UnknownRelation) => Some("K3"),
+            Answer::Subscriber(ClientFault::Server) => Some("K4"),
+            Answer::Subscriber(ClientFault::Memory) => Some("K5"),
         }
     }
 }

@@ -31,9 +31,11 @@ pub enum Event {
     Read(Text, u32, i64),
     /// `keepalive C CLOCK`
     Keepalive(Text, i64),
-    /// `drain C N`: up to N bytes leave the sender.
+    /// `drain C N`: up to N bytes go from the sender into the pipe.
     Drain(Text, u32),
-    /// `cut C`: the sender ends.
+    /// `deliver C N`: up to N bytes go from the pipe to the connection's subscriber.
+    Deliver(Text, u32),
+    /// `cut C`: the sender ends, the pipe loses what it holds, and the subscriber reconnects.
     Cut(Text),
 }
 

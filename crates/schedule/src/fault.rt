@@ -62,6 +62,7 @@ impl Display for BadEvent {
             Event::Read(name, _, _)
             | Event::Keepalive(name, _)
             | Event::Drain(name, _)
+            | Event::Deliver(name, _)
             | Event::Cut(name) => write!(f, "connection {} has no sender", name.as_str()),
         }
     }

@@ -61,6 +61,10 @@ fn connection_event_of(
             let (name, bytes) = name_and_count(alloc, fields)?;
             Ok(Event::Drain(name, bytes))
         }
+        "deliver" => {
+            let (name, bytes) = name_and_count(alloc, fields)?;
+            Ok(Event::Deliver(name, bytes))
+        }
         "cut" => Ok(Event::Cut(fields.name(alloc)?)),
         _ => Err(WorldFault::BadEvent),
     }

@@ -1,6 +1,7 @@
-//! What is printed of a run: its refusals, and what each start of a sender produced.
+//! What is printed of a run: its refusals, what each start of a sender produced, and how far its subscribers are.
 
 use crate::answer::Answer;
+use replcmd::write_position;
 use std::alloc::Global;
 use std::io;
 use std::io::Write;
@@ -29,4 +30,16 @@ pub fn write_stream<W: Write>(
 ) -> io::Result<()> {
     let digits = hex::encode(alloc, produced)?;
     writeln!(output, "{connection}:{digits}")
+}
+
+/// A subscriber, by its connection's name, with its position and how many transactions it has applied.
+pub fn write_subscriber<W: Write>(
+    alloc: Global,
+    output: &mut W,
+    connection: &str,
+    position: u64,
+    applied: usize,
+) -> io::Result<()> {
+    let position = write_position(alloc, position)?;
+    writeln!(output, "sub {connection} {position} {applied}")
 }

@@ -77,6 +77,7 @@ impl fmt::Display for Shown<'_> {
             Event::Read(name, most, clock) => write!(f, "read {} {most} {clock}", name.as_str()),
             Event::Keepalive(name, clock) => write!(f, "keepalive {} {clock}", name.as_str()),
             Event::Drain(name, most) => write!(f, "drain {} {most}", name.as_str()),
+            Event::Deliver(name, most) => write!(f, "deliver {} {most}", name.as_str()),
             Event::Cut(name) => write!(f, "cut {}", name.as_str()),
         }
     }
