@@ -1,3 +1,5 @@
 mod StatusFrames
 mod Bodies
 mod Reaching
+mod Fronts
+mod Blocks
