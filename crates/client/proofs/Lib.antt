@@ -3,3 +3,5 @@ mod Bodies
 mod Reaching
 mod Fronts
 mod Blocks
+mod Standing
+mod Laws
