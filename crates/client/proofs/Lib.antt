@@ -1,3 +1,7 @@
 mod StatusFrames
 mod Bodies
 mod Reaching
+mod Fronts
+mod Blocks
+mod Standing
+mod Laws

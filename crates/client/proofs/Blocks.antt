@@ -1,0 +1,232 @@
+-- The words of an item, and what they make of a subscriber that knows the tables whose Relation was sent.
+use Rattle.std.proofs.Common.{◌≡◌, ℕ, ℤ, Bool, true, false, cond, eqb, leb, ◌||◌, List, [], ◌∷◌, ◌++◌, length, max, Option, Some, None, Result, Ok, Err, refl, sym, ap, subst, ◌∙◌, append_assoc, arith}
+use Rattle.std.specs.Prelude.{nat_eq, nat_le, reverse}
+use Rattle.std.specs.List.{AllByRecursion, list_any}
+use Rattle.std.specs.Option.{ok_or}
+use Rattle.std.specs.Map.{lookup}
+use Rattle.std.proofs.lemmas.Bool.{eqb-true}
+use Rattle.std.proofs.lemmas.Bool.Decides.{nat_tests}
+use Rattle.std.proofs.lemmas.List.{append-nil, reverse-append}
+use Rattle.std.proofs.lemmas.List.Folds.{list_any-append}
+use Rattle.indexmap.specs.IndexMap.{insert_entry}
+use Rattle.frames.specs.Steps.{◌>>=◌}
+use Rattle.pgoutput.specs.declared.logical.Logical.{Logical}
+use Rattle.pgoutput.specs.declared.logical.Logical.TheVariants as logical
+use Rattle.pgoutput.specs.declared.begin.Begin.{Begin}
+use Rattle.pgoutput.specs.declared.relation.Relation.{Relation}
+use Rattle.pgoutput.specs.declared.tuple.Cell.{Cell}
+use Rattle.pgoutput.specs.declared.old_tuple.OldTuple.{OldTuple}
+use Rattle.pgoutput.specs.OldTuple.{cells_of}
+use Rattle.stream.specs.declared.word.Word.{Word}
+use Rattle.stream.specs.declared.word.Word.TheVariants as words
+use Rattle.stream.specs.declared.published.Published.{Published}
+use Rattle.stream.specs.declared.published.PublishedChange.{PublishedChange}
+use Rattle.stream.specs.Items.{Item, KeepaliveItem, Block, xlogdata_word, tables_of, is_relation_sent, relations_due, relations_sent_by, relations_sent_by_all, relation_words, change_words, changes_words, commit_message, begin_message, block_words, item_words, relations_sent_after, FitsRelationOf, IsTupleOf, IsOldOf, IsOfChange, FitsChange, FitsPublished, FitsItem}
+use Rattle.client.specs.declared.fault.ClientFault.{ClientFault}
+use Rattle.client.specs.declared.fault.ClientFault.TheVariants.{Order, UnknownRelation}
+use Rattle.client.specs.Subscriber.{Subscriber, HalfTransaction, tell, columns_of, fits, fits_old, are_told, judged, with_change, after_word, after_words}
+use Rattle.client.specs.Law.{position_after, gained}
+use Rattle.client.proofs.Reaching.{after_append}
+
+abbrev pub at : ℕ → List Published → List (ℕ × ℕ) → Option HalfTransaction → Subscriber
+at position applied tables half = record { position = position; applied = applied; tables = tables; half = half }
+
+abbrev counted : ℕ → Result ℕ ClientFault
+counted n = Ok n
+
+abbrev gone : Subscriber → Result Subscriber ClientFault
+gone s = Ok s
+
+-- ---- the tables that were told
+
+-- the subscriber knows how many columns these tables have
+abbrev pub Told : (ℕ → Relation) → List ℕ → List (ℕ × ℕ) → Type 0
+Told relation relations_sent tables = (oid : ℕ) → is_relation_sent relations_sent oid ≡ true → columns_of tables oid ≡ Ok (length (relation oid).columns)
+
+lookup_inserted : (x k n : ℕ) (entries : List (ℕ × ℕ)) → lookup (nat_eq x) (insert_entry nat_eq entries k n) ≡ cond (eqb x k) (Some n) (lookup (nat_eq x) entries)
+lookup_inserted x k n [] = by_test (eqb x k)
+  where
+    by_test : (b : Bool) → cond b (Some n) None ≡ cond b (Some n) None
+    by_test b = refl
+lookup_inserted x k n (e ∷ es) = by_key (eqb k e.0) refl (lookup_inserted x k n es)
+  where
+    by_key : (b : Bool) → eqb k e.0 ≡ b → lookup (nat_eq x) (insert_entry nat_eq es k n) ≡ cond (eqb x k) (Some n) (lookup (nat_eq x) es)
+        → lookup (nat_eq x) (cond b ((e.0, n) ∷ es) (e ∷ insert_entry nat_eq es k n)) ≡ cond (eqb x k) (Some n) (cond (eqb x e.0) (Some e.1) (lookup (nat_eq x) es))
+    by_key true is ih = grind (arith, nat_tests, is)
+    by_key false is ih = grind (arith, nat_tests, is, ih)
+
+-- one more
+told_more : (relation : ℕ → Relation) (relations_sent : List ℕ) (tables : List (ℕ × ℕ)) (oid : ℕ) → FitsRelationOf relation oid → Told relation relations_sent tables
+    → Told relation (oid ∷ relations_sent) (tell tables (relation oid))
+told_more relation relations_sent tables oid fits told x sent =
+    ap (λ (o : Option ℕ). ok_or o UnknownRelation) (lookup_inserted x (relation oid).oid (length (relation oid).columns) tables)
+    ∙ by_key (eqb x oid) refl
+  where
+    by_key : (b : Bool) → eqb x oid ≡ b → ok_or (cond (eqb x (relation oid).oid) (Some (length (relation oid).columns)) (lookup (nat_eq x) tables)) UnknownRelation ≡ Ok (length (relation x).columns)
+    by_key true is = rw (fits.tells, is) (ap (λ (k : ℕ). counted (length (relation k).columns)) (sym (eqb-true x oid is)))
+    by_key false is = rw (fits.tells, is) (told x (grind (arith, nat_tests, is, sent)))
+
+onto_reversed : (x : ℕ) (xs ys : List ℕ) → reverse (x ∷ xs) ++ ys ≡ reverse xs ++ (x ∷ ys)
+onto_reversed x xs ys = ap (λ (l : List ℕ). l ++ ys) (reverse-append (x ∷ []) xs) ∙ append_assoc (reverse xs) (x ∷ []) ys
+
+-- a list that begins otherwise still has what it had
+still_sent : (front relations_sent : List ℕ) (oid : ℕ) → is_relation_sent relations_sent oid ≡ true → is_relation_sent (front ++ relations_sent) oid ≡ true
+still_sent [] relations_sent oid sent = sent
+still_sent (x ∷ front) relations_sent oid sent = by_test (eqb x oid) (still_sent front relations_sent oid sent)
+  where
+    by_test : (b : Bool) → is_relation_sent (front ++ relations_sent) oid ≡ true → (b || is_relation_sent (front ++ relations_sent) oid) ≡ true
+    by_test true ih = refl
+    by_test false ih = ih
+
+-- With the Relations that are due, those of all named tables were sent.
+all_sent : (relations_sent oids : List ℕ) → AllByRecursion (λ oid. is_relation_sent (reverse (relations_due relations_sent oids) ++ relations_sent) oid ≡ true) oids
+all_sent relations_sent [] = tt
+all_sent relations_sent (oid ∷ oids) = by_test (is_relation_sent relations_sent oid) refl (all_sent relations_sent oids) (all_sent (oid ∷ relations_sent) oids)
+  where
+    Sent : List ℕ → ℕ → Type 0
+    Sent due x = is_relation_sent (reverse due ++ relations_sent) x ≡ true
+
+    onto : (due xs : List ℕ) → AllByRecursion (λ x. is_relation_sent (reverse due ++ (oid ∷ relations_sent)) x ≡ true) xs → AllByRecursion (Sent (oid ∷ due)) xs
+    onto due xs all = subst (λ (l : List ℕ). AllByRecursion (λ x. is_relation_sent l x ≡ true) xs) (sym (onto_reversed oid due relations_sent)) all
+
+    by_test : (b : Bool) → is_relation_sent relations_sent oid ≡ b → AllByRecursion (Sent (relations_due relations_sent oids)) oids
+        → AllByRecursion (λ x. is_relation_sent (reverse (relations_due (oid ∷ relations_sent) oids) ++ (oid ∷ relations_sent)) x ≡ true) oids
+        → AllByRecursion (Sent (cond b (relations_due relations_sent oids) (oid ∷ relations_due (oid ∷ relations_sent) oids))) (oid ∷ oids)
+    by_test true is old new = (still_sent (reverse (relations_due relations_sent oids)) relations_sent oid is, old)
+    by_test false is old new =
+        let due = relations_due (oid ∷ relations_sent) oids in
+        onto due (oid ∷ oids) (still_sent (reverse due) (oid ∷ relations_sent) oid (grind (arith, nat_tests)), new)
+
+all_due : (P : ℕ → Type 0) (relations_sent oids : List ℕ) → AllByRecursion P oids → AllByRecursion P (relations_due relations_sent oids)
+all_due P relations_sent [] all = tt
+all_due P relations_sent (oid ∷ oids) all = by_test (is_relation_sent relations_sent oid) (all_due P relations_sent oids all.1) (all_due P (oid ∷ relations_sent) oids all.1)
+  where
+    by_test : (b : Bool) → AllByRecursion P (relations_due relations_sent oids) → AllByRecursion P (relations_due (oid ∷ relations_sent) oids) → AllByRecursion P (cond b (relations_due relations_sent oids) (oid ∷ relations_due (oid ∷ relations_sent) oids))
+    by_test true old new = old
+    by_test false old new = (all.0, new)
+
+-- ---- a change
+
+-- what words make of a subscriber inside a transaction: only what it was told, and the transaction
+pub record Goes (relation : ℕ → Relation) (relations_sent : List ℕ) (s : Subscriber) (ws : List Word) (half : Option HalfTransaction) : Type 0 where
+  pub tables : List (ℕ × ℕ)
+  pub steps : after_words s ws ≡ Ok (at s.position s.applied tables half)
+  pub told : Told relation relations_sent tables
+
+relations_go : (relation : ℕ → Relation) (relations_sent : List ℕ) (p : ℕ) (a : List Published) (tables : List (ℕ × ℕ)) (half : HalfTransaction) (position : ℕ) (clock : ℤ) (oids : List ℕ)
+    → AllByRecursion (FitsRelationOf relation) oids → Told relation relations_sent tables
+    → Goes relation (reverse oids ++ relations_sent) (at p a tables (Some half)) (relation_words relation position clock oids) (Some half)
+relations_go relation relations_sent p a tables half position clock [] fit told = record { tables = tables; steps = refl; told = told }
+relations_go relation relations_sent p a tables half position clock (oid ∷ oids) fit told =
+    let inner = relations_go relation (oid ∷ relations_sent) p a (tell tables (relation oid)) half position clock oids fit.1 (told_more relation relations_sent tables oid fit.0 told) in
+    record { tables = inner.tables; steps = inner.steps; told = subst (λ (l : List ℕ). Told relation l inner.tables) (sym (onto_reversed oid oids relations_sent)) inner.told }
+
+abbrev fitting : Result (Unit {0}) ClientFault
+fitting = Ok tt
+
+cells_fit : (n : ℕ) (cells : List Cell) → length cells ≡ n → fits n cells ≡ fitting
+cells_fit n cells is = by_test (eqb (length cells) n) (grind (arith, nat_tests, is))
+  where
+    by_test : (b : Bool) → b ≡ true → cond b fitting (Err Order) ≡ fitting
+    by_test true is = refl
+    by_test false is = absurd cc
+
+abbrev IsKnown : (ℕ → Relation) → List (ℕ × ℕ) → ℕ → Type 0
+IsKnown relation tables oid = columns_of tables oid ≡ Ok (length (relation oid).columns)
+
+tables_known : (relation : ℕ → Relation) (tables : List (ℕ × ℕ)) (oids : List ℕ) → AllByRecursion (IsKnown relation tables) oids → are_told tables oids ≡ fitting
+tables_known relation tables [] known = refl
+tables_known relation tables (oid ∷ oids) known = rw known.0 (tables_known relation tables oids known.1)
+
+old_fits : (relation : ℕ → Relation) (oid : ℕ) (old : Option OldTuple) → IsOldOf relation oid old → fits_old (length (relation oid).columns) old ≡ fitting
+old_fits relation oid None is = refl
+old_fits relation oid (Some old) is = cells_fit (length (relation oid).columns) (cells_of old) is
+
+change_fits : (relation : ℕ → Relation) (tables : List (ℕ × ℕ)) (m : Logical) → IsOfChange relation m → AllByRecursion (IsKnown relation tables) (tables_of m) → judged tables m ≡ fitting
+change_fits relation tables (logical.Insert m) of known = rw known.0 (cells_fit (length (relation m.oid).columns) m.new of)
+change_fits relation tables (logical.Update m) of known = rw (known.0, old_fits relation m.oid m.old of.0) (cells_fit (length (relation m.oid).columns) m.new of.1)
+change_fits relation tables (logical.Delete m) of known = rw known.0 (cells_fit (length (relation m.oid).columns) (cells_of m.old) of)
+change_fits relation tables (logical.Truncate m) of known = tables_known relation tables m.oids known
+change_fits relation tables (logical.Begin m) of known = absurd of
+change_fits relation tables (logical.Commit m) of known = absurd of
+change_fits relation tables (logical.Relation m) of known = absurd of
+
+message_goes : (relation : ℕ → Relation) (p : ℕ) (a : List Published) (tables : List (ℕ × ℕ)) (half : HalfTransaction) (position : ℕ) (clock : ℤ) (m : Logical) → IsOfChange relation m → judged tables m ≡ fitting
+    → after_word (at p a tables (Some half)) (xlogdata_word position clock m) ≡ Ok (at p a tables (Some (with_change half position m)))
+message_goes relation p a tables half position clock (logical.Insert m) of fit = rw fit refl
+message_goes relation p a tables half position clock (logical.Update m) of fit = rw fit refl
+message_goes relation p a tables half position clock (logical.Delete m) of fit = rw fit refl
+message_goes relation p a tables half position clock (logical.Truncate m) of fit = rw fit refl
+message_goes relation p a tables half position clock (logical.Begin m) of fit = absurd of
+message_goes relation p a tables half position clock (logical.Commit m) of fit = absurd of
+message_goes relation p a tables half position clock (logical.Relation m) of fit = absurd of
+
+all_known : (relation : ℕ → Relation) (relations_sent : List ℕ) (tables : List (ℕ × ℕ)) (oids : List ℕ) → Told relation relations_sent tables → AllByRecursion (λ oid. is_relation_sent relations_sent oid ≡ true) oids
+    → AllByRecursion (IsKnown relation tables) oids
+all_known relation relations_sent tables [] told sent = tt
+all_known relation relations_sent tables (oid ∷ oids) told sent = (told oid sent.0, all_known relation relations_sent tables oids told sent.1)
+
+change_goes : (relation : ℕ → Relation) (relations_sent : List ℕ) (p : ℕ) (a : List Published) (tables : List (ℕ × ℕ)) (half : HalfTransaction) (clock : ℤ) (c : PublishedChange) → FitsChange relation c → Told relation relations_sent tables
+    → Goes relation (relations_sent_by relations_sent c) (at p a tables (Some half)) (change_words relation relations_sent clock c) (Some (with_change half c.position c.message))
+change_goes relation relations_sent p a tables half clock c fit told =
+    let oids = tables_of c.message in
+    let due = relations_due relations_sent oids in
+    let r = relations_go relation relations_sent p a tables half c.position clock due (all_due (FitsRelationOf relation) relations_sent oids fit.relations) told in
+    let known = all_known relation (relations_sent_by relations_sent c) r.tables oids r.told (all_sent relations_sent oids) in
+    let message = message_goes relation p a r.tables half c.position clock c.message fit.of_change (change_fits relation r.tables c.message fit.of_change known) in
+    record {
+      tables = r.tables;
+      steps = after_append (at p a tables (Some half)) (relation_words relation c.position clock due) (xlogdata_word c.position clock c.message ∷ []) (at p a r.tables (Some half)) r.steps
+          ∙ ap (λ (x : Result Subscriber ClientFault). x >>= λ t. after_words t []) message;
+      told = r.told;
+    }
+
+changes_go : (relation : ℕ → Relation) (relations_sent : List ℕ) (p : ℕ) (a : List Published) (tables : List (ℕ × ℕ)) (begin : Begin) (before : List PublishedChange) (clock : ℤ) (cs : List PublishedChange) → AllByRecursion (FitsChange relation) cs
+    → Told relation relations_sent tables
+    → Goes relation (relations_sent_by_all relations_sent cs) (at p a tables (Some (record { begin = begin; changes = before }))) (changes_words relation relations_sent clock cs) (Some (record { begin = begin; changes = before ++ cs }))
+changes_go relation relations_sent p a tables begin before clock [] fit told =
+    record { tables = tables; steps = ap (λ (l : List PublishedChange). gone (at p a tables (Some (record { begin = begin; changes = l })))) (sym (append-nil before)); told = told }
+changes_go relation relations_sent p a tables begin before clock (c ∷ cs) fit told =
+    let first = change_goes relation relations_sent p a tables (record { begin = begin; changes = before }) clock c fit.0 told in
+    let then = changes_go relation (relations_sent_by relations_sent c) p a first.tables begin (before ++ c ∷ []) clock cs fit.1 first.told in
+    record {
+      tables = then.tables;
+      steps = after_append (at p a tables (Some (record { begin = begin; changes = before }))) (change_words relation relations_sent clock c) (changes_words relation (relations_sent_by relations_sent c) clock cs)
+              (at p a first.tables (Some (record { begin = begin; changes = before ++ c ∷ [] }))) first.steps
+          ∙ then.steps ∙ ap (λ (l : List PublishedChange). gone (at p a then.tables (Some (record { begin = begin; changes = l })))) (append_assoc before (c ∷ []) cs);
+      told = then.told;
+    }
+
+-- ---- an item
+
+-- what an item's words make of a subscriber between transactions
+pub record GoesOn (relation : ℕ → Relation) (relations_sent : List ℕ) (p : ℕ) (a : List Published) (tables : List (ℕ × ℕ)) (item : Item) : Type 0 where
+  pub after : List (ℕ × ℕ)
+  pub steps : after_words (at p a tables None) (item_words relation relations_sent item) ≡ Ok (at (position_after p (item ∷ [])) (a ++ gained p (item ∷ [])) after None)
+  pub told : Told relation (relations_sent_after relations_sent item) after
+
+commits : (p : ℕ) (a : List Published) (tables : List (ℕ × ℕ)) (clock : ℤ) (t : Published)
+    → after_word (at p a tables (Some (record { begin = record { position = t.start; time = t.time; xid = t.xid }; changes = t.changes }))) (xlogdata_word t.end clock (commit_message t))
+    ≡ Ok (at (max p t.end) (a ++ cond (leb p t.start) (t ∷ []) []) tables None)
+commits p a tables clock t = by_test (eqb t.start t.start) (grind (arith, nat_tests))
+  where
+    after : Subscriber
+    after = at (max p t.end) (a ++ cond (leb p t.start) (t ∷ []) []) tables None
+
+    by_test : (b : Bool) → b ≡ true → cond b (gone after) (Err Order) ≡ gone after
+    by_test true is = refl
+    by_test false is = absurd cc
+
+pub item_goes : (relation : ℕ → Relation) (relations_sent : List ℕ) (p : ℕ) (a : List Published) (tables : List (ℕ × ℕ)) (item : Item) → FitsItem relation item → Told relation relations_sent tables → GoesOn relation relations_sent p a tables item
+item_goes relation relations_sent p a tables (KeepaliveItem k) fit told = record { after = tables; steps = ap (λ (l : List Published). gone (at (max p k.position) l tables None)) (sym (append-nil a)); told = told }
+item_goes relation relations_sent p a tables (Block clock t) fit told =
+    let begin : Begin = record { position = t.start; time = t.time; xid = t.xid } in
+    let changes = changes_go relation relations_sent p a tables begin [] clock t.changes fit.1.changes told in
+    let begun = at p a tables (Some (record { begin = begin; changes = [] })) in
+    record {
+      after = changes.tables;
+      steps = after_append begun (changes_words relation relations_sent clock t.changes) (xlogdata_word t.end clock (commit_message t) ∷ []) (at p a changes.tables (Some (record { begin = begin; changes = t.changes }))) changes.steps
+          ∙ ap (λ (x : Result Subscriber ClientFault). x >>= λ u. after_words u []) (commits p a changes.tables clock t)
+          ∙ ap (λ (l : List Published). gone (at (max p t.end) (a ++ l) changes.tables None)) (sym (append-nil (cond (leb p t.start) (t ∷ []) [])));
+      told = changes.told;
+    }
