@@ -16,15 +16,19 @@ use Rattle.schedule.specs.declared.answer.Answer.{Answer}
 use Rattle.schedule.specs.declared.answer.Answer.TheVariants as answers
 use Rattle.schedule.specs.declared.fault.WorldFault.{WorldFault}
 use Rattle.world.specs.declared.action.Action.{Action}
+use Rattle.world.specs.declared.action.Action.TheVariants as actions
+use Rattle.sender.specs.declared.fault.SendFault.TheVariants as sends
 use Rattle.world.specs.declared.session.Session.{Session}
 use Rattle.world.specs.declared.start.Start.{Start}
 use Rattle.world.specs.declared.machine.Machine.{Machine}
-use Rattle.world.specs.State.{StartState, NamedTx, xid_of, without_name}
+use Rattle.world.specs.State.{StartState, SubscriberState, NamedTx, xid_of, without_name, open_start}
 use Rattle.world.specs.SessionLines.{IsCalled, IsAnswered, if_known, insert_refused, update_refused, delete_refused}
 use Rattle.world.specs.Rows.{row_in, key_columns}
-use Rattle.world.specs.ConnectionLines.{Acts, ActsAt}
-use Rattle.world.specs.Machine.{named_tx, sessions_state, IsNamedAt, Called, start_state, shown, ActsIn, IsOpenAt, IsOpenStartAt}
+use Rattle.world.specs.ConnectionLines.{Acts, ActsAt, subscribers_after}
+use Rattle.world.specs.Machine.{named_tx, sessions_state, IsNamedAt, Called, start_state, shown, ActsIn, IsOpenAt, IsOpenStartAt, IsSubscribed, subscriber_state}
+use Rattle.std.specs.List.{AllByRecursion}
 use Rattle.world.proofs.Names.{same_inside}
+use Rattle.world.proofs.Subscribing.{all_subscribed_after}
 
 -- ---- the same element of a list
 
@@ -44,6 +48,7 @@ answered (answers.Session fault) refusal done p q ts new same called = (called.0
 answered (answers.Slot fault) refusal done p q ts new same called = absurd called
 answered (answers.Publication fault) refusal done p q ts new same called = absurd called
 answered (answers.Sender fault) refusal done p q ts new same called = absurd called
+answered (answers.Subscriber fault) refusal done p q ts new same called = absurd called
 
 pub asked : (name : List ℕ) (place : ℕ) (ss : List Session) (p q : PublisherState) (s t : Session) (a : Answer) (refusal : ℕ → Option SessionFault) (done : ℕ → PublisherState)
     → IsNamedAt name place ss → s ≡ slice_index_or ss place s → t ≡ s → Called (refusal s.tx) (done s.tx) p a q
@@ -99,7 +104,7 @@ kept_starts cs place c new (Ok a) value same = tt
 kept_starts cs place c new (Err e) value same = map-set_same start_state cs place new c (same ∙ ap start_state value)
 
 pub acted_at : (name : List ℕ) (place : ℕ) (action : Action) (m : Machine) (new : List Start) (a : Answer) → IsOpenStartAt name place m.starts.items
-    → ActsIn m.publisher.log place action m.starts.items a new → ActsAt name action (shown m) a (record (shown m) { starts = map start_state new })
+    → ActsIn m.publisher.log place action m.starts.items a new → ActsAt name action (shown m) a (record (shown m) { starts = map start_state new; subscribers = subscribers_after name action (shown m).subscribers })
 acted_at name place action m new a at acts =
     let here : at.start ≡ acts.before = one_there m.starts.items place at.start acts.before at.there acts.there in
     record {
@@ -107,8 +112,38 @@ acted_at name place action m new a at acts =
       after = acts.after;
       there = at.of ∙ ap (λ (c : Start). Option.Some (start_state c)) here;
       acts = acts.acts;
-      is = ap (λ (l : List StartState). record (shown m) { starts = l }) (acts.is ∙ sym (at.changed acts.after));
+      is = ap (λ (l : List StartState). record (shown m) { starts = l; subscribers = subscribers_after name action (shown m).subscribers }) (acts.is ∙ sym (at.changed acts.after));
     }
+
+-- what an act leaves is of the same connection
+same_connection : (log : List Record) (action : Action) (old new : StartState) (a : Answer) → Acts log action old a new → new.connection ≡ old.connection
+same_connection log (actions.Read max clock) old new answers.Done acts = ap (λ (s : StartState). s.connection) acts.1
+same_connection log (actions.Keepalive clock) old new answers.Done acts = ap (λ (s : StartState). s.connection) acts.1
+same_connection log (actions.Drain n) old new answers.Done acts = ap (λ (s : StartState). s.connection) acts.1
+same_connection log actions.Cut old new answers.Done acts = ap (λ (s : StartState). s.connection) acts.1
+same_connection log (actions.Read max clock) old new (answers.Sender sends.Memory) acts = ap (λ (s : StartState). s.connection) acts.1.is
+same_connection log (actions.Keepalive clock) old new (answers.Sender sends.Memory) acts = ap (λ (s : StartState). s.connection) acts.1
+same_connection log (actions.Drain n) old new (answers.Sender sends.Memory) acts = absurd acts.1
+same_connection log actions.Cut old new (answers.Sender sends.Memory) acts = absurd acts.1
+same_connection log action old new (answers.Sender sends.Failed) acts = ap (λ (s : StartState). s.connection) acts.2
+same_connection log action old new (answers.Sender sends.Gap) acts = absurd acts
+same_connection log action old new (answers.Session fault) acts = absurd acts
+same_connection log action old new (answers.Slot fault) acts = absurd acts
+same_connection log action old new (answers.Publication fault) acts = absurd acts
+same_connection log action old new (answers.Subscriber fault) acts = absurd acts
+
+-- each start goes on having a subscriber
+pub subscribed_on : (name : List ℕ) (place : ℕ) (action : Action) (m : Machine) (new : List Start) (a : Answer) → IsOpenStartAt name place m.starts.items → ActsIn m.publisher.log place action m.starts.items a new
+    → AllByRecursion (IsSubscribed (map subscriber_state m.subscribers.items)) (map start_state m.starts.items) → AllByRecursion (IsSubscribed (map subscriber_state m.subscribers.items)) (map start_state new)
+subscribed_on name place action m new a at acts all =
+    let here : at.start ≡ acts.before = one_there m.starts.items place at.start acts.before at.there acts.there in
+    let ss : List SubscriberState = map subscriber_state m.subscribers.items in
+    let told : Option.Some (start_state acts.before) ≡ open_start name (map start_state m.starts.items) = ap (λ (c : Start). Option.Some (start_state c)) (sym here) ∙ sym at.of in
+    let same : acts.after.connection ≡ (start_state acts.before).connection = same_connection m.publisher.log action (start_state acts.before) acts.after a acts.acts in
+    let P : List StartState → Type 0 = λ l. AllByRecursion (IsSubscribed ss) l in
+    subst P (sym (acts.is ∙ sym (at.changed acts.after)))
+    (all_subscribed_after name ss acts.after (map start_state m.starts.items)
+    (λ s found. same ∙ ap (λ (x : StartState). x.connection) (same_inside (start_state acts.before) s (told ∙ found))) all)
 
 -- ---- tables by name
 

@@ -4,6 +4,7 @@ pub mod Sections
 pub mod Members
 pub mod Names
 pub mod Openings
+pub mod Subscribing
 pub mod Asking
 pub mod Runs
 pub mod Machines

@@ -19,9 +19,9 @@ use Rattle.world.specs.declared.start.Start.{Start}
 use Rattle.world.specs.declared.start.Walsender.{Walsender}
 use Rattle.world.specs.declared.start.Walsender.TheVariants as walsenders
 use Rattle.world.specs.declared.machine.Machine.{Machine}
-use Rattle.world.specs.State.{StartState, WorldState}
+use Rattle.world.specs.State.{StartState, SubscriberState, WorldState}
 use Rattle.world.specs.SessionLines.{Ask, SessionState, ask_of, if_new, if_known, IsCalled}
-use Rattle.world.specs.ConnectionLines.{Acts}
+use Rattle.world.specs.ConnectionLines.{Acts, subscribers_after}
 use Rattle.world.specs.Steps.{IsStep, is_bad, session_state}
 use Rattle.world.specs.Machine.{named_tx, sessions_state, IsCallOf, Grows, IsServed, ActsIn, IsOpenStartAt, is_open, open_places, without_place, start_state, state_with, shown}
 use Rattle.world.proofs.Sections.{grown_served}
@@ -53,6 +53,7 @@ stepped (events.Start c slot position names) old p ss a calls = absurd calls
 stepped (events.Read c max clock) old p ss a calls = absurd calls
 stepped (events.Keepalive c clock) old p ss a calls = absurd calls
 stepped (events.Drain c n) old p ss a calls = absurd calls
+stepped (events.Deliver c n) old p ss a calls = absurd calls
 stepped (events.Cut c) old p ss a calls = absurd calls
 
 pub all_stepped : (e : Event) (m : Machine) (p : PublisherState) (ss : List Session) (r : Result Answer WorldFault) → IfOk r (λ a. IsCallOf e m.publisher m.sessions.items a p ss)
@@ -71,23 +72,25 @@ pub bad_call : (e : Event) (w : WorldState)
     → ((c : List ℕ) (max : ℕ) (clock : ℤ) → e ≡ events.Read c max clock → ⊥)
     → ((c : List ℕ) (clock : ℤ) → e ≡ events.Keepalive c clock → ⊥)
     → ((c : List ℕ) (n : ℕ) → e ≡ events.Drain c n → ⊥)
+    → ((c : List ℕ) (n : ℕ) → e ≡ events.Deliver c n → ⊥)
     → ((c : List ℕ) → e ≡ events.Cut c → ⊥)
     → is_some (ask_of e w.publisher w.transactions) ≡ false → is_bad e w ≡ true
-bad_call (events.Begin t) w start read keepalive drain cut bad = ap not bad
-bad_call (events.Insert t table row) w start read keepalive drain cut bad = ap not bad
-bad_call (events.Update t table key row) w start read keepalive drain cut bad = ap not bad
-bad_call (events.Delete t table key) w start read keepalive drain cut bad = ap not bad
-bad_call (events.Truncate t names) w start read keepalive drain cut bad = ap not bad
-bad_call (events.Savepoint t) w start read keepalive drain cut bad = ap not bad
-bad_call (events.Rollback t depth) w start read keepalive drain cut bad = ap not bad
-bad_call (events.Release t depth) w start read keepalive drain cut bad = ap not bad
-bad_call (events.Commit t time) w start read keepalive drain cut bad = ap not bad
-bad_call (events.Abort t) w start read keepalive drain cut bad = ap not bad
-bad_call (events.Start c slot position names) w start read keepalive drain cut bad = absurd (start c slot position names refl)
-bad_call (events.Read c max clock) w start read keepalive drain cut bad = absurd (read c max clock refl)
-bad_call (events.Keepalive c clock) w start read keepalive drain cut bad = absurd (keepalive c clock refl)
-bad_call (events.Drain c n) w start read keepalive drain cut bad = absurd (drain c n refl)
-bad_call (events.Cut c) w start read keepalive drain cut bad = absurd (cut c refl)
+bad_call (events.Begin t) w start read keepalive drain deliver cut bad = ap not bad
+bad_call (events.Insert t table row) w start read keepalive drain deliver cut bad = ap not bad
+bad_call (events.Update t table key row) w start read keepalive drain deliver cut bad = ap not bad
+bad_call (events.Delete t table key) w start read keepalive drain deliver cut bad = ap not bad
+bad_call (events.Truncate t names) w start read keepalive drain deliver cut bad = ap not bad
+bad_call (events.Savepoint t) w start read keepalive drain deliver cut bad = ap not bad
+bad_call (events.Rollback t depth) w start read keepalive drain deliver cut bad = ap not bad
+bad_call (events.Release t depth) w start read keepalive drain deliver cut bad = ap not bad
+bad_call (events.Commit t time) w start read keepalive drain deliver cut bad = ap not bad
+bad_call (events.Abort t) w start read keepalive drain deliver cut bad = ap not bad
+bad_call (events.Start c slot position names) w start read keepalive drain deliver cut bad = absurd (start c slot position names refl)
+bad_call (events.Read c max clock) w start read keepalive drain deliver cut bad = absurd (read c max clock refl)
+bad_call (events.Keepalive c clock) w start read keepalive drain deliver cut bad = absurd (keepalive c clock refl)
+bad_call (events.Drain c n) w start read keepalive drain deliver cut bad = absurd (drain c n refl)
+bad_call (events.Deliver c n) w start read keepalive drain deliver cut bad = absurd (deliver c n refl)
+bad_call (events.Cut c) w start read keepalive drain deliver cut bad = absurd (cut c refl)
 
 -- a name that is in use is bad where it is to be new, and one that is not where it is to be known
 pub bad_new : (o : Option ℕ) (ask : Ask) → is_some o ≡ not (is_some (if_new o ask))
@@ -117,6 +120,7 @@ stays_open log action old new (answers.Sender sends.Gap) goes acts = absurd acts
 stays_open log action old new (answers.Session fault) goes acts = absurd acts
 stays_open log action old new (answers.Slot fault) goes acts = absurd acts
 stays_open log action old new (answers.Publication fault) goes acts = absurd acts
+stays_open log action old new (answers.Subscriber fault) goes acts = absurd acts
 
 is_closed : (log : List Record) (old new : StartState) (a : Answer) → Acts log actions.Cut old a new → new.is_open ≡ false
 is_closed log old new answers.Done acts = ap (λ (s : StartState). s.is_open) acts.1
@@ -126,6 +130,7 @@ is_closed log old new (answers.Sender sends.Gap) acts = absurd acts
 is_closed log old new (answers.Session fault) acts = absurd acts
 is_closed log old new (answers.Slot fault) acts = absurd acts
 is_closed log old new (answers.Publication fault) acts = absurd acts
+is_closed log old new (answers.Subscriber fault) acts = absurd acts
 
 open_shown : (connection produced : List ℕ) (w : Walsender) → is_open w ≡ true → (state_with connection produced w).is_open ≡ true
 open_shown connection produced (walsenders.Open s) is = refl
@@ -150,6 +155,12 @@ no_cut (actions.Read max clock) other = refl
 no_cut (actions.Keepalive clock) other = refl
 no_cut (actions.Drain n) other = refl
 no_cut actions.Cut other = absurd (other refl)
+
+pub kept_subscribers : (name : List ℕ) (action : Action) (subscribers : List SubscriberState) → is_cut action ≡ false → subscribers_after name action subscribers ≡ subscribers
+kept_subscribers name (actions.Read max clock) subscribers goes = refl
+kept_subscribers name (actions.Keepalive clock) subscribers goes = refl
+kept_subscribers name (actions.Drain n) subscribers goes = refl
+kept_subscribers name actions.Cut subscribers goes = let never : true ≡ false = goes in cc
 
 pub found_more : (cs new : List Start) (places more : List ℕ) (s : Start) (n : ℕ) → new ≡ cs ++ s ∷ [] → more ≡ places ++ n ∷ [] → n ≡ length cs → (start_state s).is_open ≡ true → places ≡ open_places 0 (map start_state cs)
     → more ≡ open_places 0 (map start_state new)

@@ -18,7 +18,7 @@ use Rattle.schedule.specs.declared.answer.Answer.{Answer}
 use Rattle.schedule.specs.declared.answer.Answer.TheVariants as answers
 use Rattle.world.specs.declared.action.Action.{Action}
 use Rattle.world.specs.declared.action.Action.TheVariants as actions
-use Rattle.world.specs.State.{StartState, WorldState, open_start, with_open_start}
+use Rattle.world.specs.State.{StartState, SubscriberState, WorldState, open_start, with_open_start, with_one_for, reconnected}
 use Rattle.world.specs.Law.{read_by}
 
 -- the connection that a line names, and what the line asks of its sender; none for the other lines
@@ -73,13 +73,18 @@ Acts log action old (answers.Sender sends.Memory) new = (old.failed ≡ false) �
 Acts log action old (answers.Sender sends.Failed) new = (needs_running action ≡ true) × (old.failed ≡ true) × (new ≡ old)
 Acts log action old answer new = ⊥
 
+-- where the connection is cut, its subscriber reconnects
+abbrev pub subscribers_after : List ℕ → Action → List SubscriberState → List SubscriberState
+subscribers_after connection actions.Cut subscribers = reconnected connection subscribers
+subscribers_after connection action subscribers = subscribers
+
 -- what is asked of the connection's sender, and of nothing else
 pub record ActsAt (connection : List ℕ) (action : Action) (old : WorldState) (answer : Answer) (new : WorldState) : Type 0 where
   pub before : StartState
   pub after : StartState
   pub there : open_start connection old.starts ≡ Some before
   pub acts : Acts old.publisher.log action before answer after
-  pub is : new ≡ record old { starts = with_open_start connection after old.starts }
+  pub is : new ≡ record old { starts = with_open_start connection after old.starts; subscribers = subscribers_after connection action old.subscribers }
 
 -- ---- Starts.
 
@@ -95,7 +100,7 @@ is_slotless slot = bytes_eq slot (codes "-")
 -- L1 where a slot is named, since there are no slots; then P1, and P7 for memory
 abbrev pub IsStart : List ℕ → List ℕ → ℕ → List (List ℕ) → WorldState → Answer → WorldState → Type 0
 IsStart connection slot start names old answers.Done new =
-    (is_slotless slot ≡ true) × (is_unknown old.publication names ≡ false) × (new ≡ record old { starts = old.starts ++ new_start connection (selected old.publication names) start ∷ [] })
+    (is_slotless slot ≡ true) × (is_unknown old.publication names ≡ false) × (new ≡ record old { starts = old.starts ++ new_start connection (selected old.publication names) start ∷ []; subscribers = with_one_for connection old.subscribers })
 IsStart connection slot start names old (answers.Slot fault) new = (is_slotless slot ≡ false) × (new ≡ old)
 IsStart connection slot start names old (answers.Publication pubs.Unknown) new = (is_slotless slot ≡ true) × (is_unknown old.publication names ≡ true) × (new ≡ old)
 IsStart connection slot start names old (answers.Publication pubs.Memory) new = (is_slotless slot ≡ true) × (is_unknown old.publication names ≡ false) × (new ≡ old)

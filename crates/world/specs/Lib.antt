@@ -1,5 +1,6 @@
 pub mod State
 pub mod Config
+pub mod Delivering
 pub mod Law
 pub mod Rows
 pub mod SessionLines

@@ -1,6 +1,6 @@
 -- What a world shows of its parts, and what is true of them between events. No promise is told here but by `start_state`
 -- and `shown`, which say how the parts are seen.
-use Rattle.std.specs.Prelude.{◌≡◌, ◌<◌, ◌≤◌, ◌^◌, ℕ, ◌+◌, ◌==◌, Bool, true, false, List, [], ◌∷◌, ◌++◌, length, map, take, filter, not, Option, Some, None, slice_get, slice_set, remove, if◌then◌else◌}
+use Rattle.std.specs.Prelude.{◌≡◌, ◌<◌, ◌≤◌, ◌^◌, ℕ, ◌+◌, ◌==◌, Bool, true, false, List, [], ◌∷◌, ◌++◌, length, map, take, filter, not, Option, Some, None, is_some, vec_len, vec_capacity, slice_get, slice_set, remove, if◌then◌else◌}
 use Rattle.std.specs.Str.{bytes_eq}
 use Rattle.std.specs.List.{AllByRecursion}
 use Rattle.tables.specs.declared.table.Table.{Table}
@@ -19,10 +19,11 @@ use Rattle.schedule.specs.declared.answer.Answer.TheVariants as answers
 use Rattle.world.specs.declared.action.Action.{Action}
 use Rattle.world.specs.declared.session.Session.{Session}
 use Rattle.world.specs.declared.start.Start.{Start}
+use Rattle.world.specs.declared.subscriber.Subscriber.{Subscriber}
 use Rattle.world.specs.declared.start.Walsender.{Walsender}
 use Rattle.world.specs.declared.start.Walsender.TheVariants as walsenders
 use Rattle.world.specs.declared.machine.Machine.{Machine}
-use Rattle.world.specs.State.{NamedTx, StartState, WorldState, xid_of, without_name, is_open_for, open_start, with_open_start}
+use Rattle.world.specs.State.{NamedTx, StartState, SubscriberState, WorldState, xid_of, without_name, is_open_for, open_start, with_open_start, subscriber_of, with_subscriber}
 use Rattle.world.specs.SessionLines.{SessionState, IsCalled, ask_of}
 use Rattle.world.specs.ConnectionLines.{Acts}
 
@@ -159,13 +160,41 @@ pub record ActsIn (log : List Record) (place : ℕ) (action : Action) (old : Lis
   pub acts : Acts log action (start_state before) answer after
   pub is : map start_state new ≡ slice_set (map start_state old) place after
 
+-- ---- Subscribers.
+
+abbrev pub subscriber_state : Subscriber → SubscriberState
+subscriber_state s = record { connection = s.connection; applier = s.applier; delivered = s.delivered; has_taken = s.has_taken }
+
+-- where the subscriber of the connection stands, counted from a number on
+abbrev pub subscriber_place : ℕ → List ℕ → List SubscriberState → Option ℕ
+subscriber_place at connection [] = None
+subscriber_place at connection (s ∷ subscribers) = if bytes_eq s.connection connection then Some at else subscriber_place (at + 1) connection subscribers
+
+-- the subscriber of the connection stands there
+pub record IsSubscriberAt (connection : List ℕ) (place : ℕ) (subscribers : List Subscriber) : Type 0 where
+  pub subscriber : Subscriber
+  pub there : slice_get subscribers place ≡ Some subscriber
+  pub of : subscriber_of connection (map subscriber_state subscribers) ≡ Some (subscriber_state subscriber)
+  pub changed : (after : SubscriberState) → with_subscriber connection after (map subscriber_state subscribers) ≡ slice_set (map subscriber_state subscribers) place after
+
+-- the connection of a start has a subscriber
+abbrev pub IsSubscribed : List SubscriberState → StartState → Type 0
+IsSubscribed subscribers s = is_some (subscriber_of s.connection subscribers) ≡ true
+
 -- ---- The machine.
 
 abbrev pub shown : Machine → WorldState
-shown m = record { publication = m.publications; publisher = m.publisher; transactions = map named_tx m.sessions.items; starts = map start_state m.starts.items }
+shown m = record { publication = m.publications; publisher = m.publisher; transactions = map named_tx m.sessions.items; starts = map start_state m.starts.items; subscribers = map subscriber_state m.subscribers.items }
 
--- the log is one, each start has read it up to its place, and the open ones are found
+-- there is room for one more start
+pub record HasRoom (m : Machine) : Type 0 where
+  pub starts : vec_len m.starts < vec_capacity m.starts
+  pub opened : vec_len m.opened < vec_capacity m.opened
+  pub subscribers : vec_len m.subscribers < vec_capacity m.subscribers
+
+-- the log is one, each start has read it up to its place, the open ones are found, and each has a subscriber
 pub record IsMachine (m : Machine) : Type 0 where
   pub good : IsWellFormedLog m.publisher.log
   pub served : AllByRecursion (IsServed m.publisher.log) m.starts.items
   pub found : m.opened.items ≡ open_places 0 (map start_state m.starts.items)
+  pub subscribed : AllByRecursion (IsSubscribed (map subscriber_state m.subscribers.items)) (map start_state m.starts.items)

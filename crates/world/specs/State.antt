@@ -1,10 +1,12 @@
--- The world between two events: a publisher, its transactions in progress by name, and every start of a sender with what
--- came of it.
-use Rattle.std.specs.Prelude.{ℕ, Bool, ◌&&◌, List, [], ◌∷◌, Option, Some, None, if◌then◌else◌}
+-- The world between two events: a publisher, its transactions in progress by name, every start of a sender with what came
+-- of it, and the subscribers.
+use Rattle.std.specs.Prelude.{ℕ, Bool, false, ◌&&◌, List, [], ◌∷◌, ◌++◌, drop, Option, Some, None, if◌then◌else◌}
 use Rattle.std.specs.Str.{bytes_eq}
 use Rattle.tables.specs.declared.table.Table.{Table}
 use Rattle.txlog.specs.Publishing.{PublisherState, new_publisher}
 use Rattle.publication.specs.Publications.{Publication}
+use Rattle.client.specs.Subscriber.{resting}
+use Rattle.client.specs.Taking.{ApplierState}
 use Rattle.schedule.specs.declared.answer.Answer.{Answer}
 use Rattle.world.specs.declared.server.Server.{Server}
 
@@ -25,12 +27,21 @@ pub record StartState : Type 0 where
   pub produced : List ℕ
   pub held : List ℕ
 
--- the starts stand in the order in which they came
+-- The subscriber of a connection, which outlives the connection's starts: how many bytes of those that the open start has
+-- produced were delivered to it, and whether ever a byte was.
+pub record SubscriberState : Type 0 where
+  pub connection : List ℕ
+  pub applier : ApplierState
+  pub delivered : ℕ
+  pub has_taken : Bool
+
+-- the starts stand in the order in which they came, and so do the subscribers
 pub record WorldState : Type 0 where
   pub publication : Publication
   pub publisher : PublisherState
   pub transactions : List NamedTx
   pub starts : List StartState
+  pub subscribers : List SubscriberState
 
 -- what a publisher is configured with
 pub record Setting : Type 0 where
@@ -40,7 +51,7 @@ pub record Setting : Type 0 where
 
 -- before the first event the log is empty, and nobody is there
 abbrev pub new_world : Setting → WorldState
-new_world setting = record { publication = setting.publication; publisher = new_publisher setting.tables setting.server.records; transactions = []; starts = [] }
+new_world setting = record { publication = setting.publication; publisher = new_publisher setting.tables setting.server.records; transactions = []; starts = []; subscribers = [] }
 
 -- what a world tells of itself: its state, and what each event so far answered
 pub record WorldView : Type 0 where
@@ -69,3 +80,42 @@ open_start connection (s ∷ starts) = if is_open_for connection s then Some s e
 abbrev pub with_open_start : List ℕ → StartState → List StartState → List StartState
 with_open_start connection new [] = []
 with_open_start connection new (s ∷ starts) = if is_open_for connection s then new ∷ starts else s ∷ with_open_start connection new starts
+
+-- what a start has produced and its subscriber hasn't got yet
+abbrev pub in_pipe : StartState → SubscriberState → List ℕ
+in_pipe start s = drop s.delivered start.produced
+
+-- the subscriber of the connection
+abbrev pub subscriber_of : List ℕ → List SubscriberState → Option SubscriberState
+subscriber_of connection [] = None
+subscriber_of connection (s ∷ subscribers) = if bytes_eq s.connection connection then Some s else subscriber_of connection subscribers
+
+-- the subscribers, that of the connection replaced
+abbrev pub with_subscriber : List ℕ → SubscriberState → List SubscriberState → List SubscriberState
+with_subscriber connection new [] = []
+with_subscriber connection new (s ∷ subscribers) = if bytes_eq s.connection connection then new ∷ subscribers else s ∷ with_subscriber connection new subscribers
+
+-- a subscriber has applied nothing, at position 0
+abbrev pub new_subscriber : List ℕ → SubscriberState
+new_subscriber connection = record { connection = connection; applier = record { subscriber = resting 0 []; unread = []; fault = None }; delivered = 0; has_taken = false }
+
+-- a connection that starts has a subscriber, for good
+abbrev pub if_there : Option SubscriberState → List SubscriberState → List SubscriberState → List SubscriberState
+if_there None known new = new
+if_there (Some s) known new = known
+
+abbrev pub with_one_for : List ℕ → List SubscriberState → List SubscriberState
+with_one_for connection subscribers = if_there (subscriber_of connection subscribers) subscribers (subscribers ++ new_subscriber connection ∷ [])
+
+-- The pipe is empty. The subscriber keeps its position and what it has applied, and forgets what it hasn't read, its tables,
+-- a half transaction and its fault.
+abbrev pub again : SubscriberState → SubscriberState
+again s = record s { applier = record { subscriber = resting s.applier.subscriber.position s.applier.subscriber.applied; unread = []; fault = None }; delivered = 0 }
+
+abbrev pub if_known_again : Option SubscriberState → List ℕ → List SubscriberState → List SubscriberState
+if_known_again None connection subscribers = subscribers
+if_known_again (Some s) connection subscribers = with_subscriber connection (again s) subscribers
+
+-- the connection's subscriber reconnects
+abbrev pub reconnected : List ℕ → List SubscriberState → List SubscriberState
+reconnected connection subscribers = if_known_again (subscriber_of connection subscribers) connection subscribers

@@ -9,6 +9,7 @@ use Rattle.world.specs.declared.action.Action.{Action}
 use Rattle.world.specs.State.{WorldState, open_start}
 use Rattle.world.specs.SessionLines.{Ask, SessionState, ask_of, IsCalled}
 use Rattle.world.specs.ConnectionLines.{action_of, ActsAt, IsStart}
+use Rattle.world.specs.Delivering.{Delivers}
 
 abbrev pub session_state : WorldState → SessionState
 session_state w = record { publisher = w.publisher; transactions = w.transactions }
@@ -26,6 +27,7 @@ ActsOrCalls None event old answer new = Calls (ask_of event old.publisher old.tr
 -- The event answers this and leaves that.
 abbrev pub IsStep : WorldState → Event → Answer → WorldState → Type 0
 IsStep old (events.Start c slot position names) answer new = IsNone (open_start c old.starts) × IsStart c slot position names old answer new
+IsStep old (events.Deliver c n) answer new = Delivers c n old answer new
 IsStep old event answer new = ActsOrCalls (action_of event) event old answer new
 
 abbrev pub has_no_one : Option (List ℕ × Action) → Event → WorldState → Bool
@@ -35,6 +37,7 @@ has_no_one None event w = not (is_some (ask_of event w.publisher w.transactions)
 -- an event that can't happen now, since its name is unknown or wrongly repeated: V1
 abbrev pub is_bad : Event → WorldState → Bool
 is_bad (events.Start c slot position names) w = is_some (open_start c w.starts)
+is_bad (events.Deliver c n) w = not (is_some (open_start c w.starts))
 is_bad event w = has_no_one (action_of event) event w
 
 -- a run: the answers to the events in order, and where they lead

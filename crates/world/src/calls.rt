@@ -54,6 +54,7 @@ pub(crate) fn call(
         | Event::Read(_, _, _)
         | Event::Keepalive(_, _)
         | Event::Drain(_, _)
+        | Event::Deliver(_, _)
         | Event::Cut(_) => Err(WorldFault::BadEvent),
     }
 }

@@ -16,6 +16,7 @@ mod server;
 mod session;
 mod simulation;
 mod start;
+mod subscriber;
 mod world;
 
 pub use config::Config;
@@ -24,4 +25,5 @@ pub use schedule::{Answer, BadEvent, Event, LineFault, Literal, Schedule, SlotFa
 pub use server::{MAX_CHUNKS, Server};
 pub use simulation::{SimFault, simulate};
 pub use start::Start;
+pub use subscriber::Subscriber;
 pub use world::{RunFault, World};

@@ -1,11 +1,12 @@
 //! The publisher with its sessions and the starts of its senders.
 
-ghost use Rattle.std.specs.Prelude.{◌≡◌, ◌↔◌, map, is_some, true, false, IfErr, IfOk, IsSome, IsNone, OnErr, None};
+ghost use Rattle.std.specs.Prelude.{◌≡◌, ◌↔◌, ◌++◌, ◌∷◌, [], map, is_some, true, false, IfErr, IfOk, IsSome, IsNone, OnErr, OnOk, None};
 ghost use Rattle.std.specs.List.{AllByRecursion};
-ghost use Rattle.world.specs.State.{new_world, open_start, xid_of};
+ghost use Rattle.world.specs.State.{new_subscriber, new_world, open_start, with_one_for, xid_of};
 ghost use Rattle.world.specs.ConnectionLines.{ActsAt, IsStart};
+ghost use Rattle.world.specs.Delivering.{Delivers};
 ghost use Rattle.world.specs.Steps.{IsStep, is_bad};
-ghost use Rattle.world.specs.Machine.{ActsIn, IsMachine, IsOpenAt, IsServed, shown, start_state};
+ghost use Rattle.world.specs.Machine.{ActsIn, HasRoom, IsMachine, IsOpenAt, IsServed, shown, start_state, subscriber_state};
 
 use crate::action::Action;
 use crate::calls::{call, is_known};
@@ -13,22 +14,24 @@ use crate::config::Config;
 use crate::opening::{close, place_among};
 use crate::session::{Session, leave_all};
 use crate::start::Start;
+use crate::subscriber::{Subscriber, place_of, reconnect, subscribe};
 use frames::Text;
 use publication::Publications;
 use schedule::{Answer, Event, SlotFault, WorldFault};
-use std::alloc::Global;
+use std::alloc::{AllocError, Global};
 use txlog::Publisher;
 
 /// What a start names instead of a slot.
 const NO_SLOT: &str = "-";
 
-/// A publisher, its sessions by name, every start of a sender, and where the open ones stand, in order.
+/// A publisher, its sessions by name, every start of a sender, where the open ones stand, in order, and the subscribers.
 pub(crate) struct Machine {
     pub(crate) publications: Publications,
     pub(crate) publisher: Publisher,
     pub(crate) sessions: Vec<Session>,
     pub(crate) starts: Vec<Start>,
     pub(crate) opened: Vec<usize>,
+    pub(crate) subscribers: Vec<Subscriber>,
 }
 
 impl Drop for Machine {
@@ -39,6 +42,7 @@ impl Drop for Machine {
             sessions,
             starts: _,
             opened: _,
+            subscribers: _,
         } = self;
         leave_all(&publisher, sessions);
     }
@@ -63,6 +67,7 @@ impl Machine {
                     sessions: Vec::new(alloc),
                     starts: Vec::new(alloc),
                     opened: Vec::new(alloc),
+                    subscribers: Vec::new(alloc),
                 });
             }
             Err(_) => return Err(WorldFault::Memory),
@@ -89,6 +94,7 @@ impl Machine {
             Event::Read(name, _, _)
             | Event::Keepalive(name, _)
             | Event::Drain(name, _)
+            | Event::Deliver(name, _)
             | Event::Cut(name) => !self.is_connected(name),
         }
     }
@@ -109,6 +115,7 @@ impl Machine {
             Event::Read(name, max, clock) => self.act(alloc, name, Action::Read(*max, *clock)),
             Event::Keepalive(name, clock) => self.act(alloc, name, Action::Keepalive(*clock)),
             Event::Drain(name, max) => self.act(alloc, name, Action::Drain(*max)),
+            Event::Deliver(name, max) => self.deliver(name, *max),
             Event::Cut(name) => self.act(alloc, name, Action::Cut),
             _ => call(&mut self.publisher, &mut self.sessions, alloc, event),
         }
@@ -135,18 +142,48 @@ impl Machine {
         if slot.as_str() != NO_SLOT {
             return Ok(Answer::Slot(SlotFault::Missing));
         }
+        self.make_room()?;
+        let subscriber = Subscriber::new(alloc, name.copy(alloc)?);
+        let connection = name.copy(alloc)?;
+        match self.publications.select(names) {
+            Ok(selection) => {
+                let publisher = &self.publisher;
+                let start = Start::new(alloc, publisher, connection, selection, position);
+                self.add(start, subscriber);
+                Ok(Answer::Done)
+            }
+            Err(fault) => Ok(Answer::Publication(fault)),
+        }
+    }
+
+    /// Room for one more start.
+    fn make_room(&mut self) -> Result<(), AllocError>
+        ensures same { shown self.new ≡ shown self.old }
+        ensures room { OnOk result (HasRoom self.new) }
+        ensures machine { IsMachine self.old → IsMachine self.new }
+    {
         self.starts.reserve(1)?;
         self.opened.reserve(1)?;
-        let name = name.copy(alloc)?;
-        let selection = match self.publications.select(names) {
-            Ok(selection) => selection,
-            Err(fault) => return Ok(Answer::Publication(fault)),
-        };
-        let start = Start::new(alloc, &self.publisher, name, selection, position);
+        self.subscribers.reserve(1)
+    }
+
+    /// Adds an open start, and its subscriber where the connection has none yet.
+    fn add(&mut self, start: Start, subscriber: Subscriber)
+        requires machine { IsMachine self.old }
+        requires room { HasRoom self.old }
+        requires opened { (start_state start).is_open ≡ true }
+        requires served { IsServed self.old.publisher.log start }
+        requires subscriber { subscriber_state subscriber ≡ new_subscriber (start_state start).connection }
+        ensures added { shown self.new ≡ record (shown self.old) {
+          starts = (shown self.old).starts ++ start_state start ∷ [];
+          subscribers = with_one_for (start_state start).connection (shown self.old).subscribers;
+        } }
+        ensures machine { IsMachine self.new }
+    {
         let place = self.starts.as_slice().len();
-        self.opened.push(place).unwrap();
-        self.starts.push(start).unwrap();
-        Ok(Answer::Done)
+        self.opened.push_reserved(place);
+        self.starts.push_reserved(start);
+        subscribe(&mut self.subscribers, subscriber);
     }
 
     /// Does what a line asks of the connection's sender. V1 where it has none.
@@ -163,10 +200,32 @@ impl Machine {
         };
         let answer = act_at(&mut self.starts, place, alloc, &self.publisher, action)?;
         match action {
-            Action::Cut => close(&mut self.opened, place),
+            Action::Cut => {
+                close(&mut self.opened, place);
+                reconnect(&mut self.subscribers, name);
+            }
             _ => {}
         }
         Ok(answer)
+    }
+
+    /// Hands bytes of the connection's sender to its subscriber. V1 where it has no sender.
+    fn deliver(&mut self, name: &Text, max: u32) -> Result<Answer, WorldFault>
+        requires machine { IsMachine self.old }
+        ensures delivers { IfOk result (λ a. Delivers name.now max (shown self.old) a (shown self.new)) }
+        ensures bad { result ≡ Err WorldFault.BadEvent → IsNone (open_start name.now (shown self.old).starts) }
+        ensures err { OnErr result (shown self.new ≡ shown self.old) }
+        ensures machine { IsMachine self.new }
+    {
+        let found = place_among(self.starts.as_slice(), self.opened.as_slice(), name);
+        let Some(place) = found else {
+            return Err(WorldFault::BadEvent);
+        };
+        let Some(at) = place_of(self.subscribers.as_slice(), name) else {
+            unreachable!();
+        };
+        let start = &self.starts[place];
+        Ok(self.subscribers[at].take(start.produced(), max))
     }
 
     fn is_connected(&self, name: &Text) -> bool

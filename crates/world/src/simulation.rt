@@ -6,7 +6,9 @@ ghost use Rattle.world.specs.Simulation.{is_bad_schedule, is_writing};
 
 use crate::config::Config;
 use crate::world::{RunFault, World};
-use schedule::{BadEvent, LineFault, Schedule, WorldFault, write_refusals, write_stream};
+use schedule::{
+    BadEvent, LineFault, Schedule, WorldFault, write_refusals, write_stream, write_subscriber,
+};
 use std::alloc::Global;
 use std::io;
 use std::io::{Read, Write};
@@ -86,6 +88,18 @@ fn write_report<W: Write>(
     write_refusals(output, schedule.lines(), world.answers())?;
     for start in world.starts() {
         write_stream(alloc, output, start.connection(), start.produced())?;
+    }
+    for subscriber in world.subscribers() {
+        if subscriber.has_taken() {
+            let count = subscriber.applied().len();
+            write_subscriber(
+                alloc,
+                output,
+                subscriber.connection(),
+                subscriber.position(),
+                count,
+            )?;
+        }
     }
     output.flush()
 }

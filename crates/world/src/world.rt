@@ -4,13 +4,14 @@ ghost use Rattle.std.specs.Prelude.{◌≡◌, ◌↔◌, ◌++◌, ◌∷◌, [
 ghost use Rattle.world.specs.State.{new_world};
 ghost use Rattle.world.specs.Law.{Headline};
 ghost use Rattle.world.specs.Steps.{IsRun, IsStep, StopsAt, is_bad};
-ghost use Rattle.world.specs.Machine.{start_state};
+ghost use Rattle.world.specs.Machine.{start_state, subscriber_state};
 ghost use Rattle.world.specs.declared.world.RunFault.{RunFault};
 ghost use Rattle.schedule.specs.declared.fault.WorldFault.{WorldFault as Fault};
 
 use crate::config::Config;
 use crate::machine::Machine;
 use crate::start::Start;
+use crate::subscriber::Subscriber;
 use schedule::{Answer, Event, WorldFault};
 use std::alloc::Global;
 use std::marker::Model;
@@ -105,5 +106,12 @@ impl World {
         ensures { map start_state result.now ≡ self.now.state.starts }
     {
         self.machine.starts.as_slice()
+    }
+
+    /// The subscribers, in the order of their connections' first starts.
+    pub fn subscribers(&self) -> &[Subscriber]
+        ensures { map subscriber_state result.now ≡ self.now.state.subscribers }
+    {
+        self.machine.subscribers.as_slice()
     }
 }

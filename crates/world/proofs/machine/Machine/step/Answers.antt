@@ -7,7 +7,7 @@ returns-in_default-clause-step c = all_stepped c.args.event.now c.args.self.now 
 
 pub returns-in_default-clause-bad : goal.returns-in_default-clause-bad
 returns-in_default-clause-bad c = λ is.
-    bad_call c.args.event.now (shown c.args.self.now) c.in_default.not-Start c.in_default.not-Read c.in_default.not-Keepalive c.in_default.not-Drain c.in_default.not-Cut (c.call.ensures.bad is)
+    bad_call c.args.event.now (shown c.args.self.now) c.in_default.not-Start c.in_default.not-Read c.in_default.not-Keepalive c.in_default.not-Drain c.in_default.not-Deliver c.in_default.not-Cut (c.call.ensures.bad is)
 
 pub returns-in_default-clause-err : goal.returns-in_default-clause-err
 returns-in_default-clause-err c = none_stepped c.args.self.now c.call.new.publisher c.call.new.sessions.items c.call.result c.call.ensures.err
@@ -17,4 +17,5 @@ returns-in_default-clause-machine c = record {
   good = c.call.ensures.grows.good c.requires.machine.good;
   served = all_grown c.args.self.now.publisher.log c.call.new.publisher.log c.args.self.now.starts.items c.call.ensures.grows c.requires.machine.served;
   found = c.requires.machine.found;
+  subscribed = c.requires.machine.subscribed;
 }

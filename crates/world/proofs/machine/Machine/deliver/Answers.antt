@@ -1,0 +1,47 @@
+use Rattle.std.proofs.Common.{◌≡◌, Option, arith, length, map, sym, ap, refl, ◌∙◌}
+use Rattle.std.proofs.lemmas.Option.{slice_get_read, slice_get_within}
+use Rattle.world.specs.declared.start.Start.{Start}
+use Rattle.world.specs.Machine.{start_state, subscriber_state}
+use Rattle.world.proofs.Asking.{one_there}
+use Rattle.world.proofs.Openings.{none_open, open_at}
+use Rattle.world.proofs.Subscribing.{delivered, has_place, open_subscribed, still_subscribed, subscriber_at}
+use Rattle.world.proofs.machine.Machine.deliver.Goals as goal
+
+pub returns-in_default-clause-bad : goal.returns-in_default-clause-bad
+returns-in_default-clause-bad c = λ same.
+    none_open c.args.name.now _ c.args.self.now.opened.items c.requires.machine.found (rw (c.as_slice.ensures.value, c.as_slice-2.ensures.value) at (sym c.place_among-found.ensures ∙ c.in_default.is))
+
+pub unreachable-requires : goal.unreachable-requires
+unreachable-requires c =
+    let at = open_at c.args.name.now c.args.self.now.starts.items c.args.self.now.opened.items c.in-Some.place c.requires.machine.found
+    (rw (c.as_slice.ensures.value, c.as_slice-2.ensures.value) at (sym c.place_among-found.ensures ∙ c.in-Some.is)) in
+    let has = open_subscribed c.args.name.now (map subscriber_state c.args.self.now.subscribers.items) (map start_state c.args.self.now.starts.items) (start_state at.start) c.requires.machine.subscribed at.of in
+    has_place c.args.name.now (map subscriber_state c.args.self.now.subscribers.items) has (rw c.as_slice-3.ensures.value at (sym c.place_of.ensures.place ∙ c.in_default-place_of.is))
+
+pub index-start-requires : goal.index-start-requires
+index-start-requires c =
+    let at = open_at c.args.name.now c.args.self.now.starts.items c.args.self.now.opened.items c.in-Some.place c.requires.machine.found
+    (rw (c.as_slice.ensures.value, c.as_slice-2.ensures.value) at (sym c.place_among-found.ensures ∙ c.in-Some.is)) in
+    omega (arith, slice_get_within c.args.self.now.starts.items c.in-Some.place at.start at.there, ap length c.as_slice.ensures.value, c.as_slice.ensures.len)
+
+pub returns-clause-delivers : goal.returns-clause-delivers
+returns-clause-delivers c =
+    let at = open_at c.args.name.now c.args.self.now.starts.items c.args.self.now.opened.items c.in-Some.place c.requires.machine.found
+    (rw (c.as_slice.ensures.value, c.as_slice-2.ensures.value) at (sym c.place_among-found.ensures ∙ c.in-Some.is)) in
+    let one = subscriber_at c.args.name.now c.args.self.now.subscribers.items c.in-Some-place_of.at (rw c.as_slice-3.ensures.value at (sym c.place_of.ensures.place ∙ c.in-Some-place_of.is)) in
+    let start = c.index-start.result.now in
+    let here : at.start ≡ start =
+    one_there c.args.self.now.starts.items c.in-Some.place at.start start at.there
+    (slice_get_read c.args.self.now.starts.items (length c.args.self.now.starts.items) c.in-Some.place start refl (slice_get_within c.args.self.now.starts.items c.in-Some.place at.start at.there) c.index-start.ensures) in
+    delivered c.args.name.now c.args.max c.in-Some-place_of.at c.args.self.now start c.index_mut.result.now c.take.new.self c.produced.result.now c.take.result
+    (at.of ∙ ap (λ (s : Start). Option.Some (start_state s)) here) c.produced.ensures one c.index_mut.ensures.value c.take.ensures
+
+pub returns-clause-machine : goal.returns-clause-machine
+returns-clause-machine c =
+    let one = subscriber_at c.args.name.now c.args.self.now.subscribers.items c.in-Some-place_of.at (rw c.as_slice-3.ensures.value at (sym c.place_of.ensures.place ∙ c.in-Some-place_of.is)) in
+    record {
+      good = c.requires.machine.good;
+      served = c.requires.machine.served;
+      found = c.requires.machine.found;
+      subscribed = still_subscribed c.args.name.now c.in-Some-place_of.at c.args.self.now c.index_mut.result.now c.take.new.self _ c.take.result one c.index_mut.ensures.value c.take.ensures c.requires.machine.subscribed;
+    }
