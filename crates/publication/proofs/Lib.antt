@@ -1,2 +1,4 @@
 pub mod Catalogued
+pub mod Filtering
 pub mod Fitting
+pub mod Worked
