@@ -19,8 +19,8 @@ use Rattle.world.specs.declared.action.Action.{Action}
 use Rattle.world.specs.declared.session.Session.{Session}
 use Rattle.world.specs.declared.start.Start.{Start}
 use Rattle.world.specs.declared.machine.Machine.{Machine}
-use Rattle.world.specs.State.{StartState, WorldState, NamedTx, xid_of, without_name}
-use Rattle.world.specs.SessionLines.{Ask, SessionState, IsCalled, IsAnswered, if_known, insert_refused}
+use Rattle.world.specs.State.{StartState, NamedTx, xid_of, without_name}
+use Rattle.world.specs.SessionLines.{IsCalled, IsAnswered, if_known, insert_refused}
 use Rattle.world.specs.Rows.{row_in}
 use Rattle.world.specs.ConnectionLines.{Acts, ActsAt}
 use Rattle.world.specs.Machine.{named_tx, sessions_state, IsNamedAt, Called, start_state, shown, ActsIn, IsOpenAt, IsOpenStartAt}

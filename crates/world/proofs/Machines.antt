@@ -1,6 +1,6 @@
 -- The machine between two events: a longer log leaves every start served, a call or an act is its event in the world.
 use Rattle.std.proofs.Common.{◌≡◌, ◌+◌, length, ℕ, ℤ, Bool, true, false, List, [], ◌∷◌, ◌++◌, map, Option, Some, None, refl, sym, ap, subst, ◌∙◌, option_map, arith}
-use Rattle.std.specs.Prelude.{Result, Ok, Err, IfOk, OnErr, is_some, not, slice_get}
+use Rattle.std.specs.Prelude.{Result, Ok, Err, IfOk, OnErr, is_some, not}
 use Rattle.std.specs.List.{AllByRecursion}
 use Rattle.std.proofs.lemmas.Option.{slice_get-map}
 use Rattle.std.proofs.lemmas.List.{length-map, map-append}

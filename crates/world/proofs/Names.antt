@@ -1,6 +1,6 @@
 -- A transaction stands where it was found by its name.
 use Rattle.std.proofs.Common.{◌≡◌, ◌+◌, ◌≤◌, ℕ, zero, suc, Bool, true, false, cond, List, [], ◌∷◌, map, Option, Some, None, refl, sym, ap, ◌∙◌, arith}
-use Rattle.std.specs.Prelude.{IsSome, IsNone, is_some}
+use Rattle.std.specs.Prelude.{IsNone, is_some}
 use Rattle.std.specs.Str.{bytes_eq}
 use Rattle.world.specs.declared.session.Session.{Session}
 use Rattle.world.specs.State.{NamedTx, xid_of}

@@ -1,6 +1,6 @@
 -- The row that the literals of a line spell. An integer takes the kind of its column; what doesn't fit the column becomes a
 -- value of another kind, so that no table takes the row.
-use Rattle.std.specs.Prelude.{ℕ, ℤ, pos, negsuc, ◌^◌, Bool, false, nat_lt, drop, List, [], ◌∷◌, if◌then◌else◌}
+use Rattle.std.specs.Prelude.{ℤ, pos, negsuc, ◌^◌, Bool, false, nat_lt, drop, List, [], ◌∷◌, if◌then◌else◌}
 use Rattle.tables.specs.declared.kind.Kind.{Kind}
 use Rattle.tables.specs.declared.kind.Kind.TheVariants as kinds
 use Rattle.tables.specs.declared.value.Value.{Value}

@@ -1,10 +1,9 @@
-use Rattle.std.proofs.Common.{◌≡◌, Some, sym, ap, subst, ◌∙◌}
+use Rattle.std.proofs.Common.{sym, subst, ◌∙◌}
 use Rattle.world.specs.declared.action.Action.{Action}
-use Rattle.world.specs.declared.action.Action.TheVariants as actions
-use Rattle.world.specs.Machine.{ActsIn, place_among, start_state}
+use Rattle.world.specs.Machine.{ActsIn}
 use Rattle.world.proofs.Openings.{open_at, none_open}
 use Rattle.world.proofs.Asking.{acted_at}
-use Rattle.world.proofs.Machines.{found_on, found_less, is_cut, no_cut}
+use Rattle.world.proofs.Machines.{found_on, found_less, no_cut}
 use Rattle.world.proofs.machine.Machine.act.Goals as goal
 
 pub returns-in_default-clause-bad : goal.returns-in_default-clause-bad
