@@ -17,6 +17,7 @@ mod framing;
 mod given;
 mod message;
 mod play;
+mod projection;
 mod random;
 mod report;
 mod row_body;

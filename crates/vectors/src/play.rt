@@ -5,14 +5,21 @@ use anyhow::{Result, ensure};
 use std::alloc::Global;
 use world::{Config, SimFault, simulate};
 
-/// The table public.item.
-const ITEM: &str = "\
+/// The tables public.item and public.tag.
+const TABLES: &str = "\
 [[table]]
 oid = 16384
 schema = 'public'
 name = 'item'
 key = ['id']
 columns = [['id', 'int4'], ['name', 'text'], ['qty', 'int8']]
+[[table]]
+oid = 16385
+schema = 'public'
+name = 'tag'
+identity = 'full'
+key = ['k']
+columns = [['k', 'text'], ['v', 'int4']]
 ";
 
 /// What the schedule prints, or why it is refused.
@@ -47,10 +54,10 @@ fn shown_fault(alloc: Global, fault: &SimFault) -> Result<String> {
     Ok(fault.to_string(alloc)?)
 }
 
-/// The table public.item, and a log for so many records.
+/// The tables, and a log for so many records.
 fn config_of(alloc: Global, records: usize) -> Result<Config> {
     let server = format!(in alloc; "systemid = '1'\nrecords = {records}\nchunks = 1")?;
     let server = server.as_str();
-    let text = format!(in alloc; "[server]\n{server}\n{ITEM}")?;
+    let text = format!(in alloc; "[server]\n{server}\n{TABLES}")?;
     Ok(Config::from_toml(alloc, text.as_str())?)
 }
