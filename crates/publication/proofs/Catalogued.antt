@@ -9,7 +9,7 @@ use Rattle.tables.specs.declared.column.Column.{Column}
 use Rattle.tables.specs.declared.table.Table.{Table}
 use Rattle.tables.specs.Tables.{IsName, IsTable, has_no_zero}
 use Rattle.publication.specs.Selection.{FitsTable}
-use Rattle.publication.proofs.Fitting.{both_true}
+use Rattle.publication.proofs.Rows.{both_true}
 
 no_zero : (text : List ℕ) → has_no_zero text ≡ true → has_zero text ≡ false
 no_zero [] e = refl
