@@ -4,12 +4,12 @@ use reorder::{Ready, Reorder, Step};
 use std::alloc::Global;
 use std::sync::Arc;
 use std::test::Fail;
-use tables::{Row, TableChange};
+use tables::{Row, Change};
 use txlog::{Body, LoggedChange, Record};
 
 /// An insert of a row of no values by this xid.
 fn insert(alloc: Global, xid: u32) -> Result<Body, Fail> {
-    let change = TableChange::Insert(16384, Row::new(Vec::new(alloc)));
+    let change = Change::Insert(16384, Row::new(Vec::new(alloc)));
     let change = LoggedChange::new(change).ok_or("a short change")?;
     Ok(Body::Change(xid, change))
 }

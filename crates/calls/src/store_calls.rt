@@ -1,7 +1,7 @@
 //! Calls of the store of tables: small scripts, with what each line shows.
 
 use std::alloc::{AllocError, Global};
-use tables::{Catalog, Row, Store, StoreFault, TableChange, Value};
+use tables::{Catalog, Row, Store, StoreFault, Change, Value};
 
 const ITEM: u32 = 16384;
 
@@ -40,7 +40,7 @@ fn key(alloc: Global, id: i32) -> Result<Row, AllocError> {
     Ok(Row::new(vec![in alloc; Value::Int4(id)]?))
 }
 
-fn outcome(answer: Result<TableChange, StoreFault>) -> Shown {
+fn outcome(answer: Result<Change, StoreFault>) -> Shown {
     match answer {
         Ok(_) => Done,
         Err(fault) => Refused(fault),

@@ -3,7 +3,7 @@
 use frames::Text;
 use std::alloc::{AllocError, Global};
 use std::test::Fail;
-use tables::{Catalog, CatalogFault, Row, Store, StoreFault, TableChange, Value};
+use tables::{Catalog, CatalogFault, Row, Store, StoreFault, Change, Value};
 
 const PAIR: u32 = 5;
 
@@ -105,7 +105,7 @@ fn note(alloc: Global, id: i32, len: usize) -> Result<Row, AllocError> {
     Ok(Row::new(vec![in alloc; id_of(id), Value::Text(m)]?))
 }
 
-fn refusal(answer: Result<TableChange, StoreFault>) -> Option<StoreFault> {
+fn refusal(answer: Result<Change, StoreFault>) -> Option<StoreFault> {
     answer.err()
 }
 

@@ -4,23 +4,23 @@ use bytes::BytesMut;
 use std::alloc::Global;
 use std::test::Fail;
 use tables::{
-    BodyFault, Catalog, Store, TableChange, read_table_change, table_change_len, write_table_change,
+    BodyFault, Catalog, Store, Change, read_body, body_len, write_body,
 };
 
 const ITEM: u32 = 16384;
 
 /// The kind of a change, and how many values or tables it has.
-fn kind_of(change: &TableChange) -> (u8, usize) {
+fn kind_of(change: &Change) -> (u8, usize) {
     match change {
-        TableChange::Insert(_, row) => (1, row.values().len()),
-        TableChange::Update(_, _, row) => (2, row.values().len()),
-        TableChange::Delete(_, old) => (3, old.values().len()),
-        TableChange::Truncate(oids) => (4, oids.len()),
+        Change::Insert(_, row) => (1, row.values().len()),
+        Change::Update(_, _, row) => (2, row.values().len()),
+        Change::Delete(_, old) => (3, old.values().len()),
+        Change::Truncate(oids) => (4, oids.len()),
     }
 }
 
 fn kind_in(alloc: Global, bytes: &[u8]) -> Result<(u8, usize), BodyFault> {
-    let change = read_table_change(alloc, bytes)?;
+    let change = read_body(alloc, bytes)?;
     Ok(kind_of(&change))
 }
 
@@ -54,8 +54,8 @@ fn a_truncate_is_written(rt: HostRuntime) -> Result<(), Fail> {
     let mut out = BytesMut::new(rt.alloc());
     match store.truncate(700, &[ITEM]) {
         Ok(change) => {
-            assert_eq!(rt; table_change_len(&change), 7);
-            write_table_change(&change, &mut out)?;
+            assert_eq!(rt; body_len(&change), 7);
+            write_body(&change, &mut out)?;
         }
         Err(_) => {}
     }

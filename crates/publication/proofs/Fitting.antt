@@ -17,9 +17,9 @@ use Rattle.pgoutput.specs.OldTuple.{cells_of, old_tuple}
 use Rattle.tables.specs.declared.row.TheConstants.{MAX_ROW_LENGTH}
 use Rattle.tables.specs.declared.value.Value.{Value}
 use Rattle.tables.specs.declared.table.Table.{Table}
-use Rattle.tables.specs.declared.table_change.TableChange.{TableChange}
-use Rattle.tables.specs.declared.table_change.TableChange.TheVariants as changes
-use Rattle.tables.specs.declared.table_body.TheConstants.{MAX_TRUNCATED}
+use Rattle.tables.specs.declared.change.Change.{Change}
+use Rattle.tables.specs.declared.change.Change.TheVariants as changes
+use Rattle.tables.specs.declared.change_body.TheConstants.{MAX_TRUNCATED}
 use Rattle.tables.specs.History.{repeats}
 use Rattle.tables.specs.Tables.{table_of, IsValue}
 use Rattle.stream.specs.Items.{FitsRelationOf}
@@ -186,7 +186,7 @@ delete_fits_by s oid old m all in_range true has (Some t) found is e =
     let f = found_selected s oid t all has found in
     deleted_fits s t (old_by t.identity t old) m f (old_fits t t.identity old f.fits in_range is) e
 
-pub message_fits : (s : PublicationSet) (c : TableChange) (m : Logical) → FitTables s → AreValues c → message s c ≡ Some m → MessageFits s m
+pub message_fits : (s : PublicationSet) (c : Change) (m : Logical) → FitTables s → AreValues c → message s c ≡ Some m → MessageFits s m
 message_fits s (changes.Insert oid row) m all in_range e =
     let both = only_some (message_by s (changes.Insert oid row)) (stands (table_of oid s.tables) row) m e in
     insert_fits_by s oid row m all in_range (has_table s oid) refl (table_of oid s.tables) refl both.true_is both.is

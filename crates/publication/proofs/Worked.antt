@@ -14,7 +14,7 @@ use Rattle.tables.specs.declared.kind.Kind.TheVariants as kinds
 use Rattle.tables.specs.declared.value.Value.{Value}
 use Rattle.tables.specs.declared.value.Value.TheVariants as values
 use Rattle.tables.specs.declared.table.Table.{Table}
-use Rattle.tables.specs.declared.table_change.TableChange.TheVariants as changes
+use Rattle.tables.specs.declared.change.Change.TheVariants as changes
 use Rattle.tables.specs.Tables.{item_table}
 use Rattle.publication.specs.Publications.{PublicationSet, builtin_publications, is_unknown, selected}
 use Rattle.publication.specs.Projection.{message, updated}

@@ -6,11 +6,11 @@ use Rattle.pgoutput.specs.declared.logical.Logical.{Logical}
 use Rattle.pgoutput.specs.declared.logical.Logical.TheVariants as logical
 use Rattle.pgoutput.specs.Logical.{FitsLogical}
 use Rattle.tables.specs.declared.row.TheConstants.{MAX_ROW_LENGTH}
-use Rattle.tables.specs.declared.table_body.TheConstants.{MAX_TRUNCATED}
+use Rattle.tables.specs.declared.change_body.TheConstants.{MAX_TRUNCATED}
 use Rattle.tables.specs.declared.value.Value.{Value}
 use Rattle.tables.specs.declared.table.Table.{Table}
-use Rattle.tables.specs.declared.table_change.TableChange.{TableChange}
-use Rattle.tables.specs.declared.table_change.TableChange.TheVariants as changes
+use Rattle.tables.specs.declared.change.Change.{Change}
+use Rattle.tables.specs.declared.change.Change.TheVariants as changes
 use Rattle.tables.specs.Spelling.{row_length}
 use Rattle.tables.specs.History.{repeats}
 use Rattle.tables.specs.Tables.{table_of, fits_table, IsValue}
@@ -51,7 +51,7 @@ abbrev pub may_be_emptied : List Table → List ℕ → Bool
 may_be_emptied tables oids =
     list_all (λ oid. is_some (table_of oid tables)) oids && (not (length oids == 0) && (not (repeats oids) && nat_le (length oids) MAX_TRUNCATED))
 
-abbrev pub fits_catalogue : List Table → TableChange → Bool
+abbrev pub fits_catalogue : List Table → Change → Bool
 fits_catalogue tables (changes.Insert oid row) = stands (table_of oid tables) row
 fits_catalogue tables (changes.Update oid old new) = stands (table_of oid tables) old && stands (table_of oid tables) new
 fits_catalogue tables (changes.Delete oid old) = stands (table_of oid tables) old
@@ -81,7 +81,7 @@ updated true false t old new = option_and_then (delete_message old) t
 updated false false t old new = None
 
 -- the message of a change that fits the catalogue
-abbrev pub message_by : PublicationSet → TableChange → Option Logical
+abbrev pub message_by : PublicationSet → Change → Option Logical
 message_by s (changes.Insert oid row) = if passes s Insert oid row then option_map (insert_message row) (table_of oid s.tables) else None
 message_by s (changes.Update oid old new) = updated (passes s Update oid old) (passes s Update oid new) (table_of oid s.tables) old new
 message_by s (changes.Delete oid old) = if passes s Delete oid old then option_and_then (delete_message old) (table_of oid s.tables) else None
@@ -91,7 +91,7 @@ abbrev pub only_if : Option Logical → Bool → Option Logical
 only_if None fits = None
 only_if (Some m) fits = if fits then Some m else None
 
-abbrev pub message : PublicationSet → TableChange → Option Logical
+abbrev pub message : PublicationSet → Change → Option Logical
 message s change = only_if (message_by s change) (fits_catalogue s.tables change)
 
 abbrev pub projected : Option Logical → Projected
@@ -99,7 +99,7 @@ projected None = Nothing
 projected (Some m) = Message m
 
 -- the values in the rows of a change are those of Rust
-abbrev pub AreValues : TableChange → Type 0
+abbrev pub AreValues : Change → Type 0
 AreValues (changes.Insert oid row) = AllByRecursion IsValue row
 AreValues (changes.Update oid old new) = AllByRecursion IsValue old × AllByRecursion IsValue new
 AreValues (changes.Delete oid old) = AllByRecursion IsValue old

@@ -7,7 +7,7 @@ ghost use Rattle.pgoutput.specs.declared.logical.Logical.TheVariants as logical;
 ghost use Rattle.pgoutput.specs.Logical.{FitsLogical};
 ghost use Rattle.tables.specs.History.{repeats};
 ghost use Rattle.tables.specs.Tables.{table_of, IsValue};
-ghost use Rattle.tables.specs.declared.table_change.TableChange.{TableChange};
+ghost use Rattle.tables.specs.declared.change.Change.{Change};
 ghost use Rattle.stream.specs.Items.{IsShortMessage};
 ghost use Rattle.publication.specs.Publications.{has};
 ghost use Rattle.publication.specs.Selection.{relation_of, FitsTable, has_table, selected_oids, selected_table};
@@ -21,7 +21,7 @@ use frames::Items;
 use pgoutput::Logical;
 use std::alloc::{AllocError, Global};
 use std::marker::Model;
-use tables::{MAX_TRUNCATED, Row, Table, TableChange};
+use tables::{MAX_TRUNCATED, Row, Table, Change};
 
 /// The publications that a sender was asked for.
 ///
@@ -89,7 +89,7 @@ impl Selection {
     }
 
     /// The message of a change, if it has one.
-    pub fn project(&self, change: &TableChange) -> Result<Projected, AllocError>
+    pub fn project(&self, change: &Change) -> Result<Projected, AllocError>
         ensures value { IfOk result (λ p. p ≡ projected (message self.now change.now)) }
         ensures fits { IfOk result (FitsProjected self.now) }
     {
@@ -101,20 +101,20 @@ impl Selection {
         }
     }
 
-    fn message(&self, change: &TableChange) -> Result<Option<Logical>, AllocError>
+    fn message(&self, change: &Change) -> Result<Option<Logical>, AllocError>
         ensures value { IfOk result (λ o. o ≡ message self.now change.now) }
         ensures in_range { IfOk result (λ o. OnSome o (AreValues change.now)) }
     {
         match change {
-            TableChange::Insert(oid, row) => self.inserted(*oid, row),
-            TableChange::Update(oid, old, new) => self.updated(*oid, old, new),
-            TableChange::Delete(oid, old) => self.deleted(*oid, old),
-            TableChange::Truncate(oids) => self.truncated(oids.as_slice()),
+            Change::Insert(oid, row) => self.inserted(*oid, row),
+            Change::Update(oid, old, new) => self.updated(*oid, old, new),
+            Change::Delete(oid, old) => self.deleted(*oid, old),
+            Change::Truncate(oids) => self.truncated(oids.as_slice()),
         }
     }
 
     fn inserted(&self, oid: u32, row: &Row) -> Result<Option<Logical>, AllocError>
-        ensures value { IfOk result (λ o. o ≡ message self.now (TableChange.Insert oid row.now)) }
+        ensures value { IfOk result (λ o. o ≡ message self.now (Change.Insert oid row.now)) }
         ensures in_range { IfOk result (λ o. OnSome o (AllByRecursion IsValue row.now)) }
     {
         if !self.has_table(oid) {
@@ -130,7 +130,7 @@ impl Selection {
     }
 
     fn updated(&self, oid: u32, old: &Row, new: &Row) -> Result<Option<Logical>, AllocError>
-        ensures value { IfOk result (λ o. o ≡ message self.now (TableChange.Update oid old.now new.now)) }
+        ensures value { IfOk result (λ o. o ≡ message self.now (Change.Update oid old.now new.now)) }
         ensures in_range { IfOk result (λ o. OnSome o (AllByRecursion IsValue old.now × AllByRecursion IsValue new.now)) }
     {
         if !self.has_table(oid) {
@@ -146,7 +146,7 @@ impl Selection {
     }
 
     fn deleted(&self, oid: u32, old: &Row) -> Result<Option<Logical>, AllocError>
-        ensures value { IfOk result (λ o. o ≡ message self.now (TableChange.Delete oid old.now)) }
+        ensures value { IfOk result (λ o. o ≡ message self.now (Change.Delete oid old.now)) }
         ensures in_range { IfOk result (λ o. OnSome o (AllByRecursion IsValue old.now)) }
     {
         if !self.has_table(oid) {
@@ -162,7 +162,7 @@ impl Selection {
     }
 
     fn truncated(&self, oids: &[u32]) -> Result<Option<Logical>, AllocError>
-        ensures { IfOk result (λ o. o ≡ message self.now (TableChange.Truncate oids.now)) }
+        ensures { IfOk result (λ o. o ≡ message self.now (Change.Truncate oids.now)) }
     {
         let published = self.published_among(oids)?;
         if !may_be_emptied(self.tables.as_slice(), oids) {

@@ -3,7 +3,7 @@ use Rattle.std.proofs.Common.{◌≡◌, ℕ, ℤ, ◌==◌, Bool, true, false, 
 use Rattle.std.specs.Prelude.{IsSome}
 use Rattle.std.specs.Option.{option_map}
 use Rattle.std.specs.List.Sorted.{IsNonDecreasingBy, IsStableByKey}
-use Rattle.tables.specs.declared.table_change.TableChange.{TableChange}
+use Rattle.tables.specs.declared.change.Change.{Change}
 use Rattle.txlog.specs.declared.record.Record.{Record}
 use Rattle.txlog.specs.declared.record.Body.{Body}
 use Rattle.txlog.specs.declared.record.Body.TheVariants.{Assign, Change as Changed, AbortSub, Abort, Commit}
@@ -78,7 +78,7 @@ taken_assign s mid now b d r sub parent body known new same = takes s now b d r 
               ∙ o.others q (eqb_comm parent q ∙ or_right (q == sub) (q == parent) here) ∙ h.unnamed q (before_too before r q unheard);
         }
 
-pub taken_change : (s mid now : StrandsState) (b d : Bool) (r : Record) (x : ℕ) (c : TableChange) → r.body ≡ Changed x c →
+pub taken_change : (s mid now : StrandsState) (b d : Bool) (r : Record) (x : ℕ) (c : Change) → r.body ≡ Changed x c →
     (IsSome ((by_xid s).strand x) → mid ≡ s) → ((by_xid s).strand x ≡ None → IsSame (by_xid mid) (started x (by_xid s))) →
     IsSame (by_xid now) (pushed x (kept_entry r) (by_xid mid)) → Takes (state s b) (state now d) r None
 taken_change s mid now b d r x c body known new same = takes s now b d r (Changed x c) None body (λ before h next behind. (after before h next behind, refl))

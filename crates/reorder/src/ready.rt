@@ -6,7 +6,7 @@ ghost use Rattle.reorder.specs.Kept.{IsEntryAt, is_changed, kept_entry};
 use std::alloc::AllocError;
 use std::marker::Model;
 use std::sync::Arc;
-use tables::TableChange;
+use tables::Change;
 use txlog::{Body, Record};
 
 /// A change that is kept until its transaction ends, by the record that made it.
@@ -55,7 +55,7 @@ impl Kept {
     }
 
     /// The position at which the change's record starts, and the change.
-    pub(crate) fn entry(&self) -> (u64, &TableChange)
+    pub(crate) fn entry(&self) -> (u64, &Change)
         ensures position { result.0 ≡ self.now.position }
         ensures change { result.1.now ≡ self.now.change }
     {
@@ -90,7 +90,7 @@ impl Ready {
         self.changes.len()
     }
 
-    pub(crate) fn entry(&self, k: usize) -> (u64, &TableChange)
+    pub(crate) fn entry(&self, k: usize) -> (u64, &Change)
         requires { k < length self.now }
         ensures { IsEntryAt self.now k result.0 result.1.now }
     {

@@ -10,7 +10,7 @@ use crate::strands::Strands;
 use std::alloc::{AllocError, Global};
 use std::marker::Model;
 use std::sync::Arc;
-use tables::TableChange;
+use tables::Change;
 use txlog::{Body, Record};
 
 /// The changes of the transactions in progress, by the xids that made them.
@@ -92,7 +92,7 @@ impl Reorder {
     }
 
     /// The k-th change that is ready: the position at which its record starts, and the change.
-    pub fn entry<'a>(&self, ready: &'a Ready, k: usize) -> (u64, &'a TableChange)
+    pub fn entry<'a>(&self, ready: &'a Ready, k: usize) -> (u64, &'a Change)
         requires { k < length ready.now }
         ensures { IsEntryAt ready.now k result.0 result.1.now }
     {

@@ -11,7 +11,7 @@ use publication::{Projected, Selection};
 use reorder::{Ready, Reorder};
 use std::alloc::{AllocError, Global};
 use stream::{Published, PublishedChange};
-use tables::TableChange;
+use tables::Change;
 use txlog::{Body, Record};
 
 /// The transaction that a record commits with these changes, if it starts at the start position or later and has a change
@@ -68,7 +68,7 @@ fn add_published(
     changes: &mut Vec<PublishedChange>,
     selection: &Selection,
     position: u64,
-    change: &TableChange,
+    change: &Change,
 ) -> Result<(), AllocError>
     ensures value { OnOk result (changes.new.items ≡ changes.old.items ++ published_at position (message selection.now change.now)) }
     ensures fits { OnOk result (AllByRecursion (λ c. MessageFits selection.now c.message) (published_at position (message selection.now change.now))) }

@@ -12,7 +12,7 @@ use Rattle.frames.specs.Steps.{◌>>=◌, letter_at, repeat_at}
 use Rattle.frames.proofs.Codec.{IsBytes, IsBytes-rest, bind_ok, passed, Codec, field, last_field, codec_of, with_range, tested, counted, repeated, Chooses, no_choice, choice, choice_codec}
 use Rattle.frames.proofs.Loop.{with_front, ends}
 use Rattle.frames.proofs.Numbers.{number16, number32, bytes_codec, nothing_codec, letter_codec, signed32, signed64}
-use Rattle.tables.specs.declared.body.TheConstants.{NULL_TAG, BOOL_TAG, INT4_TAG, INT8_TAG, TEXT_TAG, INSERT_TAG}
+use Rattle.tables.specs.declared.row_body.TheConstants.{NULL_TAG, BOOL_TAG, INT4_TAG, INT8_TAG, TEXT_TAG, INSERT_TAG}
 use Rattle.tables.specs.declared.fault.BodyFault.{BodyFault}
 use Rattle.tables.specs.declared.fault.BodyFault.TheVariants.{Short, UnknownTag, BadBool, BadText, Trailing, Memory}
 use Rattle.tables.specs.declared.value.Value.{Value}

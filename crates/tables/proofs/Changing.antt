@@ -16,12 +16,12 @@ use Rattle.tables.specs.declared.store_fault.StoreFault.TheVariants as faults
 use Rattle.tables.specs.declared.slot.Slot.{Slot}
 use Rattle.tables.specs.declared.value.Value.{Value}
 use Rattle.tables.specs.declared.table.Table.{Table}
-use Rattle.tables.specs.declared.table_change.TableChange.{TableChange}
-use Rattle.tables.specs.declared.table_change.TableChange.TheVariants as changes
+use Rattle.tables.specs.declared.change.Change.{Change}
+use Rattle.tables.specs.declared.change.Change.TheVariants as changes
 use Rattle.tables.specs.Slots.{same_key, vacant, slot_at}
 use Rattle.tables.specs.Rows.{Key, key_text, key_of, key_in}
 use Rattle.tables.specs.Spelling.{row_length}
-use Rattle.tables.specs.Tables.{table_of, fits_table, fits_key, FitsRow, FitsTableChange}
+use Rattle.tables.specs.Tables.{table_of, fits_table, fits_key, FitsRow, FitsChange}
 use Rattle.tables.specs.History.{Made, made, is_other, is_held, is_key_held, is_there, row_place, table_place, of_table, unless, insert_fault, delete_fault, update_fault, insert_refusal, delete_refusal, update_refusal, Deletes, Updates}
 use Rattle.tables.specs.Keeping.{StoreState, Put, Keeps, Makes, IsRefusal, DeletesAt, UpdatesAt, RefusedExactly, key_held, keys_fault, places_fault, row_at}
 use Rattle.tables.proofs.Keys.{row_key_le, key_length}
@@ -161,31 +161,31 @@ insert_made s new h top oid row place at fits none makes keeps =
     (free_key s h top (key_of s.tables oid row) keeps (insert_none s.tables oid row (key_held s top (key_of s.tables oid row)) (is_some (row_at s (key_of s.tables oid row))) none).0))
     (subst (λ (p : List ℕ). Makes top ((p, Some row) ∷ []) s new) at makes) keeps
 
-pub delete_made : (s new : StoreState) (h : List Made) (top : ℕ) (key : Key) (place : List ℕ) (change : TableChange) → key.oid < 2 ^ 32 → place ≡ key_text key →
+pub delete_made : (s new : StoreState) (h : List Made) (top : ℕ) (key : Key) (place : List ℕ) (change : Change) → key.oid < 2 ^ 32 → place ≡ key_text key →
     delete_fault s.tables key (key_held s top key) (is_some (row_at s key)) ≡ None → DeletesAt s key.oid place change → Makes top ((place, None) ∷ []) s new → Keeps s h →
     Keeps new (h ++ made top change ∷ [])
 delete_made s new h top key place change small at none deletes makes keeps =
     let was : row_at s key ≡ Some deletes.old = ap (λ (p : List ℕ). (slot_at s.slots p).row) (sym at) ∙ deletes.was in
     let found = found_row s h key deletes.old small keeps was in
     let free = free_key s h top key keeps (delete_none s.tables key (key_held s top key) (is_some (row_at s key)) none).0 in
-    subst (λ (x : TableChange). Keeps new (h ++ made top x ∷ [])) (sym deletes.made)
+    subst (λ (x : Change). Keeps new (h ++ made top x ∷ [])) (sym deletes.made)
     (keeps_made s new top (changes.Delete key.oid deletes.old) h (λ k. refl) found.fits (row_place_le s.tables key.oid deletes.old found.fits, tt)
     (off_one s.tables top (row_place s.tables key.oid deletes.old, None) h (subst (λ (p : List ℕ). AllByRecursion (Off s.tables top p) h) found.place free))
     (subst (λ (p : List ℕ). Makes top ((p, None) ∷ []) s new) (at ∙ found.place) makes) keeps)
 
-pub delete_fits : (s : StoreState) (h : List Made) (key : Key) (place : List ℕ) (change : TableChange) → key.oid < 2 ^ 32 → place ≡ key_text key → DeletesAt s key.oid place change → Keeps s h →
-    FitsTableChange s.tables change
+pub delete_fits : (s : StoreState) (h : List Made) (key : Key) (place : List ℕ) (change : Change) → key.oid < 2 ^ 32 → place ≡ key_text key → DeletesAt s key.oid place change → Keeps s h →
+    FitsChange s.tables change
 delete_fits s h key place change small at deletes keeps =
-    subst (FitsTableChange s.tables) (sym deletes.made) (found_row s h key deletes.old small keeps (ap (λ (p : List ℕ). (slot_at s.slots p).row) (sym at) ∙ deletes.was)).fits
+    subst (FitsChange s.tables) (sym deletes.made) (found_row s h key deletes.old small keeps (ap (λ (p : List ℕ). (slot_at s.slots p).row) (sym at) ∙ deletes.was)).fits
 
-pub delete_is : (s : StoreState) (h : List Made) (key : Key) (place : List ℕ) (change : TableChange) → place ≡ key_text key → DeletesAt s key.oid place change → Keeps s h → Deletes s.tables h key change
+pub delete_is : (s : StoreState) (h : List Made) (key : Key) (place : List ℕ) (change : Change) → place ≡ key_text key → DeletesAt s key.oid place change → Keeps s h → Deletes s.tables h key change
 delete_is s h key place change at deletes keeps = record {
   old = deletes.old;
   was = sym (row_is s h key keeps) ∙ ap (λ (p : List ℕ). (slot_at s.slots p).row) (sym at) ∙ deletes.was;
   made = deletes.made;
 }
 
-pub update_made : (s new : StoreState) (h : List Made) (top : ℕ) (key : Key) (row : List Value) (from to : List ℕ) (change : TableChange) → key.oid < 2 ^ 32 → from ≡ key_text key →
+pub update_made : (s new : StoreState) (h : List Made) (top : ℕ) (key : Key) (row : List Value) (from to : List ℕ) (change : Change) → key.oid < 2 ^ 32 → from ≡ key_text key →
     to ≡ row_place s.tables key.oid row → FitsRow s.tables key.oid row →
     update_fault s.tables key row (key_held s top key || key_held s top (key_of s.tables key.oid row)) (is_some (row_at s key))
     (not (same_key (key_text key) (row_place s.tables key.oid row)) && is_some (row_at s (key_of s.tables key.oid row))) ≡ None →
@@ -198,7 +198,7 @@ update_made s new h top key row from to change small at at_to fits none updates 
     (not (same_key (key_text key) (row_place s.tables key.oid row)) && is_some (row_at s (key_of s.tables key.oid row))) none).0 in
     let free = free_key s h top key keeps (or_left (key_held s top key) (key_held s top (key_of s.tables key.oid row)) held) in
     let free_to = free_key s h top (key_of s.tables key.oid row) keeps (or_right (key_held s top key) (key_held s top (key_of s.tables key.oid row)) held) in
-    subst (λ (x : TableChange). Keeps new (h ++ made top x ∷ [])) (sym updates.made)
+    subst (λ (x : Change). Keeps new (h ++ made top x ∷ [])) (sym updates.made)
     (keeps_made s new top (changes.Update key.oid updates.old row) h (λ k. refl) (found.fits, fits)
     (row_place_le s.tables key.oid updates.old found.fits, (row_place_le s.tables key.oid row fits, tt))
     (off_two s.tables top (row_place s.tables key.oid updates.old, None) (row_place s.tables key.oid row, Some row) h
@@ -206,12 +206,12 @@ update_made s new h top key row from to change small at at_to fits none updates 
     (subst (λ (p : List ℕ). Makes top ((p, None) ∷ (row_place s.tables key.oid row, Some row) ∷ []) s new) (at ∙ found.place)
     (subst (λ (q : List ℕ). Makes top ((from, None) ∷ (q, Some row) ∷ []) s new) at_to makes)) keeps)
 
-pub update_fits : (s : StoreState) (h : List Made) (key : Key) (row : List Value) (from : List ℕ) (change : TableChange) → key.oid < 2 ^ 32 → from ≡ key_text key → FitsRow s.tables key.oid row →
-    UpdatesAt s key.oid from row change → Keeps s h → FitsTableChange s.tables change
+pub update_fits : (s : StoreState) (h : List Made) (key : Key) (row : List Value) (from : List ℕ) (change : Change) → key.oid < 2 ^ 32 → from ≡ key_text key → FitsRow s.tables key.oid row →
+    UpdatesAt s key.oid from row change → Keeps s h → FitsChange s.tables change
 update_fits s h key row from change small at fits updates keeps =
-    subst (FitsTableChange s.tables) (sym updates.made) ((found_row s h key updates.old small keeps (ap (λ (p : List ℕ). (slot_at s.slots p).row) (sym at) ∙ updates.was)).fits, fits)
+    subst (FitsChange s.tables) (sym updates.made) ((found_row s h key updates.old small keeps (ap (λ (p : List ℕ). (slot_at s.slots p).row) (sym at) ∙ updates.was)).fits, fits)
 
-pub update_is : (s : StoreState) (h : List Made) (key : Key) (row : List Value) (from : List ℕ) (change : TableChange) → from ≡ key_text key → UpdatesAt s key.oid from row change → Keeps s h →
+pub update_is : (s : StoreState) (h : List Made) (key : Key) (row : List Value) (from : List ℕ) (change : Change) → from ≡ key_text key → UpdatesAt s key.oid from row change → Keeps s h →
     Updates s.tables h key row change
 update_is s h key row from change at updates keeps = record {
   old = updates.old;

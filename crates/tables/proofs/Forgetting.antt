@@ -5,10 +5,10 @@ use Rattle.std.specs.List.{AllByRecursion}
 use Rattle.tables.specs.declared.slot.Slot.{Slot}
 use Rattle.tables.specs.declared.slot.Undo.{Undo}
 use Rattle.tables.specs.declared.table.Table.{Table}
-use Rattle.tables.specs.declared.table_change.TableChange.{TableChange}
-use Rattle.tables.specs.declared.table_change.TableChange.TheVariants as changes
+use Rattle.tables.specs.declared.change.Change.{Change}
+use Rattle.tables.specs.declared.change.Change.TheVariants as changes
 use Rattle.tables.specs.Slots.{same_key, undone_at, vacant}
-use Rattle.tables.specs.Tables.{FitsTableChange}
+use Rattle.tables.specs.Tables.{FitsChange}
 use Rattle.tables.specs.History.{Made, is_top, is_within, no_longer, settled, forgotten}
 use Rattle.tables.specs.Keeping.{Put, put_at, is_put, puts_of, without_row, emptied, is_emptied, touches, slot_by, slot_from, freed, is_noted, is_in_journal, IsUndo, OwnFirst, AreNotes, Follows, KeepsOff, AreApart}
 use Rattle.tables.proofs.Histories.{or_left, or_right, top_self, top_is, undo_agrees, notes_none}
@@ -44,7 +44,7 @@ put_freed top owner (p ∷ ps) k s =
     ap (put_at (no_longer top owner) ps k) (freed_if top (same_key k p.0) (record { row = p.1; owner = owner }) s)
     ∙ put_freed top owner ps k (cond (same_key k p.0) (record { row = p.1; owner = owner }) s)
 
-emptied_freed : (top : ℕ) (change : TableChange) (k : List ℕ) (s : Slot) → emptied change k (freed top s) ≡ freed top (emptied change k s)
+emptied_freed : (top : ℕ) (change : Change) (k : List ℕ) (s : Slot) → emptied change k (freed top s) ≡ freed top (emptied change k s)
 emptied_freed top (changes.Insert oid row) k s = refl
 emptied_freed top (changes.Update oid old row) k s = refl
 emptied_freed top (changes.Delete oid old) k s = refl
@@ -157,8 +157,8 @@ apart_forgotten tables top (m ∷ ms) all = (each ms all.0, apart_forgotten tabl
     each [] off = tt
     each (n ∷ xs) off = ((λ k on also. follows_settled top m.top n.top (off.0 k on also)), each xs off.1)
 
-pub fits_forgotten : (tables : List Table) (top : ℕ) (ms : List Made) → AllByRecursion (λ m. FitsTableChange tables m.change) ms →
-    AllByRecursion (λ m. FitsTableChange tables m.change) (forgotten top ms)
+pub fits_forgotten : (tables : List Table) (top : ℕ) (ms : List Made) → AllByRecursion (λ m. FitsChange tables m.change) ms →
+    AllByRecursion (λ m. FitsChange tables m.change) (forgotten top ms)
 fits_forgotten tables top [] all = tt
 fits_forgotten tables top (m ∷ ms) all = (all.0, fits_forgotten tables top ms all.1)
 

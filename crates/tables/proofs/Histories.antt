@@ -6,8 +6,8 @@ use Rattle.std.specs.List.{AllByRecursion}
 use Rattle.tables.specs.declared.slot.Slot.{Slot}
 use Rattle.tables.specs.declared.slot.Undo.{Undo}
 use Rattle.tables.specs.declared.table.Table.{Table}
-use Rattle.tables.specs.declared.table_change.TableChange.{TableChange}
-use Rattle.tables.specs.declared.table_change.TableChange.TheVariants as changes
+use Rattle.tables.specs.declared.change.Change.{Change}
+use Rattle.tables.specs.declared.change.Change.TheVariants as changes
 use Rattle.tables.specs.Slots.{same_key, undone_at}
 use Rattle.tables.specs.History.{Made, is_top, rolled_back, count_of}
 use Rattle.tables.specs.Keeping.{Put, put_at, is_put, puts_of, emptied, is_emptied, touches, slot_by, slot_from, IsUndo, OwnFirst, AreNotes, Follows, KeepsOff, AreApart}
@@ -53,7 +53,7 @@ put_off top (p ∷ ps) k s off = by_test (same_key k p.0) off (put_off top ps k 
     by_test true off rest = absurd cc
     by_test false off rest = rest off
 
-pub emptied_off : (change : TableChange) (k : List ℕ) (s : Slot) → is_emptied change k ≡ false → emptied change k s ≡ s
+pub emptied_off : (change : Change) (k : List ℕ) (s : Slot) → is_emptied change k ≡ false → emptied change k s ≡ s
 emptied_off (changes.Truncate oids) k s off = rw off refl
 emptied_off (changes.Insert oid row) k s off = refl
 emptied_off (changes.Update oid old row) k s off = refl
@@ -64,7 +64,7 @@ off_touch tables m k s off =
     ap (put_at m.top (puts_of tables m.change) k) (emptied_off m.change k s (or_right (is_put k (puts_of tables m.change)) (is_emptied m.change k) off))
     ∙ put_off m.top (puts_of tables m.change) k s (or_left (is_put k (puts_of tables m.change)) (is_emptied m.change k) off)
 
-pub undone_off : (tables : List Table) (change : TableChange) (us : List Undo) (k : List ℕ) (s : Slot) → AllByRecursion (λ u. touches tables change u.key ≡ true) us → touches tables change k ≡ false →
+pub undone_off : (tables : List Table) (change : Change) (us : List Undo) (k : List ℕ) (s : Slot) → AllByRecursion (λ u. touches tables change u.key ≡ true) us → touches tables change k ≡ false →
     undone_at us k s ≡ s
 undone_off tables change [] k s all off = refl
 undone_off tables change (u ∷ us) k s all off = by_test (same_key k u.key) (keys_same k u.key) (undone_off tables change us k s all.1 off)

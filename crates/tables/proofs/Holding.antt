@@ -9,11 +9,11 @@ use Rattle.frames.proofs.Numbers.{length-int32}
 use Rattle.tables.specs.declared.slot.Slot.{Slot}
 use Rattle.tables.specs.declared.value.Value.{Value}
 use Rattle.tables.specs.declared.table.Table.{Table}
-use Rattle.tables.specs.declared.table_change.TableChange.{TableChange}
-use Rattle.tables.specs.declared.table_change.TableChange.TheVariants as changes
+use Rattle.tables.specs.declared.change.Change.{Change}
+use Rattle.tables.specs.declared.change.Change.TheVariants as changes
 use Rattle.tables.specs.Slots.{same_key, vacant}
 use Rattle.tables.specs.Rows.{Key, Rows, key_text}
-use Rattle.tables.specs.Tables.{FitsRow, FitsTableChange}
+use Rattle.tables.specs.Tables.{FitsRow, FitsChange}
 use Rattle.tables.specs.History.{Made, is_other, is_within, is_among, is_held, rows_with, rows_from, row_place, table_place, places_of}
 use Rattle.tables.specs.Keeping.{Put, all_emptied, put_at, is_put, puts_of, without_row, emptied, is_emptied, touches, slot_by, slot_from, Follows, KeepsOff, AreApart}
 use Rattle.tables.proofs.Undoing.{same_self, keys_same}
@@ -85,7 +85,7 @@ not_put (x ∷ oids) k off =
         absurd cc
     by_test false on rest = rest
 
-row_by : (tables : List Table) (top : Option ℕ) (change : TableChange) (key : Key) (s : Slot) (rows : Rows) → s.row ≡ rows key →
+row_by : (tables : List Table) (top : Option ℕ) (change : Change) (key : Key) (s : Slot) (rows : Rows) → s.row ≡ rows key →
     (put_at top (puts_of tables change) (key_text key) (emptied change (key_text key) s)).row ≡ rows_with tables change rows key
 row_by tables top (changes.Insert oid row) key s rows is =
     let a = same_key (key_text key) (row_place tables oid row) in
@@ -111,7 +111,7 @@ rows_are tables (m ∷ ms) key s rows is =
 
 -- HOLDS
 
-pub places_put : (k : List ℕ) (tables : List Table) (change : TableChange) → is_among k (places_of tables change) ≡ is_put k (puts_of tables change)
+pub places_put : (k : List ℕ) (tables : List Table) (change : Change) → is_among k (places_of tables change) ≡ is_put k (puts_of tables change)
 places_put k tables (changes.Insert oid row) = refl
 places_put k tables (changes.Update oid old row) = refl
 places_put k tables (changes.Delete oid old) = refl
@@ -131,7 +131,7 @@ put_owner top (p ∷ ps) k s =
     by_test true false = refl
     by_test false b = refl
 
-emptied_owner : (change : TableChange) (k : List ℕ) (s : Slot) → (emptied change k s).owner ≡ s.owner
+emptied_owner : (change : Change) (k : List ℕ) (s : Slot) → (emptied change k s).owner ≡ s.owner
 emptied_owner (changes.Insert oid row) k s = refl
 emptied_owner (changes.Update oid old row) k s = refl
 emptied_owner (changes.Delete oid old) k s = refl
@@ -224,7 +224,7 @@ follows_own top (Some x) off = by_test (eqb x top) refl off
 abbrev pub Off : List Table → ℕ → List ℕ → Made → Type 0
 Off tables top p m = touches tables m.change p ≡ true → Follows m.top (Some top)
 
-pub emptied_put : (tables : List Table) (change : TableChange) (p : List ℕ) (oid : ℕ) → take 4 p ≡ int32 oid → is_emptied change p ≡ true → is_put (table_place oid) (puts_of tables change) ≡ true
+pub emptied_put : (tables : List Table) (change : Change) (p : List ℕ) (oid : ℕ) → take 4 p ≡ int32 oid → is_emptied change p ≡ true → is_put (table_place oid) (puts_of tables change) ≡ true
 emptied_put tables (changes.Insert x row) p oid front on = absurd cc
 emptied_put tables (changes.Update x old row) p oid front on = absurd cc
 emptied_put tables (changes.Delete x old) p oid front on = absurd cc
@@ -302,7 +302,7 @@ home_gone tables top true k s home row is = absurd (never is)
     never e = absurd cc
 home_gone tables top false k s home row is = home row is
 
-home_by : (tables : List Table) (top : Option ℕ) (change : TableChange) (k : List ℕ) (s : Slot) → FitsTableChange tables change → AtHome tables k s →
+home_by : (tables : List Table) (top : Option ℕ) (change : Change) (k : List ℕ) (s : Slot) → FitsChange tables change → AtHome tables k s →
     AtHome tables k (put_at top (puts_of tables change) k (emptied change k s))
 home_by tables top (changes.Insert oid row) k s fits home = home_put tables top oid row k s fits home
 home_by tables top (changes.Update oid old row) k s fits home =
@@ -322,11 +322,11 @@ home_by tables top (changes.Truncate oids) k s fits home = all_gone oids (cond (
     all_gone [] t there = there
     all_gone (x ∷ xs) t there = all_gone xs (cond (same_key k (table_place x)) (record { row = None; owner = top }) t) (home_gone tables top (same_key k (table_place x)) k t there)
 
-home_from : (tables : List Table) (ms : List Made) (k : List ℕ) (s : Slot) → AllByRecursion (λ m. FitsTableChange tables m.change) ms → AtHome tables k s → AtHome tables k (slot_from tables ms k s)
+home_from : (tables : List Table) (ms : List Made) (k : List ℕ) (s : Slot) → AllByRecursion (λ m. FitsChange tables m.change) ms → AtHome tables k s → AtHome tables k (slot_from tables ms k s)
 home_from tables [] k s fits home = home
 home_from tables (m ∷ ms) k s fits home = home_from tables ms k (slot_by tables m k s) fits.1 (home_by tables m.top m.change k s fits.0 home)
 
-pub stands_home : (tables : List Table) (ms : List Made) (k : List ℕ) (row : List Value) → AllByRecursion (λ m. FitsTableChange tables m.change) ms → (slot_from tables ms k vacant).row ≡ Some row → IsHome tables k row
+pub stands_home : (tables : List Table) (ms : List Made) (k : List ℕ) (row : List Value) → AllByRecursion (λ m. FitsChange tables m.change) ms → (slot_from tables ms k vacant).row ≡ Some row → IsHome tables k row
 stands_home tables ms k row fits is = home_from tables ms k vacant fits (λ r there. absurd (never r there)) row is
   where
     never : (r : List Value) → None ≡ Some r → ⊥

@@ -9,12 +9,12 @@ use Rattle.std.proofs.lemmas.Map.Steps.{length-le_from_keys}
 use Rattle.frames.specs.Fields.{int32}
 use Rattle.tables.specs.declared.slot.Undo.{Undo}
 use Rattle.tables.specs.declared.table.Table.{Table}
-use Rattle.tables.specs.declared.table_body.TheConstants.{MAX_TRUNCATED}
-use Rattle.tables.specs.declared.table_change.TableChange.{TableChange}
-use Rattle.tables.specs.declared.table_change.TableChange.TheVariants as changes
+use Rattle.tables.specs.declared.change_body.TheConstants.{MAX_TRUNCATED}
+use Rattle.tables.specs.declared.change.Change.{Change}
+use Rattle.tables.specs.declared.change.Change.TheVariants as changes
 use Rattle.tables.specs.declared.store_fault.StoreFault.TheVariants as faults
 use Rattle.tables.specs.Slots.{same_key, Entries, slot_at, HavePlaces, undone, undone_at}
-use Rattle.tables.specs.Tables.{table_of, FitsTableChange}
+use Rattle.tables.specs.Tables.{table_of, FitsChange}
 use Rattle.tables.specs.History.{Made, made, is_other, is_within, is_among, is_held, is_any_held, places_of, table_place, repeats, unless, truncate_fault, truncate_refusal}
 use Rattle.tables.specs.Keeping.{StoreState, journal_of, all_emptied, is_put, puts_of, is_emptied, touches, KeepsOff, Keeps, AreShort, IsSame}
 use Rattle.tables.specs.Emptying.{AreAtPlace, is_other_within, emptied_at, AreNoted, Does}
@@ -54,7 +54,7 @@ among_any P k (p ∷ ps) among on = by_test (same_key k p) (keys_same k p) among
     by_test false same rest later = right_true (P p) (list_any P ps) (later rest)
 
 -- a change that touches a place of these tables holds one
-touched_within : (tables : List Table) (change : TableChange) (oids k : List ℕ) → is_within oids k ≡ true → touches tables change k ≡ true → list_any (is_within oids) (places_of tables change) ≡ true
+touched_within : (tables : List Table) (change : Change) (oids k : List ℕ) → is_within oids k ≡ true → touches tables change k ≡ true → list_any (is_within oids) (places_of tables change) ≡ true
 touched_within tables change oids k within on = by_test (is_put k (puts_of tables change)) refl on
   where
     by_test : (a : Bool) → is_put k (puts_of tables change) ≡ a → (a || is_emptied change k) ≡ true → list_any (is_within oids) (places_of tables change) ≡ true
@@ -157,7 +157,7 @@ truncate_none tables oids held none = by_tests (not (list_all (λ oid. is_some (
     by_tests false false false true none = absurd cc
     by_tests false false false false none = refl
 
-pub truncate_made : (s new : StoreState) (h : List Made) (top : ℕ) (oids : List ℕ) → FitsTableChange s.tables (changes.Truncate oids) → truncate_refusal s.tables h top oids ≡ None →
+pub truncate_made : (s new : StoreState) (h : List Made) (top : ℕ) (oids : List ℕ) → FitsChange s.tables (changes.Truncate oids) → truncate_refusal s.tables h top oids ≡ None →
     Does top (changes.Truncate oids) s new → Keeps s h → Keeps new (h ++ made top (changes.Truncate oids) ∷ [])
 truncate_made s new h top oids fits none does keeps =
     keeps_does s new top (changes.Truncate oids) h fits (all_off s.tables top oids h (truncate_none s.tables oids (is_any_held s.tables top h oids) none)) does keeps

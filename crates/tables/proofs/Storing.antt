@@ -8,10 +8,10 @@ use Rattle.tables.specs.declared.key.TheConstants.{MAX_KEY_LENGTH}
 use Rattle.tables.specs.declared.slot.Slot.{Slot}
 use Rattle.tables.specs.declared.slot.Undo.{Undo}
 use Rattle.tables.specs.declared.table.Table.{Table}
-use Rattle.tables.specs.declared.table_change.TableChange.{TableChange}
+use Rattle.tables.specs.declared.change.Change.{Change}
 use Rattle.tables.specs.Slots.{same_key, vacant, Entries, slot_at, put, HavePlaces, undone, undone_at}
 use Rattle.tables.specs.Rows.{Key, key_text}
-use Rattle.tables.specs.Tables.{FitsTableChange}
+use Rattle.tables.specs.Tables.{FitsChange}
 use Rattle.tables.specs.Emptying.{Does}
 use Rattle.tables.specs.History.{Made, made, is_top, is_other, is_held, is_key_held, table_place, rows_after, rolled_back, count_of, forgotten}
 use Rattle.tables.specs.Keeping.{Journals, StoreState, journal_of, Put, put_at, put_all, noted_of, is_put, puts_of, is_emptied, touches, slot_by, slot_from, freed, is_in_journal, IsUndo, AreNotes, KeepsOff, nothing_at, Keeps, AreShort, SameSlots, Makes, IsSame, key_held, row_at}
@@ -101,7 +101,7 @@ all_put all (p ∷ ps) among =
 -- A CHANGE
 
 -- a change of places that no other transaction holds
-pub keeps_does : (s new : StoreState) (top : ℕ) (change : TableChange) (h : List Made) → FitsTableChange s.tables change → AllByRecursion (λ e. KeepsOff s.tables e (made top change)) h →
+pub keeps_does : (s new : StoreState) (top : ℕ) (change : Change) (h : List Made) → FitsChange s.tables change → AllByRecursion (λ e. KeepsOff s.tables e (made top change)) h →
     Does top change s new → Keeps s h → Keeps new (h ++ made top change ∷ [])
 keeps_does s new top change h fits off does keeps = with_tables new s.tables (h ++ m ∷ []) does.tables (record {
   stands = λ k. does.slots k ∙ ap (slot_by s.tables m k) (keeps.stands k) ∙ sym (slot_more s.tables h m k vacant);
@@ -109,7 +109,7 @@ keeps_does s new top change h fits off does keeps = with_tables new s.tables (h 
   apart = apart_more s.tables h m keeps.apart off;
   places = λ x. places_of x (is_top x (Some top)) refl;
   short = does.short keeps.short;
-  fits = all_more (λ e. FitsTableChange s.tables e.change) h m keeps.fits fits;
+  fits = all_more (λ e. FitsChange s.tables e.change) h m keeps.fits fits;
 })
   where
     m : Made
@@ -140,7 +140,7 @@ keeps_does s new top change h fits off does keeps = with_tables new s.tables (h 
     places_of x false own = subst (AllByRecursion (HavePlaces new.slots)) (sym (journal_is x false own)) (kept x)
 
 -- rows that are put
-does_puts : (s new : StoreState) (top : ℕ) (change : TableChange) → ((k : List ℕ) → is_emptied change k ≡ false) → ShortPuts (puts_of s.tables change) → Makes top (puts_of s.tables change) s new →
+does_puts : (s new : StoreState) (top : ℕ) (change : Change) → ((k : List ℕ) → is_emptied change k ≡ false) → ShortPuts (puts_of s.tables change) → Makes top (puts_of s.tables change) s new →
     Does top change s new
 does_puts s new top change puts_alone short makes = record {
   undos = noted_of (Some top) ps s.slots;
@@ -161,7 +161,7 @@ does_puts s new top change puts_alone short makes = record {
     after : (k : List ℕ) → slot_at new.slots k ≡ put_at (Some top) ps k (slot_at s.slots k)
     after k = ap (λ (es : Entries). slot_at es k) makes.slots ∙ slot_all (Some top) ps s.slots k
 
-pub keeps_made : (s new : StoreState) (top : ℕ) (change : TableChange) (h : List Made) → ((k : List ℕ) → is_emptied change k ≡ false) → FitsTableChange s.tables change →
+pub keeps_made : (s new : StoreState) (top : ℕ) (change : Change) (h : List Made) → ((k : List ℕ) → is_emptied change k ≡ false) → FitsChange s.tables change →
     ShortPuts (puts_of s.tables change) → AllByRecursion (OffAll s.tables top (puts_of s.tables change)) h → Makes top (puts_of s.tables change) s new → Keeps s h → Keeps new (h ++ made top change ∷ [])
 keeps_made s new top change h puts_alone fits short off makes keeps =
     keeps_does s new top change h fits
@@ -226,7 +226,7 @@ keeps_popped s new top undos h same popped others back keeps = with_tables new s
   places = λ x. subst (λ (es : Entries). AllByRecursion (HavePlaces es) (journal_of x new.journals)) (sym whole) (all_map (HavePlaces s.slots) (HavePlaces (undone s.slots undos)) (journal_of x new.journals)
       (λ us all. undone_keeps s.slots undos us all) (still x (nat_eq top x) refl));
   short = subst AreShort (sym whole) (short_undone s.slots undos parts.1 keeps.short);
-  fits = all_rolled (λ m. FitsTableChange s.tables m.change) top n h keeps.fits;
+  fits = all_rolled (λ m. FitsChange s.tables m.change) top n h keeps.fits;
 })
   where
     left : List (List Undo)

@@ -10,18 +10,18 @@ use Rattle.frames.specs.Fields.{byte_at, number_at, int16, int32}
 use Rattle.frames.specs.Steps.{◌>>=◌, repeat_at}
 use Rattle.frames.proofs.Codec.{IsBytes, IsBytes-rest, Takes, bind_ok, passed, Codec, field, last_field, codec_of, counted, repeated, Chooses, no_choice, choice, choice_codec}
 use Rattle.frames.proofs.Numbers.{number16, number32}
-use Rattle.tables.specs.declared.body.TheConstants.{INSERT_TAG}
-use Rattle.tables.specs.declared.table_body.TheConstants.{UPDATE_TAG, DELETE_TAG, TRUNCATE_TAG}
+use Rattle.tables.specs.declared.row_body.TheConstants.{INSERT_TAG}
+use Rattle.tables.specs.declared.change_body.TheConstants.{UPDATE_TAG, DELETE_TAG, TRUNCATE_TAG}
 use Rattle.tables.specs.declared.fault.BodyFault.{BodyFault}
 use Rattle.tables.specs.declared.fault.BodyFault.TheVariants.{Short, UnknownTag, Trailing}
 use Rattle.tables.specs.declared.value.Value.{Value}
-use Rattle.tables.specs.declared.table_change.TableChange.{TableChange}
-use Rattle.tables.specs.declared.table_change.TableChange.TheVariants as changes
+use Rattle.tables.specs.declared.change.Change.{Change}
+use Rattle.tables.specs.declared.change.Change.TheVariants as changes
 use Rattle.tables.specs.Spelling.{spell_row, spell_value}
-use Rattle.tables.specs.TableSpelling.{spell_oids, spell_change}
+use Rattle.tables.specs.Spelling.{spell_oids, spell_body}
 use Rattle.tables.specs.Reading.{IsCodedRow, value_at, RowHasValue, InsertHasValue, Gives}
-use Rattle.tables.specs.TableReading.{IsCodedOids, IsCodedChange, SpellsChange, oid_at, oids_at, update_at, change_tagged, table_change_at, table_body_at, BeginsRow, is_row_tag, HoldsRow, HoldsNewRow, HoldsOid, HoldsPart, SecondHasValue, OidsHaveOne, ChangeHasPart}
-use Rattle.tables.proofs.Bodies.{row_codec, insert_codec, value_codec, is_read, is_there}
+use Rattle.tables.specs.Reading.{IsCodedOids, IsCoded, SpellsBody, oid_at, oids_at, update_at, change_tagged, change_at, body_at, BeginsRow, is_row_tag, HoldsRow, HoldsNewRow, HoldsOid, HoldsPart, SecondHasValue, OidsHaveOne, ChangeHasPart}
+use Rattle.tables.proofs.RowBodies.{row_codec, insert_codec, value_codec, is_read, is_there}
 
 oids_codec : Codec oids_at spell_oids IsCodedOids
 unfolding oids_at
@@ -32,46 +32,46 @@ unfolding update_at
 update_codec = codec_of (field insert_codec (λ m. m.0) _ _ _ _ (λ first.
     last_field row_codec (λ m. m.1) _ (λ row. (first, row)) (λ _. refl) (λ _ _. (refl, tt)) (λ m known. rw (← known.0) refl)))
 
-changes_choose : Chooses change_tagged spell_change IsCodedChange
+changes_choose : Chooses change_tagged spell_body IsCoded
 changes_choose =
-    choice INSERT_TAG insert_codec (λ m. changes.Insert m.0 m.1) spell_change IsCodedChange (λ _. refl) (λ _ fits. fits)
-    (choice UPDATE_TAG update_codec (λ m. changes.Update m.0.0 m.0.1 m.1) spell_change IsCodedChange (λ _. refl) (λ _ fits. fits)
-    (choice DELETE_TAG insert_codec (λ m. changes.Delete m.0 m.1) spell_change IsCodedChange (λ _. refl) (λ _ fits. fits)
-    (choice TRUNCATE_TAG oids_codec (λ m. changes.Truncate m) spell_change IsCodedChange (λ _. refl) (λ _ fits. fits)
-    (no_choice UnknownTag spell_change IsCodedChange))))
+    choice INSERT_TAG insert_codec (λ m. changes.Insert m.0 m.1) spell_body IsCoded (λ _. refl) (λ _ fits. fits)
+    (choice UPDATE_TAG update_codec (λ m. changes.Update m.0.0 m.0.1 m.1) spell_body IsCoded (λ _. refl) (λ _ fits. fits)
+    (choice DELETE_TAG insert_codec (λ m. changes.Delete m.0 m.1) spell_body IsCoded (λ _. refl) (λ _ fits. fits)
+    (choice TRUNCATE_TAG oids_codec (λ m. changes.Truncate m) spell_body IsCoded (λ _. refl) (λ _ fits. fits)
+    (no_choice UnknownTag spell_body IsCoded))))
 
-change_again : (x : TableChange) (rest : List ℕ) → IsCodedChange x → (ok_or (byte_at (spell_change x ++ rest)) Short >>= λ tag. change_tagged tag.0 tag.1) ≡ Ok (x, rest)
+change_again : (x : Change) (rest : List ℕ) → IsCoded x → (ok_or (byte_at (spell_body x ++ rest)) Short >>= λ tag. change_tagged tag.0 tag.1) ≡ Ok (x, rest)
 change_again (changes.Insert oid row) rest fits = let m : ℕ × List Value = (oid, row) in rw (insert_codec.again m rest fits) refl
 change_again (changes.Update oid old row) rest fits = let m : (ℕ × List Value) × List Value = ((oid, old), row) in rw (update_codec.again m rest fits) refl
 change_again (changes.Delete oid old) rest fits = let m : ℕ × List Value = (oid, old) in rw (insert_codec.again m rest fits) refl
 change_again (changes.Truncate oids) rest fits = rw (oids_codec.again oids rest fits) refl
 
-change_codec : Codec table_change_at spell_change IsCodedChange
-unfolding table_change_at
+change_codec : Codec change_at spell_body IsCoded
+unfolding change_at
 change_codec = choice_codec Short changes_choose change_again
 
-body_takes : (bytes : List ℕ) (c : TableChange) (rest : List ℕ) → IsBytes bytes → table_body_at bytes ≡ Ok (c, rest) → SpellsChange bytes c
-unfolding table_body_at
+body_takes : (bytes : List ℕ) (c : Change) (rest : List ℕ) → IsBytes bytes → body_at bytes ≡ Ok (c, rest) → SpellsBody bytes c
+unfolding body_at
 body_takes bytes c rest fits e =
-    let a = bind_ok (table_change_at bytes) (λ change. cond (eqb (length change.1) 0) (Ok change) (Err Trailing)) (c, rest) e in
+    let a = bind_ok (change_at bytes) (λ change. cond (eqb (length change.1) 0) (Ok change) (Err Trailing)) (c, rest) e in
     let g = passed (eqb (length a.0.1) 0) Trailing a.0 (c, rest) a.2 in
     let t = change_codec.takes bytes a.0.0 a.0.1 fits a.1 in
     let empty : a.0.1 ≡ [] = nil_from_length a.0.1 (eqb-true (length a.0.1) 0 g.0) in
-    let P : TableChange × List ℕ → Type 0 = λ y. SpellsChange bytes y.0 in
-    subst P g.1 (record { in_range = t.1; text = t.0.parts ∙ rw empty (append-nil (spell_change a.0.0)) })
+    let P : Change × List ℕ → Type 0 = λ y. SpellsBody bytes y.0 in
+    subst P g.1 (record { in_range = t.1; text = t.0.parts ∙ rw empty (append-nil (spell_body a.0.0)) })
 
-body_again : (bytes : List ℕ) (c : TableChange) → SpellsChange bytes c → table_body_at bytes ≡ Ok (c, [])
-unfolding table_body_at
+body_again : (bytes : List ℕ) (c : Change) → SpellsBody bytes c → body_at bytes ≡ Ok (c, [])
+unfolding body_at
 body_again bytes c h =
-    let whole : bytes ≡ spell_change c ++ [] = h.text ∙ sym (append-nil (spell_change c)) in
+    let whole : bytes ≡ spell_body c ++ [] = h.text ∙ sym (append-nil (spell_body c)) in
     rw (whole, change_codec.again c [] h.in_range) refl
 
-pub is_found : (bytes : List ℕ) (r : Result TableChange BodyFault) → IsBytes bytes → Gives r [] (table_body_at bytes) → IfOk r (λ c. SpellsChange bytes c)
+pub is_found : (bytes : List ℕ) (r : Result Change BodyFault) → IsBytes bytes → Gives r [] (body_at bytes) → IfOk r (λ c. SpellsBody bytes c)
 is_found bytes (Ok c) fits e = body_takes bytes c [] fits e
 is_found bytes (Err fault) fits e = tt
 
-pub is_only : (bytes : List ℕ) (r : Result TableChange BodyFault) → Gives r [] (table_body_at bytes) → (c : TableChange) → SpellsChange bytes c → Gives r [] (Ok (c, []))
-is_only bytes r e c h = let P : Result (TableChange × List ℕ) BodyFault → Type 0 = λ read. Gives r [] read in subst P (body_again bytes c h) e
+pub is_only : (bytes : List ℕ) (r : Result Change BodyFault) → Gives r [] (body_at bytes) → (c : Change) → SpellsBody bytes c → Gives r [] (Ok (c, []))
+is_only bytes r e c h = let P : Result (Change × List ℕ) BodyFault → Type 0 = λ read. Gives r [] read in subst P (body_again bytes c h) e
 
 -- WHERE MEMORY IS WANTED
 

@@ -5,7 +5,7 @@ use Rattle.std.specs.List.{AllByRecursion}
 use Rattle.tables.specs.declared.key.TheConstants.{MAX_KEY_LENGTH}
 use Rattle.tables.specs.declared.slot.Slot.{Slot}
 use Rattle.tables.specs.declared.slot.Undo.{Undo}
-use Rattle.tables.specs.declared.table_change.TableChange.{TableChange}
+use Rattle.tables.specs.declared.change.Change.{Change}
 use Rattle.tables.specs.Slots.{same_key, Entries, slot_at, HavePlaces, undone_at}
 use Rattle.tables.specs.History.{made, is_other, is_within}
 use Rattle.tables.specs.Keeping.{StoreState, journal_of, all_emptied, put_at, without_row, touches, slot_by, AreShort}
@@ -47,7 +47,7 @@ pub record AreNoted (oids : List ℕ) (old new : Entries) (undos : List Undo) : 
   pub short : AreShort old → AreShort new
 
 -- A transaction's change was made, and noted in its journal so that it can be undone.
-pub record Does (top : ℕ) (change : TableChange) (old new : StoreState) : Type 0 where
+pub record Does (top : ℕ) (change : Change) (old new : StoreState) : Type 0 where
   pub undos : List Undo
   pub tables : new.tables ≡ old.tables
   pub slots : (place : List ℕ) → slot_at new.slots place ≡ slot_by old.tables (made top change) place (slot_at old.slots place)

@@ -4,11 +4,11 @@ use Rattle.std.specs.Prelude.{◌≡◌, ℕ, ◌==◌, ◌∷◌, [], ◌++◌,
 use Rattle.std.specs.List.{list_all, list_any}
 use Rattle.frames.specs.Fields.{int32}
 use Rattle.tables.specs.declared.row.TheConstants.{MAX_ROW_LENGTH}
-use Rattle.tables.specs.declared.table_body.TheConstants.{MAX_TRUNCATED}
+use Rattle.tables.specs.declared.change_body.TheConstants.{MAX_TRUNCATED}
 use Rattle.tables.specs.declared.value.Value.{Value}
 use Rattle.tables.specs.declared.table.Table.{Table}
-use Rattle.tables.specs.declared.table_change.TableChange.{TableChange}
-use Rattle.tables.specs.declared.table_change.TableChange.TheVariants as changes
+use Rattle.tables.specs.declared.change.Change.{Change}
+use Rattle.tables.specs.declared.change.Change.TheVariants as changes
 use Rattle.tables.specs.declared.store_fault.StoreFault.{StoreFault}
 use Rattle.tables.specs.declared.store_fault.StoreFault.TheVariants as faults
 use Rattle.tables.specs.Spelling.{row_length}
@@ -19,9 +19,9 @@ use Rattle.tables.specs.Slots.{same_key}
 -- a change, and its transaction while that is live
 pub record Made : Type 0 where
   pub top : Option ℕ
-  pub change : TableChange
+  pub change : Change
 
-abbrev pub made : ℕ → TableChange → Made
+abbrev pub made : ℕ → Change → Made
 made top change = record { top = Some top; change = change }
 
 -- whether a live transaction is this one, or another one
@@ -41,7 +41,7 @@ is_within oids text = list_any (λ oid. same_key (take 4 text) (int32 oid)) oids
 
 -- An insert puts its row at its key. An update takes the old key away and puts the new row at its own. A delete takes its
 -- key away, and a truncate all keys of its tables.
-abbrev pub rows_with : List Table → TableChange → Rows → Rows
+abbrev pub rows_with : List Table → Change → Rows → Rows
 rows_with tables (changes.Insert oid row) rows = with_row (key_of tables oid row) (Some row) rows
 rows_with tables (changes.Update oid old row) rows =
     with_row (key_of tables oid row) (Some row) (with_row (key_of tables oid old) None rows)
@@ -66,7 +66,7 @@ abbrev pub table_place : ℕ → List ℕ
 table_place oid = int32 oid ++ 255 ∷ []
 
 -- what a change holds until its transaction ends or it is undone: keys, old and new, and truncated tables
-abbrev pub places_of : List Table → TableChange → List (List ℕ)
+abbrev pub places_of : List Table → Change → List (List ℕ)
 places_of tables (changes.Insert oid row) = row_place tables oid row ∷ []
 places_of tables (changes.Update oid old row) = row_place tables oid old ∷ row_place tables oid row ∷ []
 places_of tables (changes.Delete oid old) = row_place tables oid old ∷ []
@@ -169,12 +169,12 @@ abbrev pub truncate_refusal : List Table → List Made → ℕ → List ℕ → 
 truncate_refusal tables history top oids = truncate_fault tables oids (is_any_held tables top history oids)
 
 -- the change that a call made, with the row that was there
-pub record Deletes (tables : List Table) (history : List Made) (key : Key) (change : TableChange) : Type 0 where
+pub record Deletes (tables : List Table) (history : List Made) (key : Key) (change : Change) : Type 0 where
   pub old : List Value
   pub was : rows_after tables history key ≡ Some old
   pub made : change ≡ changes.Delete key.oid old
 
-pub record Updates (tables : List Table) (history : List Made) (key : Key) (row : List Value) (change : TableChange) : Type 0 where
+pub record Updates (tables : List Table) (history : List Made) (key : Key) (row : List Value) (change : Change) : Type 0 where
   pub old : List Value
   pub was : rows_after tables history key ≡ Some old
   pub made : change ≡ changes.Update key.oid old row

@@ -8,12 +8,12 @@ use Rattle.tables.specs.declared.slot.Slot.{Slot}
 use Rattle.tables.specs.declared.slot.Undo.{Undo}
 use Rattle.tables.specs.declared.value.Value.{Value}
 use Rattle.tables.specs.declared.table.Table.{Table}
-use Rattle.tables.specs.declared.table_change.TableChange.{TableChange}
-use Rattle.tables.specs.declared.table_change.TableChange.TheVariants as changes
+use Rattle.tables.specs.declared.change.Change.{Change}
+use Rattle.tables.specs.declared.change.Change.TheVariants as changes
 use Rattle.tables.specs.declared.store_fault.StoreFault.{StoreFault}
 use Rattle.tables.specs.declared.store_fault.StoreFault.TheVariants as faults
 use Rattle.tables.specs.Slots.{same_key, vacant, Entries, slot_at, put, HavePlaces, undone_at}
-use Rattle.tables.specs.Tables.{FitsTableChange}
+use Rattle.tables.specs.Tables.{FitsChange}
 use Rattle.tables.specs.Rows.{Key, key_text}
 use Rattle.tables.specs.History.{Made, unless, is_top, is_other, no_longer, is_within, row_place, table_place}
 
@@ -43,7 +43,7 @@ abbrev pub all_emptied : List ℕ → List Put
 all_emptied [] = []
 all_emptied (oid ∷ oids) = emptied_place oid ∷ all_emptied oids
 
-abbrev pub puts_of : List Table → TableChange → List Put
+abbrev pub puts_of : List Table → Change → List Put
 puts_of tables (changes.Insert oid row) = (row_place tables oid row, Some row) ∷ []
 puts_of tables (changes.Update oid old row) = (row_place tables oid old, None) ∷ (row_place tables oid row, Some row) ∷ []
 puts_of tables (changes.Delete oid old) = (row_place tables oid old, None) ∷ []
@@ -67,7 +67,7 @@ noted_of top (p ∷ ps) slots =
 abbrev pub without_row : Slot → Slot
 without_row slot = record slot { row = None }
 
-abbrev pub emptied : TableChange → List ℕ → Slot → Slot
+abbrev pub emptied : Change → List ℕ → Slot → Slot
 emptied (changes.Truncate oids) place slot = if is_within oids place then without_row slot else slot
 emptied change place slot = slot
 
@@ -94,11 +94,11 @@ is_in_journal place journal = list_any (is_noted place) journal
 abbrev pub is_put : List ℕ → List Put → Bool
 is_put place puts = list_any (λ p. same_key place p.0) puts
 
-abbrev pub is_emptied : TableChange → List ℕ → Bool
+abbrev pub is_emptied : Change → List ℕ → Bool
 is_emptied (changes.Truncate oids) place = is_within oids place
 is_emptied change place = false
 
-abbrev pub touches : List Table → TableChange → List ℕ → Bool
+abbrev pub touches : List Table → Change → List ℕ → Bool
 touches tables change place = is_put place (puts_of tables change) || is_emptied change place
 
 -- JOURNALS
@@ -142,7 +142,7 @@ pub record Keeps (s : StoreState) (history : List Made) : Type 0 where
   pub apart : AreApart s.tables history
   pub places : (top : ℕ) → AllByRecursion (HavePlaces s.slots) (journal_of top s.journals)
   pub short : AllByRecursion (λ e. length e.0 ≤ MAX_KEY_LENGTH) s.slots
-  pub fits : AllByRecursion (λ m. FitsTableChange s.tables m.change) history
+  pub fits : AllByRecursion (λ m. FitsChange s.tables m.change) history
 
 abbrev pub AreShort : Entries → Type 0
 AreShort slots = AllByRecursion (λ e. length e.0 ≤ MAX_KEY_LENGTH) slots
@@ -202,12 +202,12 @@ RefusedExactly refusal (Ok x) = refusal ≡ None
 RefusedExactly refusal (Err fault) = IsRefusal refusal fault
 
 -- the change that was made of the row at a place
-pub record DeletesAt (s : StoreState) (oid : ℕ) (place : List ℕ) (change : TableChange) : Type 0 where
+pub record DeletesAt (s : StoreState) (oid : ℕ) (place : List ℕ) (change : Change) : Type 0 where
   pub old : List Value
   pub was : (slot_at s.slots place).row ≡ Some old
   pub made : change ≡ changes.Delete oid old
 
-pub record UpdatesAt (s : StoreState) (oid : ℕ) (place : List ℕ) (row : List Value) (change : TableChange) : Type 0 where
+pub record UpdatesAt (s : StoreState) (oid : ℕ) (place : List ℕ) (row : List Value) (change : Change) : Type 0 where
   pub old : List Value
   pub was : (slot_at s.slots place).row ≡ Some old
   pub made : change ≡ changes.Update oid old row

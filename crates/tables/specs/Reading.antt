@@ -6,7 +6,7 @@ use Rattle.std.specs.Int.{w16, w32, w64}
 use Rattle.std.specs.Str.{is_utf8}
 use Rattle.frames.specs.Fields.{byte_at, bytes_at, number_at, int16, int32}
 use Rattle.frames.specs.Steps.{◌>>=◌, letter_at, signed_at, repeat_at}
-use Rattle.tables.specs.declared.body.TheConstants.{NULL_TAG, BOOL_TAG, INT4_TAG, INT8_TAG, TEXT_TAG, INSERT_TAG}
+use Rattle.tables.specs.declared.row_body.TheConstants.{NULL_TAG, BOOL_TAG, INT4_TAG, INT8_TAG, TEXT_TAG, INSERT_TAG}
 use Rattle.tables.specs.declared.fault.BodyFault.{BodyFault}
 use Rattle.tables.specs.declared.fault.BodyFault.TheVariants.{Short, UnknownTag, BadBool, BadText, Trailing, Memory}
 use Rattle.tables.specs.declared.value.Value.{Value}

@@ -6,7 +6,7 @@ use Rattle.std.specs.Str.{bytes_eq, is_utf8}
 use Rattle.tables.specs.declared.config_member.TheConstants.{MAX_NAME_LENGTH}
 use Rattle.tables.specs.declared.config_table.TheConstants.{MAX_COLUMNS}
 use Rattle.tables.specs.declared.row.TheConstants.{MAX_ROW_LENGTH}
-use Rattle.tables.specs.declared.table_body.TheConstants.{MAX_TRUNCATED}
+use Rattle.tables.specs.declared.change_body.TheConstants.{MAX_TRUNCATED}
 use Rattle.tables.specs.declared.kind.Kind.{Kind}
 use Rattle.tables.specs.declared.kind.Kind.TheVariants as kinds
 use Rattle.tables.specs.declared.identity.Identity.TheVariants as identities
@@ -16,8 +16,8 @@ use Rattle.tables.specs.declared.column.Column.{Column}
 use Rattle.tables.specs.declared.table.Table.{Table}
 use Rattle.tables.specs.declared.change.Change.{Change}
 use Rattle.tables.specs.declared.change.Change.TheVariants as changes
-use Rattle.tables.specs.declared.table_change.TableChange.{TableChange}
-use Rattle.tables.specs.declared.table_change.TableChange.TheVariants as table_changes
+use Rattle.tables.specs.declared.change.Change.{Change}
+use Rattle.tables.specs.declared.change.Change.TheVariants as table_changes
 use Rattle.tables.specs.Spelling.{spell_row}
 
 -- the table public.item: id int4 in the key, name text, qty int8
@@ -107,9 +107,9 @@ pub record FitsRow (tables : List Table) (oid : ℕ) (row : List Value) : Type 0
 abbrev pub FitsChange : List Table → Change → Type 0
 FitsChange tables (changes.Insert oid row) = FitsRow tables oid row
 
-abbrev pub FitsTableChange : List Table → TableChange → Type 0
-FitsTableChange tables (table_changes.Insert oid row) = FitsRow tables oid row
-FitsTableChange tables (table_changes.Update oid old row) = FitsRow tables oid old × FitsRow tables oid row
-FitsTableChange tables (table_changes.Delete oid old) = FitsRow tables oid old
-FitsTableChange tables (table_changes.Truncate oids) =
+abbrev pub FitsChange : List Table → Change → Type 0
+FitsChange tables (table_changes.Insert oid row) = FitsRow tables oid row
+FitsChange tables (table_changes.Update oid old row) = FitsRow tables oid old × FitsRow tables oid row
+FitsChange tables (table_changes.Delete oid old) = FitsRow tables oid old
+FitsChange tables (table_changes.Truncate oids) =
     (length oids ≤ MAX_TRUNCATED) × AllByRecursion (λ oid. (oid < 2 ^ 32) × IsSome (table_of oid tables)) oids

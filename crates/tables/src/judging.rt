@@ -7,14 +7,14 @@ ghost use Rattle.tables.specs.Keeping.{AreShort, Keeps, RefusedExactly, key_held
 ghost use Rattle.tables.specs.History.{Made, delete_fault, insert_fault, is_other, repeats, row_place, table_place, truncate_refusal, unless, update_fault};
 ghost use Rattle.tables.specs.Rows.{key_of, key_text};
 ghost use Rattle.tables.specs.Slots.{same_key, slot_at};
-ghost use Rattle.tables.specs.Tables.{FitsRow, FitsTableChange, table_of};
+ghost use Rattle.tables.specs.Tables.{FitsRow, FitsChange, table_of};
 
 use crate::key::Place;
 use crate::row::Row;
 use crate::store::Store;
 use crate::store_fault::StoreFault;
 use crate::table_body::MAX_TRUNCATED;
-use crate::table_change::TableChange;
+use crate::table_change::Change;
 
 impl Store {
     /// The place of a row that may be inserted.
@@ -135,7 +135,7 @@ impl Store {
     /// Whether tables may be emptied.
     pub(crate) fn judge_truncate(&self, top: u32, oids: &[u32]) -> Result<(), StoreFault>
         ensures refused { (history : List Made) → Keeps self.now history → RefusedExactly (truncate_refusal self.now.tables history top oids.now) result }
-        ensures fits { OnOk result (FitsTableChange self.now.tables (TableChange.Truncate oids.now)) }
+        ensures fits { OnOk result (FitsChange self.now.tables (Change.Truncate oids.now)) }
         ensures few { result ≡ Err StoreFault.TooLarge → MAX_TABLES < length self.now.tables }
     {
         if !self.has_tables(oids) {

@@ -50,8 +50,8 @@ pub use store::Store;
 pub use store_fault::StoreFault;
 pub use table::Table;
 pub use table_body::{
-    DELETE_TAG, MAX_TRUNCATED, TRUNCATE_TAG, UPDATE_TAG, table_change_len, write_table_change,
+    DELETE_TAG, MAX_TRUNCATED, TRUNCATE_TAG, UPDATE_TAG, body_len, write_body,
 };
-pub use table_change::TableChange;
-pub use table_reading::read_table_change;
+pub use table_change::Change;
+pub use table_reading::read_body;
 pub use value::Value;

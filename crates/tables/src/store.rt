@@ -8,8 +8,8 @@ ghost use Rattle.tables.specs.Emptying.{Does};
 ghost use Rattle.tables.specs.History.{Made, count_of, delete_fault, delete_refusal, forgotten, insert_fault, insert_refusal, is_other, made, rolled_back, row_place, rows_after, table_place, truncate_refusal, unless, update_fault, update_refusal, Deletes, Updates};
 ghost use Rattle.tables.specs.Rows.{key_of, key_text};
 ghost use Rattle.tables.specs.Slots.{HavePlaces, same_key, slot_at, undone};
-ghost use Rattle.tables.specs.TableSpelling.{IsShortChange};
-ghost use Rattle.tables.specs.Tables.{FitsRow, FitsTableChange};
+ghost use Rattle.tables.specs.Spelling.{IsShort};
+ghost use Rattle.tables.specs.Tables.{FitsRow, FitsChange};
 
 use crate::catalog::Catalog;
 use crate::journals::Journals;
@@ -18,7 +18,7 @@ use crate::row::Row;
 use crate::slot::Undo;
 use crate::slots::Slots;
 use crate::store_fault::StoreFault;
-use crate::table_change::TableChange;
+use crate::table_change::Change;
 use frames::Items;
 use std::alloc::{AllocError, Global};
 use std::marker::Model;
@@ -102,11 +102,11 @@ impl Store {
     }
 
     /// Inserts a row. S1, S2, S6, S5, S3, S11 in this order.
-    pub fn insert(&mut self, top: u32, oid: u32, row: Row) -> Result<TableChange, StoreFault>
-        ensures change { IfOk result (λ change. change ≡ TableChange.Insert oid row) }
-        ensures fits { IfOk result (λ change. FitsTableChange self.old.tables change) }
-        ensures short { IfOk result IsShortChange }
-        ensures ok { OnOk result ((history : List Made) → Keeps self.old history → Keeps self.new (history ++ made top (TableChange.Insert oid row) ∷ [])) }
+    pub fn insert(&mut self, top: u32, oid: u32, row: Row) -> Result<Change, StoreFault>
+        ensures change { IfOk result (λ change. change ≡ Change.Insert oid row) }
+        ensures fits { IfOk result (λ change. FitsChange self.old.tables change) }
+        ensures short { IfOk result IsShort }
+        ensures ok { OnOk result ((history : List Made) → Keeps self.old history → Keeps self.new (history ++ made top (Change.Insert oid row) ∷ [])) }
         ensures err { OnErr result ((history : List Made) → Keeps self.old history → Keeps self.new history) }
         ensures refused { (history : List Made) → Keeps self.old history → RefusedOrMemory (insert_refusal self.old.tables history top oid row) result }
         ensures tables { self.new.tables ≡ self.old.tables }
@@ -123,16 +123,16 @@ impl Store {
         oid: u32,
         place: &Place,
         row: Row,
-    ) -> Result<TableChange, StoreFault>
+    ) -> Result<Change, StoreFault>
         requires { length place.now ≤ MAX_KEY_LENGTH }
-        ensures change { IfOk result (λ change. change ≡ TableChange.Insert oid row) }
+        ensures change { IfOk result (λ change. change ≡ Change.Insert oid row) }
         ensures ok { OnOk result (Makes top ((place.now, Some row) ∷ []) self.old self.new) }
         ensures err { OnErr result (IsSame self.old self.new) }
         ensures memory { IfErr result (λ fault. fault ≡ StoreFault.Memory) }
     {
         let kept = row.copy(self.alloc)?;
         self.put_one(top, place, Some(kept))?;
-        Ok(TableChange::Insert(oid, row))
+        Ok(Change::Insert(oid, row))
     }
 
     /// Puts a row in the place of the one with this key, whose key it may change. S1, S2, S6, S5, S4, S3, S11 in this order.
@@ -142,9 +142,9 @@ impl Store {
         oid: u32,
         key: &Row,
         row: Row,
-    ) -> Result<TableChange, StoreFault>
-        ensures fits { IfOk result (λ change. (history : List Made) → Keeps self.old history → FitsTableChange self.old.tables change) }
-        ensures short { IfOk result (λ change. (history : List Made) → Keeps self.old history → IsShortChange change) }
+    ) -> Result<Change, StoreFault>
+        ensures fits { IfOk result (λ change. (history : List Made) → Keeps self.old history → FitsChange self.old.tables change) }
+        ensures short { IfOk result (λ change. (history : List Made) → Keeps self.old history → IsShort change) }
         ensures change { IfOk result (λ change. (history : List Made) → Keeps self.old history → Updates self.old.tables history (record { oid = oid; values = key.now }) row change) }
         ensures ok { IfOk result (λ change. (history : List Made) → Keeps self.old history → Keeps self.new (history ++ made top change ∷ [])) }
         ensures err { OnErr result ((history : List Made) → Keeps self.old history → Keeps self.new history) }
@@ -164,7 +164,7 @@ impl Store {
         from: &Place,
         to: &Place,
         row: Row,
-    ) -> Result<TableChange, StoreFault>
+    ) -> Result<Change, StoreFault>
         requires from { length from.now ≤ MAX_KEY_LENGTH }
         requires to { length to.now ≤ MAX_KEY_LENGTH }
         ensures change { IfOk result (λ change. UpdatesAt self.old oid from.now row change) }
@@ -175,13 +175,13 @@ impl Store {
         let old = self.old_row(from)?;
         let kept = row.copy(self.alloc)?;
         self.put_two(top, from, to, kept)?;
-        Ok(TableChange::Update(oid, old, row))
+        Ok(Change::Update(oid, old, row))
     }
 
     /// Deletes the row with this key. S1, S2, S5, S4, S11 in this order.
-    pub fn delete(&mut self, top: u32, oid: u32, key: &Row) -> Result<TableChange, StoreFault>
-        ensures fits { IfOk result (λ change. (history : List Made) → Keeps self.old history → FitsTableChange self.old.tables change) }
-        ensures short { IfOk result (λ change. (history : List Made) → Keeps self.old history → IsShortChange change) }
+    pub fn delete(&mut self, top: u32, oid: u32, key: &Row) -> Result<Change, StoreFault>
+        ensures fits { IfOk result (λ change. (history : List Made) → Keeps self.old history → FitsChange self.old.tables change) }
+        ensures short { IfOk result (λ change. (history : List Made) → Keeps self.old history → IsShort change) }
         ensures change { IfOk result (λ change. (history : List Made) → Keeps self.old history → Deletes self.old.tables history (record { oid = oid; values = key.now }) change) }
         ensures ok { IfOk result (λ change. (history : List Made) → Keeps self.old history → Keeps self.new (history ++ made top change ∷ [])) }
         ensures err { OnErr result ((history : List Made) → Keeps self.old history → Keeps self.new history) }
@@ -194,7 +194,7 @@ impl Store {
         }
     }
 
-    fn delete_at(&mut self, top: u32, oid: u32, place: &Place) -> Result<TableChange, StoreFault>
+    fn delete_at(&mut self, top: u32, oid: u32, place: &Place) -> Result<Change, StoreFault>
         requires { length place.now ≤ MAX_KEY_LENGTH }
         ensures change { IfOk result (λ change. DeletesAt self.old oid place.now change) }
         ensures ok { OnOk result (Makes top ((place.now, None) ∷ []) self.old self.new) }
@@ -203,15 +203,15 @@ impl Store {
     {
         let old = self.old_row(place)?;
         self.put_one(top, place, None)?;
-        Ok(TableChange::Delete(oid, old))
+        Ok(Change::Delete(oid, old))
     }
 
     /// Empties tables, and holds them. S1, S2, S6, S5, S11 in this order. It goes through all places of the store.
-    pub fn truncate(&mut self, top: u32, oids: &[u32]) -> Result<TableChange, StoreFault>
-        ensures change { IfOk result (λ change. change ≡ TableChange.Truncate oids.now) }
-        ensures fits { IfOk result (λ change. FitsTableChange self.old.tables change) }
-        ensures short { IfOk result IsShortChange }
-        ensures ok { OnOk result ((history : List Made) → Keeps self.old history → Keeps self.new (history ++ made top (TableChange.Truncate oids.now) ∷ [])) }
+    pub fn truncate(&mut self, top: u32, oids: &[u32]) -> Result<Change, StoreFault>
+        ensures change { IfOk result (λ change. change ≡ Change.Truncate oids.now) }
+        ensures fits { IfOk result (λ change. FitsChange self.old.tables change) }
+        ensures short { IfOk result IsShort }
+        ensures ok { OnOk result ((history : List Made) → Keeps self.old history → Keeps self.new (history ++ made top (Change.Truncate oids.now) ∷ [])) }
         ensures err { OnErr result ((history : List Made) → Keeps self.old history → Keeps self.new history) }
         ensures refused { (history : List Made) → Keeps self.old history → RefusedOrMemory (truncate_refusal self.old.tables history top oids.now) result }
         // S6 is of no catalogue that a configuration names.
@@ -224,16 +224,16 @@ impl Store {
         }
     }
 
-    fn empty(&mut self, top: u32, oids: &[u32]) -> Result<TableChange, StoreFault>
-        ensures change { IfOk result (λ change. change ≡ TableChange.Truncate oids.now) }
-        ensures ok { OnOk result (Does top (TableChange.Truncate oids.now) self.old self.new) }
+    fn empty(&mut self, top: u32, oids: &[u32]) -> Result<Change, StoreFault>
+        ensures change { IfOk result (λ change. change ≡ Change.Truncate oids.now) }
+        ensures ok { OnOk result (Does top (Change.Truncate oids.now) self.old self.new) }
         ensures err { OnErr result (IsSame self.old self.new) }
         ensures memory { IfErr result (λ fault. fault ≡ StoreFault.Memory) }
     {
         let named = Vec::from_slice(self.alloc, oids)?;
         let undos = self.slots.empty(self.alloc, top, oids)?;
         self.note(top, undos)?;
-        Ok(TableChange::Truncate(Items::new(named)))
+        Ok(Change::Truncate(Items::new(named)))
     }
 
     /// A copy of the row at a place.

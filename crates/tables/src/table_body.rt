@@ -5,13 +5,13 @@ ghost use Rattle.std.specs.Prelude.{◌≡◌, ◌+◌, ◌*◌, ◌++◌, ◌�
 ghost use Rattle.std.specs.List.{flat_map};
 ghost use Rattle.frames.specs.Fields.{int16, int32};
 ghost use Rattle.frames.specs.Putting.{Puts};
-ghost use Rattle.tables.specs.TableSpelling.{IsShortChange, change_length, spell_change, spell_oids, spell_one};
+ghost use Rattle.tables.specs.Spelling.{IsShort, body_length, spell_body, spell_oids, spell_one};
 ghost use Rattle.tables.specs.Spelling.{row_length};
 ghost use Rattle.tables.specs.declared.row.TheConstants.{MAX_ROW_LENGTH};
 
 use crate::body::{INSERT_TAG, MAX_BODY_LENGTH, put_int16, put_int32, put_row};
 use crate::row::Row;
-use crate::table_change::TableChange;
+use crate::table_change::Change;
 use bytes::{BufMut, BytesMut};
 use std::alloc::AllocError;
 
@@ -26,17 +26,17 @@ pub const TRUNCATE_TAG: u8 = 4;
 pub const MAX_TRUNCATED: usize = 256;
 
 /// The length of the change's body in bytes.
-#[tactic(auto, using(crate::proofs::TableLengths::truncate_length, crate::proofs::TableLengths::insert_length, crate::proofs::TableLengths::delete_length, crate::proofs::TableLengths::two_rows_length))]
-pub fn table_change_len(change: &TableChange) -> usize
-    requires { IsShortChange change.now }
-    ensures value { result ≡ change_length change.now }
+#[tactic(auto, using(crate::proofs::Lengths::truncate_length, crate::proofs::Lengths::insert_length, crate::proofs::Lengths::delete_length, crate::proofs::Lengths::two_rows_length))]
+pub fn body_len(change: &Change) -> usize
+    requires { IsShort change.now }
+    ensures value { result ≡ body_length change.now }
     ensures bounded { result ≤ MAX_BODY_LENGTH }
 {
     match change {
-        TableChange::Insert(_, row) => 5 + short_len(row),
-        TableChange::Update(_, old, row) => 5 + short_len(old) + short_len(row),
-        TableChange::Delete(_, old) => 5 + short_len(old),
-        TableChange::Truncate(oids) => 3 + 4 * oids.len(),
+        Change::Insert(_, row) => 5 + short_len(row),
+        Change::Update(_, old, row) => 5 + short_len(old) + short_len(row),
+        Change::Delete(_, old) => 5 + short_len(old),
+        Change::Truncate(oids) => 3 + 4 * oids.len(),
     }
 }
 
@@ -52,9 +52,9 @@ fn short_len(row: &Row) -> usize
 }
 
 /// Adds the change's body, or, where memory is refused, nothing.
-pub fn write_table_change(change: &TableChange, out: &mut BytesMut) -> Result<(), AllocError>
-    requires { IsShortChange change.now }
-    ensures ok { OnOk result (out.new.items ≡ out.old.items ++ spell_change change.now) }
+pub fn write_body(change: &Change, out: &mut BytesMut) -> Result<(), AllocError>
+    requires { IsShort change.now }
+    ensures ok { OnOk result (out.new.items ≡ out.old.items ++ spell_body change.now) }
     ensures err { OnErr result (out.new.items ≡ out.old.items) }
 {
     let start = out.len();
@@ -65,18 +65,18 @@ pub fn write_table_change(change: &TableChange, out: &mut BytesMut) -> Result<()
     written
 }
 
-fn put_change(change: &TableChange, out: &mut BytesMut) -> Result<(), AllocError>
-    requires { IsShortChange change.now }
-    ensures { Puts result out.old.items out.new.items (spell_change change.now) }
+fn put_change(change: &Change, out: &mut BytesMut) -> Result<(), AllocError>
+    requires { IsShort change.now }
+    ensures { Puts result out.old.items out.new.items (spell_body change.now) }
 {
     match change {
-        TableChange::Insert(oid, row) => put_one_row(INSERT_TAG, *oid, row, out),
-        TableChange::Update(oid, old, row) => {
+        Change::Insert(oid, row) => put_one_row(INSERT_TAG, *oid, row, out),
+        Change::Update(oid, old, row) => {
             put_one_row(UPDATE_TAG, *oid, old, out)?;
             put_row(row, out)
         }
-        TableChange::Delete(oid, old) => put_one_row(DELETE_TAG, *oid, old, out),
-        TableChange::Truncate(oids) => put_oids(oids.as_slice(), out),
+        Change::Delete(oid, old) => put_one_row(DELETE_TAG, *oid, old, out),
+        Change::Truncate(oids) => put_oids(oids.as_slice(), out),
     }
 }
 

@@ -5,7 +5,7 @@ use frames::Items;
 
 /// A change of tables, by their OIDs.
 #[derive(Debug, Drop, PartialEq)]
-pub enum TableChange {
+pub enum Change {
     /// The table and its new row.
     Insert(u32, Row),
     /// The table, the row that was there, and the row in its place.

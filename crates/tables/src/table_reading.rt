@@ -4,32 +4,32 @@ ghost use Rattle.std.specs.Prelude.{◌≡◌, ◌≢◌, ◌<◌, [], IfOk, IsO
 ghost use Rattle.frames.specs.Steps.{repeat_at};
 ghost use Rattle.tables.specs.declared.fault.BodyFault.TheVariants.{Memory};
 ghost use Rattle.tables.specs.Reading.{Gives, InsertHasValue, insert_at};
-ghost use Rattle.tables.specs.TableReading.{ChangeHasPart, HoldsPart, KindHasPart, OidsHaveOne, SpellsChange, UpdateHasValue, change_tagged, oid_at, oids_at, table_body_at, table_change_at, update_at};
-ghost use Rattle.tables.specs.declared.table_change.TableChange.{TableChange as Changed};
+ghost use Rattle.tables.specs.Reading.{ChangeHasPart, HoldsPart, KindHasPart, OidsHaveOne, SpellsBody, UpdateHasValue, change_tagged, oid_at, oids_at, body_at, change_at, update_at};
+ghost use Rattle.tables.specs.declared.change.Change.{Change as Changed};
 
 use crate::body::INSERT_TAG;
 use crate::fault::BodyFault;
 use crate::reading::row_of;
 use crate::row::Row;
 use crate::table_body::{DELETE_TAG, TRUNCATE_TAG, UPDATE_TAG};
-use crate::table_change::TableChange;
+use crate::table_change::Change;
 use frames::{Cursor, Items};
 use std::alloc::Global;
 
 /// The change whose body these bytes are. The leftmost fault is answered, unless memory is refused before it, which can
 /// only be where there is something to keep.
-pub fn read_table_change(alloc: Global, bytes: &[u8]) -> Result<TableChange, BodyFault>
-    ensures found { IfOk result (λ c. SpellsChange bytes.now c) }
-    ensures only { (c : Changed) → SpellsChange bytes.now c → Gives result [] (Ok (c, [])) }
-    ensures exact { Gives result [] (table_body_at bytes.now) }
+pub fn read_body(alloc: Global, bytes: &[u8]) -> Result<Change, BodyFault>
+    ensures found { IfOk result (λ c. SpellsBody bytes.now c) }
+    ensures only { (c : Changed) → SpellsBody bytes.now c → Gives result [] (Ok (c, [])) }
+    ensures exact { Gives result [] (body_at bytes.now) }
     ensures memory { result ≡ Err Memory → HoldsPart bytes.now }
 {
     whole(alloc, bytes)
 }
 
-#[tactic(auto, unfolding(crate::specs::TableReading::table_body_at))]
-fn whole(alloc: Global, bytes: &[u8]) -> Result<TableChange, BodyFault>
-    ensures exact { Gives result [] (table_body_at bytes.now) }
+#[tactic(auto, unfolding(crate::specs::Reading::body_at))]
+fn whole(alloc: Global, bytes: &[u8]) -> Result<Change, BodyFault>
+    ensures exact { Gives result [] (body_at bytes.now) }
     ensures memory { result ≡ Err Memory → ChangeHasPart bytes.now }
 {
     let mut cursor = Cursor::new(bytes);
@@ -41,33 +41,33 @@ fn whole(alloc: Global, bytes: &[u8]) -> Result<TableChange, BodyFault>
     }
 }
 
-#[tactic(auto, unfolding(crate::specs::TableReading::table_change_at))]
-fn change_of(alloc: Global, cursor: &mut Cursor<'_>) -> Result<TableChange, BodyFault>
-    ensures exact { Gives result cursor.new (table_change_at cursor.old) }
+#[tactic(auto, unfolding(crate::specs::Reading::change_at))]
+fn change_of(alloc: Global, cursor: &mut Cursor<'_>) -> Result<Change, BodyFault>
+    ensures exact { Gives result cursor.new (change_at cursor.old) }
     ensures memory { result ≡ Err Memory → ChangeHasPart cursor.old }
 {
     let tag = cursor.u8().ok_or(BodyFault::Short)?;
     kind_of(alloc, tag, cursor)
 }
 
-fn kind_of(alloc: Global, tag: u8, cursor: &mut Cursor<'_>) -> Result<TableChange, BodyFault>
+fn kind_of(alloc: Global, tag: u8, cursor: &mut Cursor<'_>) -> Result<Change, BodyFault>
     ensures exact { Gives result cursor.new (change_tagged tag cursor.old) }
     ensures memory { result ≡ Err Memory → KindHasPart tag cursor.old }
 {
     match tag {
         INSERT_TAG => {
             let (oid, row) = one_row_of(alloc, cursor)?;
-            Ok(TableChange::Insert(oid, row))
+            Ok(Change::Insert(oid, row))
         }
         UPDATE_TAG => {
             let ((oid, old), row) = two_rows_of(alloc, cursor)?;
-            Ok(TableChange::Update(oid, old, row))
+            Ok(Change::Update(oid, old, row))
         }
         DELETE_TAG => {
             let (oid, old) = one_row_of(alloc, cursor)?;
-            Ok(TableChange::Delete(oid, old))
+            Ok(Change::Delete(oid, old))
         }
-        TRUNCATE_TAG => Ok(TableChange::Truncate(oids_of(alloc, cursor)?)),
+        TRUNCATE_TAG => Ok(Change::Truncate(oids_of(alloc, cursor)?)),
         _ => Err(BodyFault::UnknownTag),
     }
 }
@@ -84,7 +84,7 @@ fn one_row_of(alloc: Global, cursor: &mut Cursor<'_>) -> Result<(u32, Row), Body
 }
 
 /// A table's OID, a row of it and another one.
-#[tactic(auto, unfolding(crate::specs::TableReading::update_at))]
+#[tactic(auto, unfolding(crate::specs::Reading::update_at))]
 fn two_rows_of(alloc: Global, cursor: &mut Cursor<'_>) -> Result<((u32, Row), Row), BodyFault>
     ensures exact { Gives result cursor.new (update_at cursor.old) }
     ensures memory { result ≡ Err Memory → UpdateHasValue cursor.old }
@@ -94,7 +94,7 @@ fn two_rows_of(alloc: Global, cursor: &mut Cursor<'_>) -> Result<((u32, Row), Ro
     Ok((first, row))
 }
 
-#[tactic(auto, unfolding(crate::specs::TableReading::oids_at))]
+#[tactic(auto, unfolding(crate::specs::Reading::oids_at))]
 fn oids_of(alloc: Global, cursor: &mut Cursor<'_>) -> Result<Items<u32>, BodyFault>
     ensures exact { Gives result cursor.new (oids_at cursor.old) }
     ensures memory { result ≡ Err Memory → OidsHaveOne cursor.old }

@@ -4,13 +4,13 @@ use Rattle.std.specs.Prelude.{FitsSigned, slice_index, unwrap_or}
 use Rattle.std.specs.List.{AllByRecursion, slice_get}
 use Rattle.std.specs.Int.{w64}
 use Rattle.tables.specs.declared.table.Table.{Table}
-use Rattle.tables.specs.declared.table_change.TableChange.{TableChange}
-use Rattle.tables.specs.declared.table_change.TableChange.TheVariants as changes
-use Rattle.tables.specs.TableSpelling.{IsShortChange}
-use Rattle.tables.specs.Tables.{FitsTableChange}
+use Rattle.tables.specs.declared.change.Change.{Change}
+use Rattle.tables.specs.declared.change.Change.TheVariants as changes
+use Rattle.tables.specs.Spelling.{IsShort}
+use Rattle.tables.specs.Tables.{FitsChange}
 use Rattle.tables.specs.History.{made, count_of, rolled_back, forgotten}
 use Rattle.tables.specs.Keeping.{StoreState, Keeps}
-use Rattle.tables.proofs.TableLengths.{insert_length, delete_length, two_rows_length, truncate_length}
+use Rattle.tables.proofs.Lengths.{insert_length, delete_length, two_rows_length, truncate_length}
 use Rattle.txlog.specs.declared.savepoint.Savepoint.{Savepoint}
 use Rattle.txlog.specs.declared.limits.TheConstants.{MAX_DEPTH, MAX_LIVE, MAX_RECORDS}
 use Rattle.txlog.specs.declared.record.TheConstants.{FIRST_POSITION}
@@ -36,7 +36,7 @@ some_room s now n same is some = omega (arith, is, some, ap room same)
 pub record_fits : (s : PublisherState) (size : ℕ) → IsPublisher s → size ≤ 2 ^ 14 → end_of FIRST_POSITION s.log + size < 2 ^ 64
 record_fits s size h small = omega (arith, h.log.near, h.reserve, h.limit, small)
 
-pub change_small : (x : ℕ) (c : TableChange) → IsShortChange c → size_of (Changed x c) ≤ 2 ^ 14
+pub change_small : (x : ℕ) (c : Change) → IsShort c → size_of (Changed x c) ≤ 2 ^ 14
 change_small x (changes.Insert oid row) short = omega (arith, insert_length oid row, short)
 change_small x (changes.Update oid old row) short = omega (arith, two_rows_length oid old row, short.0, short.1)
 change_small x (changes.Delete oid old) short = omega (arith, delete_length oid old, short)
@@ -45,7 +45,7 @@ change_small x (changes.Truncate oids) short = omega (arith, truncate_length oid
 some_is : {A : Type 0} (x y : A) → Some x ≡ Some y → x ≡ y
 some_is x y is = ap (λ o. unwrap_or o x) is
 
-pub change_fits : (log : List Record) (x : ℕ) (c d : TableChange) → IsShortChange c → end_of FIRST_POSITION log + 2 ^ 14 < 2 ^ 64 → d ≡ c → end_of FIRST_POSITION log + size_of (Changed x d) < 2 ^ 64
+pub change_fits : (log : List Record) (x : ℕ) (c d : Change) → IsShort c → end_of FIRST_POSITION log + 2 ^ 14 < 2 ^ 64 → d ≡ c → end_of FIRST_POSITION log + size_of (Changed x d) < 2 ^ 64
 change_fits log x c d short fits is = rw is (omega (arith, fits, change_small x c short))
 
 -- CHANGES
@@ -58,8 +58,8 @@ innermost_open s xid h is =
     )
 
 -- a change that the tables took, and its record
-pub changed_kept : (store new : StoreState) (s : PublisherState) (xid : ℕ) (change : TableChange) → KeepsLog store s → is_live xid s.live ≡ true → 0 < room s →
-    FitsTableChange s.tables change → IsShortChange change → Keeps new (history_of s.log ++ made xid change ∷ []) → KeepsLog new (changed xid change s)
+pub changed_kept : (store new : StoreState) (s : PublisherState) (xid : ℕ) (change : Change) → KeepsLog store s → is_live xid s.live ≡ true → 0 < room s →
+    FitsChange s.tables change → IsShort change → Keeps new (history_of s.log ++ made xid change ∷ []) → KeepsLog new (changed xid change s)
 changed_kept store new s xid change h is free fits short keeps =
     let at = innermost_open s xid h.publisher is in
     record {
@@ -69,7 +69,7 @@ changed_kept store new s xid change h is free fits short keeps =
     }
 
 -- a change that the tables took, and that was undone
-pub unchanged_kept : (store new : StoreState) (s : PublisherState) (xid mark : ℕ) (change : TableChange) → KeepsLog store s → mark ≡ count_of xid (history_of s.log) →
+pub unchanged_kept : (store new : StoreState) (s : PublisherState) (xid mark : ℕ) (change : Change) → KeepsLog store s → mark ≡ count_of xid (history_of s.log) →
     Keeps new (rolled_back xid mark (history_of s.log ++ made xid change ∷ [])) → KeepsLog new s
 unchanged_kept store new s xid mark change h at keeps =
     record {

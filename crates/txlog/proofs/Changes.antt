@@ -4,12 +4,12 @@ use Rattle.std.specs.Prelude.{IfErr, OnErr, OnOk}
 use Rattle.std.proofs.lemmas.Bool.{ne_eqb}
 use Rattle.tables.specs.declared.value.Value.{Value}
 use Rattle.tables.specs.declared.table.Table.{Table}
-use Rattle.tables.specs.declared.table_change.TableChange.{TableChange}
-use Rattle.tables.specs.declared.table_change.TableChange.TheVariants as changes
+use Rattle.tables.specs.declared.change.Change.{Change}
+use Rattle.tables.specs.declared.change.Change.TheVariants as changes
 use Rattle.tables.specs.declared.store_fault.StoreFault.{StoreFault}
 use Rattle.tables.specs.declared.store_fault.StoreFault.TheVariants as store_faults
-use Rattle.tables.specs.TableSpelling.{IsShortChange}
-use Rattle.tables.specs.Tables.{FitsTableChange}
+use Rattle.tables.specs.Spelling.{IsShort}
+use Rattle.tables.specs.Tables.{FitsChange}
 use Rattle.tables.specs.History.{Made, made, count_of, rolled_back}
 use Rattle.tables.specs.Keeping as tables
 use Rattle.tables.specs.Keeping.{StoreState, Keeps}
@@ -25,23 +25,23 @@ use Rattle.txlog.proofs.Calls.{changed_kept, unchanged_kept}
 
 -- SHORT CHANGES
 
-pub insert_short : (tables : List Table) (c : TableChange) (oid : ℕ) (row : List Value) → c ≡ changes.Insert oid row → FitsTableChange tables c → IsShortChange c
-insert_short tables c oid row is fits = let fit : FitsTableChange tables (changes.Insert oid row) = subst (FitsTableChange tables) is fits in subst IsShortChange (sym is) fit.short
+pub insert_short : (tables : List Table) (c : Change) (oid : ℕ) (row : List Value) → c ≡ changes.Insert oid row → FitsChange tables c → IsShort c
+insert_short tables c oid row is fits = let fit : FitsChange tables (changes.Insert oid row) = subst (FitsChange tables) is fits in subst IsShort (sym is) fit.short
 
-pub update_short : (tables : List Table) (c : TableChange) (oid : ℕ) (old row : List Value) → c ≡ changes.Update oid old row → FitsTableChange tables c → IsShortChange c
+pub update_short : (tables : List Table) (c : Change) (oid : ℕ) (old row : List Value) → c ≡ changes.Update oid old row → FitsChange tables c → IsShort c
 update_short tables c oid old row is fits =
-    let fit : FitsTableChange tables (changes.Update oid old row) = subst (FitsTableChange tables) is fits in
-    subst IsShortChange (sym is) (fit.0.short, fit.1.short)
+    let fit : FitsChange tables (changes.Update oid old row) = subst (FitsChange tables) is fits in
+    subst IsShort (sym is) (fit.0.short, fit.1.short)
 
-pub delete_short : (tables : List Table) (c : TableChange) (oid : ℕ) (old : List Value) → c ≡ changes.Delete oid old → FitsTableChange tables c → IsShortChange c
-delete_short tables c oid old is fits = let fit : FitsTableChange tables (changes.Delete oid old) = subst (FitsTableChange tables) is fits in subst IsShortChange (sym is) fit.short
+pub delete_short : (tables : List Table) (c : Change) (oid : ℕ) (old : List Value) → c ≡ changes.Delete oid old → FitsChange tables c → IsShort c
+delete_short tables c oid old is fits = let fit : FitsChange tables (changes.Delete oid old) = subst (FitsChange tables) is fits in subst IsShort (sym is) fit.short
 
 -- WHAT IS KEPT
 
 -- a change that the tables took, whether the log took its record or not
-pub change_written : {A : Type 0} (store mid new : StoreState) (s now : PublisherState) (tx : ℕ) (at : Changing) (change : TableChange) (log : List Record) (result : Result A SessionFault) →
+pub change_written : {A : Type 0} (store mid new : StoreState) (s now : PublisherState) (tx : ℕ) (at : Changing) (change : Change) (log : List Record) (result : Result A SessionFault) →
     s ≡ now → KeepsLog store s → (at.xid ≡ tx) × (is_live tx now.live ≡ true) → at.innermost ≡ innermost tx now.live → at.mark ≡ count_of tx (history_of now.log) → at.room ≡ room now →
-    FitsTableChange s.tables change → IsShortChange change → Keeps mid (history_of s.log ++ made at.xid change ∷ []) → mid.tables ≡ s.tables →
+    FitsChange s.tables change → IsShort change → Keeps mid (history_of s.log ++ made at.xid change ∷ []) → mid.tables ≡ s.tables →
     OnOk result ((log ≡ s.log ++ record_after s.log (Changed at.innermost change) ∷ []) × (new ≡ mid)) → OnOk result (0 < at.room) → OnErr result (log ≡ s.log) →
     OnErr result ((history : List Made) → Keeps mid history → Keeps new (rolled_back at.xid at.mark history)) → new.tables ≡ mid.tables →
     KeepsLog new (record s { tables = new.tables; log = log })

@@ -3,7 +3,7 @@ use Rattle.std.proofs.Common.{◌≡◌, ℕ, ℤ, ◌==◌, Bool, true, false, 
 use Rattle.std.specs.List.{filter}
 use Rattle.std.proofs.lemmas.Bool.{eqb-true}
 use Rattle.std.proofs.lemmas.List.{map-append}
-use Rattle.tables.specs.declared.table_change.TableChange.{TableChange}
+use Rattle.tables.specs.declared.change.Change.{Change}
 use Rattle.tables.specs.History.{Made, made, is_top, no_longer, settled, forgotten, rolled_back}
 use Rattle.txlog.specs.declared.record.Record.{Record}
 use Rattle.txlog.specs.declared.record.Body.TheVariants.{Assign, Change as Changed, AbortSub, Abort, Commit}
@@ -95,7 +95,7 @@ history-undo log start end s t mark running behind =
     same_by r e is ending = same_made log r e (chain-append log r e.xid ∙ rw is refl) ending
 
 -- A change of an open xid is its transaction's.
-pub history-change : (log : List Record) (start end x t : ℕ) (c : TableChange) → IsOpen log x → top_of log x ≡ t →
+pub history-change : (log : List Record) (start end x t : ℕ) (c : Change) → IsOpen log x → top_of log x ≡ t →
     history_of (log ++ record { start = start; end = end; body = Changed x c } ∷ []) ≡ history_of log ++ made t c ∷ []
 history-change log start end x t c is_open top = changed (record { start = start; end = end; body = Changed x c }) (record { position = start; xid = x; change = c })
     (standing-change log start end x c is_open.running is_open.undropped) refl refl refl (λ y. refl)

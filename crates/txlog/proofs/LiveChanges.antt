@@ -5,7 +5,7 @@ use Rattle.std.specs.List.{filter, list_any, AllByRecursion}
 use Rattle.std.proofs.lemmas.Bool.{eqb-true}
 use Rattle.std.proofs.lemmas.List.{append-nil}
 use Rattle.std.proofs.lemmas.List.Elements.{filter-append}
-use Rattle.tables.specs.declared.table_change.TableChange.{TableChange}
+use Rattle.tables.specs.declared.change.Change.{Change}
 use Rattle.txlog.specs.declared.record.Record.{Record}
 use Rattle.txlog.specs.declared.record.Body.TheVariants.{Assign, Change as Changed, AbortSub, Abort, Commit}
 use Rattle.txlog.specs.Log.{is_named, is_assigned, chain, last_of, top_of, undoes, is_undone, is_dropped, ends, has_ended, Entry, entry_at, entries, is_kept, kept, IsOpen}
@@ -95,7 +95,7 @@ live-undo log start end s = undone (record { start = start; end = end; body = Ab
         ∙ append-nil _
 
 -- A change of an open xid is live_changes.
-pub live-change : (log : List Record) (start end x : ℕ) (c : TableChange) → IsOpen log x →
+pub live-change : (log : List Record) (start end x : ℕ) (c : Change) → IsOpen log x →
     live_changes (log ++ record { start = start; end = end; body = Changed x c } ∷ []) ≡ live_changes log ++ record { position = start; xid = x; change = c } ∷ []
 live-change log start end x c is_open = changed (record { start = start; end = end; body = Changed x c }) (record { position = start; xid = x; change = c }) (λ above y. refl) (λ y. refl) (λ y. refl) refl refl
   where

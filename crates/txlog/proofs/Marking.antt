@@ -3,7 +3,7 @@ use Rattle.std.proofs.Common.{◌≡◌, ℕ, ℤ, ◌+◌, ◌-◌, ◌<◌, �
 use Rattle.std.specs.List.{filter, list_any, AllByRecursion}
 use Rattle.std.proofs.lemmas.Bool.{eqb-true, eqb-false}
 use Rattle.std.proofs.lemmas.List.Sorted.{list_any-IsPermutation, IsPermutation-reverse}
-use Rattle.tables.specs.declared.table_change.TableChange.{TableChange}
+use Rattle.tables.specs.declared.change.Change.{Change}
 use Rattle.txlog.specs.declared.savepoint.Savepoint.{Savepoint}
 use Rattle.txlog.specs.declared.record.Record.{Record}
 use Rattle.txlog.specs.declared.record.Body.{Body}
@@ -146,7 +146,7 @@ others s log xid step o both other =
 
 -- CALLS
 
-pub marked-changed : (s : PublisherState) (xid : ℕ) (change : TableChange) → IsPublisher s → AllByRecursion (IsMarked s.log) s.live → is_live xid s.live ≡ true →
+pub marked-changed : (s : PublisherState) (xid : ℕ) (change : Change) → IsPublisher s → AllByRecursion (IsMarked s.log) s.live → is_live xid s.live ≡ true →
     AllByRecursion (IsMarked (changed xid change s).log) s.live
 marked-changed s xid change h marked is =
     let savepoints : List Savepoint = savepoints_of xid s.live in

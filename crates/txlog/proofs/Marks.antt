@@ -1,7 +1,7 @@
 -- Lists parted by a mark: pushed to, filtered, and rolled back to it.
 use Rattle.std.proofs.Common.{◌≡◌, ℕ, zero, suc, Bool, true, false, cond, not, List, [], ◌∷◌, ◌++◌, map, refl, sym, ap, subst, ◌∙◌, eq-eqb}
 use Rattle.std.specs.List.{filter, AllByRecursion}
-use Rattle.tables.specs.declared.table_change.TableChange.{TableChange}
+use Rattle.tables.specs.declared.change.Change.{Change}
 use Rattle.tables.specs.History.{Made, made, is_top, rolled_back, count_of}
 use Rattle.txlog.specs.Log.{Entry}
 use Rattle.txlog.specs.Invariants.{IsBehind}
@@ -85,7 +85,7 @@ undone_all t made_of own es tells = undone_behind t made_of own own zero es tell
     all_own (e ∷ es) = (refl, all_own es)
 
 -- the last change undone
-pub rolled_last : (t : ℕ) (c : TableChange) (h : List Made) → rolled_back t (count_of t h) (h ++ made t c ∷ []) ≡ h
+pub rolled_last : (t : ℕ) (c : Change) (h : List Made) → rolled_back t (count_of t h) (h ++ made t c ∷ []) ≡ h
 rolled_last t c [] = rw (eq-eqb t t refl) refl
 rolled_last t c (m ∷ h) = by_test (is_top t m.top) refl (count_of t h) (rolled_last t c h)
   where

@@ -3,8 +3,8 @@ use Rattle.std.proofs.Common.{◌≡◌, ℕ, pos, true, false, List, [], ◌∷
 use Rattle.std.specs.Prelude.{codes}
 use Rattle.frames.specs.Fields.{int16, int32, int64}
 use Rattle.tables.specs.declared.value.Value.TheVariants as values
-use Rattle.tables.specs.declared.table_change.TableChange.{TableChange}
-use Rattle.tables.specs.declared.table_change.TableChange.TheVariants as changes
+use Rattle.tables.specs.declared.change.Change.{Change}
+use Rattle.tables.specs.declared.change.Change.TheVariants as changes
 use Rattle.tables.specs.Rows.{Key}
 use Rattle.tables.specs.Tables.{builtin_tables}
 use Rattle.txlog.specs.declared.record.Record.{Record}
@@ -16,22 +16,22 @@ use Rattle.txlog.specs.Log.{Entry, Transaction, IsWellFormedLog, committed}
 use Rattle.txlog.proofs.LiveChanges.{live_changes}
 
 -- inserts into public.item of a row with this id, name and quantity
-abbrev insert : ℕ → List ℕ → ℕ → TableChange
+abbrev insert : ℕ → List ℕ → ℕ → Change
 insert id name qty = changes.Insert 16384 (values.Int4 (pos id) ∷ values.Text name ∷ values.Int8 (pos qty) ∷ [])
 
-abbrev first : TableChange
+abbrev first : Change
 first = insert 1 (codes "a") 1
 
-abbrev second : TableChange
+abbrev second : Change
 second = insert 2 (codes "b") 2
 
-abbrev third : TableChange
+abbrev third : Change
 third = insert 3 (codes "c") 3
 
 abbrev at : ℕ → ℕ → Body → Record
 at start end body = record { start = start; end = end; body = body }
 
-abbrev entry : ℕ → ℕ → TableChange → Entry
+abbrev entry : ℕ → ℕ → Change → Entry
 entry position xid change = record { position = position; xid = xid; change = change }
 
 -- Two transactions that take turns; the second commits first.

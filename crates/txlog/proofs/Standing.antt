@@ -4,7 +4,7 @@ use Rattle.std.specs.List.{filter, list_any, AllByRecursion}
 use Rattle.std.proofs.lemmas.List.{append-nil}
 use Rattle.std.proofs.lemmas.List.Elements.{filter-append}
 use Rattle.std.proofs.lemmas.List.Folds.{list_any-append}
-use Rattle.tables.specs.declared.table_change.TableChange.{TableChange}
+use Rattle.tables.specs.declared.change.Change.{Change}
 use Rattle.txlog.specs.declared.record.Record.{Record}
 use Rattle.txlog.specs.declared.record.Body.{Body}
 use Rattle.txlog.specs.declared.record.Body.TheVariants.{Assign, Change as Changed, AbortSub, Abort, Commit}
@@ -130,7 +130,7 @@ standing-undo log start end s = undone (record { start = start; end = end; body 
         ∙ test_undone (is_dropped log e.xid) (is_aborted log (top_of log e.xid)) (is_under log s e) (no_xid (top_of log e.xid)) refl)
 
 -- A change of an open xid stands.
-pub standing-change : (log : List Record) (start end x : ℕ) (c : TableChange) → has_ended log (top_of log x) ≡ false → is_dropped log x ≡ false →
+pub standing-change : (log : List Record) (start end x : ℕ) (c : Change) → has_ended log (top_of log x) ≡ false → is_dropped log x ≡ false →
     standing (log ++ record { start = start; end = end; body = Changed x c } ∷ []) ≡ standing log ++ record { position = start; xid = x; change = c } ∷ []
 standing-change log start end x c running undropped =
     changed (record { start = start; end = end; body = Changed x c }) (record { position = start; xid = x; change = c }) (λ above y. refl) (λ y. refl) (λ y. refl) refl refl

@@ -5,8 +5,8 @@ use Rattle.std.specs.Int.{w64}
 use Rattle.std.specs.List.{list_any, AllByRecursion}
 use Rattle.std.proofs.lemmas.Bool.{ne_eqb}
 use Rattle.tables.specs.declared.table.Table.{Table}
-use Rattle.tables.specs.declared.table_change.TableChange.{TableChange}
-use Rattle.tables.specs.Tables.{FitsTableChange}
+use Rattle.tables.specs.declared.change.Change.{Change}
+use Rattle.tables.specs.Tables.{FitsChange}
 use Rattle.txlog.specs.declared.limits.TheConstants.{MAX_LIVE, MAX_DEPTH, MAX_RECORDS}
 use Rattle.txlog.specs.declared.record.TheConstants.{FIRST_POSITION, FIRST_XID}
 use Rattle.txlog.specs.declared.savepoint.Savepoint.{Savepoint}
@@ -167,8 +167,8 @@ all_quiet body quiet (x ∷ xs) = (quiet x, all_quiet body quiet xs)
 innermost_below : (s : PublisherState) (xid : ℕ) → IsPublisher s → is_live xid s.live ≡ true → innermost xid s.live < s.next_xid
 innermost_below s xid h is = all_innermost (λ x. x < s.next_xid) xid (xids (savepoints_of xid s.live)) (open_at s xid h is).below
 
-pub changed-IsPublisher : (s : PublisherState) (xid : ℕ) (change : TableChange) → IsPublisher s → is_live xid s.live ≡ true → 0 < room s →
-    FitsTableChange s.tables change → size_of (Changed (innermost xid s.live) change) ≤ 2 ^ 14 → IsPublisher (changed xid change s)
+pub changed-IsPublisher : (s : PublisherState) (xid : ℕ) (change : Change) → IsPublisher s → is_live xid s.live ≡ true → 0 < room s →
+    FitsChange s.tables change → size_of (Changed (innermost xid s.live) change) ≤ 2 ^ 14 → IsPublisher (changed xid change s)
 changed-IsPublisher s xid change h is free fits small =
     let body : Body = Changed (innermost xid s.live) change in
     let r : Record = record_after s.log (Changed (innermost xid s.live) change) in

@@ -6,9 +6,9 @@ use Rattle.std.specs.Prelude.{◌≡◌, ℕ, ◌+◌, ◌*◌, ◌/◌, ◌^◌
 use Rattle.std.specs.List.{list_any, flat_map, AllByRecursion}
 use Rattle.std.specs.Int.{w64}
 use Rattle.tables.specs.declared.table.Table.{Table}
-use Rattle.tables.specs.declared.table_change.TableChange.{TableChange}
-use Rattle.tables.specs.TableSpelling.{change_length}
-use Rattle.tables.specs.Tables.{FitsTableChange}
+use Rattle.tables.specs.declared.change.Change.{Change}
+use Rattle.tables.specs.Spelling.{body_length}
+use Rattle.tables.specs.Tables.{FitsChange}
 use Rattle.txlog.specs.declared.record.TheConstants.{FIRST_POSITION}
 use Rattle.txlog.specs.declared.record.Record.{Record}
 use Rattle.txlog.specs.declared.record.Body.{Body}
@@ -19,7 +19,7 @@ use Rattle.txlog.specs.declared.record.Body.TheVariants.{Assign, Change as Chang
 -- the bytes of a record's payload: xids have 4, a time has 8
 abbrev pub payload_length : Body → ℕ
 payload_length (Assign sub parent) = 8
-payload_length (Changed xid change) = 4 + change_length change
+payload_length (Changed xid change) = 4 + body_length change
 payload_length (AbortSub xid) = 4
 payload_length (Abort xid) = 4
 payload_length (Commit xid time) = 12
@@ -116,7 +116,7 @@ has_ended log x = list_any (λ r. ends x r.body) log
 pub record Entry : Type 0 where
   pub position : ℕ
   pub xid : ℕ
-  pub change : TableChange
+  pub change : Change
 
 abbrev pub entry_at : ℕ → Body → List Entry
 entry_at start (Changed xid change) = record { position = start; xid = xid; change = change } ∷ []
@@ -198,7 +198,7 @@ pub record IsWellFormedLog (log : List Record) : Type 0 where
 -- xids are of 32 bits, times are signed and of 64 bits, changes fit the tables
 abbrev pub FitsBody : List Table → Body → Type 0
 FitsBody tables (Assign sub parent) = (sub < 2 ^ 32) × (parent < 2 ^ 32)
-FitsBody tables (Changed xid change) = (xid < 2 ^ 32) × FitsTableChange tables change
+FitsBody tables (Changed xid change) = (xid < 2 ^ 32) × FitsChange tables change
 FitsBody tables (AbortSub xid) = xid < 2 ^ 32
 FitsBody tables (Abort xid) = xid < 2 ^ 32
 FitsBody tables (Commit xid time) = (xid < 2 ^ 32) × FitsSigned w64 time

@@ -8,9 +8,9 @@ use Rattle.tables.specs.declared.store_fault.StoreFault.{StoreFault}
 use Rattle.tables.specs.declared.store_fault.StoreFault.TheVariants as store_faults
 use Rattle.tables.specs.declared.value.Value.{Value}
 use Rattle.tables.specs.declared.table.Table.{Table}
-use Rattle.tables.specs.declared.table_change.TableChange.{TableChange}
-use Rattle.tables.specs.declared.table_change.TableChange.TheVariants as changes
-use Rattle.tables.specs.declared.table_body.TheConstants.{MAX_TRUNCATED}
+use Rattle.tables.specs.declared.change.Change.{Change}
+use Rattle.tables.specs.declared.change.Change.TheVariants as changes
+use Rattle.tables.specs.declared.change_body.TheConstants.{MAX_TRUNCATED}
 use Rattle.tables.specs.Spelling.{row_length}
 use Rattle.tables.specs.Rows.{Key}
 use Rattle.tables.specs.History as history
@@ -90,7 +90,7 @@ abbrev pub begun : PublisherState → PublisherState
 begun s = record s { next_xid = s.next_xid + 1; live = s.live ++ record { xid = s.next_xid; savepoints = [] } ∷ [] }
 
 -- a change carries the xid of the innermost open subtransaction
-abbrev pub changed : ℕ → TableChange → PublisherState → PublisherState
+abbrev pub changed : ℕ → Change → PublisherState → PublisherState
 changed xid change s = with_record (Changed (innermost xid s.live) change) s
 
 -- the row with this key is taken for another, or taken away; the change holds the row that was there
@@ -159,7 +159,7 @@ live_refusal xid s other = if is_live xid s.live then other else Some faults.NoT
 abbrev pub is_short_row : List Value → Bool
 is_short_row row = nat_le (row_length row) MAX_ROW_LENGTH
 
-abbrev pub fits_record : TableChange → Bool
+abbrev pub fits_record : Change → Bool
 fits_record (changes.Insert oid row) = is_short_row row
 fits_record (changes.Update oid old row) = is_short_row old && is_short_row row
 fits_record (changes.Delete oid old) = is_short_row old

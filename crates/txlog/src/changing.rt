@@ -3,7 +3,7 @@
 ghost use Rattle.std.specs.Prelude.{◌≡◌, ◌+◌, ◌∷◌, ◌++◌, [], ◌<◌, ◌^◌, IfErr, IfOk, List, OnErr, OnOk, false, true};
 ghost use Rattle.tables.specs.History.{Made, count_of, rolled_back};
 ghost use Rattle.tables.specs.Keeping.{Keeps};
-ghost use Rattle.tables.specs.TableSpelling.{IsShortChange};
+ghost use Rattle.tables.specs.Spelling.{IsShort};
 ghost use Rattle.txlog.specs.Invariants.{IsPublisher};
 ghost use Rattle.txlog.specs.Log.{end_of};
 ghost use Rattle.txlog.specs.Publishing.{RefusedOrMemory, changed, deleted, delete_refusal, fault_at, innermost, insert_refusal, is_live, record_after, room, truncate_refusal, update_refusal, updated};
@@ -16,7 +16,7 @@ use crate::logged::LoggedChange;
 use crate::publisher::Publisher;
 use crate::record::Body;
 use crate::tx::Tx;
-use tables::{Row, Store, StoreFault, TableChange};
+use tables::{Row, Store, StoreFault, Change};
 
 /// A change that is about to be made: its transaction, the innermost open subtransaction, how many changes of the transaction
 /// stand before it, and the room of the log.
@@ -31,7 +31,7 @@ struct Changing {
 impl Publisher {
     /// Inserts a row. S14, S1, S2, S6, S5, S3, S7, S11 in this order.
     pub fn insert(&mut self, tx: &mut Tx, oid: u32, row: Row) -> Result<(), SessionFault>
-        ensures ok { OnOk result (self.new ≡ changed tx.old (TableChange.Insert oid row) self.old) }
+        ensures ok { OnOk result (self.new ≡ changed tx.old (Change.Insert oid row) self.old) }
         ensures err { OnErr result (self.new ≡ self.old) }
         ensures refused { RefusedOrMemory (insert_refusal tx.old oid row self.old) result }
         ensures tx { tx.new ≡ tx.old }
@@ -77,7 +77,7 @@ impl Publisher {
 
     /// Empties tables, and holds them. S14, S1, S2, S6, S5, S7, S11 in this order.
     pub fn truncate(&mut self, tx: &mut Tx, oids: &[u32]) -> Result<(), SessionFault>
-        ensures ok { OnOk result (self.new ≡ changed tx.old (TableChange.Truncate oids.now) self.old) }
+        ensures ok { OnOk result (self.new ≡ changed tx.old (Change.Truncate oids.now) self.old) }
         ensures err { OnErr result (self.new ≡ self.old) }
         ensures refused { RefusedOrMemory (truncate_refusal tx.old oids.now self.old) result }
         ensures tx { tx.new ≡ tx.old }
@@ -116,9 +116,9 @@ fn write(
     store: &mut Store,
     log: &mut Log,
     at: Changing,
-    change: TableChange,
+    change: Change,
 ) -> Result<(), SessionFault>
-    requires short { IsShortChange change }
+    requires short { IsShort change }
     requires fits { end_of FIRST_POSITION log.old + 2 ^ 14 < 2 ^ 64 }
     ensures ok { OnOk result ((log.new ≡ log.old ++ record_after log.old (Body.Change at.innermost change) ∷ []) × (store.new ≡ store.old)) }
     ensures room { OnOk result (0 < at.room) }

@@ -1,36 +1,36 @@
 //! A change that a record can hold.
 
 ghost use Rattle.std.specs.Prelude.{◌≡◌, ◌≤◌, Some, None, true, if◌then◌else◌};
-ghost use Rattle.tables.specs.declared.body.TheConstants.{MAX_BODY_LENGTH};
-ghost use Rattle.tables.specs.TableSpelling.{IsShortChange, change_length};
+ghost use Rattle.tables.specs.declared.change_body.TheConstants.{MAX_BODY_LENGTH};
+ghost use Rattle.tables.specs.Spelling.{IsShort, body_length};
 ghost use Rattle.txlog.specs.Publishing.{fits_record};
 
 use std::marker::Model;
-use tables::{MAX_TRUNCATED, TableChange, table_change_len};
+use tables::{MAX_TRUNCATED, Change, body_len};
 
 /// A change whose rows are at most 8,000 bytes long, and which truncates at most 256 tables, so that its body is of at most
 /// 16,005 bytes. Contracts see the change.
 #[derive(Debug, Drop, PartialEq)]
 pub struct LoggedChange {
-    change: TableChange,
+    change: Change,
 }
 
 impl Model for LoggedChange {
-    ghost use Rattle.tables.specs.declared.table_change.TableChange.{TableChange as Held};
-    ghost use Rattle.tables.specs.TableSpelling.{IsShortChange};
+    ghost use Rattle.tables.specs.declared.change.Change.{Change as Held};
+    ghost use Rattle.tables.specs.Spelling.{IsShort};
 
     ghost Value = { Held };
 
     ghost view = { λ l. l.change };
 
-    ghost invariant = { λ l. IsShortChange l.change };
+    ghost invariant = { λ l. IsShort l.change };
 
     ghost inverse = { λ change. record { change = change } };
 }
 
 impl LoggedChange {
     /// The change, unless one of its rows is too long, or its tables are too many.
-    pub fn new(change: TableChange) -> Option<Self>
+    pub fn new(change: Change) -> Option<Self>
         ensures { result ≡ (if fits_record change then Some change else None) }
     {
         if is_short(&change) {
@@ -41,38 +41,38 @@ impl LoggedChange {
     }
 
     /// A change that is known to be short.
-    pub(crate) fn of(change: TableChange) -> Self
-        requires { IsShortChange change }
+    pub(crate) fn of(change: Change) -> Self
+        requires { IsShort change }
         ensures { result ≡ change }
     {
         LoggedChange { change }
     }
 
-    pub fn change(&self) -> &TableChange
+    pub fn change(&self) -> &Change
         ensures value { result.now ≡ self.now }
-        ensures short { IsShortChange result.now }
+        ensures short { IsShort result.now }
     {
         &self.change
     }
 
     /// The length of its body in bytes.
     pub fn body_len(&self) -> usize
-        ensures value { result ≡ change_length self.now }
+        ensures value { result ≡ body_length self.now }
         ensures bounded { result ≤ MAX_BODY_LENGTH }
     {
-        table_change_len(&self.change)
+        body_len(&self.change)
     }
 }
 
 /// Whether a record can hold the change.
-fn is_short(change: &TableChange) -> bool
+fn is_short(change: &Change) -> bool
     ensures value { result ≡ fits_record change.now }
-    ensures short { result ≡ true → IsShortChange change.now }
+    ensures short { result ≡ true → IsShort change.now }
 {
     match change {
-        TableChange::Insert(_, row) => row.coded_len().is_some(),
-        TableChange::Update(_, old, row) => old.coded_len().is_some() && row.coded_len().is_some(),
-        TableChange::Delete(_, old) => old.coded_len().is_some(),
-        TableChange::Truncate(oids) => oids.len() <= MAX_TRUNCATED,
+        Change::Insert(_, row) => row.coded_len().is_some(),
+        Change::Update(_, old, row) => old.coded_len().is_some() && row.coded_len().is_some(),
+        Change::Delete(_, old) => old.coded_len().is_some(),
+        Change::Truncate(oids) => oids.len() <= MAX_TRUNCATED,
     }
 }

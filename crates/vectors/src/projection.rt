@@ -7,7 +7,7 @@ use anyhow::{Context, Result};
 use frames::Text;
 use publication::{Projected, PubFault, Publications, Selection};
 use std::alloc::Global;
-use tables::{Catalog, TableChange, read_table_change};
+use tables::{Catalog, Change, read_body};
 
 /// The tables public.item, public.tag and public.note, one of each identity.
 const TABLES: &str = "\
@@ -36,14 +36,14 @@ columns = [['id', 'int8'], ['m', 'text']]
 /// The sample is names of publications, joined by commas, and the body of a change.
 pub fn change_answer(alloc: Global, given: &str) -> Result<Answer> {
     let (names, body) = given.split_once(' ').context("has no change")?;
-    let change = read_table_change(alloc, Given::of(alloc, body)?.all())?;
+    let change = read_body(alloc, Given::of(alloc, body)?.all())?;
     match selection(alloc, names)? {
         Ok(selection) => projected(alloc, &selection, &change),
         Err(fault) => Ok(Answer::Fault(fault.to_string(alloc)?)),
     }
 }
 
-fn projected(alloc: Global, selection: &Selection, change: &TableChange) -> Result<Answer> {
+fn projected(alloc: Global, selection: &Selection, change: &Change) -> Result<Answer> {
     let shown = match selection.project(change)? {
         Projected::Nothing => "nothing".to_string(alloc)?,
         Projected::Message(message) => shown_message(alloc, &message)?,

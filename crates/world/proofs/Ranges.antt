@@ -6,9 +6,9 @@ use Rattle.std.specs.Int.{w64}
 use Rattle.std.proofs.lemmas.List.Concat.{flat_map-cons}
 use Rattle.pgoutput.specs.declared.logical.Logical.{Logical}
 use Rattle.tables.specs.declared.table.Table.{Table}
-use Rattle.tables.specs.declared.table_change.TableChange.{TableChange}
-use Rattle.tables.specs.declared.table_change.TableChange.TheVariants as changes
-use Rattle.tables.specs.Tables.{FitsTableChange as FitsTables}
+use Rattle.tables.specs.declared.change.Change.{Change}
+use Rattle.tables.specs.declared.change.Change.TheVariants as changes
+use Rattle.tables.specs.Tables.{FitsChange as FitsTables}
 use Rattle.txlog.specs.declared.record.Record.{Record}
 use Rattle.txlog.specs.declared.record.Body.{Body}
 use Rattle.txlog.specs.declared.record.Body.TheVariants.{Assign, Change as Changed, AbortSub, Abort, Commit}
@@ -41,7 +41,7 @@ all_map P Q f step (x ∷ xs) all = (step x all.0, all_map P Q f step xs all.1)
 abbrev FitsEntry : Entry → Type 0
 FitsEntry e = (e.position < 2 ^ 64) × AreValues e.change
 
-change_fits : (tables : List Table) (c : TableChange) → FitsTables tables c → AreValues c
+change_fits : (tables : List Table) (c : Change) → FitsTables tables c → AreValues c
 change_fits tables (changes.Insert oid row) fits = fits.in_range
 change_fits tables (changes.Update oid old row) fits = (fits.0.in_range, fits.1.in_range)
 change_fits tables (changes.Delete oid old) fits = fits.in_range
@@ -91,7 +91,7 @@ committed_fit tables s before (r ∷ rs) all_before all =
 
 -- ---- what is published
 
-published_at_fits : (selection : PublicationSet) (position : ℕ) (change : TableChange) → FitTables selection → position < 2 ^ 64 → AreValues change
+published_at_fits : (selection : PublicationSet) (position : ℕ) (change : Change) → FitTables selection → position < 2 ^ 64 → AreValues change
     → AllByRecursion (FitsChange (relation selection)) (published_at position (message selection change))
 published_at_fits selection position change tables lt in_range = by_message (message selection change) (λ m e. message_fits selection change m tables in_range e)
   where

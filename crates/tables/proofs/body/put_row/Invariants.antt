@@ -3,7 +3,7 @@ use Rattle.std.specs.List.{flat_map}
 use Rattle.tables.specs.declared.row.TheConstants.{MAX_ROW_LENGTH}
 use Rattle.frames.specs.Putting.{Extends}
 use Rattle.tables.specs.Spelling.{spell_value, spell_row}
-use Rattle.tables.proofs.body.put_row.Given as goal
+use Rattle.tables.proofs.row_body.put_row.Given as goal
 
 abbrev pub invariant-loop-value : goal.invariant-loop-value
 invariant-loop-value l = Extends l.fn.out.items l.out.items

@@ -1,6 +1,6 @@
 use Rattle.std.proofs.Common.{arith}
-use Rattle.tables.proofs.Bodies.{is_found, is_only, is_held}
-use Rattle.tables.proofs.reading.read_body.Goals as goal
+use Rattle.tables.proofs.RowBodies.{is_found, is_only, is_held}
+use Rattle.tables.proofs.row_reading.read_body.Goals as goal
 
 pub returns-clause-found : goal.returns-clause-found
 returns-clause-found c = is_found c.args.bytes.now c.whole.result (λ i. omega (arith, c.type_inv.bytes i)) c.whole.ensures.exact

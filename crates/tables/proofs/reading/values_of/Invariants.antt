@@ -3,7 +3,7 @@ use Rattle.std.specs.Prelude.{IsOk}
 use Rattle.frames.specs.Steps.{repeat_at}
 use Rattle.frames.proofs.Loop.{with_front}
 use Rattle.tables.specs.Reading.{value_at}
-use Rattle.tables.proofs.reading.values_of.Given as goal
+use Rattle.tables.proofs.row_reading.values_of.Given as goal
 
 abbrev pub invariant-loop : goal.invariant-loop
 invariant-loop l = (with_front l.values.items (repeat_at value_at (l.count - l.counter) l.cursor) ≡ repeat_at value_at l.count l.initial.cursor)

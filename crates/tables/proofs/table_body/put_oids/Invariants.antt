@@ -2,9 +2,9 @@ use Rattle.std.proofs.Common.{◌≡◌, ◌++◌, ◌∷◌, drop}
 use Rattle.std.specs.List.{flat_map}
 use Rattle.frames.specs.Fields.{int32}
 use Rattle.frames.specs.Putting.{Extends}
-use Rattle.tables.specs.declared.table_body.TheConstants.{TRUNCATE_TAG}
-use Rattle.tables.specs.TableSpelling.{spell_oids}
-use Rattle.tables.proofs.table_body.put_oids.Given as goal
+use Rattle.tables.specs.declared.change_body.TheConstants.{TRUNCATE_TAG}
+use Rattle.tables.specs.Spelling.{spell_oids}
+use Rattle.tables.proofs.change_body.put_oids.Given as goal
 
 abbrev pub invariant-loop-oid : goal.invariant-loop-oid
 invariant-loop-oid l = Extends l.fn.out.items l.out.items

@@ -2,10 +2,10 @@ use Rattle.std.proofs.Common.{refl, arith}
 use Rattle.std.proofs.lemmas.Result.{err_from_is_err_and}
 use Rattle.frames.specs.Steps.{repeat_at}
 use Rattle.frames.proofs.Loop.{goes_on, is_done}
-use Rattle.tables.specs.TableReading.{oid_at}
-use Rattle.tables.proofs.Bodies.{fails_on}
-use Rattle.tables.proofs.TableBodies.{first_read}
-use Rattle.tables.proofs.table_reading.counted.Goals as goal
+use Rattle.tables.specs.Reading.{oid_at}
+use Rattle.tables.proofs.RowBodies.{fails_on}
+use Rattle.tables.proofs.ChangeBodies.{first_read}
+use Rattle.tables.proofs.change_reading.counted.Goals as goal
 
 pub returns-in_err-oid-clause-exact : goal.returns-in_err-oid-clause-exact
 returns-in_err-oid-clause-exact c =

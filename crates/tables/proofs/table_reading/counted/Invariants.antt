@@ -2,8 +2,8 @@ use Rattle.std.proofs.Common.{◌≡◌, ◌-◌, ◌<◌}
 use Rattle.std.specs.Prelude.{IsOk}
 use Rattle.frames.specs.Steps.{repeat_at}
 use Rattle.frames.proofs.Loop.{with_front}
-use Rattle.tables.specs.TableReading.{oid_at}
-use Rattle.tables.proofs.table_reading.counted.Given as goal
+use Rattle.tables.specs.Reading.{oid_at}
+use Rattle.tables.proofs.change_reading.counted.Given as goal
 
 abbrev pub invariant-loop : goal.invariant-loop
 invariant-loop l = (with_front l.oids.items (repeat_at oid_at (l.count - l.counter) l.cursor) ≡ repeat_at oid_at l.count l.initial.cursor)

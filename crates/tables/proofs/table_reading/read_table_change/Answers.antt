@@ -1,6 +1,6 @@
 use Rattle.std.proofs.Common.{arith}
-use Rattle.tables.proofs.TableBodies.{is_found, is_held, is_only}
-use Rattle.tables.proofs.table_reading.read_table_change.Goals as goal
+use Rattle.tables.proofs.ChangeBodies.{is_found, is_held, is_only}
+use Rattle.tables.proofs.change_reading.read_body.Goals as goal
 
 pub returns-clause-found : goal.returns-clause-found
 returns-clause-found c = is_found c.args.bytes.now c.whole.result (λ i. omega (arith, c.type_inv.bytes i)) c.whole.ensures.exact

@@ -2,11 +2,11 @@ use Rattle.std.proofs.Common.{List, [], ◌∷◌, ◌++◌, None, sym, subst, �
 use Rattle.std.specs.Prelude.{IsTrue, is_some}
 use Rattle.tables.specs.Rows.{Key}
 use Rattle.tables.specs.Slots.{slot_at}
-use Rattle.tables.specs.Tables.{FitsTableChange}
+use Rattle.tables.specs.Tables.{FitsChange}
 use Rattle.tables.specs.History.{Made, made, Deletes, delete_fault, delete_refusal}
 use Rattle.tables.specs.Keeping.{Keeps, Makes, IsSame, DeletesAt, key_held, row_at}
-use Rattle.tables.specs.TableSpelling.{IsShortChange}
-use Rattle.tables.proofs.TableLengths.{short_of_fits}
+use Rattle.tables.specs.Spelling.{IsShort}
+use Rattle.tables.proofs.Lengths.{short_of_fits}
 use Rattle.tables.proofs.Outcomes.{on_err, if_ok, if_ok_both, refused_by, refused_there}
 use Rattle.tables.proofs.Storing.{keeps_same}
 use Rattle.tables.proofs.Changing.{delete_made, delete_fits, delete_is, delete_same, delete_there}
@@ -15,13 +15,13 @@ use Rattle.tables.proofs.store.Store.delete.Goals as goal
 pub returns-in-Ok-clause-fits : goal.returns-in-Ok-clause-fits
 returns-in-Ok-clause-fits c =
     let key : Key = record { oid = c.args.oid; values = c.args.key.now } in
-    if_ok c.delete_at.result (DeletesAt c.args.self.now c.args.oid c.in-Ok.place) (λ change. (h : List Made) → Keeps c.args.self.now h → FitsTableChange c.args.self.now.tables change)
+    if_ok c.delete_at.result (DeletesAt c.args.self.now c.args.oid c.in-Ok.place) (λ change. (h : List Made) → Keeps c.args.self.now h → FitsChange c.args.self.now.tables change)
     (λ change deletes h keeps. delete_fits c.args.self.now h key c.in-Ok.place change c.ranges.oid.fits c.in-Ok.ensures.place deletes keeps) c.delete_at.ensures.change
 
 pub returns-in-Ok-clause-short : goal.returns-in-Ok-clause-short
 returns-in-Ok-clause-short c =
     let key : Key = record { oid = c.args.oid; values = c.args.key.now } in
-    if_ok c.delete_at.result (DeletesAt c.args.self.now c.args.oid c.in-Ok.place) (λ change. (h : List Made) → Keeps c.args.self.now h → IsShortChange change)
+    if_ok c.delete_at.result (DeletesAt c.args.self.now c.args.oid c.in-Ok.place) (λ change. (h : List Made) → Keeps c.args.self.now h → IsShort change)
     (λ change deletes h keeps. short_of_fits c.args.self.now.tables change (delete_fits c.args.self.now h key c.in-Ok.place change c.ranges.oid.fits c.in-Ok.ensures.place deletes keeps))
     c.delete_at.ensures.change
 

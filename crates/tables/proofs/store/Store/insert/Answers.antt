@@ -1,10 +1,10 @@
 use Rattle.std.proofs.Common.{◌≡◌, subst, List, [], ◌∷◌, ◌++◌, Some, sym, ◌∙◌}
-use Rattle.tables.specs.declared.table_change.TableChange.TheVariants as changes
+use Rattle.tables.specs.declared.change.Change.TheVariants as changes
 use Rattle.tables.specs.Rows.{key_of}
 use Rattle.std.specs.Prelude.{is_some}
 use Rattle.tables.specs.History.{Made, made, insert_fault, insert_refusal}
 use Rattle.tables.specs.Keeping.{Keeps, Makes, IsSame, key_held, row_at}
-use Rattle.tables.specs.TableSpelling.{IsShortChange}
+use Rattle.tables.specs.Spelling.{IsShort}
 use Rattle.tables.proofs.Outcomes.{on_ok, on_err, if_ok, refused_by, refused_memory}
 use Rattle.tables.proofs.Storing.{keeps_same}
 use Rattle.tables.proofs.Changing.{insert_made, insert_same}
@@ -12,7 +12,7 @@ use Rattle.tables.proofs.store.Store.insert.Goals as goal
 
 pub returns-in-Ok-clause-short : goal.returns-in-Ok-clause-short
 returns-in-Ok-clause-short c =
-    if_ok c.insert_at.result (λ change. change ≡ changes.Insert c.args.oid c.args.row) IsShortChange (λ change is. subst IsShortChange (sym is) c.in-Ok.ensures.fits.short) c.insert_at.ensures.change
+    if_ok c.insert_at.result (λ change. change ≡ changes.Insert c.args.oid c.args.row) IsShort (λ change is. subst IsShort (sym is) c.in-Ok.ensures.fits.short) c.insert_at.ensures.change
 
 pub returns-in-Ok-clause-ok : goal.returns-in-Ok-clause-ok
 returns-in-Ok-clause-ok c =

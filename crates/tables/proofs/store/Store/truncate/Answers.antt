@@ -1,9 +1,9 @@
 use Rattle.std.proofs.Common.{◌≡◌, subst, sym, List, [], ◌∷◌, ◌++◌}
-use Rattle.tables.specs.declared.table_change.TableChange.TheVariants as changes
+use Rattle.tables.specs.declared.change.Change.TheVariants as changes
 use Rattle.tables.specs.History.{Made, made}
 use Rattle.tables.specs.Keeping.{Keeps, IsSame}
 use Rattle.tables.specs.Emptying.{Does}
-use Rattle.tables.specs.TableSpelling.{IsShortChange}
+use Rattle.tables.specs.Spelling.{IsShort}
 use Rattle.tables.proofs.Outcomes.{on_ok, on_err, if_ok}
 use Rattle.tables.proofs.Storing.{keeps_same}
 use Rattle.tables.proofs.Refusing.{truncate_made}
@@ -11,7 +11,7 @@ use Rattle.tables.proofs.store.Store.truncate.Goals as goal
 
 pub returns-in-Ok-clause-short : goal.returns-in-Ok-clause-short
 returns-in-Ok-clause-short c =
-    if_ok c.empty.result (λ change. change ≡ changes.Truncate c.args.oids.now) IsShortChange (λ change is. subst IsShortChange (sym is) c.in-Ok.ensures.fits.0) c.empty.ensures.change
+    if_ok c.empty.result (λ change. change ≡ changes.Truncate c.args.oids.now) IsShort (λ change is. subst IsShort (sym is) c.in-Ok.ensures.fits.0) c.empty.ensures.change
 
 pub returns-in-Ok-clause-ok : goal.returns-in-Ok-clause-ok
 returns-in-Ok-clause-ok c =
