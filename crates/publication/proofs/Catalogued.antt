@@ -9,7 +9,7 @@ use Rattle.tables.specs.declared.column.Column.{Column}
 use Rattle.tables.specs.declared.table.Table.{Table}
 use Rattle.tables.specs.Tables.{IsName, IsTable, has_no_zero}
 use Rattle.publication.specs.Selection.{FitsTable}
-use Rattle.publication.proofs.Fitting.{both_true}
+use Rattle.publication.proofs.Rows.{both_true}
 
 no_zero : (text : List ℕ) → has_no_zero text ≡ true → has_zero text ≡ false
 no_zero [] e = refl
@@ -34,7 +34,7 @@ columns_fit : (columns : List Column) → AllByRecursion (λ c. IsName c.name) c
 columns_fit [] all = tt
 columns_fit (c ∷ columns) all = let n = name_fits c.name all.0 in ((n.fits, n.short), columns_fit columns all.1)
 
-pub catalogued_fits : (t : Table) → IsTable t → FitsTable t
+catalogued_fits : (t : Table) → IsTable t → FitsTable t
 catalogued_fits t is =
     let schema = name_fits t.schema is.schema in
     let name = name_fits t.name is.name in
@@ -47,3 +47,7 @@ catalogued_fits t is =
       columns = columns_fit t.columns is.columns.0;
       count = is.columns.1;
     }
+
+pub all_fit : (tables : List Table) → AllByRecursion IsTable tables → AllByRecursion FitsTable tables
+all_fit [] all = tt
+all_fit (t ∷ tables) all = (catalogued_fits t all.0, all_fit tables all.1)

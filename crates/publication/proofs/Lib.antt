@@ -1,2 +1,6 @@
 pub mod Catalogued
+pub mod Filtering
 pub mod Fitting
+pub mod Relations
+pub mod Rows
+pub mod Worked

@@ -1,3 +1,4 @@
-pub mod Selection
-pub mod Projection
 pub mod Publications
+pub mod Selection
+pub mod Tuples
+pub mod Projection

@@ -1,60 +1,121 @@
--- The message of a change: an insert into a selected table is an Insert of the row's values as texts. What doesn't fit the
--- catalogue has no message. Inserts alone are published so far.
-use Rattle.std.specs.Prelude.{◌&&◌, Bool, List, map, codes, nat_le, Option, Some, None, IsSome, if◌then◌else◌}
-use Rattle.std.specs.Fmt.{signed_decimal}
+-- The message of a change, or none (PostgreSQL 15, 31.1 and 55.9). The publications of a selection are of whole tables so far: each
+-- publishes every operation, and lets every row pass.
+use Rattle.std.specs.Prelude.{◌&&◌, ◌==◌, ℕ, Bool, true, false, not, List, [], length, filter, nat_le, is_some, Option, Some, None, IsSome, option_map, option_and_then, if◌then◌else◌}
+use Rattle.std.specs.List.{list_all, AllByRecursion}
 use Rattle.pgoutput.specs.declared.logical.Logical.{Logical}
 use Rattle.pgoutput.specs.declared.logical.Logical.TheVariants as logical
-use Rattle.pgoutput.specs.declared.tuple.Cell.{Cell}
-use Rattle.pgoutput.specs.declared.tuple.Cell.TheVariants as cells
+use Rattle.pgoutput.specs.Logical.{FitsLogical}
 use Rattle.tables.specs.declared.row.TheConstants.{MAX_ROW_LENGTH}
+use Rattle.tables.specs.declared.change_body.TheConstants.{MAX_TRUNCATED}
 use Rattle.tables.specs.declared.value.Value.{Value}
-use Rattle.tables.specs.declared.value.Value.TheVariants as values
 use Rattle.tables.specs.declared.table.Table.{Table}
 use Rattle.tables.specs.declared.change.Change.{Change}
 use Rattle.tables.specs.declared.change.Change.TheVariants as changes
 use Rattle.tables.specs.Spelling.{row_length}
-use Rattle.tables.specs.Tables.{table_of, fits_table}
-use Rattle.std.specs.List.{AllByRecursion}
-use Rattle.pgoutput.specs.Logical.{FitsLogical}
+use Rattle.tables.specs.History.{repeats}
+use Rattle.tables.specs.Tables.{table_of, fits_table, IsValue}
 use Rattle.stream.specs.Items.{tables_of, IsShortMessage, IsOfChange, FitsRelationOf}
-use Rattle.publication.specs.Selection.{relation}
+use Rattle.publication.specs.Publications.{PublicationSet}
+use Rattle.publication.specs.Selection.{has_table, selected_table, relation}
+use Rattle.publication.specs.Tuples.{tuple_of, old_by, replaced_by}
 use Rattle.publication.specs.declared.projection.Projected.{Projected}
 use Rattle.publication.specs.declared.projection.Projected.TheVariants.{Nothing, Message}
 
--- bool is t or f, an integer its decimal digits, a text its bytes
-abbrev pub cell_of : Value → Cell
-cell_of values.Null = cells.Null
-cell_of (values.Bool b) = cells.Text (if b then codes "t" else codes "f")
-cell_of (values.Int4 n) = cells.Text (signed_decimal n)
-cell_of (values.Int8 n) = cells.Text (signed_decimal n)
-cell_of (values.Text text) = cells.Text text
+-- ---- What passes.
 
--- whether the row may stand in the table
+-- what a session does to rows or tables
+pub data Operation : Type 0 where
+  Insert : Operation
+  Update : Operation
+  Delete : Operation
+  Truncate : Operation
+
+-- whether some publication of the selection publishes the operation for the table
+abbrev pub is_published : PublicationSet → Operation → ℕ → Bool
+is_published s operation oid = has_table s oid
+
+-- whether a row of the table passes for the operation
+abbrev pub passes : PublicationSet → Operation → ℕ → List Value → Bool
+passes s operation oid row = is_published s operation oid
+
+-- ---- What fits the catalogue: the table, the rows and the list of a change are none that S1, S2 or S6 refuses.
+
 abbrev pub stands_in : Table → List Value → Bool
 stands_in table row = fits_table table row && nat_le (row_length row) MAX_ROW_LENGTH
 
-abbrev pub inserted_in : Option Table → List Value → Option Logical
-inserted_in None row = None
-inserted_in (Some table) row =
-    if stands_in table row then Some (logical.Insert (record { oid = table.oid; new = map cell_of row })) else None
+abbrev pub stands : Option Table → List Value → Bool
+stands None row = false
+stands (Some table) row = stands_in table row
 
-abbrev pub message : List Table → Change → Option Logical
-message selection (changes.Insert oid row) = inserted_in (table_of oid selection) row
-message selection change = None
+abbrev pub may_be_emptied : List Table → List ℕ → Bool
+may_be_emptied tables oids =
+    list_all (λ oid. is_some (table_of oid tables)) oids && (not (length oids == 0) && (not (repeats oids) && nat_le (length oids) MAX_TRUNCATED))
+
+abbrev pub fits_catalogue : List Table → Change → Bool
+fits_catalogue tables (changes.Insert oid row) = stands (table_of oid tables) row
+fits_catalogue tables (changes.Update oid old new) = stands (table_of oid tables) old && stands (table_of oid tables) new
+fits_catalogue tables (changes.Delete oid old) = stands (table_of oid tables) old
+fits_catalogue tables (changes.Truncate oids) = may_be_emptied tables oids
+
+-- ---- Messages.
+
+abbrev pub insert_message : List Value → Table → Logical
+insert_message row t = logical.Insert (record { oid = t.oid; new = tuple_of row })
+
+abbrev pub update_message : (old new : List Value) → Table → Logical
+update_message old new t = logical.Update (record { oid = t.oid; old = replaced_by t.identity t old new; new = tuple_of new })
+
+-- without an identity nothing can be told of a row that is gone
+abbrev pub delete_message : List Value → Table → Option Logical
+delete_message old t = option_map (λ o. logical.Delete (record { oid = t.oid; old = o })) (old_by t.identity t old)
+
+abbrev pub truncate_message : List ℕ → Option Logical
+truncate_message [] = None
+truncate_message oids = Some (logical.Truncate (record { options = record { cascade = false; restart_identity = false }; oids = oids }))
+
+-- An update of a row that passed and passes still is one; else a row has come, or gone, for whoever reads what passes.
+abbrev pub updated : (old_passes new_passes : Bool) → Option Table → (old new : List Value) → Option Logical
+updated true true t old new = option_map (update_message old new) t
+updated false true t old new = option_map (insert_message new) t
+updated true false t old new = option_and_then (delete_message old) t
+updated false false t old new = None
+
+-- the message of a change that fits the catalogue
+abbrev pub message_by : PublicationSet → Change → Option Logical
+message_by s (changes.Insert oid row) = if passes s Insert oid row then option_map (insert_message row) (table_of oid s.tables) else None
+message_by s (changes.Update oid old new) = updated (passes s Update oid old) (passes s Update oid new) (table_of oid s.tables) old new
+message_by s (changes.Delete oid old) = if passes s Delete oid old then option_and_then (delete_message old) (table_of oid s.tables) else None
+message_by s (changes.Truncate oids) = truncate_message (filter (is_published s Truncate) oids)
+
+abbrev pub only_if : Option Logical → Bool → Option Logical
+only_if None fits = None
+only_if (Some m) fits = if fits then Some m else None
+
+abbrev pub message : PublicationSet → Change → Option Logical
+message s change = only_if (message_by s change) (fits_catalogue s.tables change)
 
 abbrev pub projected : Option Logical → Projected
 projected None = Nothing
 projected (Some m) = Message m
 
--- What the stream asks of the message of a change: the selection has the tables that it names; it fits its fields and a frame, and so do the Relations of the tables that
--- it names, with as many columns as its tuples have cells.
-pub record MessageFits (selection : List Table) (m : Logical) : Type 0 where
-  pub known : AllByRecursion (λ oid. IsSome (table_of oid selection)) (tables_of m)
-  pub of_change : IsOfChange (relation selection) m
+-- the values in the rows of a change are those of Rust
+abbrev pub AreValues : Change → Type 0
+AreValues (changes.Insert oid row) = AllByRecursion IsValue row
+AreValues (changes.Update oid old new) = AllByRecursion IsValue old × AllByRecursion IsValue new
+AreValues (changes.Delete oid old) = AllByRecursion IsValue old
+AreValues (changes.Truncate oids) = Unit {0}
+
+-- ---- What the stream asks of the message of a change.
+
+-- The selection has the tables that it names; it fits its fields and a frame, and so do the Relations of the tables that it names, with as many columns as its tuples have
+-- cells.
+pub record MessageFits (s : PublicationSet) (m : Logical) : Type 0 where
+  pub known : AllByRecursion (λ oid. IsSome (selected_table s oid)) (tables_of m)
+  pub of_change : IsOfChange (relation s) m
   pub fits : FitsLogical m
   pub short : IsShortMessage m
-  pub relations : AllByRecursion (FitsRelationOf (relation selection)) (tables_of m)
+  pub relations : AllByRecursion (FitsRelationOf (relation s)) (tables_of m)
 
-abbrev pub FitsProjected : List Table → Projected → Type 0
-FitsProjected selection Nothing = Unit {0}
-FitsProjected selection (Message m) = MessageFits selection m
+abbrev pub FitsProjected : PublicationSet → Projected → Type 0
+FitsProjected s Nothing = Unit {0}
+FitsProjected s (Message m) = MessageFits s m

@@ -1,6 +1,6 @@
--- What a selection says of its tables: the Relation of each (PostgreSQL 15, 55.9).
-use Rattle.std.specs.Prelude.{ℕ, ◌<◌, ◌≤◌, ◌^◌, Bool, true, false, List, [], map, length, Option, Some, None}
-use Rattle.std.specs.List.{AllByRecursion}
+-- The tables of a selection, and what it says of each: its Relation (PostgreSQL 15, 55.9).
+use Rattle.std.specs.Prelude.{ℕ, ◌<◌, ◌≤◌, ◌^◌, Bool, true, false, List, [], map, filter, length, Option, Some, None, if◌then◌else◌}
+use Rattle.std.specs.List.{list_any, AllByRecursion}
 use Rattle.pgoutput.specs.declared.relation.Relation.{Relation}
 use Rattle.pgoutput.specs.declared.relation.Column.{Column as ToldColumn}
 use Rattle.pgoutput.specs.declared.relation.Identity.{Identity as ToldIdentity}
@@ -14,6 +14,19 @@ use Rattle.tables.specs.declared.column.Column.{Column}
 use Rattle.tables.specs.declared.table.Table.{Table}
 use Rattle.tables.specs.Tables.{table_of}
 use Rattle.publication.specs.declared.relation.TheConstants.{BOOL_OID, INT4_OID, INT8_OID, TEXT_OID, NO_MODIFIER}
+use Rattle.publication.specs.Publications.{PublicationSet, has}
+
+-- whether some publication of the selection has the table of this OID
+abbrev pub has_table : PublicationSet → ℕ → Bool
+has_table s oid = list_any (has oid) s.publications
+
+-- the table of this OID, if the selection has it
+abbrev pub selected_table : PublicationSet → ℕ → Option Table
+selected_table s oid = if has_table s oid then table_of oid s.tables else None
+
+-- the tables of the selection, in the order of the catalogue
+abbrev pub selected_oids : PublicationSet → List ℕ
+selected_oids s = filter (has_table s) (map (λ t. t.oid) s.tables)
 
 abbrev pub type_oid : Kind → ℕ
 type_oid kinds.Bool = BOOL_OID
@@ -48,8 +61,8 @@ relation_in oid None = no_relation oid
 relation_in oid (Some table) = relation_of table
 
 -- the Relation of the table of each OID
-abbrev pub relation : List Table → ℕ → Relation
-relation selection oid = relation_in oid (table_of oid selection)
+abbrev pub relation : PublicationSet → ℕ → Relation
+relation s oid = relation_in oid (selected_table s oid)
 
 -- a table whose Relation fits its fields
 pub record FitsTable (t : Table) : Type 0 where
@@ -60,3 +73,6 @@ pub record FitsTable (t : Table) : Type 0 where
   pub name_length : length t.name ≤ 63
   pub columns : AllByRecursion (λ c. FitsName c.name × (length c.name ≤ 63)) t.columns
   pub count : length t.columns ≤ 64
+
+abbrev pub FitTables : PublicationSet → Type 0
+FitTables s = AllByRecursion FitsTable s.tables

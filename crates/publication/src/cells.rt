@@ -1,16 +1,18 @@
-//! The values of a row as the texts of a tuple.
+//! The values of a row as the texts of a tuple, and the tuples of old rows.
 
-ghost use Rattle.std.specs.Prelude.{◌≡◌, ◌++◌, IfOk, map, codes, Ok};
-ghost use Rattle.publication.specs.Projection.{cell_of};
+ghost use Rattle.std.specs.Prelude.{◌≡◌, ◌++◌, ◌&&◌, not, IfOk, length, codes, if◌then◌else◌};
+ghost use Rattle.std.specs.List.{list_any, zip};
+ghost use Rattle.pgoutput.specs.declared.tuple.Cell.TheVariants as cells;
+ghost use Rattle.publication.specs.Tuples.{cell_of, changes_key, key_tuple_of, old_by, replaced_by, same_value, tuple_of};
 
 use frames::{Items, Text};
-use pgoutput::Cell;
+use pgoutput::{Cell, OldTuple};
 use std::alloc::{AllocError, Global};
-use tables::Value;
+use tables::{Column, Identity, Row, Table, Value};
 
 /// The tuple of a row: bool is `t` or `f`, an integer its decimal digits, a text its bytes.
 pub(crate) fn tuple_of(alloc: Global, row: &[Value]) -> Result<Items<Cell>, AllocError>
-    ensures { IfOk result (λ cells. cells ≡ map cell_of row.now) }
+    ensures { IfOk result (λ cells. cells ≡ tuple_of row.now) }
 {
     let mut cells = Vec::with_capacity(alloc, row.len())?;
     for value in row {
@@ -30,4 +32,83 @@ fn cell(alloc: Global, value: &Value) -> Result<Cell, AllocError>
         Value::Int8(n) => Cell::Text(Text::new(n.to_string(alloc)?)),
         Value::Text(text) => Cell::Text(text.copy(alloc)?),
     })
+}
+
+/// What is sent of a row that is gone: its key, the whole of it, or nothing, by the table's identity.
+pub(crate) fn old_of(
+    alloc: Global,
+    table: &Table,
+    old: &Row,
+) -> Result<Option<OldTuple>, AllocError>
+    requires { length table.now.columns ≡ length old.now }
+    ensures { IfOk result (λ o. o ≡ old_by table.now.identity table.now old.now) }
+{
+    Ok(match table.identity {
+        Identity::Default => {
+            let columns = table.columns.as_slice();
+            Some(OldTuple::Key(key_tuple_of(alloc, columns, old.values())?))
+        }
+        Identity::Nothing => None,
+        Identity::Full => Some(OldTuple::Full(tuple_of(alloc, old.values())?)),
+    })
+}
+
+/// What is sent of a row beside the one that took its place: the key only where it changed.
+pub(crate) fn replaced_of(
+    alloc: Global,
+    table: &Table,
+    old: &Row,
+    new: &Row,
+) -> Result<Option<OldTuple>, AllocError>
+    requires { length table.now.columns ≡ length old.now }
+    ensures { IfOk result (λ o. o ≡ replaced_by table.now.identity table.now old.now new.now) }
+{
+    let columns = table.columns.as_slice();
+    if table.identity == Identity::Default && !changes_key(columns, old.values(), new.values()) {
+        return Ok(None);
+    }
+    old_of(alloc, table, old)
+}
+
+/// Whether a column of the primary key has one value in the one row and another one in the other.
+fn changes_key(columns: &[Column], old: &[Value], new: &[Value]) -> bool
+    ensures { result ≡ changes_key columns.now old.now new.now }
+{
+    let mut columns = columns.iter().zip(old.iter().zip(new));
+    columns.any(|(column, (old, new))| column.is_key && !is_same(old, new))
+}
+
+fn is_same(a: &Value, b: &Value) -> bool
+    ensures { result ≡ same_value a.now b.now }
+{
+    match (a, b) {
+        (Value::Null, Value::Null) => true,
+        (Value::Bool(a), Value::Bool(b)) => a == b,
+        (Value::Int4(a), Value::Int4(b)) => a == b,
+        (Value::Int8(a), Value::Int8(b)) => a == b,
+        (Value::Text(a), Value::Text(b)) => a.as_str() == b.as_str(),
+        _ => false,
+    }
+}
+
+/// The cells of the primary key, with as many cells as columns.
+fn key_tuple_of(alloc: Global, columns: &[Column], row: &[Value]) -> Result<Items<Cell>, AllocError>
+    requires { length columns.now ≡ length row.now }
+    ensures { IfOk result (λ cells. cells ≡ key_tuple_of columns.now row.now) }
+{
+    let mut cells = Vec::with_capacity(alloc, columns.len())?;
+    for (i, column) in columns.iter().enumerate() {
+        cells.push(key_cell(alloc, column, &row[i])?)?;
+    }
+    Ok(Items::new(cells))
+}
+
+/// The cell of a column of the key, null for another column.
+fn key_cell(alloc: Global, column: &Column, value: &Value) -> Result<Cell, AllocError>
+    ensures { IfOk result (λ c. c ≡ (if column.now.is_key then cell_of value.now else cells.Null)) }
+{
+    if !column.is_key {
+        return Ok(Cell::Null);
+    }
+    cell(alloc, value)
 }

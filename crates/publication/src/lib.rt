@@ -3,7 +3,9 @@
 
 mod cells;
 mod fault;
+mod messages;
 mod projection;
+mod publication;
 mod publications;
 mod relation;
 mod selection;

@@ -1,102 +1,111 @@
 //! The publications of a publisher.
 
-ghost use Rattle.std.specs.Prelude.{◌≡◌, ◌++◌, IfOk, Err, false, true, not, option_to_list};
+ghost use Rattle.std.specs.Prelude.{◌≡◌, ◌++◌, ◌∷◌, [], IfOk, Err, false, true, not, filter, drop, map, option_to_list};
 ghost use Rattle.std.specs.List.{list_any, AllByRecursion};
 ghost use Rattle.std.specs.Str.{bytes_eq};
 ghost use Rattle.publication.specs.declared.fault.PubFault.{PubFault};
 ghost use Rattle.tables.specs.Tables.{table_named};
 ghost use Rattle.publication.specs.Selection.{FitsTable};
-ghost use Rattle.publication.specs.Publications.{builtin_publication, selected, is_unknown};
+ghost use Rattle.publication.specs.Publications.{builtin_publications, publication_of, selected, is_unknown};
 
 use crate::fault::PubFault;
+use crate::publication::Publication;
 use crate::selection::Selection;
 use frames::{Items, Text};
 use std::alloc::{AllocError, Global};
 use std::marker::Model;
 use tables::{Catalog, Table};
 
-/// The name of the built-in publication.
-const BUILTIN_NAME: &str = "p";
-
-/// The table that it publishes.
-const BUILTIN_TABLE: &str = "public.item";
-
-/// The publications of a publisher: for now one, of whole tables.
+/// The publications of a publisher: for now two, each of one table whole.
 ///
 /// `builtin` makes them over a catalogue, and `select` may be called any number of times. Its P1 says that a name is no publication's, and P7
 /// is want of memory; neither changes anything.
 #[derive(Debug, Drop)]
 pub struct Publications {
     alloc: Global,
-    name: Text,
     tables: Items<Table>,
+    publications: Items<Publication>,
 }
 
 impl Model for Publications {
-    ghost use Rattle.publication.specs.Publications.{Publication};
+    ghost use Rattle.publication.specs.Publications.{PublicationSet};
     ghost use Rattle.std.specs.List.{AllByRecursion};
     ghost use Rattle.publication.specs.Selection.{FitsTable};
 
-    ghost Value = { Publication };
+    ghost Value = { PublicationSet };
 
-    ghost view = { λ p. record { name = p.name; tables = p.tables } };
+    ghost view = { λ p. record { tables = p.tables; publications = p.publications } };
 
     ghost invariant = { λ p. AllByRecursion FitsTable p.tables };
 }
 
 impl Publications {
-    /// The publication `p` of the catalogue's table public.item. Where the catalogue has no such table, `p` publishes nothing.
+    /// The publications `p` of the catalogue's table public.item, and `t` of public.tag. Where the catalogue has no such table, the
+    /// publication has none.
+    #[tactic(auto, using(crate::proofs::Catalogued::all_fit))]
     pub fn builtin(alloc: Global, catalog: &Catalog) -> Result<Self, AllocError>
-        ensures { IfOk result (λ p. p ≡ builtin_publication catalog.now) }
+        ensures { IfOk result (λ p. p ≡ builtin_publications catalog.now) }
     {
+        let publications = vec![in alloc;
+            publication_of(alloc, "p", "public.item", catalog)?,
+            publication_of(alloc, "t", "public.tag", catalog)?,
+        ]?;
         Ok(Publications {
             alloc,
-            name: Text::copy_of(alloc, BUILTIN_NAME)?,
-            tables: table_named(alloc, catalog, BUILTIN_TABLE)?,
+            tables: copies(alloc, catalog.tables())?,
+            publications: Items::new(publications),
         })
     }
 
-    /// The tables of the publications of these names. A name that no publication has is P1.
+    /// The publications of these names, each once. A name that no publication has is P1.
     pub fn select(&self, names: &[Text]) -> Result<Selection, PubFault>
         ensures ok { IfOk result (λ s. s ≡ selected self.now names.now) }
         ensures known { IfOk result (λ s. is_unknown self.now names.now ≡ false) }
         ensures unknown { result ≡ Err PubFault.Unknown → is_unknown self.now names.now ≡ true }
         ensures memory { result ≡ Err PubFault.Memory → is_unknown self.now names.now ≡ false }
     {
-        if is_other_named(names, self.name.as_str()) {
+        if self.lacks_one(names) {
             return Err(PubFault::Unknown);
         }
-        if !is_named(names, self.name.as_str()) {
-            return Ok(Selection::new(self.alloc, Items::new(Vec::new(self.alloc))));
-        }
+        let publications = named(self.alloc, self.publications.as_slice(), names)?;
         let tables = copies(self.alloc, self.tables.as_slice())?;
-        Ok(Selection::new(self.alloc, tables))
+        Ok(Selection::new(self.alloc, tables, publications)?)
+    }
+
+    /// Whether one of the names is no publication's.
+    fn lacks_one(&self, names: &[Text]) -> bool
+        ensures { result ≡ is_unknown self.now names.now }
+    {
+        names.iter().any(|name| !self.has(name))
+    }
+
+    fn has(&self, name: &Text) -> bool
+        ensures { result ≡ list_any (λ p. bytes_eq p.name name.now) self.now.publications }
+    {
+        self.publications
+            .as_slice()
+            .iter()
+            .any(|p| p.name.as_str() == name.as_str())
     }
 }
 
-/// The table of this name alone, if the catalogue has it.
-#[tactic(auto, using(crate::proofs::Catalogued::catalogued_fits))]
-fn table_named(alloc: Global, catalog: &Catalog, name: &str) -> Result<Items<Table>, AllocError>
-    ensures value { IfOk result (λ tables. tables ≡ option_to_list (table_named name.now catalog.now)) }
-    ensures fits { IfOk result (AllByRecursion FitsTable) }
+/// The publication of one table of the catalogue, or of none where it has no such table.
+fn publication_of(
+    alloc: Global,
+    name: &str,
+    table: &str,
+    catalog: &Catalog,
+) -> Result<Publication, AllocError>
+    ensures { IfOk result (λ p. p ≡ publication_of name.now table.now catalog.now) }
 {
     let mut tables = Vec::new(alloc);
-    if let Some(table) = catalog.named(name) {
-        tables.push(table.copy(alloc)?)?;
+    if let Some(table) = catalog.named(table) {
+        tables.push(table.oid)?;
     }
-    Ok(Items::new(tables))
-}
-
-fn is_named(names: &[Text], name: &str) -> bool
-    ensures { result ≡ list_any (λ n. bytes_eq n name.now) names.now }
-{
-    names.iter().any(|n| n.as_str() == name)
-}
-
-fn is_other_named(names: &[Text], name: &str) -> bool
-    ensures { result ≡ list_any (λ n. not (bytes_eq n name.now)) names.now }
-{
-    names.iter().any(|n| n.as_str() != name)
+    Ok(Publication {
+        name: Text::copy_of(alloc, name)?,
+        tables: Items::new(tables),
+    })
 }
 
 fn copies(alloc: Global, tables: &[Table]) -> Result<Items<Table>, AllocError>
@@ -107,4 +116,21 @@ fn copies(alloc: Global, tables: &[Table]) -> Result<Items<Table>, AllocError>
         copies.push(table.copy(alloc)?)?;
     }
     Ok(Items::new(copies))
+}
+
+/// Those of the publications that are named.
+fn named(
+    alloc: Global,
+    publications: &[Publication],
+    names: &[Text],
+) -> Result<Items<Publication>, AllocError>
+    ensures { IfOk result (λ ps. ps ≡ filter (λ p. list_any (λ n. bytes_eq p.name n) names.now) publications.now) }
+{
+    let mut named = Vec::new(alloc);
+    for publication in publications {
+        if publication.is_among(names) {
+            named.push(publication.copy(alloc)?)?;
+        }
+    }
+    Ok(Items::new(named))
 }

@@ -1,25 +1,29 @@
 //! What a sender was asked to publish.
 
-ghost use Rattle.std.specs.Prelude.{◌≡◌, IfOk, IfSome, option_map, true};
+ghost use Rattle.std.specs.Prelude.{◌≡◌, ◌++◌, ◌==◌, [], IfOk, IfSome, OnSome, option_map, true, filter, drop, is_some, length};
 ghost use Rattle.std.specs.Option.{option_copied};
+ghost use Rattle.std.specs.List.{AllByRecursion, list_all, list_any};
 ghost use Rattle.pgoutput.specs.declared.logical.Logical.TheVariants as logical;
-ghost use Rattle.tables.specs.Tables.{table_of, IsValue};
-ghost use Rattle.std.specs.List.{AllByRecursion};
 ghost use Rattle.pgoutput.specs.Logical.{FitsLogical};
+ghost use Rattle.tables.specs.History.{repeats};
+ghost use Rattle.tables.specs.Tables.{table_of, IsValue};
+ghost use Rattle.tables.specs.declared.change.Change.{Change};
 ghost use Rattle.stream.specs.Items.{IsShortMessage};
-ghost use Rattle.publication.specs.Selection.{relation_of, FitsTable};
-ghost use Rattle.publication.specs.Projection.{message, projected, inserted_in, stands_in, FitsProjected};
+ghost use Rattle.publication.specs.Publications.{has};
+ghost use Rattle.publication.specs.Selection.{relation_of, FitsTable, has_table, selected_oids, selected_table};
+ghost use Rattle.publication.specs.Projection.{may_be_emptied, message, projected, stands_in, AreValues, FitsProjected, MessageFits};
 
-use crate::cells::tuple_of;
+use crate::messages::{deletion, insertion, replacement, truncation};
 use crate::projection::Projected;
+use crate::publication::Publication;
 use crate::relation::relation_message;
 use frames::Items;
-use pgoutput::{Insert, Logical};
+use pgoutput::Logical;
 use std::alloc::{AllocError, Global};
 use std::marker::Model;
-use tables::{Change, Row, Table};
+use tables::{MAX_TRUNCATED, Row, Table, Change};
 
-/// The tables that a sender publishes, each whole. Contracts see the list of them.
+/// The publications that a sender was asked for.
 ///
 /// `Publications::select` makes it. For each change of a commit `project` answers its message, or `Projected::Nothing` where it
 /// isn't published; `relation` answers the Relation that goes before the first message of a table. Neither changes anything,
@@ -27,67 +31,162 @@ use tables::{Change, Row, Table};
 #[derive(Debug, Drop)]
 pub struct Selection {
     alloc: Global,
+    /// All tables of the catalogue.
     tables: Items<Table>,
+    publications: Items<Publication>,
+    oids: Items<u32>,
 }
 
 impl Model for Selection {
-    ghost use Rattle.std.specs.Prelude.{List};
-    ghost use Rattle.tables.specs.declared.table.Table.{Table as Listed};
+    ghost use Rattle.std.specs.Prelude.{◌≡◌};
     ghost use Rattle.std.specs.List.{AllByRecursion};
-    ghost use Rattle.publication.specs.Selection.{FitsTable};
+    ghost use Rattle.publication.specs.Publications.{PublicationSet};
+    ghost use Rattle.publication.specs.Selection.{FitsTable, selected_oids};
 
-    ghost Value = { List Listed };
+    ghost Value = { PublicationSet };
 
-    ghost view = { λ s. s.tables };
+    ghost view = { λ s. record { tables = s.tables; publications = s.publications } };
 
-    ghost invariant = { λ s. AllByRecursion FitsTable s.tables };
+    ghost invariant = { λ s. AllByRecursion FitsTable s.tables × (s.oids ≡ selected_oids (record { tables = s.tables; publications = s.publications })) };
 }
 
 impl Selection {
-    /// The selection of these tables, each of which a Relation can tell.
-    pub fn new(alloc: Global, tables: Items<Table>) -> Self
+    /// A selection of nothing, which takes no memory.
+    pub fn empty(alloc: Global) -> Self
+        ensures { result ≡ record { tables = []; publications = [] } }
+    {
+        Selection {
+            alloc,
+            tables: Items::new(Vec::new(alloc)),
+            publications: Items::new(Vec::new(alloc)),
+            oids: Items::new(Vec::new(alloc)),
+        }
+    }
+
+    /// These publications, over the tables of a catalogue.
+    pub(crate) fn new(
+        alloc: Global,
+        tables: Items<Table>,
+        publications: Items<Publication>,
+    ) -> Result<Self, AllocError>
         requires { AllByRecursion FitsTable tables }
-        ensures { result ≡ tables }
+        ensures { IfOk result (λ s. s ≡ record { tables = tables; publications = publications }) }
     {
-        Selection { alloc, tables }
+        let oids = oids_of(alloc, tables.as_slice(), publications.as_slice())?;
+        Ok(Selection {
+            alloc,
+            tables,
+            publications,
+            oids,
+        })
     }
 
-    fn table(&self, oid: u32) -> Option<&Table>
-        ensures value { option_copied result ≡ table_of oid self.now }
-        ensures fits { IfSome result (λ table. FitsTable table.now) }
+    /// The OIDs of its tables, in the order of the catalogue.
+    pub fn oids(&self) -> &[u32]
+        ensures { result.now ≡ selected_oids self.now }
     {
-        found(self.tables.as_slice(), oid)
+        self.oids.as_slice()
     }
 
-    /// The message of a change, if it has one. Updates, deletes and truncates have none so far.
+    /// The message of a change, if it has one.
     pub fn project(&self, change: &Change) -> Result<Projected, AllocError>
         ensures value { IfOk result (λ p. p ≡ projected (message self.now change.now)) }
         ensures fits { IfOk result (FitsProjected self.now) }
     {
-        match change {
-            Change::Insert(oid, row) => self.inserted(*oid, row),
-            _ => Ok(Projected::Nothing),
+        // All tables fit: here the prover learns it.
+        let _ = &self.tables;
+        match self.message(change)? {
+            None => Ok(Projected::Nothing),
+            Some(message) => Ok(Projected::Message(message)),
         }
     }
 
-    fn inserted(&self, oid: u32, row: &Row) -> Result<Projected, AllocError>
-        ensures value { IfOk result (λ p. p ≡ projected (inserted_in (table_of oid self.now) row.now)) }
-        ensures fits { IfOk result (FitsProjected self.now) }
+    fn message(&self, change: &Change) -> Result<Option<Logical>, AllocError>
+        ensures value { IfOk result (λ o. o ≡ message self.now change.now) }
+        ensures in_range { IfOk result (λ o. OnSome o (AreValues change.now)) }
     {
-        let Some(table) = self.table(oid) else {
-            return Ok(Projected::Nothing);
+        match change {
+            Change::Insert(oid, row) => self.inserted(*oid, row),
+            Change::Update(oid, old, new) => self.updated(*oid, old, new),
+            Change::Delete(oid, old) => self.deleted(*oid, old),
+            Change::Truncate(oids) => self.truncated(oids.as_slice()),
+        }
+    }
+
+    fn inserted(&self, oid: u32, row: &Row) -> Result<Option<Logical>, AllocError>
+        ensures value { IfOk result (λ o. o ≡ message self.now (Change.Insert oid row.now)) }
+        ensures in_range { IfOk result (λ o. OnSome o (AllByRecursion IsValue row.now)) }
+    {
+        if !self.has_table(oid) {
+            return Ok(None);
+        }
+        let Some(table) = found(self.tables.as_slice(), oid) else {
+            return Ok(None);
         };
         if !stands(table, row) {
-            return Ok(Projected::Nothing);
+            return Ok(None);
         }
-        let new = tuple_of(self.alloc, row.values())?;
-        let oid = table.oid;
-        Ok(Projected::Message(Logical::Insert(Insert { oid, new })))
+        Ok(Some(insertion(self.alloc, table, row)?))
+    }
+
+    fn updated(&self, oid: u32, old: &Row, new: &Row) -> Result<Option<Logical>, AllocError>
+        ensures value { IfOk result (λ o. o ≡ message self.now (Change.Update oid old.now new.now)) }
+        ensures in_range { IfOk result (λ o. OnSome o (AllByRecursion IsValue old.now × AllByRecursion IsValue new.now)) }
+    {
+        if !self.has_table(oid) {
+            return Ok(None);
+        }
+        let Some(table) = found(self.tables.as_slice(), oid) else {
+            return Ok(None);
+        };
+        if !stands(table, old) || !stands(table, new) {
+            return Ok(None);
+        }
+        Ok(Some(replacement(self.alloc, table, old, new)?))
+    }
+
+    fn deleted(&self, oid: u32, old: &Row) -> Result<Option<Logical>, AllocError>
+        ensures value { IfOk result (λ o. o ≡ message self.now (Change.Delete oid old.now)) }
+        ensures in_range { IfOk result (λ o. OnSome o (AllByRecursion IsValue old.now)) }
+    {
+        if !self.has_table(oid) {
+            return Ok(None);
+        }
+        let Some(table) = found(self.tables.as_slice(), oid) else {
+            return Ok(None);
+        };
+        if !stands(table, old) {
+            return Ok(None);
+        }
+        deletion(self.alloc, table, old)
+    }
+
+    fn truncated(&self, oids: &[u32]) -> Result<Option<Logical>, AllocError>
+        ensures { IfOk result (λ o. o ≡ message self.now (Change.Truncate oids.now)) }
+    {
+        let published = self.published_among(oids)?;
+        if !may_be_emptied(self.tables.as_slice(), oids) {
+            return Ok(None);
+        }
+        Ok(truncation(published))
+    }
+
+    /// The tables among these that the selection has, in this order.
+    fn published_among(&self, oids: &[u32]) -> Result<Items<u32>, AllocError>
+        ensures { IfOk result (λ kept. kept ≡ filter (has_table self.now) oids.now) }
+    {
+        let mut kept = Vec::new(self.alloc);
+        for oid in oids {
+            if self.has_table(*oid) {
+                kept.push(*oid)?;
+            }
+        }
+        Ok(Items::new(kept))
     }
 
     /// The Relation of a table; None for one outside the selection.
     pub fn relation(&self, oid: u32) -> Result<Option<Logical>, AllocError>
-        ensures value { IfOk result (λ o. o ≡ option_map (λ table. logical.Relation (relation_of table)) (table_of oid self.now)) }
+        ensures value { IfOk result (λ o. o ≡ option_map (λ table. logical.Relation (relation_of table)) (selected_table self.now oid)) }
         ensures fits { IfOk result (λ o. IfSome o (λ m. FitsLogical m × IsShortMessage m)) }
     {
         let Some(table) = self.table(oid) else {
@@ -96,6 +195,46 @@ impl Selection {
         let relation = relation_message(self.alloc, table)?;
         Ok(Some(Logical::Relation(relation)))
     }
+
+    /// The table of this OID, if the selection has it.
+    fn table(&self, oid: u32) -> Option<&Table>
+        ensures value { option_copied result ≡ selected_table self.now oid }
+        ensures fits { IfSome result (λ table. FitsTable table.now) }
+    {
+        if !self.has_table(oid) {
+            return None;
+        }
+        found(self.tables.as_slice(), oid)
+    }
+
+    fn has_table(&self, oid: u32) -> bool
+        ensures { result ≡ has_table self.now oid }
+    {
+        has_table(self.publications.as_slice(), oid)
+    }
+}
+
+fn has_table(publications: &[Publication], oid: u32) -> bool
+    ensures { result ≡ list_any (has oid) publications.now }
+{
+    publications.iter().any(|publication| publication.has(oid))
+}
+
+/// The OIDs of the tables that some publication has.
+fn oids_of(
+    alloc: Global,
+    tables: &[Table],
+    publications: &[Publication],
+) -> Result<Items<u32>, AllocError>
+    ensures { IfOk result (λ oids. oids ≡ selected_oids (record { tables = tables.now; publications = publications.now })) }
+{
+    let mut oids = Vec::new(alloc);
+    for table in tables {
+        if has_table(publications, table.oid) {
+            oids.push(table.oid)?;
+        }
+    }
+    Ok(Items::new(oids))
 }
 
 fn found(tables: &[Table], oid: u32) -> Option<&Table>
@@ -105,9 +244,36 @@ fn found(tables: &[Table], oid: u32) -> Option<&Table>
 }
 
 /// Whether the row may stand in the table.
+#[tactic(auto, using(crate::proofs::Rows::whole_row))]
 fn stands(table: &Table, row: &Row) -> bool
     ensures value { result ≡ stands_in table.now row.now }
     ensures in_range { result ≡ true → AllByRecursion IsValue row.now }
+    ensures whole { result ≡ true → length table.now.columns ≡ length row.now }
 {
     table.takes(row) && row.coded_len().is_some()
+}
+
+/// Whether a truncate may name these tables.
+fn may_be_emptied(tables: &[Table], oids: &[u32]) -> bool
+    ensures { result ≡ may_be_emptied tables.now oids.now }
+{
+    are_known(tables, oids) && !oids.is_empty() && !repeats(oids) && oids.len() <= MAX_TRUNCATED
+}
+
+fn are_known(tables: &[Table], oids: &[u32]) -> bool
+    ensures { result ≡ list_all (λ oid. is_some (table_of oid tables.now)) oids.now }
+{
+    oids.iter().all(|oid| found(tables, *oid).is_some())
+}
+
+/// Whether a table is named twice.
+fn repeats(oids: &[u32]) -> bool
+    ensures { result ≡ repeats oids.now }
+{
+    for (i, oid) in oids.iter().enumerate() {
+        if oids[i + 1..].contains(oid) {
+            return true;
+        }
+    }
+    false
 }

@@ -5,7 +5,7 @@ use Rattle.std.proofs.lemmas.Grind.{flat_map-append}
 use Rattle.std.specs.Global.{Global}
 use Rattle.std.specs.declared.sync.Arc.{Arc}
 use Rattle.txlog.specs.Publishing.{shared}
-use Rattle.tables.specs.declared.table.Table.{Table}
+use Rattle.publication.specs.Publications.{PublicationSet}
 use Rattle.txlog.specs.declared.record.Record.{Record}
 use Rattle.txlog.specs.declared.record.Body.{Body}
 use Rattle.txlog.specs.declared.record.Body.TheVariants.{Assign, Change as Changed, AbortSub, Abort, Commit}
@@ -34,7 +34,7 @@ map_append : {A B : Type 0} (f : A → B) (xs ys : List A) → map f (xs ++ ys) 
 map_append f [] ys = refl
 map_append f (x ∷ xs) ys = ap (λ l. f x ∷ l) (map_append f xs ys)
 
-pub published_from-append : (selection : List Table) (s : ℕ) (before m n : List Record) → published_from selection s before (m ++ n) ≡ published_from selection s before m ++ published_from selection s (before ++ m) n
+pub published_from-append : (selection : PublicationSet) (s : ℕ) (before m n : List Record) → published_from selection s before (m ++ n) ≡ published_from selection s before m ++ published_from selection s (before ++ m) n
 published_from-append selection s before m n =
     ap (λ ts. filter has_message (map (published_as selection) ts)) (committed_from-append s before m n)
     ∙ ap (filter has_message) (map_append (published_as selection) (committed_from s before m) (committed_from s (before ++ m) n))
@@ -67,7 +67,7 @@ MayFollow-back before (r ∷ m) n may = let P : List Record → Type 0 = λ l. M
 -- ---- one record
 
 -- what is ready by the definition is what the record publishes
-published_by_commit_is : (selection : List Table) (s : ℕ) (before : List Record) (r : Record) → published_by_commit selection s r (promised before r.body) ≡ published_from selection s before (r ∷ [])
+published_by_commit_is : (selection : PublicationSet) (s : ℕ) (before : List Record) (r : Record) → published_by_commit selection s r (promised before r.body) ≡ published_from selection s before (r ∷ [])
 published_by_commit_is selection s before r = by_body r.body refl
   where
     Same : Body → Type 0
@@ -123,7 +123,7 @@ ReadAll-append clock a b c m n first second = record {
 } where
   both : (before : List Record) → AddsPublished clock a b.held before m → AddsPublished clock b c.held (before ++ m) n → AddsPublished clock a c.held before (m ++ n)
   both before adds_m adds_n =
-      let P : List Table → ℕ → Type 0 = λ sel s. c.held ≡ b.held ++ published_bytes sel clock (published sel (before ++ m) s) (published_from sel s (before ++ m) n) in
+      let P : PublicationSet → ℕ → Type 0 = λ sel s. c.held ≡ b.held ++ published_bytes sel clock (published sel (before ++ m) s) (published_from sel s (before ++ m) n) in
       let later : P a.selection a.start = rw (← first.selection, ← first.start) adds_n in
       let early = published a.selection before a.start in
       let one = published_from a.selection a.start before m in

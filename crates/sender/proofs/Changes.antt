@@ -1,7 +1,7 @@
 -- The changes of a transaction one by one, as a loop over them goes.
 use Rattle.std.proofs.Common.{◌≡◌, ◌<◌, ◌+◌, ℕ, zero, suc, List, [], ◌∷◌, ◌++◌, length, drop, Some, refl, sym, ap, ◌∙◌, append_assoc, arith}
 use Rattle.std.specs.Prelude.{slice_get}
-use Rattle.tables.specs.declared.table.Table.{Table}
+use Rattle.publication.specs.Publications.{PublicationSet}
 use Rattle.tables.specs.declared.change.Change.{Change}
 use Rattle.txlog.specs.Log.{Entry}
 use Rattle.reorder.specs.Kept.{IsEntryAt}
@@ -22,7 +22,7 @@ there (e ∷ entries) (suc k) lt =
     let next : suc k + 1 ≡ suc (k + 1) = omega arith in
     record { entry = t.entry; gets = t.gets; parts = t.parts ∙ ap (λ l. t.entry ∷ l) (ap (λ n. drop n (e ∷ entries)) (sym next)) }
 
-pub goes_on : (selection : List Table) (entries : List Entry) (k position : ℕ) (change : Change) (items more : List PublishedChange) → k < length entries → IsEntryAt entries k position change
+pub goes_on : (selection : PublicationSet) (entries : List Entry) (k position : ℕ) (change : Change) (items more : List PublishedChange) → k < length entries → IsEntryAt entries k position change
     → more ≡ items ++ published_at position (message selection change) → items ++ published_changes selection (drop k entries) ≡ published_changes selection entries
     → more ++ published_changes selection (drop (k + 1) entries) ≡ published_changes selection entries
 goes_on selection entries k position change items more lt is grown so_far =

@@ -2,7 +2,7 @@
 -- and its message, without the changes that have none and without the transactions that have none left.
 use Rattle.std.specs.Prelude.{ℕ, ◌==◌, Bool, not, List, [], ◌∷◌, ◌++◌, length, map, filter, Option, Some, None}
 use Rattle.pgoutput.specs.declared.logical.Logical.{Logical}
-use Rattle.tables.specs.declared.table.Table.{Table}
+use Rattle.publication.specs.Publications.{PublicationSet}
 use Rattle.txlog.specs.declared.record.Record.{Record}
 use Rattle.txlog.specs.Log.{Entry, Transaction, committed_from}
 use Rattle.publication.specs.Projection.{message}
@@ -14,20 +14,20 @@ published_at position None = []
 published_at position (Some m) = record { position = position; message = m } ∷ []
 
 -- the changes that have a message
-abbrev pub published_changes : List Table → List Entry → List PublishedChange
+abbrev pub published_changes : PublicationSet → List Entry → List PublishedChange
 published_changes selection [] = []
 published_changes selection (e ∷ es) = published_at e.position (message selection e.change) ++ published_changes selection es
 
-abbrev pub published_as : List Table → Transaction → Published
+abbrev pub published_as : PublicationSet → Transaction → Published
 published_as selection t = record { start = t.start; end = t.end; time = t.time; xid = t.xid; changes = published_changes selection t.changes }
 
 abbrev pub has_message : Published → Bool
 has_message t = not (length t.changes == 0)
 
 -- the transactions that these records publish, given those before them
-abbrev pub published_from : List Table → ℕ → List Record → List Record → List Published
+abbrev pub published_from : PublicationSet → ℕ → List Record → List Record → List Published
 published_from selection s before rs = filter has_message (map (published_as selection) (committed_from s before rs))
 
 -- the published transactions of a log that commit at the start position or later
-abbrev pub published : List Table → List Record → ℕ → List Published
+abbrev pub published : PublicationSet → List Record → ℕ → List Published
 published selection log s = published_from selection s [] log

@@ -1,7 +1,7 @@
 -- A sender between its calls, and what reading records does to it. The records may be those of a whole log or of a section of
 -- one, which begins behind earlier records of its transactions.
 use Rattle.std.specs.Prelude.{◌≡◌, ◌<◌, ℕ, ℤ, Bool, true, List, [], ◌∷◌, ◌++◌, length, take, map, filter, nat_le, Option, Some, None, if◌then◌else◌}
-use Rattle.tables.specs.declared.table.Table.{Table}
+use Rattle.publication.specs.Publications.{PublicationSet}
 use Rattle.txlog.specs.declared.record.Record.{Record}
 use Rattle.txlog.specs.declared.record.Body.{Body}
 use Rattle.txlog.specs.declared.record.Body.TheVariants.{Commit}
@@ -14,7 +14,7 @@ use Rattle.sender.specs.Published.{published, published_as, published_from, has_
 
 -- what determines the bytes to come
 pub record SenderState : Type 0 where
-  pub selection : List Table
+  pub selection : PublicationSet
   pub start : ℕ
   pub position : ℕ
   pub failed : Bool
@@ -37,7 +37,7 @@ abbrev pub blocks : ℤ → List Published → List Item
 blocks clock ts = map (Block clock) ts
 
 -- the bytes of these transactions' blocks, where those of earlier ones have been sent
-abbrev pub published_bytes : List Table → ℤ → List Published → List Published → List ℕ
+abbrev pub published_bytes : PublicationSet → ℤ → List Published → List Published → List ℕ
 published_bytes selection clock earlier ts = spelled (relation selection) (relations_sent_through [] earlier) (blocks clock ts)
 
 -- What was held has grown by exactly the blocks of the transactions that these records publish, given those before them.
@@ -71,7 +71,7 @@ ready_at s start end (Commit xid time) entries =
 ready_at s start end _ entries = []
 
 -- what a record publishes by what it made ready
-abbrev pub published_by_commit : List Table → ℕ → Record → Option (List Entry) → List Published
+abbrev pub published_by_commit : PublicationSet → ℕ → Record → Option (List Entry) → List Published
 published_by_commit selection s r None = []
 published_by_commit selection s r (Some entries) = filter has_message (map (published_as selection) (ready_at s r.start r.end r.body entries))
 

@@ -6,8 +6,7 @@ ghost use Rattle.std.specs.List.{AllByRecursion};
 ghost use Rattle.frames.specs.Putting.{Puts};
 ghost use Rattle.pgoutput.specs.Logical.{IsShort};
 ghost use Rattle.pgoutput.specs.declared.logical.Logical.TheVariants as logical;
-ghost use Rattle.tables.specs.Tables.{table_of};
-ghost use Rattle.publication.specs.Selection.{relation};
+ghost use Rattle.publication.specs.Selection.{relation, selected_table};
 ghost use Rattle.publication.specs.Projection.{MessageFits};
 ghost use Rattle.stream.specs.Words.{frames_of, word_bytes};
 ghost use Rattle.stream.specs.Items.{IsShortMessage, begin_message, commit_message, is_relation_sent, relations_due, relations_sent_by, relations_sent_by_all, tables_of, xlogdata_word, relation_words, change_words, changes_words, block_words, keepalive_word};
@@ -133,7 +132,7 @@ impl Outgoing {
         clock: i64,
         oid: u32,
     ) -> Result<(), AllocError>
-        requires { IsSome (table_of oid selection.now) }
+        requires { IsSome (selected_table selection.now oid) }
         ensures held { Puts result self.old.held.items self.new.held.items
             (frames_of (relation_words (relation selection.now) position clock (relations_due (reverse self.old.relations_sent.items) (oid ∷ [])))) }
         ensures relations_sent { OnOk result (reverse self.new.relations_sent.items
@@ -154,7 +153,7 @@ impl Outgoing {
         clock: i64,
         oid: u32,
     ) -> Result<(), AllocError>
-        requires { IsSome (table_of oid selection.now) }
+        requires { IsSome (selected_table selection.now oid) }
         ensures held { Puts result self.old.held.items self.new.held.items
             (word_bytes (xlogdata_word position clock (logical.Relation (relation selection.now oid)))) }
         ensures relations_sent { self.new.relations_sent ≡ self.old.relations_sent }
@@ -173,7 +172,7 @@ impl Outgoing {
         clock: i64,
         oids: &[u32],
     ) -> Result<(), AllocError>
-        requires { AllByRecursion (λ oid. IsSome (table_of oid selection.now)) oids.now }
+        requires { AllByRecursion (λ oid. IsSome (selected_table selection.now oid)) oids.now }
         ensures held { Puts result self.old.held.items self.new.held.items
             (frames_of (relation_words (relation selection.now) position clock (relations_due (reverse self.old.relations_sent.items) oids.now))) }
         ensures relations_sent { OnOk result (reverse self.new.relations_sent.items

@@ -18,6 +18,7 @@ mod framing;
 mod given;
 mod message;
 mod play;
+mod projection;
 mod random;
 mod report;
 mod sample;

@@ -5,17 +5,24 @@ use anyhow::{Result, ensure};
 use std::alloc::{AllocError, Global};
 use world::{Config, SimFault, simulate};
 
-/// The table public.item.
-const ITEM: &str = "\
+/// The tables public.item and public.tag.
+const TABLES: &str = "\
 [[table]]
 oid = 16384
 schema = 'public'
 name = 'item'
 key = ['id']
 columns = [['id', 'int4'], ['name', 'text'], ['qty', 'int8']]
+[[table]]
+oid = 16385
+schema = 'public'
+name = 'tag'
+identity = 'full'
+key = ['k']
+columns = [['k', 'text'], ['v', 'int4']]
 ";
 
-/// How a publisher is configured: with the table public.item and a log for 65,536 records, unless others are named.
+/// How a publisher is configured: with the tables public.item and public.tag, unless others are named, and a log for so many records.
 #[derive(Drop)]
 pub struct Setting {
     pub records: u32,
@@ -38,7 +45,7 @@ impl Setting {
 
     fn text(&self, alloc: Global) -> Result<String, AllocError> {
         let tables = match self.tables.as_str() {
-            "" => ITEM,
+            "" => TABLES,
             others => others,
         };
         let records = self.records;

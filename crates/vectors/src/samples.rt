@@ -10,6 +10,7 @@ use crate::field::field_answer;
 use crate::framing::{back_answer, front_answer, startup_answer};
 use crate::given::Given;
 use crate::message::logical_answer;
+use crate::projection::{change_answer, tables_answer};
 use crate::random::random_answer;
 use crate::report::Report;
 use crate::sample::{Answer, Sample};
@@ -82,6 +83,8 @@ fn answer_of(alloc: Global, sample: Sample<'_>) -> Result<Answer> {
     match sample.call {
         "catalog" => catalog_answer(alloc, sample.given),
         "config" => config_answer(alloc, sample.given),
+        "change" => change_answer(alloc, sample.given),
+        "tables" => tables_answer(alloc, sample.given),
         "command" => command_answer(alloc, sample.given),
         "position" => position_answer(alloc, sample.given),
         "event" => event_answer(alloc, sample.given),

@@ -13,9 +13,10 @@ use Rattle.txlog.specs.declared.record.Record.{Record}
 use Rattle.txlog.specs.declared.record.Body.{Body}
 use Rattle.txlog.specs.declared.record.Body.TheVariants.{Assign, Change as Changed, AbortSub, Abort, Commit}
 use Rattle.txlog.specs.Log.{Entry, entry_at, entries, is_kept, kept, Transaction, committed_at, committed_by, committed_from, FitsBody, FitsRecord, IsLogInRange, IsSized, follows}
-use Rattle.publication.specs.Selection.{relation, FitsTable}
-use Rattle.publication.specs.Projection.{message, MessageFits}
-use Rattle.publication.proofs.Fitting.{IsChange, message_fits}
+use Rattle.publication.specs.Publications.{PublicationSet}
+use Rattle.publication.specs.Selection.{relation, FitTables}
+use Rattle.publication.specs.Projection.{message, AreValues, MessageFits}
+use Rattle.publication.proofs.Fitting.{message_fits}
 use Rattle.stream.specs.declared.published.Published.{Published}
 use Rattle.stream.specs.Items.{FitsChange, FitsPublished, FitItems}
 use Rattle.sender.specs.Published.{published_at, published_changes, published_as, has_message, published_from}
@@ -38,12 +39,12 @@ all_map P Q f step (x ∷ xs) all = (step x all.0, all_map P Q f step xs all.1)
 -- ---- entries
 
 abbrev FitsEntry : Entry → Type 0
-FitsEntry e = (e.position < 2 ^ 64) × IsChange e.change
+FitsEntry e = (e.position < 2 ^ 64) × AreValues e.change
 
-change_fits : (tables : List Table) (c : Change) → FitsTables tables c → IsChange c
+change_fits : (tables : List Table) (c : Change) → FitsTables tables c → AreValues c
 change_fits tables (changes.Insert oid row) fits = fits.in_range
-change_fits tables (changes.Update oid old row) fits = tt
-change_fits tables (changes.Delete oid old) fits = tt
+change_fits tables (changes.Update oid old row) fits = (fits.0.in_range, fits.1.in_range)
+change_fits tables (changes.Delete oid old) fits = fits.in_range
 change_fits tables (changes.Truncate oids) fits = tt
 
 entry_fits : (tables : List Table) (start : ℕ) (body : Body) → start < 2 ^ 64 → FitsBody tables body → AllByRecursion FitsEntry (entry_at start body)
@@ -90,7 +91,7 @@ committed_fit tables s before (r ∷ rs) all_before all =
 
 -- ---- what is published
 
-published_at_fits : (selection : List Table) (position : ℕ) (change : Change) → AllByRecursion FitsTable selection → position < 2 ^ 64 → IsChange change
+published_at_fits : (selection : PublicationSet) (position : ℕ) (change : Change) → FitTables selection → position < 2 ^ 64 → AreValues change
     → AllByRecursion (FitsChange (relation selection)) (published_at position (message selection change))
 published_at_fits selection position change tables lt in_range = by_message (message selection change) (λ m e. message_fits selection change m tables in_range e)
   where
@@ -100,13 +101,13 @@ published_at_fits selection position change tables lt in_range = by_message (mes
         let f = fits m refl in
         (record { position = lt; of_change = f.of_change; fits = f.fits; short = f.short; relations = f.relations }, tt)
 
-changes_fit : (selection : List Table) (es : List Entry) → AllByRecursion FitsTable selection → AllByRecursion FitsEntry es → AllByRecursion (FitsChange (relation selection)) (published_changes selection es)
+changes_fit : (selection : PublicationSet) (es : List Entry) → FitTables selection → AllByRecursion FitsEntry es → AllByRecursion (FitsChange (relation selection)) (published_changes selection es)
 changes_fit selection [] tables all = tt
 changes_fit selection (e ∷ es) tables all =
     all_of_both (FitsChange (relation selection)) (published_at e.position (message selection e.change)) (published_changes selection es)
     (published_at_fits selection e.position e.change tables all.0.0 all.0.1) (changes_fit selection es tables all.1)
 
-pub published_fit : (tables selection : List Table) (s : ℕ) (before rs : List Record) → AllByRecursion FitsTable selection → IsLogInRange tables before → IsLogInRange tables rs
+pub published_fit : (tables : List Table) (selection : PublicationSet) (s : ℕ) (before rs : List Record) → FitTables selection → IsLogInRange tables before → IsLogInRange tables rs
     → AllByRecursion (FitsPublished (relation selection)) (published_from selection s before rs)
 published_fit tables selection s before rs selected all_before all =
     all_filter (FitsPublished (relation selection)) has_message (map (published_as selection) (committed_from s before rs))
@@ -115,13 +116,13 @@ published_fit tables selection s before rs selected all_before all =
     one : (t : Transaction) → FitsTransaction t → FitsPublished (relation selection) (published_as selection t)
     one t fits = record { start = fits.start; end = fits.end; time = fits.time; xid = fits.xid; changes = changes_fit selection t.changes selected fits.changes }
 
-pub blocks_fit : (selection : List Table) (clock : ℤ) (ts : List Published) → FitsSigned w64 clock → AllByRecursion (FitsPublished (relation selection)) ts → FitItems (relation selection) (blocks clock ts)
+pub blocks_fit : (selection : PublicationSet) (clock : ℤ) (ts : List Published) → FitsSigned w64 clock → AllByRecursion (FitsPublished (relation selection)) ts → FitItems (relation selection) (blocks clock ts)
 blocks_fit selection clock [] fits all = tt
 blocks_fit selection clock (t ∷ ts) fits all = ((fits, all.0), blocks_fit selection clock ts fits all.1)
 
 -- ---- where they start
 
-late_at : (selection : List Table) (s at : ℕ) (before : List Record) (start end : ℕ) (body : Body) → at ≤ start → AllByRecursion (λ (t : Transaction). at ≤ t.start) (committed_at s before start end body)
+late_at : (selection : PublicationSet) (s at : ℕ) (before : List Record) (start end : ℕ) (body : Body) → at ≤ start → AllByRecursion (λ (t : Transaction). at ≤ t.start) (committed_at s before start end body)
 late_at selection s at before start end (Assign sub parent) le = tt
 late_at selection s at before start end (Changed xid change) le = tt
 late_at selection s at before start end (AbortSub xid) le = tt
@@ -132,7 +133,7 @@ late_at selection s at before start end (Commit xid time) le = by_test (leb s st
     by_test true = (le, tt)
     by_test false = tt
 
-committed_late : (selection : List Table) (s at from : ℕ) (before rs : List Record) → at ≤ from → follows from rs ≡ true → AllByRecursion IsSized rs → AllByRecursion (λ (t : Transaction). at ≤ t.start) (committed_from s before rs)
+committed_late : (selection : PublicationSet) (s at from : ℕ) (before rs : List Record) → at ≤ from → follows from rs ≡ true → AllByRecursion IsSized rs → AllByRecursion (λ (t : Transaction). at ≤ t.start) (committed_from s before rs)
 committed_late selection s at from before [] le goes sized = tt
 committed_late selection s at from before (r ∷ rs) le goes sized =
     let next = followed from r rs goes in
@@ -140,7 +141,7 @@ committed_late selection s at from before (r ∷ rs) le goes sized =
     (late_at selection s at before r.start r.end r.body (omega (arith, next.0)))
     (committed_late selection s at r.end (before ++ r ∷ []) rs (omega (arith, next.0, sized.0)) next.1 sized.1)
 
-pub published_late : (selection : List Table) (s at : ℕ) (before rs : List Record) → follows at rs ≡ true → AllByRecursion IsSized rs → AllByRecursion (λ (t : Published). at ≤ t.start) (published_from selection s before rs)
+pub published_late : (selection : PublicationSet) (s at : ℕ) (before rs : List Record) → follows at rs ≡ true → AllByRecursion IsSized rs → AllByRecursion (λ (t : Published). at ≤ t.start) (published_from selection s before rs)
 published_late selection s at before rs goes sized =
     all_filter (λ (t : Published). at ≤ t.start) has_message (map (published_as selection) (committed_from s before rs))
     (all_map (λ (t : Transaction). at ≤ t.start) (λ (t : Published). at ≤ t.start) (published_as selection) (λ t le. le) (committed_from s before rs) (committed_late selection s at at before rs (omega arith) goes sized))

@@ -4,10 +4,10 @@ use Rattle.std.specs.Prelude.{◌↔◌, slice_index_or}
 use Rattle.std.proofs.lemmas.List.{take_more}
 use Rattle.std.proofs.lemmas.Option.{slice_get_read}
 use Rattle.std.specs.List.{AllByRecursion}
-use Rattle.tables.specs.declared.table.Table.{Table}
 use Rattle.txlog.specs.declared.record.TheConstants.{FIRST_POSITION}
 use Rattle.txlog.specs.declared.record.Record.{Record}
 use Rattle.txlog.specs.Log.{IsWellFormedLog, end_of}
+use Rattle.publication.specs.Publications.{PublicationSet}
 use Rattle.publication.specs.Selection.{relation}
 use Rattle.stream.specs.Stream.{IsStream}
 use Rattle.sender.specs.Published.{published}
@@ -47,7 +47,7 @@ exact_by log connection produced place (walsenders.Cut e) good was =
     let read_is = read_so_far log produced s good t in
     let P : List Record → Type 0 = λ l. IsStream (relation s.selection) (produced ++ s.held) (published s.selection l s.start) s.position in
     let stream = subst P read_is t.stream in
-    let Q : List Table → ℕ → ℕ → Type 0 = λ selection start position. IsStream (relation selection) (produced ++ s.held) (published selection (read_by position log) start) position in
+    let Q : PublicationSet → ℕ → ℕ → Type 0 = λ selection start position. IsStream (relation selection) (produced ++ s.held) (published selection (read_by position log) start) position in
     record {
       reads = was.position_is ∙ t.at ∙ ap (end_of FIRST_POSITION) (read_is ∙ ap (λ (p : ℕ). read_by p log) (sym was.position_is));
       begins = record { rest = s.held; whole = rw (was.selection_is, was.start_is, was.position_is) stream };

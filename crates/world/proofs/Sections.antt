@@ -13,7 +13,8 @@ use Rattle.txlog.specs.declared.record.TheConstants.{FIRST_POSITION}
 use Rattle.txlog.specs.declared.record.Record.{Record}
 use Rattle.txlog.specs.Log.{IsLogInRange, FitsRecord, IsWellFormedLog, IsSized, follows, end_of}
 use Rattle.txlog.proofs.Laws.{end_of-append}
-use Rattle.publication.specs.Selection.{relation, FitsTable}
+use Rattle.publication.specs.Publications.{PublicationSet}
+use Rattle.publication.specs.Selection.{relation, FitTables}
 use Rattle.stream.specs.Words.{word_bytes}
 use Rattle.stream.specs.Items.{keepalive_word}
 use Rattle.stream.specs.Stream.{IsStream}
@@ -132,7 +133,7 @@ end_fits tables at (r ∷ section) range lt = end_fits tables r.end section rang
 
 -- what a batch, or the part of it that was read, does to what is held
 grown_stream : (tables : List Table) (log : List Record) (place : ℕ) (section : List Record) (clock : ℤ) (produced : List ℕ) (s new : SenderState) → IsSection tables log place section → FitsSigned w64 clock
-    → AllByRecursion FitsTable s.selection → IsReading log place s → IsStreaming log produced s
+    → FitTables s.selection → IsReading log place s → IsStreaming log produced s
     → new.selection ≡ s.selection → new.start ≡ s.start → new.position ≡ end_of s.position section
     → new.held ≡ s.held ++ published_bytes s.selection clock (published s.selection (take place log) s.start) (published_from s.selection s.start (take place log) section)
     → IsStreaming log produced new
@@ -150,7 +151,7 @@ grown_stream tables log place section clock produced s new part fits table readi
     ap (λ (l : List ℕ). produced ++ l) held ∙ sym (append_assoc produced s.held (published_bytes s.selection clock (published s.selection pre s.start) (published_from s.selection s.start pre section))) in
     let stream = stream_read s.selection clock (produced ++ s.held) (produced ++ new.held) pre section s.start s.position (end_of s.position section) old added le
     (published_late s.selection s.start s.position pre section goes sized) (published_fit tables s.selection s.start pre section table next.early next.late) fits in
-    let P : List Table → ℕ → ℕ → List Record → Type 0 = λ sel from end rs. IsStream (relation sel) (produced ++ new.held) (published sel rs from) end in
+    let P : PublicationSet → ℕ → ℕ → List Record → Type 0 = λ sel from end rs. IsStream (relation sel) (produced ++ new.held) (published sel rs from) end in
     record {
       place = place + length section;
       within = within_section tables log place section part;
@@ -166,7 +167,7 @@ fed_alive tables log place section clock produced s new part fits serving runnin
     let next = next_part tables log place section part in
     let grown = take_section tables log place section part in
     record {
-      tables = (let P : List Table → Type 0 = λ ts. AllByRecursion FitsTable ts in subst P (sym fed.selection) serving.tables);
+      tables = (let P : PublicationSet → Type 0 = λ ts. FitTables ts in subst P (sym fed.selection) serving.tables);
       running = λ still. record {
         within = within_section tables log place section part;
         reads = (let P : List Record → Type 0 = λ l. HasRead new l in subst P (sym grown) (fed.after (take place log) reading.reads next.may).0);
@@ -183,7 +184,7 @@ broken_alive tables log place any section clock produced s new part fits serving
     let less = section_front tables log place fed.count section part in
     let next = next_part tables log place (take fed.count section) less in
     record {
-      tables = (let P : List Table → Type 0 = λ ts. AllByRecursion FitsTable ts in subst P (sym fed.selection) serving.tables);
+      tables = (let P : PublicationSet → Type 0 = λ ts. FitTables ts in subst P (sym fed.selection) serving.tables);
       running = λ still. absurd (both still fed.failed);
       streaming = grown_stream tables log place (take fed.count section) clock produced s new less fits serving.tables reading serving.streaming fed.selection fed.start fed.position (fed.after (take place log) reading.reads next.may);
     }
@@ -361,7 +362,7 @@ grown_served log more place produced (walsenders.Cut e) was = record {
 
 -- ---- a start
 
-pub started : (log : List Record) (s : SenderState) → AllByRecursion FitsTable s.selection → s.position ≡ FIRST_POSITION → s.held ≡ [] → HasRead s [] → IsServing log 0 [] s
+pub started : (log : List Record) (s : SenderState) → FitTables s.selection → s.position ≡ FIRST_POSITION → s.held ≡ [] → HasRead s [] → IsServing log 0 [] s
 started log s tables position held reads = record {
   tables = tables;
   running = λ still. record { within = omega arith; reads = reads; at = position };

@@ -8,10 +8,10 @@ use Rattle.std.proofs.lemmas.List.{append-nil, take-append-drop}
 use Rattle.std.proofs.lemmas.Grind.{flat_map-append}
 use Rattle.std.proofs.lemmas.List.Concat.{flat_map-cons}
 use Rattle.pgoutput.specs.declared.relation.Relation.{Relation}
-use Rattle.tables.specs.declared.table.Table.{Table}
 use Rattle.txlog.specs.declared.record.TheConstants.{FIRST_POSITION}
 use Rattle.txlog.specs.declared.record.Record.{Record}
 use Rattle.txlog.specs.Log.{IsWellFormedLog, IsSized, follows, end_of}
+use Rattle.publication.specs.Publications.{PublicationSet}
 use Rattle.publication.specs.Selection.{relation}
 use Rattle.stream.specs.declared.word.Keepalive.{Keepalive}
 use Rattle.stream.specs.declared.published.Published.{Published}
@@ -82,7 +82,7 @@ safe-alive limit (Block clock t ∷ items) k le safe = safe-alive limit items k 
 
 -- ---- a read, a keepalive
 
-pub stream_read : (selection : List Table) (clock : ℤ) (b more : List ℕ) (pre section : List Record) (s limit wider : ℕ) → IsStream (relation selection) b (published selection pre s) limit
+pub stream_read : (selection : PublicationSet) (clock : ℤ) (b more : List ℕ) (pre section : List Record) (s limit wider : ℕ) → IsStream (relation selection) b (published selection pre s) limit
     → more ≡ b ++ published_bytes selection clock (published selection pre s) (published_from selection s pre section) → limit ≤ wider
     → AllByRecursion (λ (t : Published). limit ≤ t.start) (published_from selection s pre section) → AllByRecursion (FitsPublished (relation selection)) (published_from selection s pre section) → FitsSigned w64 clock
     → IsStream (relation selection) more (published selection (pre ++ section) s) wider

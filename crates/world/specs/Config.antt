@@ -1,4 +1,4 @@
--- What a TOML text names as a configuration: its tables, the publication of them that is built in, and the server. The tables are
+-- What a TOML text names as a configuration: its tables, the publications over them that are built in, and the server. The tables are
 -- judged first, then the names of the text's members, then the members of the server; the first that is wrong is told.
 use Rattle.std.specs.Prelude.{◌≡◌, ℕ, ℤ, pos, negsuc, ◌≤◌, nat_le, Bool, true, false, ◌&&◌, ◌||◌, not, if◌then◌else◌, List, codes, Option, Some, None, option_map, ok_or, Result, Ok, Err}
 use Rattle.std.specs.Str.{bytes_eq}
@@ -9,7 +9,7 @@ use Rattle.tables.specs.declared.config_fault.Misfit.{Misfit}
 use Rattle.tables.specs.declared.config_fault.CatalogFault.TheVariants as catalog_faults
 use Rattle.tables.specs.Config.{and_then, told, tables_in, document_of}
 use Rattle.txlog.specs.declared.limits.TheConstants.{MAX_RECORDS}
-use Rattle.publication.specs.Publications.{builtin_publication}
+use Rattle.publication.specs.Publications.{builtin_publications}
 use Rattle.world.specs.declared.server.TheConstants.{MAX_CHUNKS}
 use Rattle.world.specs.declared.server.Server.{Server}
 use Rattle.world.specs.declared.server.Unread.{Unread}
@@ -76,7 +76,7 @@ pub record IsServer (server : Server) : Type 0 where
   pub chunks : server.chunks ≤ MAX_CHUNKS
 
 abbrev pub with_server : List Table → Result Server ServerMisfit → Result Setting ConfigFault
-with_server tables (Ok server) = Ok (record { tables = tables; publication = builtin_publication tables; server = server })
+with_server tables (Ok server) = Ok (record { tables = tables; publications = builtin_publications tables; server = server })
 with_server tables (Err misfit) = Err (faults.BadServer misfit)
 
 -- the tables first, then the server

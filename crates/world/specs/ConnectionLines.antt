@@ -1,12 +1,11 @@
 -- What a connection's line does to its sender.
 use Rattle.std.specs.Prelude.{◌≡◌, ◌<◌, ℕ, ℤ, codes, true, false, List, [], ◌∷◌, ◌++◌, length, take, drop, nat_le, Option, Some, None, if◌then◌else◌, Bool, ◌&&◌}
 use Rattle.std.specs.Str.{bytes_eq}
-use Rattle.tables.specs.declared.table.Table.{Table}
 use Rattle.txlog.specs.declared.record.TheConstants.{FIRST_POSITION}
 use Rattle.txlog.specs.declared.record.Record.{Record}
 use Rattle.txlog.specs.Log.{end_of}
 use Rattle.publication.specs.declared.fault.PubFault.TheVariants as pubs
-use Rattle.publication.specs.Publications.{selected, is_unknown}
+use Rattle.publication.specs.Publications.{PublicationSet, selected, is_unknown}
 use Rattle.stream.specs.Words.{word_bytes}
 use Rattle.stream.specs.Items.{keepalive_word}
 use Rattle.sender.specs.declared.fault.SendFault.TheVariants as sends
@@ -89,7 +88,7 @@ pub record ActsAt (connection : List ℕ) (action : Action) (old : WorldState) (
 -- ---- Starts.
 
 -- the sender reads the log from its first record on
-abbrev pub new_start : List ℕ → List Table → ℕ → StartState
+abbrev pub new_start : List ℕ → PublicationSet → ℕ → StartState
 new_start connection selection start =
     record { connection = connection; is_open = true; selection = selection; start = start; position = FIRST_POSITION; failed = false; produced = []; held = [] }
 
@@ -100,8 +99,8 @@ is_slotless slot = bytes_eq slot (codes "-")
 -- L1 where a slot is named, since there are no slots; then P1, and P7 for memory
 abbrev pub IsStart : List ℕ → List ℕ → ℕ → List (List ℕ) → WorldState → Answer → WorldState → Type 0
 IsStart connection slot start names old answers.Done new =
-    (is_slotless slot ≡ true) × (is_unknown old.publication names ≡ false) × (new ≡ record old { starts = old.starts ++ new_start connection (selected old.publication names) start ∷ []; subscribers = with_one_for connection old.subscribers })
+    (is_slotless slot ≡ true) × (is_unknown old.publications names ≡ false) × (new ≡ record old { starts = old.starts ++ new_start connection (selected old.publications names) start ∷ []; subscribers = with_one_for connection old.subscribers })
 IsStart connection slot start names old (answers.Slot fault) new = (is_slotless slot ≡ false) × (new ≡ old)
-IsStart connection slot start names old (answers.Publication pubs.Unknown) new = (is_slotless slot ≡ true) × (is_unknown old.publication names ≡ true) × (new ≡ old)
-IsStart connection slot start names old (answers.Publication pubs.Memory) new = (is_slotless slot ≡ true) × (is_unknown old.publication names ≡ false) × (new ≡ old)
+IsStart connection slot start names old (answers.Publication pubs.Unknown) new = (is_slotless slot ≡ true) × (is_unknown old.publications names ≡ true) × (new ≡ old)
+IsStart connection slot start names old (answers.Publication pubs.Memory) new = (is_slotless slot ≡ true) × (is_unknown old.publications names ≡ false) × (new ≡ old)
 IsStart connection slot start names old answer new = ⊥

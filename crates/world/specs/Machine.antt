@@ -3,13 +3,13 @@
 use Rattle.std.specs.Prelude.{◌≡◌, ◌<◌, ◌≤◌, ◌^◌, ℕ, ◌+◌, ◌==◌, Bool, true, false, List, [], ◌∷◌, ◌++◌, length, map, take, filter, not, Option, Some, None, is_some, vec_len, vec_capacity, slice_get, slice_set, remove, if◌then◌else◌}
 use Rattle.std.specs.Str.{bytes_eq}
 use Rattle.std.specs.List.{AllByRecursion}
-use Rattle.tables.specs.declared.table.Table.{Table}
 use Rattle.txlog.specs.declared.record.TheConstants.{FIRST_POSITION}
 use Rattle.txlog.specs.declared.record.Record.{Record}
 use Rattle.txlog.specs.Log.{IsWellFormedLog, end_of}
 use Rattle.txlog.specs.declared.fault.SessionFault.{SessionFault}
 use Rattle.txlog.specs.Publishing.{PublisherState, IsRefusalOrMemory}
-use Rattle.publication.specs.Selection.{relation, FitsTable}
+use Rattle.publication.specs.Publications.{PublicationSet}
+use Rattle.publication.specs.Selection.{relation, FitTables}
 use Rattle.stream.specs.Stream.{IsStream}
 use Rattle.sender.specs.Published.{published}
 use Rattle.sender.specs.Sending.{SenderState, HasRead}
@@ -95,12 +95,12 @@ pub record IsReading (log : List Record) (place : ℕ) (s : SenderState) : Type 
   pub at : s.position ≡ end_of FIRST_POSITION (take place log)
 
 pub record IsServing (log : List Record) (place : ℕ) (produced : List ℕ) (s : SenderState) : Type 0 where
-  pub tables : AllByRecursion FitsTable s.selection
+  pub tables : FitTables s.selection
   pub running : s.failed ≡ false → IsReading log place s
   pub streaming : IsStreaming log produced s
 
 -- what a sender that is no longer there was before it was cut
-pub record WasStreaming (log : List Record) (produced : List ℕ) (selection : List Table) (start position : ℕ) : Type 0 where
+pub record WasStreaming (log : List Record) (produced : List ℕ) (selection : PublicationSet) (start position : ℕ) : Type 0 where
   pub before : SenderState
   pub streaming : IsStreaming log produced before
   pub selection_is : selection ≡ before.selection
@@ -184,7 +184,7 @@ IsSubscribed subscribers s = is_some (subscriber_of s.connection subscribers) �
 -- ---- The machine.
 
 abbrev pub shown : Machine → WorldState
-shown m = record { publication = m.publications; publisher = m.publisher; transactions = map named_tx m.sessions.items; starts = map start_state m.starts.items; subscribers = map subscriber_state m.subscribers.items }
+shown m = record { publications = m.publications; publisher = m.publisher; transactions = map named_tx m.sessions.items; starts = map start_state m.starts.items; subscribers = map subscriber_state m.subscribers.items }
 
 -- there is room for one more start
 pub record HasRoom (m : Machine) : Type 0 where

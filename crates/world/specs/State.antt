@@ -4,7 +4,7 @@ use Rattle.std.specs.Prelude.{ℕ, Bool, false, ◌&&◌, List, [], ◌∷◌, �
 use Rattle.std.specs.Str.{bytes_eq}
 use Rattle.tables.specs.declared.table.Table.{Table}
 use Rattle.txlog.specs.Publishing.{PublisherState, new_publisher}
-use Rattle.publication.specs.Publications.{Publication}
+use Rattle.publication.specs.Publications.{PublicationSet}
 use Rattle.client.specs.Subscriber.{resting}
 use Rattle.client.specs.Taking.{ApplierState}
 use Rattle.schedule.specs.declared.answer.Answer.{Answer}
@@ -20,7 +20,7 @@ pub record NamedTx : Type 0 where
 pub record StartState : Type 0 where
   pub connection : List ℕ
   pub is_open : Bool
-  pub selection : List Table
+  pub selection : PublicationSet
   pub start : ℕ
   pub position : ℕ
   pub failed : Bool
@@ -37,7 +37,7 @@ pub record SubscriberState : Type 0 where
 
 -- the starts stand in the order in which they came, and so do the subscribers
 pub record WorldState : Type 0 where
-  pub publication : Publication
+  pub publications : PublicationSet
   pub publisher : PublisherState
   pub transactions : List NamedTx
   pub starts : List StartState
@@ -46,12 +46,12 @@ pub record WorldState : Type 0 where
 -- what a publisher is configured with
 pub record Setting : Type 0 where
   pub tables : List Table
-  pub publication : Publication
+  pub publications : PublicationSet
   pub server : Server
 
 -- before the first event the log is empty, and nobody is there
 abbrev pub new_world : Setting → WorldState
-new_world setting = record { publication = setting.publication; publisher = new_publisher setting.tables setting.server.records; transactions = []; starts = []; subscribers = [] }
+new_world setting = record { publications = setting.publications; publisher = new_publisher setting.tables setting.server.records; transactions = []; starts = []; subscribers = [] }
 
 -- what a world tells of itself: its state, and what each event so far answered
 pub record WorldView : Type 0 where

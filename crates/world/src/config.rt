@@ -26,13 +26,14 @@ impl Model for Config {
 
     ghost Value = { Setting };
 
-    ghost view = { λ c. record { tables = c.catalog; publication = c.publications; server = c.server } };
+    ghost view = { λ c. record { tables = c.catalog; publications = c.publications; server = c.server } };
 
     ghost invariant = { λ c. IsServer c.server };
 }
 
 impl Config {
-    /// The configuration that a TOML text names. Its publications are not read yet: there is one, `p`, of the table public.item.
+    /// The configuration that a TOML text names. Its publications are not read yet: there are two, `p` of the table public.item and `t` of
+    /// public.tag.
     pub fn from_toml(alloc: Global, text: &str) -> Result<Self, ConfigFault>
         ensures { Names result (named_by text.now) }
     {

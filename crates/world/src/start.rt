@@ -1,15 +1,14 @@
 //! A start of a connection's sender, and what it has produced.
 
 ghost use Rattle.std.specs.Prelude.{◌≡◌, ◌++◌, [], true, IfErr, IfOk, OnErr};
-ghost use Rattle.std.specs.List.{AllByRecursion};
-ghost use Rattle.publication.specs.Selection.{FitsTable};
+ghost use Rattle.publication.specs.Selection.{FitTables};
 ghost use Rattle.world.specs.State.{is_open_for};
 ghost use Rattle.world.specs.ConnectionLines.{Acts, new_start};
 ghost use Rattle.world.specs.Machine.{IsServed, is_open, start_state};
 
 use crate::action::Action;
 use bytes::BytesMut;
-use frames::{Items, Text};
+use frames::Text;
 use publication::Selection;
 use schedule::{Answer, WorldFault};
 use sender::{Ended, Sender};
@@ -43,7 +42,7 @@ impl Start {
         selection: Selection,
         position: u64,
     ) -> Self
-        requires tables { AllByRecursion FitsTable selection }
+        requires tables { FitTables selection }
         ensures fresh { start_state result ≡ new_start connection selection position }
         ensures served { IsServed publisher.now.log result }
     {
@@ -176,9 +175,8 @@ impl Start {
 
 /// What stands in the place of a sender while it ends.
 fn nothing(alloc: Global) -> Walsender {
-    let selection = Selection::new(alloc, Items::new(Vec::new(alloc)));
     Walsender::Cut(Ended {
-        selection,
+        selection: Selection::empty(alloc),
         start: 0,
         position: 0,
     })

@@ -1,5 +1,5 @@
 use Rattle.std.proofs.Common.{◌≡◌, ◌++◌, drop, map}
-use Rattle.publication.specs.Projection.{cell_of}
+use Rattle.publication.specs.Tuples.{cell_of}
 use Rattle.publication.proofs.cells.tuple_of.Given as goal
 
 abbrev pub invariant-loop-value : goal.invariant-loop-value

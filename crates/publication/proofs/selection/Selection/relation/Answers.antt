@@ -1,4 +1,4 @@
-use Rattle.publication.proofs.Fitting.{relation_answer_fits}
+use Rattle.publication.proofs.Relations.{relation_answer_fits}
 use Rattle.publication.proofs.selection.Selection.relation.Goals as goal
 
 pub returns-clause-fits : goal.returns-clause-fits

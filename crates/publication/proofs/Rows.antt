@@ -1,0 +1,180 @@
+-- The cells of a row and the tuples that are made of it fit their fields, with as many cells as the table has columns.
+use Rattle.std.proofs.Common.{◌≡◌, ℕ, ℤ, zero, suc, ◌+◌, ◌*◌, ◌≤◌, Bool, true, false, cond, eqb, leb, ltb, List, [], ◌∷◌, ◌++◌, length, map, Option, Some, None, refl, sym, ap, ◌∙◌, arith}
+use Rattle.std.specs.Prelude.{FitsSigned, ◌&&◌, codes}
+use Rattle.std.specs.List.{flat_map, list_all, AllByRecursion}
+use Rattle.std.specs.Int.{w32, w64, cast_unsigned}
+use Rattle.std.specs.Str.{IsAscii, is_utf8}
+use Rattle.std.specs.Fmt.{signed_decimal}
+use Rattle.std.proofs.lemmas.Str.{IsUtf8-from_ascii, is_utf8-from_IsUtf8}
+use Rattle.std.proofs.lemmas.Fmt.{IsAscii-signed, length_signed_le}
+use Rattle.std.proofs.lemmas.Bool.{eqb-true, leb-true, ltb-true}
+use Rattle.std.proofs.lemmas.List.{length-append, length-map}
+use Rattle.std.proofs.lemmas.List.Concat.{flat_map-cons}
+use Rattle.frames.specs.Fields.{int16, int32}
+use Rattle.frames.proofs.Numbers.{length-int16, length-int32, length-int64}
+use Rattle.pgoutput.specs.declared.tuple.Cell.{Cell}
+use Rattle.pgoutput.specs.declared.tuple.Cell.TheVariants as cells
+use Rattle.pgoutput.specs.declared.old_tuple.OldTuple.{OldTuple}
+use Rattle.pgoutput.specs.Tuple.{cell, tuple, FitsCell, FitsTuple}
+use Rattle.pgoutput.specs.OldTuple.{cells_of}
+use Rattle.tables.specs.declared.row.TheConstants.{MAX_ROW_LENGTH}
+use Rattle.tables.specs.declared.identity.Identity.{Identity}
+use Rattle.tables.specs.declared.identity.Identity.TheVariants as identities
+use Rattle.tables.specs.declared.column.Column.{Column}
+use Rattle.tables.specs.declared.value.Value.{Value}
+use Rattle.tables.specs.declared.value.Value.TheVariants as values
+use Rattle.tables.specs.declared.table.Table.{Table}
+use Rattle.tables.specs.Spelling.{spell_value, row_length}
+use Rattle.tables.specs.Tables.{fits_table, IsValue}
+use Rattle.publication.specs.Selection.{FitsTable}
+use Rattle.publication.specs.Tuples.{cell_of, changes_key, key_tuple_of, old_by, replaced_by, tuple_of}
+use Rattle.publication.specs.Projection.{stands, stands_in}
+
+pub both_true : (a b : Bool) → (a && b) ≡ true → (a ≡ true) × (b ≡ true)
+both_true true b e = (refl, e)
+both_true false b e = absurd cc
+
+-- ---- the cells of a row
+
+decimal_text : (z : ℤ) → FitsSigned w64 z → (length (signed_decimal z) ≤ 20) × (is_utf8 (signed_decimal z) ≡ true)
+decimal_text z fits =
+    (length_signed_le 19 z (omega (arith, fits.sfits)) fits.sfits, is_utf8-from_IsUtf8 (signed_decimal z) (IsUtf8-from_ascii (signed_decimal z) (IsAscii-signed z fits.sfits)))
+
+-- a cell fits, and is at most four times as long as the value in the log
+record CellFits (v : Value) : Type 0 where
+  fits : FitsCell (cell_of v)
+  short : length (cell (cell_of v)) ≤ 4 * length (spell_value v)
+
+ascii_at : (text : List ℕ) → list_all (λ b. ltb b 128) text ≡ true → IsAscii text
+ascii_at [] test i = omega arith
+ascii_at (b ∷ text) test zero = ltb-true b 128 (both_true (ltb b 128) (list_all (λ b. ltb b 128) text) test).0
+ascii_at (b ∷ text) test (suc i) = ascii_at text (both_true (ltb b 128) (list_all (λ b. ltb b 128) text) test).1 i
+
+ascii_fits : (text : List ℕ) → list_all (λ b. ltb b 128) text ≡ true → is_utf8 text ≡ true
+ascii_fits text test = is_utf8-from_IsUtf8 text (IsUtf8-from_ascii text (ascii_at text test))
+
+letter_fits : (b : Bool) → is_utf8 (cond b (codes "t") (codes "f")) ≡ true
+letter_fits true = ascii_fits (codes "t") refl
+letter_fits false = ascii_fits (codes "f") refl
+
+cell_fits : (v : Value) → IsValue v → length (spell_value v) ≤ MAX_ROW_LENGTH → CellFits v
+cell_fits values.Null in_range short = record { fits = tt; short = omega arith }
+cell_fits (values.Bool true) in_range short = record { fits = (omega arith, letter_fits true); short = omega (arith, length-append (int32 1) (codes "t"), length-int32 1) }
+cell_fits (values.Bool false) in_range short = record { fits = (omega arith, letter_fits false); short = omega (arith, length-append (int32 1) (codes "f"), length-int32 1) }
+cell_fits (values.Int4 z) in_range short =
+    let wide : FitsSigned w64 z = record { sfits = omega (arith, in_range.sfits) } in
+    let d = decimal_text z wide in
+    let eleven : length (signed_decimal z) ≤ 11 = length_signed_le 10 z (omega (arith, in_range.sfits)) (omega (arith, in_range.sfits)) in
+    record { fits = (omega (arith, d.0), d.1); short = omega (arith, eleven, length-append (int32 (length (signed_decimal z))) (signed_decimal z), length-int32 (length (signed_decimal z)), length-int32 (cast_unsigned w32 z)) }
+cell_fits (values.Int8 z) in_range short =
+    let d = decimal_text z in_range in
+    record { fits = (omega (arith, d.0), d.1); short = omega (arith, d.0, length-append (int32 (length (signed_decimal z))) (signed_decimal z), length-int32 (length (signed_decimal z)), length-int64 (cast_unsigned w64 z)) }
+cell_fits (values.Text text) in_range short =
+    let len : length (int32 (length text) ++ text) ≡ 4 + length text = omega (arith, length-append (int32 (length text)) text, length-int32 (length text)) in
+    record { fits = (omega (arith, len, short), in_range); short = omega (arith, len) }
+
+-- a cell of a key, which is null where the column isn't in it
+record KeyCellFits (is_key : Bool) (v : Value) : Type 0 where
+  fits : FitsCell (cond is_key (cell_of v) cells.Null)
+  short : length (cell (cond is_key (cell_of v) cells.Null)) ≤ 4 * length (spell_value v)
+
+some_byte : (v : Value) → 1 ≤ length (spell_value v)
+some_byte values.Null = omega arith
+some_byte (values.Bool b) = omega arith
+some_byte (values.Int4 z) = omega arith
+some_byte (values.Int8 z) = omega arith
+some_byte (values.Text text) = omega arith
+
+key_cell_fits : (is_key : Bool) (v : Value) → IsValue v → length (spell_value v) ≤ MAX_ROW_LENGTH → KeyCellFits is_key v
+key_cell_fits true v in_range short = let f = cell_fits v in_range short in record { fits = f.fits; short = f.short }
+key_cell_fits false v in_range short = record { fits = tt; short = omega (arith, some_byte v) }
+
+record KeyFits (columns : List Column) (row : List Value) : Type 0 where
+  count : length (key_tuple_of columns row) ≡ length columns
+  fits : AllByRecursion FitsCell (key_tuple_of columns row)
+  short : length (flat_map cell (key_tuple_of columns row)) ≤ 4 * length (flat_map spell_value row)
+
+record CellsFit (row : List Value) : Type 0 where
+  fits : AllByRecursion FitsCell (map cell_of row)
+  short : length (flat_map cell (map cell_of row)) ≤ 4 * length (flat_map spell_value row)
+
+cells_fit : (row : List Value) → AllByRecursion IsValue row → length (flat_map spell_value row) ≤ MAX_ROW_LENGTH → CellsFit row
+cells_fit [] in_range short = record { fits = tt; short = omega arith }
+cells_fit (v ∷ row) in_range short =
+    let spelled : length (flat_map spell_value (v ∷ row)) ≡ length (spell_value v) + length (flat_map spell_value row) = ap length (flat_map-cons spell_value v row) ∙ length-append (spell_value v) (flat_map spell_value row) in
+    let told : length (flat_map cell (map cell_of (v ∷ row))) ≡ length (cell (cell_of v)) + length (flat_map cell (map cell_of row)) = ap length (flat_map-cons cell (cell_of v) (map cell_of row)) ∙ length-append (cell (cell_of v)) (flat_map cell (map cell_of row)) in
+    let first = cell_fits v in_range.0 (omega arith) in
+    let others = cells_fit row in_range.1 (omega arith) in
+    record { fits = (first.fits, others.fits); short = omega (arith, first.short, others.short) }
+
+-- ---- tuples
+
+pub record TupleFits (t : Table) (cells : List Cell) : Type 0 where
+  pub count : length cells ≡ length t.columns
+  pub fits : FitsTuple cells
+  pub short : length (tuple cells) ≤ 2 + 4 * MAX_ROW_LENGTH
+
+record Stood (t : Table) (row : List Value) : Type 0 where
+  counts : length t.columns ≡ length row
+  short : length (flat_map spell_value row) ≤ MAX_ROW_LENGTH
+
+stood : (t : Table) (row : List Value) → stands_in t row ≡ true → Stood t row
+stood t row stands =
+    let tests = both_true (fits_table t row) (leb (row_length row) MAX_ROW_LENGTH) stands in
+    let bound : row_length row ≤ MAX_ROW_LENGTH = leb-true _ _ tests.1 in
+    let coded : row_length row ≡ 2 + length (flat_map spell_value row) = length-append (int16 (length row)) (flat_map spell_value row) ∙ ap (λ (n : ℕ). n + length (flat_map spell_value row)) (length-int16 (length row)) in
+    record {
+      counts = eqb-true (length t.columns) (length row) (both_true (eqb (length t.columns) (length row)) _ tests.0).0;
+      short = omega (arith, bound, coded);
+    }
+
+pub whole_row : (t : Table) (row : List Value) → stands_in t row ≡ true → length t.columns ≡ length row
+whole_row t row stands = (stood t row stands).counts
+
+cells_short : (cells : List Cell) → length (flat_map cell cells) ≤ 4 * MAX_ROW_LENGTH → length (tuple cells) ≤ 2 + 4 * MAX_ROW_LENGTH
+cells_short cells short = omega (arith, short, length-int16 (length cells), length-append (int16 (length cells)) (flat_map cell cells))
+
+pub tuple_fits : (t : Table) (row : List Value) → FitsTable t → AllByRecursion IsValue row → stands_in t row ≡ true → TupleFits t (tuple_of row)
+tuple_fits t row table in_range stands =
+    let s = stood t row stands in
+    let cells = cells_fit row in_range s.short in
+    let count : length (tuple_of row) ≡ length t.columns = length-map row cell_of ∙ sym s.counts in
+    record { count = count; fits = (omega (arith, count, table.count), cells.fits); short = cells_short (tuple_of row) (omega (arith, cells.short, s.short)) }
+
+-- of a key, each cell is that of the row, or shorter
+key_cells_fit : (columns : List Column) (row : List Value) → length columns ≡ length row → AllByRecursion IsValue row → length (flat_map spell_value row) ≤ MAX_ROW_LENGTH → KeyFits columns row
+key_cells_fit [] [] counts in_range short = record { count = refl; fits = tt; short = omega arith }
+key_cells_fit [] (v ∷ row) counts in_range short = absurd cc
+key_cells_fit (c ∷ columns) [] counts in_range short = absurd cc
+key_cells_fit (c ∷ columns) (v ∷ row) counts in_range short =
+    let spelled : length (flat_map spell_value (v ∷ row)) ≡ length (spell_value v) + length (flat_map spell_value row) = ap length (flat_map-cons spell_value v row) ∙ length-append (spell_value v) (flat_map spell_value row) in
+    let first = key_cell_fits c.is_key v in_range.0 (omega arith) in
+    let others = key_cells_fit columns row (omega (arith, counts)) in_range.1 (omega arith) in
+    let one = cond c.is_key (cell_of v) cells.Null in
+    let told : length (flat_map cell (key_tuple_of (c ∷ columns) (v ∷ row))) ≡ length (cell one) + length (flat_map cell (key_tuple_of columns row)) =
+    ap length (flat_map-cons cell one (key_tuple_of columns row)) ∙ length-append (cell one) (flat_map cell (key_tuple_of columns row)) in
+    record { count = ap suc others.count; fits = (first.fits, others.fits); short = omega (arith, spelled, told, first.short, others.short) }
+
+key_tuple_fits : (t : Table) (row : List Value) → FitsTable t → AllByRecursion IsValue row → stands_in t row ≡ true → TupleFits t (key_tuple_of t.columns row)
+key_tuple_fits t row table in_range stands =
+    let s = stood t row stands in
+    let key = key_cells_fit t.columns row s.counts in_range s.short in
+    record { count = key.count; fits = (omega (arith, key.count, table.count), key.fits); short = cells_short (key_tuple_of t.columns row) (omega (arith, key.short, s.short)) }
+
+abbrev pub OldFits : Table → Option OldTuple → Type 0
+OldFits t None = Unit {0}
+OldFits t (Some old) = TupleFits t (cells_of old)
+
+pub old_fits : (t : Table) (identity : Identity) (old : List Value) → FitsTable t → AllByRecursion IsValue old → stands_in t old ≡ true → OldFits t (old_by identity t old)
+old_fits t identities.Default old table in_range stands = key_tuple_fits t old table in_range stands
+old_fits t identities.Nothing old table in_range stands = tt
+old_fits t identities.Full old table in_range stands = tuple_fits t old table in_range stands
+
+pub replaced_fits : (t : Table) (identity : Identity) (old new : List Value) → FitsTable t → AllByRecursion IsValue old → stands_in t old ≡ true → OldFits t (replaced_by identity t old new)
+replaced_fits t identities.Default old new table in_range stands = by_change (changes_key t.columns old new)
+  where
+    by_change : (b : Bool) → OldFits t (cond b (old_by identities.Default t old) None)
+    by_change true = key_tuple_fits t old table in_range stands
+    by_change false = tt
+replaced_fits t identities.Nothing old new table in_range stands = tt
+replaced_fits t identities.Full old new table in_range stands = tuple_fits t old table in_range stands

@@ -1,0 +1,55 @@
+-- The tuples of rows (PostgreSQL 15, 55.9): each value as a text, and which of an old row is sent.
+use Rattle.std.specs.Prelude.{◌&&◌, Bool, not, true, false, List, map, codes, Option, Some, None, if◌then◌else◌}
+use Rattle.std.specs.Fmt.{signed_decimal}
+use Rattle.std.specs.List.{list_any, zip}
+use Rattle.std.specs.Ordering.{int_eq}
+use Rattle.std.specs.Str.{bytes_eq}
+use Rattle.pgoutput.specs.declared.tuple.Cell.{Cell}
+use Rattle.pgoutput.specs.declared.tuple.Cell.TheVariants as cells
+use Rattle.pgoutput.specs.declared.old_tuple.OldTuple.{OldTuple}
+use Rattle.pgoutput.specs.declared.old_tuple.OldTuple.TheVariants.{Key, Full}
+use Rattle.tables.specs.declared.identity.Identity.{Identity}
+use Rattle.tables.specs.declared.identity.Identity.TheVariants as identities
+use Rattle.tables.specs.declared.value.Value.{Value}
+use Rattle.tables.specs.declared.value.Value.TheVariants as values
+use Rattle.tables.specs.declared.column.Column.{Column}
+use Rattle.tables.specs.declared.table.Table.{Table}
+
+-- bool is t or f, an integer its decimal digits, a text its bytes
+abbrev pub cell_of : Value → Cell
+cell_of values.Null = cells.Null
+cell_of (values.Bool b) = cells.Text (if b then codes "t" else codes "f")
+cell_of (values.Int4 n) = cells.Text (signed_decimal n)
+cell_of (values.Int8 n) = cells.Text (signed_decimal n)
+cell_of (values.Text text) = cells.Text text
+
+abbrev pub tuple_of : List Value → List Cell
+tuple_of row = map cell_of row
+
+-- as many cells as columns, null outside the primary key
+abbrev pub key_tuple_of : List Column → List Value → List Cell
+key_tuple_of columns row = map (λ p. if p.0.is_key then cell_of p.1 else cells.Null) (zip columns row)
+
+abbrev pub same_value : Value → Value → Bool
+same_value values.Null values.Null = true
+same_value (values.Bool a) (values.Bool b) = if a then b else not b
+same_value (values.Int4 a) (values.Int4 b) = int_eq a b
+same_value (values.Int8 a) (values.Int8 b) = int_eq a b
+same_value (values.Text a) (values.Text b) = bytes_eq a b
+same_value a b = false
+
+-- whether a column of the primary key has one value in the one row and another one in the other
+abbrev pub changes_key : List Column → (old new : List Value) → Bool
+changes_key columns old new = list_any (λ p. p.0.is_key && not (same_value p.1.0 p.1.1)) (zip columns (zip old new))
+
+-- what is sent of a row that is gone: the key, or the whole row, or nothing, by the table's identity
+abbrev pub old_by : Identity → Table → List Value → Option OldTuple
+old_by identities.Default t old = Some (Key (key_tuple_of t.columns old))
+old_by identities.Nothing t old = None
+old_by identities.Full t old = Some (Full (tuple_of old))
+
+-- what is sent of a row beside the one that took its place: the key only where it changed
+abbrev pub replaced_by : Identity → Table → (old new : List Value) → Option OldTuple
+replaced_by identities.Default t old new = if changes_key t.columns old new then old_by identities.Default t old else None
+replaced_by identities.Nothing t old new = None
+replaced_by identities.Full t old new = old_by identities.Full t old
