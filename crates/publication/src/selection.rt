@@ -21,7 +21,7 @@ use frames::Items;
 use pgoutput::Logical;
 use std::alloc::{AllocError, Global};
 use std::marker::Model;
-use tables::{MAX_TRUNCATED, Row, Table, Change};
+use tables::{Change, MAX_TRUNCATED, Row, Table};
 
 /// The publications that a sender was asked for.
 ///
