@@ -16,6 +16,8 @@ mod frame_text;
 mod framing;
 mod given;
 mod message;
+mod noise;
+mod numbers;
 mod play;
 mod random;
 mod report;
@@ -26,6 +28,9 @@ mod schedules;
 mod scripted_desk;
 mod shown;
 mod spoken;
+mod streams;
+mod subscriber;
+mod subscriber_text;
 mod talk;
 mod told;
 mod toml_text;
@@ -36,6 +41,7 @@ use conversations::judge_conversations;
 use report::Report;
 use samples::judge_samples;
 use schedules::judge_schedules;
+use streams::judge_streams;
 use std::alloc::Global;
 use std::{env, fs};
 
@@ -59,6 +65,9 @@ fn judged(alloc: Global, path: &str, text: &str) -> Result<Report> {
     }
     if path.ends_with(".schedules") {
         return judge_schedules(alloc, text);
+    }
+    if path.ends_with(".streams") {
+        return judge_streams(alloc, text);
     }
     if path.ends_with(".conversations") {
         return judge_conversations(alloc, text);
