@@ -41,9 +41,9 @@ use conversations::judge_conversations;
 use report::Report;
 use samples::judge_samples;
 use schedules::judge_schedules;
-use streams::judge_streams;
 use std::alloc::Global;
 use std::{env, fs};
+use streams::judge_streams;
 
 fn main(rt: HostRuntime) -> Result<()> {
     let alloc = rt.alloc();

@@ -35,17 +35,29 @@ pub fn noise_answer(alloc: Global, given: &str) -> Result<Answer> {
     let (seed, count) = given.split_once(' ').context("gives no number of bytes")?;
     let mut numbers = Numbers::new(seed.parse::<u64>().context("reading the seed")?);
     let count = count.parse::<usize>().context("reading how many bytes")?;
+    let frames = frames_of(alloc)?;
     let mut sent = 0;
     for _ in 0..count {
         if sent >= count {
             break;
         }
-        let stream = random_stream(alloc, &mut numbers)?;
+        let stream = random_stream(alloc, frames.as_slice(), &mut numbers)?;
         let same = is_taken_alike(alloc, stream.as_slice(), &mut numbers)?;
         ensure!(same, "comes to something else in pieces");
         sent = stream.len().saturating_add(sent);
     }
     Ok(Answer::Meaning("same".to_string(alloc)?))
+}
+
+/// The bytes of what a server may send.
+fn frames_of(alloc: Global) -> Result<Vec<Vec<u8>>> {
+    let mut frames = Vec::new(alloc);
+    for digits in &SENT {
+        let mut frame = Vec::new(alloc);
+        add_digits(alloc, &mut frame, digits)?;
+        frames.push(frame)?;
+    }
+    Ok(frames)
 }
 
 /// Whether the same comes of the stream at once and in random cuts.
@@ -57,11 +69,7 @@ fn is_taken_alike(alloc: Global, stream: &[u8], numbers: &mut Numbers) -> Result
     Ok(whole.shown(alloc)? == pieces.shown(alloc)?)
 }
 
-fn hear_in_pieces(
-    subscriber: &mut Subscriber,
-    stream: &[u8],
-    numbers: &mut Numbers,
-) -> Result<()> {
+fn hear_in_pieces(subscriber: &mut Subscriber, stream: &[u8], numbers: &mut Numbers) -> Result<()> {
     let mut rest = stream;
     for _ in 0..stream.len() {
         let length = numbers.below(LONGEST_PIECE) as usize;
@@ -75,15 +83,15 @@ fn hear_in_pieces(
 }
 
 /// One stream: mostly the frames in order, and now and then another, or bytes of any kind.
-fn random_stream(alloc: Global, numbers: &mut Numbers) -> Result<Vec<u8>> {
+fn random_stream(alloc: Global, frames: &[Vec<u8>], numbers: &mut Numbers) -> Result<Vec<u8>> {
     let mut stream = Vec::new(alloc);
     for place in 0..FRAMES {
         let choice = match numbers.below(24) {
             0 => numbers.below(16) as usize,
             _ => place % IN_ORDER,
         };
-        match SENT.get(choice) {
-            Some(frame) => add_digits(alloc, &mut stream, frame)?,
+        match frames.get(choice) {
+            Some(frame) => stream.extend_from_slice(frame.as_slice())?,
             None => add_noise(&mut stream, numbers)?,
         }
     }

@@ -2,12 +2,11 @@
 
 ghost use Rattle.std.specs.Prelude.{◌≤◌};
 
+use crate::shown::Position;
 use anyhow::{Result, ensure};
 use client::{Applied, Applier, ClientFault, render};
 use pgoutput::{Begin, Commit, Logical};
 use std::alloc::{AllocError, Global};
-
-use crate::shown::Position;
 
 /// A keepalive of a position that no sample reaches.
 const LATE_KEEPALIVE: [u8; 23] = [
