@@ -192,7 +192,7 @@ changes_go relation relations_sent p a tables begin before clock (c ∷ cs) fit 
     record {
       tables = then.tables;
       steps = after_append (at p a tables (Some (record { begin = begin; changes = before }))) (change_words relation relations_sent clock c) (changes_words relation (relations_sent_by relations_sent c) clock cs)
-              (at p a first.tables (Some (record { begin = begin; changes = before ++ c ∷ [] }))) first.steps
+          (at p a first.tables (Some (record { begin = begin; changes = before ++ c ∷ [] }))) first.steps
           ∙ then.steps ∙ ap (λ (l : List PublishedChange). gone (at p a then.tables (Some (record { begin = begin; changes = l })))) (append_assoc before (c ∷ []) cs);
       told = then.told;
     }

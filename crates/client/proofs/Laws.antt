@@ -137,8 +137,7 @@ pub follows_ok : (old new : ApplierState) (bytes : List ℕ) → Reached old.sub
 follows_ok old new bytes went waits sound relation base before more items rests had fit e =
     let r = reached_on base before old.subscriber old.unread bytes new.subscriber new.unread had.reached went in
     let b = begun_by relation items base (before ++ bytes) new.subscriber new.unread more r fit e in
-    let s = standing relation items base (before ++ bytes) new.subscriber new.unread more r fit b in
-    (
+    let s = standing relation items base (before ++ bytes) new.subscriber new.unread more r fit b in (
       record { reached = r; waits = waits; sound = sound },
       record {
         gains = gains_of relation items base (before ++ bytes) new.subscriber new.unread more r rests b s;
@@ -150,8 +149,7 @@ pub follows_err : (old new : ApplierState) (bytes : List ℕ) (fault : ClientFau
 follows_err old new bytes fault stops relation base before more items rests had fit e =
     let r = reached_on base before old.subscriber old.unread bytes new.subscriber stops.rest had.reached stops.reached in
     let b = begun_by relation items base (before ++ bytes) new.subscriber stops.rest more r fit e in
-    let s = standing relation items base (before ++ bytes) new.subscriber stops.rest more r fit b in
-    (
+    let s = standing relation items base (before ++ bytes) new.subscriber stops.rest more r fit b in (
       no_fault relation items base (before ++ bytes) new.subscriber more fault rests fit e (record { rest = stops.rest; reached = r; stops = stops.stops }),
       gains_of relation items base (before ++ bytes) new.subscriber stops.rest more r rests b s,
     )

@@ -75,11 +75,11 @@ impl Applier {
     /// keepalive at once.
     pub fn status(&self, clock: i64, ask: bool) -> [u8; 39]
         ensures { result ≡ frame COPY_DATA (status (record {
-            written = self.now.subscriber.position;
-            flushed = self.now.subscriber.position;
-            applied = self.now.subscriber.position;
-            clock = clock;
-            ask = ask;
+          written = self.now.subscriber.position;
+          flushed = self.now.subscriber.position;
+          applied = self.now.subscriber.position;
+          clock = clock;
+          ask = ask;
         })) }
     {
         status_frame(self.progress.position(), clock, ask)

@@ -2,13 +2,16 @@
 #![tactic(auto)]
 
 mod applier;
+mod cells;
 mod fault;
 mod half;
 mod judging;
 mod progress;
 mod reading;
+mod rendering;
 mod status;
 
 pub use applier::Applier;
 pub use fault::ClientFault;
+pub use rendering::render;
 pub use stream::{Published as Applied, PublishedChange};

@@ -13,10 +13,7 @@ use stream::{Keepalive, Word, XLogData};
 /// The word at the front, and how many bytes its frame takes; None while no frame is there whole.
 ///
 /// K1 at what is no frame of a stream, K4 at an ErrorResponse, K5 for memory.
-pub(crate) fn read_word(
-    alloc: Global,
-    bytes: &[u8],
-) -> Result<Option<(Word, usize)>, ClientFault>
+pub(crate) fn read_word(alloc: Global, bytes: &[u8]) -> Result<Option<(Word, usize)>, ClientFault>
     ensures { Reads bytes.now result }
 {
     match read_back(alloc, bytes) {

@@ -18,11 +18,11 @@ const SIZE: usize = 39;
 /// A CopyData with a status of one position in its three fields.
 pub(crate) fn status_frame(position: u64, clock: i64, ask: bool) -> [u8; 39]
     ensures { result ≡ frame COPY_DATA (status (record {
-        written = position;
-        flushed = position;
-        applied = position;
-        clock = clock;
-        ask = ask;
+      written = position;
+      flushed = position;
+      applied = position;
+      clock = clock;
+      ask = ask;
     })) }
 {
     let mut out = [0; SIZE];

@@ -17,6 +17,8 @@ mod frame_text;
 mod framing;
 mod given;
 mod message;
+mod noise;
+mod numbers;
 mod play;
 mod projection;
 mod random;
@@ -27,6 +29,9 @@ mod schedules;
 mod scripted_desk;
 mod shown;
 mod spoken;
+mod streams;
+mod subscriber;
+mod subscriber_text;
 mod talk;
 mod told;
 mod toml_text;
@@ -39,6 +44,7 @@ use samples::judge_samples;
 use schedules::judge_schedules;
 use std::alloc::Global;
 use std::{env, fs};
+use streams::judge_streams;
 
 fn main(rt: HostRuntime) -> Result<()> {
     let alloc = rt.alloc();
@@ -60,6 +66,9 @@ fn judged(alloc: Global, path: &str, text: &str) -> Result<Report> {
     }
     if path.ends_with(".schedules") {
         return judge_schedules(alloc, text);
+    }
+    if path.ends_with(".streams") {
+        return judge_streams(alloc, text);
     }
     if path.ends_with(".conversations") {
         return judge_conversations(alloc, text);

@@ -1,5 +1,6 @@
 //! Conversations that nobody means: frames and bytes as they happen to come.
 
+use crate::numbers::Numbers;
 use crate::sample::Answer;
 use crate::spoken::add_heard;
 use crate::talk::{Talk, talked};
@@ -28,39 +29,10 @@ const HEARD: [&str; 12] = [
     "58 00000004",
 ];
 
-/// Numbers that follow from a seed (a linear congruential generator with Knuth's factors).
-#[derive(Drop)]
-struct Numbers {
-    state: u64,
-}
-
-impl Numbers {
-    fn go_on(&mut self) {
-        self.state = self
-            .state
-            .wrapping_mul(6_364_136_223_846_793_005)
-            .wrapping_add(1_442_695_040_888_963_407);
-    }
-
-    /// A number below this one, which isn't 0.
-    fn below(&mut self, bound: u32) -> u32 {
-        self.go_on();
-        let number = (self.state >> 33) as u32;
-        number.checked_rem(bound).unwrap_or(0)
-    }
-
-    fn byte(&mut self) -> u8 {
-        self.go_on();
-        (self.state >> 56) as u8
-    }
-}
-
 /// Conversations of so many bytes in all, each held in random cuts and at once: `SEED BYTES`.
 pub fn random_answer(alloc: Global, given: &str) -> Result<Answer> {
     let (seed, count) = given.split_once(' ').context("gives no number of bytes")?;
-    let mut numbers = Numbers {
-        state: seed.parse::<u64>().context("reading the seed")?,
-    };
+    let mut numbers = Numbers::new(seed.parse::<u64>().context("reading the seed")?);
     let count = count.parse::<usize>().context("reading how many bytes")?;
     let mut heard = 0;
     for _ in 0..count {

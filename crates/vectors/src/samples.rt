@@ -10,10 +10,12 @@ use crate::field::field_answer;
 use crate::framing::{back_answer, front_answer, startup_answer};
 use crate::given::Given;
 use crate::message::logical_answer;
+use crate::noise::noise_answer;
 use crate::projection::{change_answer, tables_answer};
 use crate::random::random_answer;
 use crate::report::Report;
 use crate::sample::{Answer, Sample};
+use crate::subscriber_text::{render_answer, status_answer};
 use crate::told::{code_answer, text_answer};
 use crate::wording::word_answer;
 use anyhow::{Result, bail};
@@ -88,7 +90,9 @@ fn answer_of(alloc: Global, sample: Sample<'_>) -> Result<Answer> {
         "command" => command_answer(alloc, sample.given),
         "position" => position_answer(alloc, sample.given),
         "event" => event_answer(alloc, sample.given),
+        "noise" => noise_answer(alloc, sample.given),
         "random" => random_answer(alloc, sample.given),
+        "status" => status_answer(alloc, sample.given),
         "text" => text_answer(alloc, sample.given),
         "code" => code_answer(alloc, sample.given),
         _ => bytes_answer(alloc, sample.call, &Given::of(alloc, sample.given)?),
@@ -103,6 +107,7 @@ fn bytes_answer(alloc: Global, call: &str, given: &Given) -> Result<Answer> {
         "read_server" => server_answer(alloc, given),
         "read_client" => client_answer(alloc, given),
         "read_logical" => logical_answer(alloc, given.all()),
+        "render" => render_answer(alloc, given.all()),
         "read_body" => body_answer(alloc, given.all()),
         "word" => word_answer(alloc, given.all()),
         _ => field_answer(alloc, call, given),

@@ -97,7 +97,8 @@ fn add_string(bytes: &mut Vec<u8>, text: &str) -> Result<()> {
     Ok(())
 }
 
-fn add_digits(alloc: Global, bytes: &mut Vec<u8>, line: &str) -> Result<()> {
+/// Adds the bytes that hexadecimal digits spell.
+pub fn add_digits(alloc: Global, bytes: &mut Vec<u8>, line: &str) -> Result<()> {
     let digits = line.replace(alloc, " ", "")?.replace(alloc, "\n", "")?;
     let spelled = hex::decode(alloc, digits.as_str())?;
     bytes.extend_from_slice(spelled.as_slice())?;

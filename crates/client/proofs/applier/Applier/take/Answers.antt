@@ -6,7 +6,7 @@ use Rattle.client.proofs.applier.Applier.take.Goals as goal
 pub returns-in-Err-clause-follows : goal.returns-in-Err-clause-follows
 returns-in-Err-clause-follows c =
     let new : ApplierState = record { subscriber = c.self-2.inside.progress; unread = c.self-2.inside.unread.items; fault = Some c.in-Err.fault } in
-    follows_err c.args.self.now new c.args.bytes.now c.in-Err.fault 
+    follows_err c.args.self.now new c.args.bytes.now c.in-Err.fault
     (subst (λ (a : ApplierState). StopsAfter c.args.self.now.subscriber (c.args.self.now.unread ++ c.args.bytes.now) a.subscriber c.in-Err.fault) (sym c.self-2.view_is) c.in-Err.ensures.err)
 
 pub returns-in_default-taken-clause-follows : goal.returns-in_default-taken-clause-follows

@@ -22,8 +22,7 @@ returns-in_err-step-clause-err c =
 
 pub loop-preserved : goal.loop-preserved
 loop-preserved c =
-    let bytes = c.args.self.now.unread ++ c.args.bytes.now in
-    (
+    let bytes = c.args.self.now.unread ++ c.args.bytes.now in (
       reached_more c.args.self.now.subscriber bytes c.loop.self.subscriber c.loop.self.unread c.step.new.self.subscriber c.step.new.self.unread c.loop.invariant.0 (c.in_ok-step.ensures.more (step_done c.in_ok-step.field-0 true c.if-branch.true)),
       c.in_ok-step.ensures.fault ∙ c.loop.invariant.1,
     )
