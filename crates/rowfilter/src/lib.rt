@@ -6,11 +6,13 @@ mod comparison;
 mod expression;
 mod fault;
 mod filter;
+mod joint;
 mod lexer;
 mod literal;
 mod operand;
 mod question;
 mod sort;
+mod tightness;
 mod token;
 mod truth;
 
