@@ -13,7 +13,7 @@ use Rattle.rowfilter.specs.Conditions.{Condition, Literal, Compare, Is, Not, And
 use Rattle.rowfilter.specs.Words.{Saying, SayAnd, SayOr, SayNot, SayIs, SayNull, SayBool, SayUnknown, SayName, SayNumber, SayText, SayComparison, SayOpen, SayClose}
 use Rattle.rowfilter.specs.Grammar.{Phrase, InName, InUnknown, InNumber, InText, InBool, InNull, InParentheses, InCompare, InIs, InNot, InAnd, InOr, tightness, meant, levels, IsInRange, MOST_LEVELS}
 use Rattle.rowfilter.specs.Stacks.{binds, left_of, Trees, Word, Joins, Denies, Asks, Opens, Closes, Operand, Stray, Pending, Enclosing, Denying, Joining, wants, completed, State, Wanting, Having, Asking, wanted_by, folded, joins, asks, closes_over, ends_over, step, outcome, run, word_of}
-use Rattle.rowfilter.specs.Parts.{phrases, leaf_of, Grown, raised, over, worse, beside, parts, fits_64, number, grown}
+use Rattle.rowfilter.specs.Parts.{phrases, leaf_of, Grown, raised, over, worse, beside, parts, fits_64, integer_if, number_if, grown}
 
 -- ---- within the limits
 
@@ -51,7 +51,7 @@ beside_tree make R S m n c d (Err fault) (Err other) left right = λ range most.
 
 -- ---- integers
 
-fits_tested : (n : ℤ) → fits_64 n ≡ true → FitsSigned w64 n
+pub fits_tested : (n : ℤ) → fits_64 n ≡ true → FitsSigned w64 n
 fits_tested (pos n) is = record { sfits = ltb-true n (2 ^ 63) is }
 fits_tested (negsuc n) is = record { sfits = ltb-true n (2 ^ 63) is }
 
@@ -59,10 +59,10 @@ pub tested_fits : (n : ℤ) → FitsSigned w64 n → fits_64 n ≡ true
 tested_fits (pos n) fits = lt-ltb n (2 ^ 63) fits.sfits
 tested_fits (negsuc n) fits = lt-ltb n (2 ^ 63) fits.sfits
 
-number_tree : (n : ℤ) → IsTree (FitsSigned w64 n) 1 (Literal (Number n)) (number n).tree
+number_tree : (n : ℤ) → IsTree (FitsSigned w64 n) 1 (Literal (Number n)) (number_if (integer_if n)).tree
 number_tree n = by_test (fits_64 n) refl
   where
-    by_test : (t : Bool) → fits_64 n ≡ t → IsTree (FitsSigned w64 n) 1 (Literal (Number n)) (cond t (Ok (Literal (Number n), 1)) (Err NumberRange))
+    by_test : (t : Bool) → fits_64 n ≡ t → IsTree (FitsSigned w64 n) 1 (Literal (Number n)) (number_if (cond t (Some n) None)).tree
     by_test true is = (refl, refl, (fits_tested n is, lit≤ tt))
     by_test false is = λ fits most. absurd (let never : true ≡ false = sym (tested_fits n fits) ∙ is in cc)
 
@@ -108,10 +108,14 @@ grows_word columns Closes = Closes
 grows_word columns (Operand a question) = Operand (grown columns a) question
 grows_word columns Stray = Stray
 
+number_tight : (o : Option ℤ) → (number_if o).tight ≡ 5
+number_tight None = refl
+number_tight (Some n) = refl
+
 tight_same : (columns : List TableColumn) (a : Phrase) → (grown columns a).tight ≡ tightness a
 tight_same columns (InName name) = refl
 tight_same columns InUnknown = refl
-tight_same columns (InNumber n) = refl
+tight_same columns (InNumber n) = number_tight (integer_if n)
 tight_same columns (InText text) = refl
 tight_same columns (InBool b) = refl
 tight_same columns InNull = refl

@@ -8,3 +8,4 @@ pub mod Lexing
 pub mod Shapes
 pub mod Stacks
 pub mod Parts
+pub mod Views

@@ -12,7 +12,7 @@ use Rattle.rowfilter.specs.declared.fault.FilterFault.TheVariants.{NumberRange, 
 use Rattle.rowfilter.specs.Conditions.{Missing, Flag, Number, Bytes, Condition, Column, Literal, Compare, Is, Not, And, Or}
 use Rattle.rowfilter.specs.Grammar.{place_of, MOST_LEVELS}
 use Rattle.rowfilter.specs.Words.{said_by}
-use Rattle.rowfilter.specs.Stacks.{Trees, Word, binds, word_said}
+use Rattle.rowfilter.specs.Stacks.{Trees, Word, binds, word_of, word_said}
 
 abbrev pub joined_phrase : Joint → Phrase → Phrase → Phrase
 joined_phrase joints.Or a b = InOr a b
@@ -79,14 +79,19 @@ abbrev pub fits_64 : ℤ → Bool
 fits_64 (pos n) = nat_lt n (2 ^ 63)
 fits_64 (negsuc n) = nat_lt n (2 ^ 63)
 
-abbrev pub number : ℤ → Grown
-number n = record { tight = 5; tree = if fits_64 n then Ok (Literal (Number n), 1) else Err NumberRange }
+abbrev pub integer_if : ℤ → Option ℤ
+integer_if n = if fits_64 n then Some n else None
+
+-- an integer as an operand; None is one of over 64 bits
+abbrev pub number_if : Option ℤ → Grown
+number_if (Some n) = leaf (Literal (Number n))
+number_if None = record { tight = 5; tree = Err NumberRange }
 
 -- what a phrase comes to over these columns
 abbrev pub grown : List TableColumn → Phrase → Grown
 grown columns (InName name) = leaf (Column (place_of columns name))
 grown columns InUnknown = leaf (Column (place_of columns (codes "unknown")))
-grown columns (InNumber n) = number n
+grown columns (InNumber n) = number_if (integer_if n)
 grown columns (InText text) = leaf (Literal (Bytes text))
 grown columns (InBool b) = leaf (Literal (Flag b))
 grown columns InNull = leaf (Literal Missing)
@@ -97,6 +102,9 @@ grown columns (InNot a) = parts.denied (grown columns a)
 grown columns (InAnd a b) = parts.joined joints.And (grown columns a) (grown columns b)
 grown columns (InOr a b) = parts.joined joints.Or (grown columns a) (grown columns b)
 
--- the word of a token, over these columns
+-- the word that is said over these columns, and the word of a token
+abbrev pub word_said_of : List TableColumn → Saying → Word Grown
+word_said_of columns saying = word_of (λ s. grown columns (leaf_of s)) saying
+
 abbrev pub word_at : List TableColumn → Token → Word Grown
 word_at columns token = word_said (λ saying. grown columns (leaf_of saying)) (said_by token)

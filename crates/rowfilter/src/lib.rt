@@ -9,12 +9,16 @@ mod filter;
 mod joint;
 mod lexer;
 mod literal;
+mod number;
 mod operand;
+mod part;
+mod pending;
 mod question;
 mod sort;
 mod tightness;
 mod token;
 mod truth;
+mod word;
 
 pub use fault::FilterFault;
 pub use filter::Filter;
