@@ -1,8 +1,8 @@
 -- The stack of what waits, whose top stands last in its list.
-use Rattle.std.proofs.Common.{◌≡◌, ℕ, ◌<◌, nat_lt, cond, List, [], ◌∷◌, ◌++◌, refl, sym, subst, ap, ◌∙◌}
+use Rattle.std.proofs.Common.{◌≡◌, ℕ, ◌<◌, nat_lt, cond, arith, length, Option, Some, None, List, [], ◌∷◌, ◌++◌, refl, sym, subst, ap, ◌∙◌}
 use Rattle.std.proofs.lemmas.Bool.{lt-ltb}
 use Rattle.rowfilter.specs.declared.pending.Pending.{Pending as Item}
-use Rattle.rowfilter.specs.Stacks.{Pending, wants, wanted_by, folded, completed}
+use Rattle.rowfilter.specs.Stacks.{Pending, wants, wanted_by, folded, completed, ends_over}
 use Rattle.rowfilter.specs.Parts.{Grown, parts}
 use Rattle.rowfilter.specs.Views.{seen_pending, stack_on, stack_of}
 use Rattle.rowfilter.proofs.Pieces.{if_true}
@@ -25,3 +25,13 @@ folds_popped m before after item a b parted less made =
     let pushed : stack_of before ≡ seen_pending item ∷ stack = ap (λ (l : List Item). stack_of l) parted ∙ stack_pushed after item in
     let under : m < wants (seen_pending item) = subst (λ (s : List (Pending Grown)). m < wanted_by s) pushed less in
     ap (folded parts m stack) made ∙ sym (folds_top m (seen_pending item) stack a under) ∙ ap (λ (s : List (Pending Grown)). folded parts m s a) (sym pushed)
+
+-- ---- at the end
+
+still_there : (below : List (Pending Grown)) (items : List Item) (item : Pending Grown) (a : Grown) → ends_over (stack_on (item ∷ below) items) a ≡ None
+still_there below [] item a = refl
+still_there below (first ∷ items) item a = still_there (item ∷ below) items (seen_pending first) a
+
+pub ends_none : (items : List Item) (a : Grown) → 0 < length items → ends_over (stack_of items) a ≡ None
+ends_none [] a some = absurd (omega (arith, some))
+ends_none (item ∷ items) a some = still_there [] items (seen_pending item) a

@@ -3,13 +3,16 @@ use Rattle.std.specs.Prelude.{◌≡◌, ℕ, List, [], ◌∷◌, Option, Some,
 use Rattle.rowfilter.specs.declared.fault.FilterFault.{FilterFault}
 use Rattle.rowfilter.specs.declared.part.Part.{Part}
 use Rattle.rowfilter.specs.declared.part.Tree.{Tree}
-use Rattle.rowfilter.specs.declared.pending.Pending.{Pending as Item}
+pub use Rattle.rowfilter.specs.declared.pending.Pending.{Pending as Item}
 use Rattle.rowfilter.specs.declared.pending.Pending.TheVariants as items
+use Rattle.rowfilter.specs.declared.fault.FilterFault.TheVariants.{Memory, Syntax}
+use Rattle.rowfilter.specs.declared.place.Place.{Place}
+use Rattle.rowfilter.specs.declared.place.Place.TheVariants as places
 use Rattle.rowfilter.specs.declared.word.Word.{Word as Read}
 use Rattle.rowfilter.specs.declared.word.Word.TheVariants as reads
 use Rattle.rowfilter.specs.Conditions.{Condition}
 use Rattle.rowfilter.specs.Shapes.{shape}
-use Rattle.rowfilter.specs.Stacks.{Pending, Enclosing, Denying, Joining, Word, Joins, Denies, Asks, Opens, Closes, Operand, Stray}
+use Rattle.rowfilter.specs.Stacks.{Pending, Enclosing, Denying, Joining, State, Wanting, Having, Asking, Word, Joins, Denies, Asks, Opens, Closes, Operand, Stray}
 use Rattle.rowfilter.specs.Parts.{Grown}
 
 abbrev pub seen_tree : Result Tree FilterFault → Result (Condition × ℕ) FilterFault
@@ -43,3 +46,22 @@ seen_word reads.Open = Opens
 seen_word reads.Close = Closes
 seen_word (reads.Operand part question) = Operand (seen_part part) question
 seen_word reads.Stray = Stray
+
+abbrev pub state_of : List Item → Place → State Grown
+state_of items places.Wanting = Wanting (stack_of items)
+state_of items (places.Having part) = Having (stack_of items) (seen_part part)
+state_of items (places.Asking part negated) = Asking (stack_of items) (seen_part part) negated
+
+-- A call that moves to this state, unless memory ran out; Syntax where there is none.
+abbrev pub Moves : Result Place FilterFault → List Item → Option (State Grown) → Type 0
+Moves (Ok place) items state = state ≡ Some (state_of items place)
+Moves (Err Syntax) items state = state ≡ None
+Moves (Err Memory) items state = Unit {0}
+Moves (Err _) items state = ⊥
+
+-- A call that gives this part, unless memory ran out; Syntax where there is none.
+abbrev pub GivesPart : Result Part FilterFault → Option Grown → Type 0
+GivesPart (Ok part) grown = grown ≡ Some (seen_part part)
+GivesPart (Err Syntax) grown = grown ≡ None
+GivesPart (Err Memory) grown = Unit {0}
+GivesPart (Err _) grown = ⊥

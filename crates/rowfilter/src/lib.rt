@@ -13,6 +13,7 @@ mod number;
 mod operand;
 mod part;
 mod pending;
+mod place;
 mod question;
 mod sort;
 mod tightness;
