@@ -17,24 +17,28 @@ use Rattle.rowfilter.specs.Parts.{phrases, leaf_of, Grown, raised, over, worse, 
 
 -- ---- within the limits
 
--- The condition with its levels exactly where it is in range and has no more levels than it may.
+-- The condition with its levels where it is in range and has no more levels than it may, and else why there is none.
 abbrev pub IsTree : Type 0 → ℕ → Condition → Result (Condition × ℕ) FilterFault → Type 0
 IsTree R n c (Ok x) = (x.0 ≡ c) × (x.1 ≡ n) × (R × (n ≤ 64))
-IsTree R n c (Err fault) = R → n ≤ 64 → ⊥
+IsTree R n c (Err NumberRange) = R → ⊥
+IsTree R n c (Err TooDeep) = R × (64 < n)
+IsTree R n c (Err fault) = ⊥
 
 raised_tree : (R : Type 0) (n : ℕ) (c : Condition) → R → IsTree R (suc n) c (raised c n)
 raised_tree R n c range = by_test (nat_lt n 64) refl
   where
     by_test : (t : Bool) → nat_lt n 64 ≡ t → IsTree R (suc n) c (cond t (Ok (c, suc n)) (Err TooDeep))
     by_test true is = (refl, refl, (range, omega (arith, ltb-true n 64 is)))
-    by_test false is = λ range most. absurd (omega (arith, most, ltb-false n 64 is))
+    by_test false is = (range, omega (arith, ltb-false n 64 is))
 
 over_tree : (make : Condition → Condition) (R : Type 0) (n : ℕ) (c : Condition) (t : Result (Condition × ℕ) FilterFault) → IsTree R n c t → IsTree R (suc n) (make c) (over make t)
 over_tree make R n c (Ok x) tree =
     let P : Condition → ℕ → Type 0 = λ d m. IsTree R (suc n) (make c) (raised (make d) m) in
     let at_levels : P c x.1 = subst (λ (m : ℕ). P c m) (sym tree.1) (raised_tree R n (make c) tree.2.0) in
     subst (λ (d : Condition). P d x.1) (sym tree.0) at_levels
-over_tree make R n c (Err fault) tree = λ range most. tree range (omega (arith, most))
+over_tree make R n c (Err NumberRange) tree = tree
+over_tree make R n c (Err TooDeep) tree = (tree.0, omega (arith, tree.1))
+over_tree make R n c (Err fault) tree = absurd tree
 
 beside_tree : (make : Condition → Condition → Condition) (R S : Type 0) (m n : ℕ) (c d : Condition) (t u : Result (Condition × ℕ) FilterFault)
     → IsTree R m c t → IsTree S n d u → IsTree (R × S) (suc (max m n)) (make c d) (beside make t u)
@@ -45,9 +49,17 @@ beside_tree make R S m n c d (Ok x) (Ok y) left right =
     let second : P c d x.1 y.1 = subst (λ (k : ℕ). P c d x.1 k) (sym right.1) first in
     let third : P x.0 d x.1 y.1 = subst (λ (a : Condition). P a d x.1 y.1) (sym left.0) second in
     subst (λ (b : Condition). P x.0 b x.1 y.1) (sym right.0) third
-beside_tree make R S m n c d (Ok x) (Err fault) left right = λ range most. right range.1 (omega (arith, most))
-beside_tree make R S m n c d (Err fault) (Ok y) left right = λ range most. left range.0 (omega (arith, most))
-beside_tree make R S m n c d (Err fault) (Err other) left right = λ range most. left range.0 (omega (arith, most))
+beside_tree make R S m n c d (Ok x) (Err NumberRange) left right = λ range. right range.1
+beside_tree make R S m n c d (Ok x) (Err TooDeep) left right = ((left.2.0, right.0), omega (arith, right.1))
+beside_tree make R S m n c d (Ok x) (Err fault) left right = absurd right
+beside_tree make R S m n c d (Err NumberRange) (Ok y) left right = λ range. left range.0
+beside_tree make R S m n c d (Err TooDeep) (Ok y) left right = ((left.0, right.2.0), omega (arith, left.1))
+beside_tree make R S m n c d (Err fault) (Ok y) left right = absurd left
+beside_tree make R S m n c d (Err NumberRange) (Err other) left right = λ range. left range.0
+beside_tree make R S m n c d (Err TooDeep) (Err NumberRange) left right = λ range. right range.1
+beside_tree make R S m n c d (Err TooDeep) (Err TooDeep) left right = ((left.0, right.0), omega (arith, left.1))
+beside_tree make R S m n c d (Err TooDeep) (Err other) left right = absurd right
+beside_tree make R S m n c d (Err fault) (Err other) left right = absurd left
 
 -- ---- integers
 
@@ -64,7 +76,7 @@ number_tree n = by_test (fits_64 n) refl
   where
     by_test : (t : Bool) → fits_64 n ≡ t → IsTree (FitsSigned w64 n) 1 (Literal (Number n)) (number_if (cond t (Some n) None)).tree
     by_test true is = (refl, refl, (fits_tested n is, lit≤ tt))
-    by_test false is = λ fits most. absurd (let never : true ≡ false = sym (tested_fits n fits) ∙ is in cc)
+    by_test false is = λ fits. absurd (let never : true ≡ false = sym (tested_fits n fits) ∙ is in cc)
 
 pub grown_tree : (columns : List TableColumn) (a : Phrase) → IsTree (IsInRange a) (levels a) (meant columns a) (grown columns a).tree
 grown_tree columns (InName name) = (refl, refl, (tt, lit≤ tt))
