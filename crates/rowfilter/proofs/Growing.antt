@@ -1,19 +1,17 @@
 -- What a phrase comes to: its condition and levels exactly where it is within the limits, and read from the same words.
 use Rattle.std.proofs.Common.{◌≡◌, ℕ, suc, max, nat_lt, ◌≤◌, ◌<◌, ℤ, pos, negsuc, ◌^◌, Bool, true, false, cond, List, [], ◌∷◌, map, Option, Some, None, Result, Ok, Err, FitsSigned, refl, sym, ap, subst, ◌∙◌, arith, lit≤}
 use Rattle.std.proofs.lemmas.Bool.{ltb-true, ltb-false, lt-ltb}
-use Rattle.std.specs.Prelude.{unwrap_or, option_and_then, option_map}
+use Rattle.std.specs.Prelude.{option_and_then, option_map}
 use Rattle.std.specs.Int.{w64}
 use Rattle.tables.specs.declared.column.Column.{Column as TableColumn}
 use Rattle.rowfilter.specs.declared.fault.FilterFault.{FilterFault}
 use Rattle.rowfilter.specs.declared.fault.FilterFault.TheVariants.{NumberRange, TooDeep}
-use Rattle.rowfilter.specs.declared.joint.Joint.{Joint}
 use Rattle.rowfilter.specs.declared.joint.Joint.TheVariants as joints
-use Rattle.rowfilter.specs.declared.question.Question.{Question}
 use Rattle.rowfilter.specs.Conditions.{Condition, Literal, Compare, Is, Not, And, Or, Number}
 use Rattle.rowfilter.specs.Words.{Saying, SayAnd, SayOr, SayNot, SayIs, SayNull, SayBool, SayUnknown, SayName, SayNumber, SayText, SayComparison, SayOpen, SayClose}
-use Rattle.rowfilter.specs.Grammar.{Phrase, InName, InUnknown, InNumber, InText, InBool, InNull, InParentheses, InCompare, InIs, InNot, InAnd, InOr, tightness, meant, levels, IsInRange, MOST_LEVELS}
-use Rattle.rowfilter.specs.Stacks.{binds, left_of, Trees, Word, Joins, Denies, Asks, Opens, Closes, Operand, Stray, Pending, Enclosing, Denying, Joining, wants, completed, State, Wanting, Having, Asking, wanted_by, folded, joins, asks, closes_over, ends_over, step, outcome, run, word_of}
-use Rattle.rowfilter.specs.Parts.{phrases, leaf_of, Grown, raised, over, worse, beside, parts, fits_64, integer_if, number_if, grown}
+use Rattle.rowfilter.specs.Grammar.{Phrase, InName, InUnknown, InNumber, InText, InBool, InNull, InParentheses, InCompare, InIs, InNot, InAnd, InOr, tightness, meant, levels, IsInRange}
+use Rattle.rowfilter.specs.Stacks.{binds, left_of, Word, Joins, Denies, Asks, Opens, Closes, Operand, Stray, Pending, Enclosing, Denying, Joining, wants, completed, State, Wanting, Having, Asking, wanted_by, folded, joins, asks, closes_over, ends_over, step, outcome, run, word_of}
+use Rattle.rowfilter.specs.Parts.{phrases, leaf_of, Grown, raised, over, beside, parts, fits_64, integer_if, number_if, grown}
 
 -- ---- within the limits
 

@@ -342,3 +342,7 @@ pub tokens_none : (text : List ℕ) (tokens other : List Token) → Lexes text t
 tokens_none text tokens other lexes some spells =
     let none : list_any is_stray tokens ≡ false = ap (list_any is_stray) (tokens_only text tokens other lexes spells) ∙ spelled_none text other spells in
     absurd (let never : true ≡ false = sym some ∙ none in cc)
+
+-- a text spells one list of tokens
+pub spelled_once : (text : List ℕ) (a b : List Token) → Spells text a → Spells text b → a ≡ b
+spelled_once text a b one other = lexes_once text a b (spells_lexes text a one) (spells_lexes text b other)

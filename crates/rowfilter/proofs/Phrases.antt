@@ -9,7 +9,7 @@ use Rattle.rowfilter.specs.declared.question.Question.{Question}
 use Rattle.rowfilter.specs.declared.question.Question.TheVariants as questions
 use Rattle.rowfilter.specs.Words.{Saying, SayAnd, SayOr, SayNot, SayIs, SayNull, SayBool, SayUnknown, SayName, SayNumber, SayText, SayComparison, SayOpen, SayClose}
 use Rattle.rowfilter.specs.Grammar.{Phrase, InName, InUnknown, InNumber, InText, InBool, InNull, InParentheses, InCompare, InIs, InNot, InAnd, InOr, asking, is_or_is_not, written, tightness, IsBound}
-use Rattle.rowfilter.specs.Stacks.{binds, left_of, right_of, Trees, Word, Joins, Denies, Asks, Opens, Closes, Operand, Stray, Pending, Enclosing, Denying, Joining, wants, completed, State, Wanting, Having, Asking, wanted_by, folded, joins, asks, closes_over, ends_over, step, outcome, run, word_of}
+use Rattle.rowfilter.specs.Stacks.{binds, left_of, Word, Joins, Denies, Asks, Opens, Closes, Operand, Stray, Pending, Enclosing, Denying, Joining, wants, completed, State, Wanting, Having, Asking, wanted_by, folded, joins, asks, closes_over, ends_over, step, outcome, run, word_of}
 use Rattle.rowfilter.specs.Parts.{phrases, leaf_of}
 use Rattle.rowfilter.proofs.Pieces.{if_true, if_false}
 

@@ -1,5 +1,5 @@
 -- From tokens to the phrase that they spell, and to what it comes to.
-use Rattle.std.proofs.Common.{◌≡◌, List, [], ◌∷◌, map, Bool, true, false, Option, Some, None, refl, sym, ap, subst, ◌∙◌}
+use Rattle.std.proofs.Common.{◌≡◌, List, [], ◌∷◌, map, true, false, Option, Some, None, refl, sym, ap, ◌∙◌}
 use Rattle.std.specs.Prelude.{unwrap_or, option_and_then, option_map}
 use Rattle.tables.specs.declared.column.Column.{Column as TableColumn}
 use Rattle.rowfilter.specs.declared.token.Token.{Token}

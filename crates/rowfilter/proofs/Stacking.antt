@@ -1,5 +1,5 @@
 -- The stack of what waits, whose top stands last in its list.
-use Rattle.std.proofs.Common.{◌≡◌, ℕ, ◌<◌, nat_lt, cond, arith, length, Option, Some, None, List, [], ◌∷◌, ◌++◌, refl, sym, subst, ap, ◌∙◌}
+use Rattle.std.proofs.Common.{◌≡◌, ℕ, ◌<◌, nat_lt, arith, length, None, List, [], ◌∷◌, ◌++◌, refl, sym, subst, ap, ◌∙◌}
 use Rattle.std.proofs.lemmas.Bool.{lt-ltb}
 use Rattle.rowfilter.specs.declared.pending.Pending.{Pending as Item}
 use Rattle.rowfilter.specs.Stacks.{Pending, wants, wanted_by, folded, completed, ends_over}

@@ -1,9 +1,8 @@
 -- The trees that words are read as: phrases, of which the law speaks, and conditions with their levels, which the code makes.
-use Rattle.std.specs.Prelude.{ℕ, suc, max, nat_lt, ◌^◌, ℤ, pos, negsuc, Bool, List, [], ◌∷◌, Option, Some, None, Result, Ok, Err, if◌then◌else◌, codes}
+use Rattle.std.specs.Prelude.{ℕ, suc, max, nat_lt, ◌^◌, ℤ, pos, negsuc, Bool, List, Option, Some, None, Result, Ok, Err, if◌then◌else◌, codes}
 use Rattle.rowfilter.specs.declared.joint.Joint.{Joint}
 use Rattle.rowfilter.specs.declared.joint.Joint.TheVariants as joints
-use Rattle.rowfilter.specs.declared.question.Question.{Question}
-use Rattle.rowfilter.specs.Words.{Saying, SayAnd, SayOr, SayNot, SayIs, SayNull, SayBool, SayUnknown, SayName, SayNumber, SayText, SayComparison, SayOpen, SayClose}
+use Rattle.rowfilter.specs.Words.{Saying, SayBool, SayUnknown, SayName, SayNumber, SayText}
 use Rattle.rowfilter.specs.Grammar.{Phrase, InName, InUnknown, InNumber, InText, InBool, InNull, InParentheses, InCompare, InIs, InNot, InAnd, InOr, tightness}
 use Rattle.tables.specs.declared.column.Column.{Column as TableColumn}
 use Rattle.rowfilter.specs.declared.token.Token.{Token}

@@ -5,7 +5,6 @@ use Rattle.rowfilter.specs.declared.joint.Joint.{Joint}
 use Rattle.rowfilter.specs.declared.joint.Joint.TheVariants as joints
 use Rattle.rowfilter.specs.declared.question.Question.{Question}
 use Rattle.rowfilter.specs.declared.question.Question.TheVariants as questions
-use Rattle.rowfilter.specs.declared.comparison.Comparison.{Comparison}
 use Rattle.rowfilter.specs.Words.{Saying, SayAnd, SayOr, SayNot, SayIs, SayNull, SayBool, SayUnknown, SayName, SayNumber, SayText, SayComparison, SayOpen, SayClose}
 
 -- how tight it binds, and its two sides at least: OR, AND, and a comparison, whose sides are operands

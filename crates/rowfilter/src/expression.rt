@@ -2,7 +2,7 @@
 
 ghost use Rattle.std.specs.Prelude.{◌≡◌, OnOk};
 ghost use Rattle.rowfilter.specs.Truth.{value_in};
-ghost use Rattle.rowfilter.specs.Kinds.{sort_of};
+ghost use Rattle.rowfilter.specs.Kinds.{are_known, sort_of};
 ghost use Rattle.rowfilter.specs.Shapes.{gathered, seen, shape};
 
 use crate::comparison::Comparison;
@@ -91,6 +91,20 @@ impl Expression {
                 let left = a.sort(columns)?;
                 let right = b.sort(columns)?;
                 truths_if(left.is_truth() && right.is_truth())
+            }
+        }
+    }
+
+    /// Whether each column that it names is one of so many.
+    pub(crate) fn is_known(&self, count: usize) -> bool
+        ensures { result ≡ are_known count (shape self.now) }
+    {
+        match self {
+            Expression::Column(place) => *place < count,
+            Expression::Literal(_) => true,
+            Expression::Is(_, _, a) | Expression::Not(a) => a.is_known(count),
+            Expression::Compare(_, a, b) | Expression::And(a, b) | Expression::Or(a, b) => {
+                a.is_known(count) && b.is_known(count)
             }
         }
     }

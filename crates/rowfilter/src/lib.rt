@@ -15,6 +15,7 @@ mod part;
 mod pending;
 mod place;
 mod question;
+mod reading;
 mod sort;
 mod tightness;
 mod token;
@@ -23,4 +24,6 @@ mod word;
 
 pub use fault::FilterFault;
 pub use filter::Filter;
+pub use part::MOST_LEVELS;
+pub use reading::{MOST_BYTES, parse};
 pub use truth::Truth;

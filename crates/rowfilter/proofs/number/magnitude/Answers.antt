@@ -1,5 +1,4 @@
-use Rattle.std.proofs.Common.{rules, ◌≡◌, ℕ, ◌+◌, ◌*◌, ◌≤◌, ◌^◌, List, [], ◌∷◌, sym, ap, ◌∙◌}
-use Rattle.std.specs.Char.{digit_value}
+use Rattle.std.proofs.Common.{rules, ◌≡◌, ◌^◌, ◌∷◌, sym, ap, ◌∙◌}
 use Rattle.std.specs.Str.Parse.{digits_value, digits_value_after}
 use Rattle.rowfilter.proofs.Numbers.{too_large}
 use Rattle.rowfilter.proofs.number.magnitude.Goals as goal

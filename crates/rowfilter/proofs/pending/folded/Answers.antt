@@ -1,5 +1,4 @@
-use Rattle.std.proofs.Common.{rules, ◌≡◌, ◌<◌, List, [], ◌∷◌, ◌++◌, ◌∙◌, ap, subst}
-use Rattle.rowfilter.specs.Parts.{parts}
+use Rattle.std.proofs.Common.{rules, ◌<◌, ◌∙◌}
 use Rattle.rowfilter.specs.Stacks.{wanted_by}
 use Rattle.rowfilter.specs.Views.{seen_part, stack_of}
 use Rattle.rowfilter.proofs.Stacking.{folds_popped}
