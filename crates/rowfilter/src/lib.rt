@@ -9,6 +9,7 @@ mod filter;
 mod joint;
 mod lexer;
 mod literal;
+mod locating;
 mod number;
 mod operand;
 mod part;
@@ -24,6 +25,7 @@ mod word;
 
 pub use fault::FilterFault;
 pub use filter::Filter;
+pub use locating::fault_at;
 pub use part::MOST_LEVELS;
 pub use reading::{MOST_BYTES, parse};
 pub use truth::Truth;

@@ -85,7 +85,11 @@ fn expression_of(part: Result<Part, FilterFault>) -> Result<Expression, FilterFa
 }
 
 /// The condition that the text spells over these columns, whatever their kinds.
-fn condition_of(alloc: Global, text: &str, columns: &[Column]) -> Result<Expression, FilterFault>
+pub(crate) fn condition_of(
+    alloc: Global,
+    text: &str,
+    columns: &[Column],
+) -> Result<Expression, FilterFault>
     ensures { MatchResult result (λ e. SpellsCondition columns.now text.now (shape e)) (λ fault. IsUnread text.now fault) }
 {
     let tokens = short_tokens(alloc, text)?;
