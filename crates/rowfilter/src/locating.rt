@@ -115,21 +115,27 @@ fn behind(sought: Sought, place: &Place, word: &Word) -> Sought {
     }
 }
 
-/// Whether there are too many levels already.
+/// Whether there are too many levels, whatever follows.
 fn is_deep(pending: &[Pending], place: &Place) -> bool {
-    let last = match pending.last() {
-        Some(Pending::Joint(_, left)) => is_too_deep(left),
+    if pending.len() >= MOST_LEVELS {
+        return true;
+    }
+    match (pending.last(), place) {
+        (Some(Pending::Joint(_, left)), Place::Wanting) => is_highest(left),
+        (_, Place::Asking(part, _)) => is_highest(part),
+        (_, Place::Having(part)) => is_too_deep(part),
         _ => false,
-    };
-    let here = match place {
-        Place::Wanting => pending.len() >= MOST_LEVELS,
-        Place::Having(part) | Place::Asking(part, _) => {
-            pending.len() >= MOST_LEVELS || is_too_deep(part)
-        }
-    };
-    last || here
+    }
 }
 
 fn is_too_deep(part: &Part) -> bool {
     matches!(part.tree, Err(FilterFault::TooDeep))
+}
+
+/// Whether one level more is too many.
+fn is_highest(part: &Part) -> bool {
+    match &part.tree {
+        Ok(tree) => tree.levels >= MOST_LEVELS,
+        Err(_) => is_too_deep(part),
+    }
 }
