@@ -1,6 +1,7 @@
 -- The tokens that are read from a text are those that it spells.
-use Rattle.std.proofs.Common.{◌≡◌, ◌≢◌, ℕ, ◌<◌, ◌≤◌, Bool, true, false, cond, eqb, List, [], ◌∷◌, ◌++◌, length, Option, Some, None, refl, sym, ap, subst, ◌∙◌, append_assoc, arith}
+use Rattle.std.proofs.Common.{◌≡◌, ◌≢◌, ℕ, ◌<◌, ◌≤◌, Bool, true, false, cond, eqb, List, [], ◌∷◌, ◌++◌, length, Option, Some, None, Result, Ok, Err, IfOk, IfSome, refl, sym, ap, subst, ◌∙◌, append_assoc, arith}
 use Rattle.std.specs.List.{list_any}
+use Rattle.std.specs.Borrow.{Bor}
 use Rattle.std.specs.Char.{is_ascii_digit}
 use Rattle.std.proofs.lemmas.Bool.{eqb-true}
 use Rattle.std.proofs.lemmas.Bool.Decides.{nat_tests}
@@ -11,7 +12,7 @@ use Rattle.rowfilter.specs.declared.token.Token.{Token}
 use Rattle.rowfilter.specs.declared.token.Token.TheVariants.{Word, Number, Quoted, Text, Mark, Pair, Stray}
 use Rattle.rowfilter.specs.declared.token.TheConstants.{NAME_QUOTE, TEXT_QUOTE, MINUS}
 use Rattle.rowfilter.specs.Tokens.{is_blank, is_first, is_later, is_mark, is_pair, doubled, spelled, without_minus, Each, begins, IsWhole, StartsWith, Spells}
-use Rattle.rowfilter.specs.Lexing.{is_of, run_of, after_run, quoted_at, closed, signed_at, one_mark, mark_at, token_behind, token_from, token_at, Lexes, is_stray}
+use Rattle.rowfilter.specs.Lexing.{is_of, run_of, after_run, quoted_at, closed, signed_at, one_mark, mark_at, token_behind, token_from, token_at, Lexes, lent, is_stray}
 use Rattle.rowfilter.proofs.Pieces.{if_true, if_false, run_takes, run_again, found, quoted_takes, quoted_again}
 
 -- ---- what is read is spelled
@@ -342,3 +343,13 @@ pub tokens_none : (text : List ℕ) (tokens other : List Token) → Lexes text t
 tokens_none text tokens other lexes some spells =
     let none : list_any is_stray tokens ≡ false = ap (list_any is_stray) (tokens_only text tokens other lexes spells) ∙ spelled_none text other spells in
     absurd (let never : true ≡ false = sym some ∙ none in cc)
+
+-- a text spells one list of tokens
+pub spelled_once : (text : List ℕ) (a b : List Token) → Spells text a → Spells text b → a ≡ b
+spelled_once text a b one other = lexes_once text a b (spells_lexes text a one) (spells_lexes text b other)
+
+-- what a reader of tokens lends is shorter than what it read from
+pub lends_shorter : {E : Type 0} (text : List ℕ) (r : Result (Option (Token × Bor (List ℕ))) E) → IfOk r (λ x. lent x ≡ token_at text) → IfOk r (λ x. IfSome x (λ y. length y.1.now < length text))
+lends_shorter text (Err e) gives = tt
+lends_shorter text (Ok None) gives = tt
+lends_shorter text (Ok (Some y)) gives = token_smaller text y.0 y.1.now (sym gives)

@@ -1,17 +1,19 @@
 -- Which text is a filter, and which: the tree of its parts, with the parentheses that are written.
-use Rattle.std.specs.Prelude.{◌≡◌, ℕ, suc, ◌≤◌, max, ℤ, FitsSigned, List, [], ◌∷◌, ◌++◌, length, Some, codes, if◌then◌else◌, Bool, true, false}
+use Rattle.std.specs.Prelude.{◌≡◌, ℕ, suc, ◌≤◌, ◌<◌, max, ℤ, FitsSigned, List, [], ◌∷◌, ◌++◌, length, Some, codes, if◌then◌else◌, Bool, true, false}
 use Rattle.std.specs.Int.{w64}
 use Rattle.std.specs.Str.{bytes_eq}
 use Rattle.tables.specs.declared.column.Column.{Column as TableColumn}
 use Rattle.tables.specs.declared.table.Table.{Table}
 use Rattle.rowfilter.specs.declared.token.Token.{Token}
+use Rattle.rowfilter.specs.declared.fault.FilterFault.{FilterFault}
+use Rattle.rowfilter.specs.declared.fault.FilterFault.TheVariants.{Syntax, UnknownColumn, TypeMismatch, NumberRange, TooDeep, Memory}
 use Rattle.rowfilter.specs.declared.comparison.Comparison.{Comparison}
 use Rattle.rowfilter.specs.declared.question.Question.{Question}
 use Rattle.rowfilter.specs.declared.question.Question.TheVariants as questions
 use Rattle.rowfilter.specs.Conditions.{Missing, Flag, Number, Bytes, Condition, Column, Literal, Compare, Is, Not, And, Or}
 use Rattle.rowfilter.specs.Tokens.{Spells}
 use Rattle.rowfilter.specs.Words.{Saying, SayAnd, SayOr, SayNot, SayIs, SayNull, SayBool, SayUnknown, SayName, SayNumber, SayText, SayComparison, SayOpen, SayClose, said_by_all}
-use Rattle.rowfilter.specs.Kinds.{IsCondition}
+use Rattle.rowfilter.specs.Kinds.{are_known, IsCondition}
 
 pub data Phrase : Type 0 where
   InName : List ℕ → Phrase
@@ -136,11 +138,51 @@ pub record SpellsPhrase (text : List ℕ) (phrase : Phrase) : Type 0 where
   pub say : said_by_all tokens ≡ Some (written phrase)
   pub bound : IsBound phrase
 
--- The text spells this filter of the table.
-pub record SpellsFilter (table : Table) (text : List ℕ) (condition : Condition) : Type 0 where
+-- The text is within the limits, and means this condition over these columns.
+pub record SpellsCondition (columns : List TableColumn) (text : List ℕ) (condition : Condition) : Type 0 where
   pub phrase : Phrase
   pub spells : SpellsPhrase text phrase
   pub in_range : IsInRange phrase
   pub flat : levels phrase ≤ MOST_LEVELS
-  pub is_meant : condition ≡ meant table.columns phrase
+  pub is_meant : condition ≡ meant columns phrase
+
+-- The text spells this filter of the table.
+pub record SpellsFilter (table : Table) (text : List ℕ) (condition : Condition) : Type 0 where
+  pub means : SpellsCondition table.columns text condition
   pub fits : IsCondition table.columns condition
+
+-- ---- refusals, in the order in which they count
+
+-- A number of the phrase is of over 64 bits.
+pub record HasLargeNumber (text : List ℕ) : Type 0 where
+  pub phrase : Phrase
+  pub spells : SpellsPhrase text phrase
+  pub large : IsInRange phrase → ⊥
+
+-- The phrase has too many levels.
+pub record HasManyLevels (text : List ℕ) : Type 0 where
+  pub phrase : Phrase
+  pub spells : SpellsPhrase text phrase
+  pub in_range : IsInRange phrase
+  pub deep : MOST_LEVELS < levels phrase
+
+-- The condition names a column that the table doesn't have; or else kinds don't go together.
+pub record HasUnknownColumn (columns : List TableColumn) (text : List ℕ) : Type 0 where
+  pub condition : Condition
+  pub means : SpellsCondition columns text condition
+  pub unknown : are_known (length columns) condition ≡ false
+
+pub record HasMismatch (columns : List TableColumn) (text : List ℕ) : Type 0 where
+  pub condition : Condition
+  pub means : SpellsCondition columns text condition
+  pub known : are_known (length columns) condition ≡ true
+  pub unfit : IsCondition columns condition → ⊥
+
+-- Why the text is no filter of the table. Want of memory says nothing of the text.
+abbrev pub IsRefused : Table → List ℕ → FilterFault → Type 0
+IsRefused table text Syntax = (phrase : Phrase) → SpellsPhrase text phrase → ⊥
+IsRefused table text NumberRange = HasLargeNumber text
+IsRefused table text TooDeep = HasManyLevels text
+IsRefused table text UnknownColumn = HasUnknownColumn table.columns text
+IsRefused table text TypeMismatch = HasMismatch table.columns text
+IsRefused table text Memory = Unit {0}

@@ -1,5 +1,5 @@
 -- Which conditions make sense over the columns of a table: what may be compared, and what is true or false.
-use Rattle.std.specs.Prelude.{◌≡◌, Bool, true, false, ◌&&◌, List, Option, Some, None, option_map, option_and_then, slice_get, if◌then◌else◌}
+use Rattle.std.specs.Prelude.{◌≡◌, ℕ, nat_lt, Bool, true, false, ◌&&◌, List, Option, Some, None, option_map, option_and_then, slice_get, if◌then◌else◌}
 use Rattle.tables.specs.declared.column.Column.{Column as TableColumn}
 use Rattle.tables.specs.declared.kind.Kind.TheVariants as kinds
 use Rattle.tables.specs.declared.kind.Kind.{Kind}
@@ -63,3 +63,13 @@ sort_of columns (Or a b) = of_two (λ s t. is_truth s && is_truth t) (sort_of co
 -- It names columns of the table, and each kind is as its place asks.
 abbrev pub IsCondition : List TableColumn → Condition → Type 0
 IsCondition columns condition = of_one is_truth (sort_of columns condition) ≡ Some Truths
+
+-- each column that it names is at one of so many places
+abbrev pub are_known : ℕ → Condition → Bool
+are_known count (Column place) = nat_lt place count
+are_known count (Literal datum) = true
+are_known count (Compare how a b) = are_known count a && are_known count b
+are_known count (Is question negated a) = are_known count a
+are_known count (Not a) = are_known count a
+are_known count (And a b) = are_known count a && are_known count b
+are_known count (Or a b) = are_known count a && are_known count b

@@ -6,3 +6,7 @@ pub mod Kinds
 pub mod Grammar
 pub mod Lexing
 pub mod Shapes
+pub mod Stacks
+pub mod Parts
+pub mod Views
+pub mod Readings

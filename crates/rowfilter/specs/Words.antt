@@ -69,11 +69,11 @@ said_by (Mark b) = said_by_mark b
 said_by (Pair b c) = Some (said_by_pair b c)
 said_by Stray = None
 
+abbrev pub with_first : Option Saying → Option (List Saying) → Option (List Saying)
+with_first None sayings = None
+with_first (Some saying) sayings = option_map (λ others. saying ∷ others) sayings
+
 -- what tokens say, one by one
 abbrev pub said_by_all : List Token → Option (List Saying)
 said_by_all [] = Some []
 said_by_all (token ∷ tokens) = with_first (said_by token) (said_by_all tokens)
-  where
-    with_first : Option Saying → Option (List Saying) → Option (List Saying)
-    with_first None sayings = None
-    with_first (Some saying) sayings = option_map (λ others. saying ∷ others) sayings

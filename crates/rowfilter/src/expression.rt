@@ -2,7 +2,7 @@
 
 ghost use Rattle.std.specs.Prelude.{◌≡◌, OnOk};
 ghost use Rattle.rowfilter.specs.Truth.{value_in};
-ghost use Rattle.rowfilter.specs.Kinds.{sort_of};
+ghost use Rattle.rowfilter.specs.Kinds.{are_known, sort_of};
 ghost use Rattle.rowfilter.specs.Shapes.{gathered, seen, shape};
 
 use crate::comparison::Comparison;
@@ -92,6 +92,59 @@ impl Expression {
                 let right = b.sort(columns)?;
                 truths_if(left.is_truth() && right.is_truth())
             }
+        }
+    }
+
+    /// Whether each column that it names is one of so many.
+    pub(crate) fn is_known(&self, count: usize) -> bool
+        ensures { result ≡ are_known count (shape self.now) }
+    {
+        match self {
+            Expression::Column(place) => *place < count,
+            Expression::Literal(_) => true,
+            Expression::Is(_, _, a) | Expression::Not(a) => a.is_known(count),
+            Expression::Compare(_, a, b) | Expression::And(a, b) | Expression::Or(a, b) => {
+                a.is_known(count) && b.is_known(count)
+            }
+        }
+    }
+
+    /// How many operands it has.
+    fn operands(&self) -> usize {
+        match self {
+            Expression::Column(_) | Expression::Literal(_) => 1,
+            Expression::Is(_, _, a) | Expression::Not(a) => a.operands(),
+            Expression::Compare(_, a, b) | Expression::And(a, b) | Expression::Or(a, b) => {
+                a.operands().saturating_add(b.operands())
+            }
+        }
+    }
+
+    /// How many operands stand before the part that is of another kind than its place asks, the leftmost of them; of two that
+    /// don't go together it's the second. None where all kinds are right; the flag says that a condition is asked.
+    pub(crate) fn mismatch(&self, columns: &[Column], is_condition: bool) -> Option<usize> {
+        if let Some(sort) = self.sort(columns) {
+            return if is_condition && !sort.is_truth() {
+                Some(0)
+            } else {
+                None
+            };
+        }
+        match self {
+            Expression::Column(_) | Expression::Literal(_) => Some(0),
+            Expression::Is(Question::Null, _, a) => a.mismatch(columns, false),
+            Expression::Is(_, _, a) | Expression::Not(a) => a.mismatch(columns, true),
+            Expression::Compare(_, a, b) => match a.mismatch(columns, false) {
+                Some(before) => Some(before),
+                None => {
+                    let within = b.mismatch(columns, false).unwrap_or(0);
+                    Some(a.operands().saturating_add(within))
+                }
+            },
+            Expression::And(a, b) | Expression::Or(a, b) => match a.mismatch(columns, true) {
+                Some(before) => Some(before),
+                None => Some(a.operands().saturating_add(b.mismatch(columns, true)?)),
+            },
         }
     }
 }

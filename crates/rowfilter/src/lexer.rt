@@ -1,6 +1,6 @@
 //! From the text of a filter to its tokens.
 
-ghost use Rattle.std.specs.Prelude.{◌⊎◌, List, IfErr, ◌≡◌, ◌≤◌, ◌∷◌, ◌++◌, [], IfOk, IfSome, Some, MatchOption, option_map, length, false};
+ghost use Rattle.std.specs.Prelude.{◌⊎◌, List, IfErr, ◌≡◌, ◌≤◌, ◌<◌, ◌∷◌, ◌++◌, [], IfOk, IfSome, Some, MatchOption, option_map, length, false};
 ghost use Rattle.std.specs.List.{list_any};
 ghost use Rattle.std.specs.Char.{is_ascii_digit};
 ghost use Rattle.rowfilter.specs.declared.token.Token.TheVariants.{Number, Quoted, Text, Word};
@@ -212,12 +212,26 @@ fn token_behind<'a>(
     Ok(mark(b, tail))
 }
 
+/// The text from its first token on.
+pub(crate) fn behind_blanks(text: &[u8]) -> &[u8]
+    ensures { result.now ≡ after_run classes.Blank text.now }
+{
+    after_run(Class::Blank, text)
+}
+
 /// The first token, and what follows it; None where only blanks are left.
+pub(crate) fn token_of(alloc: Global, text: &[u8]) -> Result<Option<(Token, &[u8])>, AllocError>
+    ensures value { IfOk result (λ x. lent x ≡ token_at text.now) }
+    ensures shorter { IfOk result (λ x. IfSome x (λ y. length y.1.now < length text.now)) }
+{
+    first_token(alloc, text)
+}
+
 #[tactic(auto, unfolding(crate::specs::Lexing::token_at))]
-fn token_of(alloc: Global, text: &[u8]) -> Result<Option<(Token, &[u8])>, AllocError>
+fn first_token(alloc: Global, text: &[u8]) -> Result<Option<(Token, &[u8])>, AllocError>
     ensures { IfOk result (λ x. lent x ≡ token_at text.now) }
 {
-    let front = after_run(Class::Blank, text);
+    let front = behind_blanks(text);
     let Some((b, tail)) = front.split_first() else {
         return Ok(None);
     };

@@ -1,7 +1,8 @@
 //! Holds the crates against samples: each line of a file in data/ has a sample and says what it means, or which fault it is.
 //!
 //! `vectors FILE..` prints for each file how many of its samples held, and each that didn't. A file of samples has one on
-//! each line; a file of schedules or of conversations has what comes of each of them. The head of each file tells its form.
+//! each line; a file of filters tells what each is of some rows, and one of schedules or of conversations what comes of each
+//! of them. The head of each file tells its form.
 #![tactic(auto)]
 
 mod catalog_text;
@@ -13,6 +14,8 @@ mod copy_body;
 mod event_line;
 mod expanded;
 mod field;
+mod filter_table;
+mod filters;
 mod frame_text;
 mod framing;
 mod given;
@@ -39,6 +42,7 @@ mod wording;
 
 use anyhow::{Result, bail, ensure};
 use conversations::judge_conversations;
+use filters::judge_filters;
 use report::Report;
 use samples::judge_samples;
 use schedules::judge_schedules;
@@ -69,6 +73,9 @@ fn judged(alloc: Global, path: &str, text: &str) -> Result<Report> {
     }
     if path.ends_with(".streams") {
         return judge_streams(alloc, text);
+    }
+    if path.ends_with(".filters") {
+        return judge_filters(alloc, text);
     }
     if path.ends_with(".conversations") {
         return judge_conversations(alloc, text);

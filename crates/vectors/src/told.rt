@@ -6,6 +6,7 @@ use frames::FrameFault;
 use pgoutput::OutFault;
 use publication::PubFault;
 use reorder::ReorderFault;
+use rowfilter::FilterFault;
 use sender::SendFault;
 use std::alloc::Global;
 use std::fmt::{Debug, Display};
@@ -41,6 +42,15 @@ const BODY_FAULTS: [BodyFault; 6] = [
     BodyFault::Memory,
 ];
 
+const FILTER_FAULTS: [FilterFault; 6] = [
+    FilterFault::Syntax,
+    FilterFault::UnknownColumn,
+    FilterFault::TypeMismatch,
+    FilterFault::NumberRange,
+    FilterFault::TooDeep,
+    FilterFault::Memory,
+];
+
 const SESSION_FAULTS: [SessionFault; 13] = [
     SessionFault::UnknownTable,
     SessionFault::RowShape,
@@ -74,6 +84,7 @@ pub fn text_answer(alloc: Global, given: &str) -> Result<Answer> {
         "FrameFault" => text_of(alloc, &FRAME_FAULTS, name)?,
         "OutFault" => text_of(alloc, &OUT_FAULTS, name)?,
         "BodyFault" => text_of(alloc, &BODY_FAULTS, name)?,
+        "FilterFault" => text_of(alloc, &FILTER_FAULTS, name)?,
         "SessionFault" => text_of(alloc, &SESSION_FAULTS, name)?,
         "PubFault" => text_of(alloc, &PUB_FAULTS, name)?,
         "ReorderFault" => text_of(alloc, &REORDER_FAULTS, name)?,

@@ -2,13 +2,8 @@ use Rattle.std.proofs.Common.{◌≡◌, rules, None, List, [], ◌∷◌, ◌++
 use Rattle.std.proofs.lemmas.List.{append-nil}
 use Rattle.rowfilter.specs.declared.token.Token.{Token}
 use Rattle.rowfilter.specs.Lexing.{Lexes, token_at}
-use Rattle.rowfilter.proofs.Lexemes.{token_found, token_smaller}
+use Rattle.rowfilter.proofs.Lexemes.{token_found}
 use Rattle.rowfilter.proofs.lexer.tokens_of.Goals as goal
-
-pub loop-tokens-smaller : goal.loop-tokens-smaller
-loop-tokens-smaller c =
-    let read : token_at c.loop-tokens.place.now ≡ token_found c.in-Some.token c.in-Some.rest.now = search rules in
-    token_smaller c.loop-tokens.place.now c.in-Some.token c.in-Some.rest.now read
 
 pub loop-tokens-preserved : goal.loop-tokens-preserved
 loop-tokens-preserved c =

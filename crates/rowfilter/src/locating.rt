@@ -1,0 +1,141 @@
+//! Where in the text of a filter a fault stands.
+
+ghost use Rattle.std.specs.Prelude.{◌≡◌, ◌≤◌, IfOk, length};
+
+use crate::expression::Expression;
+use crate::fault::FilterFault;
+use crate::lexer::{behind_blanks, token_of};
+use crate::part::{MOST_LEVELS, Part};
+use crate::pending::Pending;
+use crate::place::Place;
+use crate::reading::{MOST_BYTES, condition_of};
+use crate::word::Word;
+use std::alloc::{AllocError, Global};
+use tables::{Column, Table};
+
+/// What is looked for among the words of a text.
+#[derive(Clone, Copy, Debug)]
+enum Sought {
+    /// A word that can't stand where it does.
+    Stranger,
+    /// An integer of over 64 bits.
+    LargeNumber,
+    /// The word behind which there are too many levels.
+    Depth,
+    /// A column that the table doesn't have.
+    UnknownColumn,
+    /// The operand behind so many others.
+    Operand(usize),
+}
+
+/// The byte of the text at which the fault stands that `parse` told of it, so that it can be marked where it is shown. What
+/// is missing at the end is told there; of two sides of different kinds, the second is told.
+pub fn fault_at(
+    alloc: Global,
+    text: &str,
+    table: &Table,
+    fault: FilterFault,
+) -> Result<usize, AllocError>
+    ensures { IfOk result (λ at. at ≤ length text.now) }
+{
+    let columns = table.columns.as_slice();
+    let sought = match fault {
+        FilterFault::Syntax if text.len() > MOST_BYTES => return Ok(MOST_BYTES),
+        FilterFault::Syntax => Sought::Stranger,
+        FilterFault::NumberRange => Sought::LargeNumber,
+        FilterFault::TooDeep => Sought::Depth,
+        FilterFault::UnknownColumn => Sought::UnknownColumn,
+        FilterFault::TypeMismatch => Sought::Operand(mismatch_of(alloc, text, columns)),
+        FilterFault::Memory => return Ok(0),
+    };
+    word_at(alloc, text.as_bytes(), columns, sought)
+}
+
+/// The operand of another kind than its place asks.
+fn mismatch_of(alloc: Global, text: &str, columns: &[Column]) -> usize {
+    match condition_of(alloc, text, columns) {
+        Ok(expression) => expression.mismatch(columns, true).unwrap_or(0),
+        Err(_) => 0,
+    }
+}
+
+/// The byte at which the word begins that is looked for; the end of the text where there is none.
+fn word_at(
+    alloc: Global,
+    text: &[u8],
+    columns: &[Column],
+    sought: Sought,
+) -> Result<usize, AllocError>
+    ensures { IfOk result (λ at. at ≤ length text.now) }
+{
+    let mut sought = sought;
+    let mut pending = Vec::new(alloc);
+    let mut place = Place::Wanting;
+    let mut rest = text;
+    while let Some((token, tail)) = token_of(alloc, rest)? {
+        let at = text.len().saturating_sub(behind_blanks(rest).len());
+        let word = Word::of(alloc, &token, columns)?;
+        if is_met(sought, &place, &word, columns.len()) {
+            return Ok(at);
+        }
+        sought = behind(sought, &place, &word);
+        place = match place.next(alloc, &mut pending, word) {
+            Ok(next) => next,
+            Err(FilterFault::Memory) => return Err(AllocError),
+            Err(_) => return Ok(at),
+        };
+        if matches!(sought, Sought::Depth) && is_deep(pending.as_slice(), &place) {
+            return Ok(at);
+        }
+        rest = tail;
+    }
+    Ok(text.len())
+}
+
+/// Whether the word is the one that is looked for.
+fn is_met(sought: Sought, place: &Place, word: &Word, columns: usize) -> bool {
+    let (Place::Wanting, Word::Operand(part, _)) = (place, word) else {
+        return false;
+    };
+    match (sought, &part.tree) {
+        (Sought::LargeNumber, Err(_)) => true,
+        (Sought::UnknownColumn, Ok(tree)) => !tree.expression.is_known(columns),
+        (Sought::Operand(others), _) => others == 0,
+        _ => false,
+    }
+}
+
+/// What is looked for behind this word.
+fn behind(sought: Sought, place: &Place, word: &Word) -> Sought {
+    match (sought, place, word) {
+        (Sought::Operand(others), Place::Wanting, Word::Operand(_, _)) => {
+            Sought::Operand(others.saturating_sub(1))
+        }
+        _ => sought,
+    }
+}
+
+/// Whether there are too many levels, whatever follows.
+fn is_deep(pending: &[Pending], place: &Place) -> bool {
+    if pending.len() >= MOST_LEVELS {
+        return true;
+    }
+    match (pending.last(), place) {
+        (Some(Pending::Joint(_, left)), Place::Wanting) => is_highest(left),
+        (_, Place::Asking(part, _)) => is_highest(part),
+        (_, Place::Having(part)) => is_too_deep(part),
+        _ => false,
+    }
+}
+
+fn is_too_deep(part: &Part) -> bool {
+    matches!(part.tree, Err(FilterFault::TooDeep))
+}
+
+/// Whether one level more is too many.
+fn is_highest(part: &Part) -> bool {
+    match &part.tree {
+        Ok(tree) => tree.levels >= MOST_LEVELS,
+        Err(_) => is_too_deep(part),
+    }
+}

@@ -1,0 +1,110 @@
+//! From a text to the filter that it spells.
+
+ghost use Rattle.std.specs.Prelude.{[], ◌≡◌, ◌≤◌, IfErr, IfOk, length, map, MatchResult};
+ghost use Rattle.rowfilter.specs.Conditions.{Condition};
+ghost use Rattle.rowfilter.specs.Grammar.{IsRefused, MOST_BYTES, SpellsCondition, SpellsFilter};
+ghost use Rattle.rowfilter.specs.Parts.{parts, word_at};
+ghost use Rattle.rowfilter.specs.Readings.{GivesFilter, IsJudged, IsUnspelled, IsUnread, expression_of};
+ghost use Rattle.rowfilter.specs.Shapes.{shape};
+ghost use Rattle.rowfilter.specs.Stacks.{Wanting, run};
+ghost use Rattle.rowfilter.specs.Tokens.{Spells};
+ghost use Rattle.rowfilter.specs.Views.{GivesPart};
+
+use crate::expression::Expression;
+use crate::fault::FilterFault;
+use crate::filter::Filter;
+use crate::lexer::read_tokens;
+use crate::part::Part;
+use crate::place::{Place, whole};
+use crate::token::Token;
+use crate::word::Word;
+use std::alloc::Global;
+use tables::{Column, Table};
+
+/// The longest text of a filter, in bytes.
+pub const MOST_BYTES: usize = 4096;
+
+/// The filter of this table that the text spells.
+///
+/// From the loosest to the tightest: OR, AND, NOT, `IS [NOT] NULL`, `TRUE`, `FALSE` or `UNKNOWN`, and one comparison of
+/// `= <> != < > <= >=` (PostgreSQL 15, 4.1.6 and 9.2). Operands are columns, integers, `'texts'`, TRUE, FALSE, NULL and
+/// parentheses. A text over 4,096 bytes is X1; of several faults the first in the order X1, X4, X5, X2, X3 is told. It
+/// takes no more stack for a deep text than for a flat one.
+pub fn parse(alloc: Global, text: &str, table: &Table) -> Result<Filter, FilterFault>
+    ensures found { IfOk result (λ f. SpellsFilter table.now text.now (shape f)) }
+    ensures only { (c : Condition) → SpellsFilter table.now text.now c → GivesFilter result c }
+    ensures fault { IfErr result (λ e. IsRefused table.now text.now e) }
+{
+    filter_of(alloc, text, table)
+}
+
+/// The same, with one clause for both cases.
+fn filter_of(alloc: Global, text: &str, table: &Table) -> Result<Filter, FilterFault>
+    ensures { MatchResult result (λ f. SpellsFilter table.now text.now (shape f)) (λ e. IsRefused table.now text.now e) }
+{
+    let columns = table.columns.as_slice();
+    let expression = condition_of(alloc, text, columns)?;
+    judge(&expression, columns)?;
+    Ok(Filter::new(alloc, expression)?)
+}
+
+/// The tokens of a text that isn't too long.
+fn short_tokens(alloc: Global, text: &str) -> Result<Vec<Token>, FilterFault>
+    ensures found { IfOk result (λ tokens. (length text.now ≤ MOST_BYTES) × Spells text.now tokens.items) }
+    ensures fault { IfErr result (λ e. IsUnspelled text.now e) }
+{
+    if text.len() > MOST_BYTES {
+        return Err(FilterFault::Syntax);
+    }
+    read_tokens(alloc, text)
+}
+
+/// What the tokens are read as, word by word.
+fn part_of(alloc: Global, tokens: &[Token], columns: &[Column]) -> Result<Part, FilterFault>
+    ensures { GivesPart result (run parts (Wanting []) (map (word_at columns.now) tokens.now)) }
+{
+    let mut pending = Vec::new(alloc);
+    let mut place = Place::Wanting;
+    for token in tokens {
+        let word = Word::of(alloc, token, columns)?;
+        place = place.next(alloc, &mut pending, word)?;
+    }
+    whole(alloc, &mut pending, place)
+}
+
+fn expression_of(part: Result<Part, FilterFault>) -> Result<Expression, FilterFault>
+    ensures { result ≡ expression_of part }
+{
+    match part {
+        Ok(part) => match part.tree {
+            Ok(tree) => Ok(tree.expression),
+            Err(fault) => Err(fault),
+        },
+        Err(fault) => Err(fault),
+    }
+}
+
+/// The condition that the text spells over these columns, whatever their kinds.
+pub(crate) fn condition_of(
+    alloc: Global,
+    text: &str,
+    columns: &[Column],
+) -> Result<Expression, FilterFault>
+    ensures { MatchResult result (λ e. SpellsCondition columns.now text.now (shape e)) (λ fault. IsUnread text.now fault) }
+{
+    let tokens = short_tokens(alloc, text)?;
+    expression_of(part_of(alloc, tokens.as_slice(), columns))
+}
+
+/// Whether its columns are there, and their kinds go together.
+fn judge(expression: &Expression, columns: &[Column]) -> Result<(), FilterFault>
+    ensures { IsJudged columns.now (shape expression.now) result }
+{
+    if !expression.is_known(columns.len()) {
+        return Err(FilterFault::UnknownColumn);
+    }
+    match expression.sort(columns) {
+        Some(sort) if sort.is_truth() => Ok(()),
+        _ => Err(FilterFault::TypeMismatch),
+    }
+}
