@@ -27,15 +27,17 @@ A configuration names the server and the tables, as in
   columns = [['id', 'int4'], ['name', 'text'], ['qty', 'int8']]
 
 The log has room for that number of records; chunks are not used yet. The types are bool,
-int4, int8 and text. There is one publication, p, which publishes the table public.item.
+int4, int8 and text. There are two publications: p publishes the table public.item, and t
+the table public.tag.
 
 A schedule has one event a line, and fields separated by single spaces. Empty lines and
 lines that begin with # are passed over. T is a transaction's name and C a connection's.
 
   begin T                  a transaction begins
   insert T TABLE (ROW)     it inserts a row, as in (1,'ab',7)
-  update T TABLE (KEY) (ROW)  the row with this key becomes this one, as in (1) (2,'ab',7)
-  delete T TABLE (KEY)     it deletes the row with this key
+  update T TABLE (KEY) (ROW)
+                           the row of this key becomes this one, as in (1) (2,'ab',7)
+  delete T TABLE (KEY)     it deletes the row of this key
   truncate T TABLE ..      it empties tables
   savepoint T              it sets a savepoint
   rollback T N             it rolls back to its Nth savepoint, counted from the outermost
@@ -45,8 +47,9 @@ lines that begin with # are passed over. T is a transaction's name and C a conne
   start C - POSITION P,..  a sender of publications starts, as in start c - 0/0 p
   read C MAX CLOCK         the sender reads up to MAX records of the log
   keepalive C CLOCK        the sender puts a keepalive behind what it holds
-  drain C N                up to N bytes leave the sender
-  cut C                    the connection is cut, and the sender ends
+  drain C N                up to N bytes go from the sender into the pipe
+  deliver C N              up to N bytes go from the pipe to the connection's subscriber
+  cut C                    the connection is cut: its sender ends, its subscriber reconnects
 
 For example:
 
@@ -59,7 +62,8 @@ For example:
 
 It prints a line for each event that was refused, the number of its line and a code, as in
 7 S1; and then a line for each sender: the connection's name, a colon and the bytes that
-it produced, in hexadecimal.
+it produced, in hexadecimal. Then a line for each subscriber to which bytes were delivered, as
+in sub c 0/1000050 1: its position, and how many transactions it has applied.
 
 It ends with 0 where that is done, with 2 where the arguments, the configuration or the
 schedule are refused, and with 1 where a file cannot be read, the report cannot be printed

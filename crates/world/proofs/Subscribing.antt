@@ -1,5 +1,5 @@
 -- The subscriber of a connection stands where it was found by its name, and every start's connection has one.
-use Rattle.std.proofs.Common.{◌≡◌, ◌+◌, ◌≤◌, ℕ, zero, suc, Bool, true, false, cond, List, [], ◌∷◌, ◌++◌, map, Option, Some, None, refl, sym, ap, subst, ◌∙◌, arith}
+use Rattle.std.proofs.Common.{◌≡◌, ◌+◌, ◌≤◌, ◌<◌, ℕ, zero, suc, Bool, true, false, cond, List, [], ◌∷◌, ◌++◌, map, Option, Some, None, refl, sym, ap, subst, ◌∙◌, arith}
 use Rattle.std.specs.Prelude.{is_some, slice_set, slice_index_or, take, drop, length}
 use Rattle.std.specs.List.{AllByRecursion}
 use Rattle.std.specs.Str.{bytes_eq}
@@ -11,11 +11,11 @@ use Rattle.world.specs.declared.start.Start.{Start}
 use Rattle.world.specs.declared.subscriber.Subscriber.{Subscriber}
 use Rattle.world.specs.Delivering.{Gets, Delivers}
 use Rattle.world.specs.State.{StartState, SubscriberState, new_subscriber, subscriber_of, with_subscriber, if_there, with_one_for, again, if_known_again, reconnected, is_open_for, open_start, with_open_start}
-use Rattle.world.specs.Machine.{shown, start_state, subscriber_state, subscriber_place, IsSubscriberAt, IsSubscribed}
+use Rattle.world.specs.Machine.{shown, start_state, subscriber_state, subscriber_place, IsOpenStartAt, IsSubscriberAt, IsSubscribed}
 use Rattle.std.proofs.lemmas.List.{append-nil}
 use Rattle.tables.proofs.Names.{bytes_eq-after}
 use Rattle.stream.proofs.Lists.{all_of_both}
-use Rattle.publication.proofs.Fitting.{both_true}
+use Rattle.publication.proofs.Rows.{both_true}
 use Rattle.std.proofs.lemmas.Slice.Eq.{bytes_eq-Decides}
 use Rattle.world.proofs.Names.{same_inside, place_is}
 
@@ -201,15 +201,17 @@ joined_known name ss k known = by_subscriber (subscriber_of name ss) refl
     by_subscriber None is = let never : true ≡ false = sym (ap is_some known) ∙ is_found_alike name ss 0 ∙ ap is_some is in absurd cc
 
 -- what a subscriber got
-pub delivered : (name : List ℕ) (n place : ℕ) (m : Machine) (start : Start) (old new : Subscriber) (produced : List ℕ) (a : Answer) → open_start name (map start_state m.starts.items) ≡ Some (start_state start) → produced ≡ (start_state start).produced
-    → IsSubscriberAt name place m.subscribers.items → old ≡ slice_index_or m.subscribers.items place old
+pub delivered : (name : List ℕ) (n at_start place : ℕ) (m : Machine) (start : Start) (old new : Subscriber) (produced : List ℕ) (a : Answer) → IsOpenStartAt name at_start m.starts.items → start ≡ slice_index_or m.starts.items at_start start
+    → produced ≡ (start_state start).produced → IsSubscriberAt name place m.subscribers.items → old ≡ slice_index_or m.subscribers.items place old
     → Gets (take n (drop old.delivered produced)) (subscriber_state old) a (subscriber_state new)
     → Delivers name n (shown m) a (record (shown m) { subscribers = map subscriber_state (slice_set m.subscribers.items place new) })
-delivered name n place m start old new produced a there is at value gets =
+delivered name n at_start place m start old new produced a opened start_value is at value gets =
+    let within : at_start < length m.starts.items = slice_get_within m.starts.items at_start opened.start opened.there in
+    let found_start : opened.start ≡ start = same_inside opened.start start (sym opened.there ∙ slice_get_read m.starts.items (length m.starts.items) at_start start refl within start_value) in
     let here : at.subscriber ≡ old = the_one name place m.subscribers.items old at value in
     record {
       start = start_state start;
-      there = there;
+      there = opened.of ∙ ap (λ (s : Start). Option.Some (start_state s)) found_start;
       before = subscriber_state old;
       known = at.of ∙ ap (λ (s : Subscriber). Option.Some (subscriber_state s)) here;
       after = subscriber_state new;

@@ -1,8 +1,6 @@
-use Rattle.std.proofs.Common.{◌≡◌, Option, arith, length, map, sym, ap, refl, ◌∙◌}
-use Rattle.std.proofs.lemmas.Option.{slice_get_read, slice_get_within}
-use Rattle.world.specs.declared.start.Start.{Start}
+use Rattle.std.proofs.Common.{arith, length, map, sym, ap, ◌∙◌}
+use Rattle.std.proofs.lemmas.Option.{slice_get_within}
 use Rattle.world.specs.Machine.{start_state, subscriber_state}
-use Rattle.world.proofs.Asking.{one_there}
 use Rattle.world.proofs.Openings.{none_open, open_at}
 use Rattle.world.proofs.Subscribing.{delivered, has_place, open_subscribed, still_subscribed, subscriber_at}
 use Rattle.world.proofs.machine.Machine.deliver.Goals as goal
@@ -29,12 +27,8 @@ returns-clause-delivers c =
     let at = open_at c.args.name.now c.args.self.now.starts.items c.args.self.now.opened.items c.in-Some.place c.requires.machine.found
     (rw (c.as_slice.ensures.value, c.as_slice-2.ensures.value) at (sym c.place_among-found.ensures ∙ c.in-Some.is)) in
     let one = subscriber_at c.args.name.now c.args.self.now.subscribers.items c.in-Some-place_of.at (rw c.as_slice-3.ensures.value at (sym c.place_of.ensures.place ∙ c.in-Some-place_of.is)) in
-    let start = c.index-start.result.now in
-    let here : at.start ≡ start =
-    one_there c.args.self.now.starts.items c.in-Some.place at.start start at.there
-    (slice_get_read c.args.self.now.starts.items (length c.args.self.now.starts.items) c.in-Some.place start refl (slice_get_within c.args.self.now.starts.items c.in-Some.place at.start at.there) c.index-start.ensures) in
-    delivered c.args.name.now c.args.max c.in-Some-place_of.at c.args.self.now start c.index_mut.result.now c.take.new.self c.produced.result.now c.take.result
-    (at.of ∙ ap (λ (s : Start). Option.Some (start_state s)) here) c.produced.ensures one c.index_mut.ensures.value c.take.ensures
+    delivered c.args.name.now c.args.max c.in-Some.place c.in-Some-place_of.at c.args.self.now c.index-start.result.now c.index_mut.result.now c.take.new.self c.produced.result.now c.take.result
+    at c.index-start.ensures c.produced.ensures one c.index_mut.ensures.value c.take.ensures
 
 pub returns-clause-machine : goal.returns-clause-machine
 returns-clause-machine c =
