@@ -70,16 +70,24 @@ impl fmt::Display for Shown<'_> {
             Event::Release(name, depth) => write!(f, "release {} {depth}", name.as_str()),
             Event::Commit(name, time) => write!(f, "commit {} {time}", name.as_str()),
             Event::Abort(name) => write!(f, "abort {}", name.as_str()),
-            Event::Start(name, slot, position, publications) => {
-                write!(f, "start {} {}", name.as_str(), slot.as_str())?;
-                write!(f, " {}{}", Position(*position), Names(publications))
-            }
-            Event::Read(name, most, clock) => write!(f, "read {} {most} {clock}", name.as_str()),
-            Event::Keepalive(name, clock) => write!(f, "keepalive {} {clock}", name.as_str()),
-            Event::Drain(name, most) => write!(f, "drain {} {most}", name.as_str()),
-            Event::Deliver(name, most) => write!(f, "deliver {} {most}", name.as_str()),
-            Event::Cut(name) => write!(f, "cut {}", name.as_str()),
+            _ => connection_line(self.0, f),
         }
+    }
+}
+
+/// The lines of a connection.
+fn connection_line<W: fmt::Write>(event: &Event, f: &mut fmt::Formatter<W>) -> fmt::Result {
+    match event {
+        Event::Start(name, slot, position, publications) => {
+            write!(f, "start {} {}", name.as_str(), slot.as_str())?;
+            write!(f, " {}{}", Position(*position), Names(publications))
+        }
+        Event::Read(name, most, clock) => write!(f, "read {} {most} {clock}", name.as_str()),
+        Event::Keepalive(name, clock) => write!(f, "keepalive {} {clock}", name.as_str()),
+        Event::Drain(name, most) => write!(f, "drain {} {most}", name.as_str()),
+        Event::Deliver(name, most) => write!(f, "deliver {} {most}", name.as_str()),
+        Event::Cut(name) => write!(f, "cut {}", name.as_str()),
+        _ => Ok(()),
     }
 }
 
