@@ -1,13 +1,12 @@
 -- The words of an item, and what they make of a subscriber that knows the tables whose Relation was sent.
 use Rattle.std.proofs.Common.{◌≡◌, ℕ, ℤ, Bool, true, false, cond, eqb, leb, ◌||◌, List, [], ◌∷◌, ◌++◌, length, max, Option, Some, None, Result, Ok, Err, refl, sym, ap, subst, ◌∙◌, append_assoc, arith}
-use Rattle.std.specs.Prelude.{nat_eq, nat_le, reverse}
-use Rattle.std.specs.List.{AllByRecursion, list_any}
+use Rattle.std.specs.Prelude.{nat_eq, reverse}
+use Rattle.std.specs.List.{AllByRecursion}
 use Rattle.std.specs.Option.{ok_or}
 use Rattle.std.specs.Map.{lookup}
 use Rattle.std.proofs.lemmas.Bool.{eqb-true}
 use Rattle.std.proofs.lemmas.Bool.Decides.{nat_tests}
 use Rattle.std.proofs.lemmas.List.{append-nil, reverse-append}
-use Rattle.std.proofs.lemmas.List.Folds.{list_any-append}
 use Rattle.indexmap.specs.IndexMap.{insert_entry}
 use Rattle.frames.specs.Steps.{◌>>=◌}
 use Rattle.pgoutput.specs.declared.logical.Logical.{Logical}
@@ -18,10 +17,9 @@ use Rattle.pgoutput.specs.declared.tuple.Cell.{Cell}
 use Rattle.pgoutput.specs.declared.old_tuple.OldTuple.{OldTuple}
 use Rattle.pgoutput.specs.OldTuple.{cells_of}
 use Rattle.stream.specs.declared.word.Word.{Word}
-use Rattle.stream.specs.declared.word.Word.TheVariants as words
 use Rattle.stream.specs.declared.published.Published.{Published}
 use Rattle.stream.specs.declared.published.PublishedChange.{PublishedChange}
-use Rattle.stream.specs.Items.{Item, KeepaliveItem, Block, xlogdata_word, tables_of, is_relation_sent, relations_due, relations_sent_by, relations_sent_by_all, relation_words, change_words, changes_words, commit_message, begin_message, block_words, item_words, relations_sent_after, FitsRelationOf, IsTupleOf, IsOldOf, IsOfChange, FitsChange, FitsPublished, FitsItem}
+use Rattle.stream.specs.Items.{Item, KeepaliveItem, Block, xlogdata_word, tables_of, is_relation_sent, relations_due, relations_sent_by, relations_sent_by_all, relation_words, change_words, changes_words, commit_message, item_words, relations_sent_after, FitsRelationOf, IsOldOf, IsOfChange, FitsChange, FitsItem}
 use Rattle.client.specs.declared.fault.ClientFault.{ClientFault}
 use Rattle.client.specs.declared.fault.ClientFault.TheVariants.{Order, UnknownRelation}
 use Rattle.client.specs.Subscriber.{Subscriber, HalfTransaction, tell, columns_of, fits, fits_old, are_told, judged, with_change, after_word, after_words}

@@ -1,12 +1,11 @@
 -- What the body of a CopyData says is read, and what says nothing is refused.
-use Rattle.std.proofs.Common.{◌≡◌, ℕ, List, [], ◌++◌, Result, Ok, Err, refl, sym, ap, subst, ◌∙◌}
+use Rattle.std.proofs.Common.{◌≡◌, ℕ, List, [], ◌++◌, Result, Ok, Err, sym, ap, subst, ◌∙◌}
 use Rattle.std.specs.Result.{IsErrAnd}
 use Rattle.copyboth.specs.declared.server_body.ServerBody.{ServerBody}
 use Rattle.copyboth.specs.declared.server_body.ServerBody.TheVariants as bodies
 use Rattle.copyboth.specs.declared.fault.CopyFault.{CopyFault}
 use Rattle.copyboth.specs.XLogData.{XLogDataBody}
 use Rattle.copyboth.specs.Server.{SpellsServer, SpellsXLogData}
-use Rattle.copyboth.specs.Reading.{server_at}
 use Rattle.copyboth.proofs.Bodies.{server_again}
 use Rattle.pgoutput.specs.declared.logical.Logical.{Logical}
 use Rattle.pgoutput.specs.Logical.{SpellsLogical}
@@ -14,7 +13,6 @@ use Rattle.pgoutput.proofs.Whole.{two_spellings}
 use Rattle.frames.proofs.Codec.{ok_is}
 use Rattle.stream.specs.declared.word.Word.{Word}
 use Rattle.stream.specs.declared.word.Word.TheVariants as words
-use Rattle.stream.specs.declared.word.Keepalive.{Keepalive}
 use Rattle.stream.specs.declared.word.XLogData.{XLogData}
 use Rattle.client.specs.declared.fault.ClientFault.{ClientFault}
 use Rattle.client.specs.declared.fault.ClientFault.TheVariants as faults

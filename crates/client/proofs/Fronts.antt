@@ -1,17 +1,14 @@
 -- What stands at the front of the bytes of words: the first word, whole or in part.
-use Rattle.std.proofs.Common.{◌≡◌, ◌≢◌, ℕ, ◌+◌, ◌<◌, ◌≤◌, Bool, true, false, eqb, List, [], ◌∷◌, ◌++◌, length, take, drop, Option, Some, None, Result, Ok, Err, refl, sym, ap, subst, ◌∙◌, append_assoc, arith, inl, inr}
+use Rattle.std.proofs.Common.{◌≡◌, ℕ, ◌+◌, ◌<◌, ◌≤◌, Bool, true, false, eqb, List, [], ◌∷◌, ◌++◌, length, take, drop, Some, None, Ok, refl, sym, ap, subst, ◌∙◌, append_assoc, arith, inl, inr}
 use Rattle.std.specs.Prelude.{◌⊎◌}
-use Rattle.std.specs.List.{AllByRecursion, flat_map}
+use Rattle.std.specs.List.{AllByRecursion}
 use Rattle.std.proofs.lemmas.Bool.{cases_lt}
-use Rattle.std.proofs.lemmas.List.{append_cancel_left, length-append, take-append-le, take-append-drop, take_at}
+use Rattle.std.proofs.lemmas.List.{length-append, take-append-le, take-append-drop, take_at}
 use Rattle.std.proofs.lemmas.List.Concat.{flat_map-cons}
-use Rattle.frames.specs.Steps.{◌>>=◌}
-use Rattle.frames.specs.Frame.{frame, FitsLength, whole_of}
-use Rattle.frames.specs.Back.{framed_back, back_limit, back_at}
+use Rattle.frames.specs.Frame.{frame, FitsLength}
+use Rattle.frames.specs.Back.{framed_back, back_limit}
 use Rattle.frames.specs.declared.copy_data.TheConstants.{COPY_DATA}
 use Rattle.frames.specs.declared.frame.TheConstants.{FRAME_LIMIT}
-use Rattle.frames.specs.declared.fault.FrameFault.{FrameFault}
-use Rattle.frames.specs.declared.back.Back.{Back}
 use Rattle.frames.specs.declared.back.Back.TheVariants.{CopyData}
 use Rattle.frames.proofs.Frames.{raw_again, raw_waits, frame_begins, length-frame}
 use Rattle.frames.proofs.Bodies.{back_bodies}

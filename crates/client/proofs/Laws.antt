@@ -1,7 +1,7 @@
 -- Over a stream nothing but want of memory stops a subscriber, and what stands whole in the bytes is what it gained.
-use Rattle.std.proofs.Common.{◌≡◌, ℕ, ◌+◌, ◌<◌, List, [], ◌∷◌, ◌++◌, length, Option, Some, None, Result, Ok, Err, refl, sym, ap, subst, ◌∙◌, append_assoc, arith, inl, inr}
-use Rattle.std.specs.List.{AllByRecursion, flat_map}
-use Rattle.std.proofs.lemmas.List.{append_cancel_left, length-append}
+use Rattle.std.proofs.Common.{◌≡◌, ℕ, ◌<◌, List, [], ◌∷◌, ◌++◌, length, Option, None, Result, Ok, Err, refl, sym, ap, subst, ◌∙◌, append_assoc, arith, inl, inr}
+use Rattle.std.specs.List.{AllByRecursion}
+use Rattle.std.proofs.lemmas.List.{length-append}
 use Rattle.std.proofs.lemmas.List.Concat.{flat_map-cons, flat_map-append}
 use Rattle.frames.specs.Steps.{◌>>=◌}
 use Rattle.frames.specs.Back.{framed_back}
@@ -10,18 +10,17 @@ use Rattle.frames.specs.declared.back.Back.{Back}
 use Rattle.frames.proofs.Codec.{ok_is}
 use Rattle.pgoutput.specs.declared.relation.Relation.{Relation}
 use Rattle.stream.specs.declared.word.Word.{Word}
-use Rattle.stream.specs.declared.published.Published.{Published}
-use Rattle.stream.specs.Words.{word_body, word_bytes, frames_of, FitsWord}
+use Rattle.stream.specs.Words.{word_bytes, frames_of, FitsWord}
 use Rattle.stream.specs.Items.{Item, item_words, words_of, spelled, FitItems}
 use Rattle.stream.proofs.OneReading.{words_fit}
 use Rattle.client.specs.declared.fault.ClientFault.{ClientFault}
 use Rattle.client.specs.declared.fault.ClientFault.TheVariants as faults
-use Rattle.client.specs.Words.{Says, SpellsWord, Waits, IsNoWord, IsError, Holds, IsUnread}
+use Rattle.client.specs.Words.{Waits, IsNoWord, IsError, Holds}
 use Rattle.client.specs.Subscriber.{Subscriber, resting, after_word, after_words}
-use Rattle.client.specs.Taking.{ApplierState, Reached, IsRefused, Stops, StopsAfter, HasTaken}
-use Rattle.client.specs.Law.{position_after, gained, relations_sent_with, IsLess, Gained, GainedAll, Follows}
+use Rattle.client.specs.Taking.{ApplierState, Reached, IsRefused, Stops, StopsAfter}
+use Rattle.client.specs.Law.{relations_sent_with, IsLess, Gained, Follows}
 use Rattle.client.proofs.Reaching.{after_append, reached_on}
-use Rattle.client.proofs.Fronts.{says_word, Shows, shows, same_word, not_empty, Aligned, aligned}
+use Rattle.client.proofs.Fronts.{says_word, shows, same_word, not_empty, Aligned, aligned}
 use Rattle.client.proofs.Blocks.{at, Told}
 use Rattle.client.proofs.Standing.{IsBegun, Stands, stands, all_go}
 

@@ -5,3 +5,4 @@ mod Fronts
 mod Blocks
 mod Standing
 mod Laws
+mod Worked

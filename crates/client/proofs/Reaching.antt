@@ -1,5 +1,5 @@
 -- From one subscriber to another: by no word, by one, and one stretch behind the other; and why none goes further.
-use Rattle.std.proofs.Common.{◌≡◌, ℕ, ◌≤◌, Bool, true, false, cond, eqb, List, [], ◌∷◌, ◌++◌, length, take, drop, Option, Some, None, Result, Ok, Err, refl, sym, ap, subst, ◌∙◌, append_assoc, inl, inr}
+use Rattle.std.proofs.Common.{◌≡◌, ℕ, Bool, true, false, cond, eqb, List, [], ◌∷◌, ◌++◌, length, take, drop, Option, Some, None, Result, Ok, Err, refl, sym, ap, subst, ◌∙◌, append_assoc, inl, inr}
 use Rattle.std.specs.Prelude.{◌⊎◌, nat_eq, IfErr}
 use Rattle.std.specs.Result.{IsErrAnd}
 use Rattle.std.specs.Option.{ok_or}
@@ -21,7 +21,7 @@ use Rattle.client.specs.declared.fault.ClientFault.{ClientFault}
 use Rattle.client.specs.declared.fault.ClientFault.TheVariants as faults
 use Rattle.client.specs.Words.{SpellsWord, AreSpelled, IsUnread}
 use Rattle.client.specs.Subscriber.{Subscriber, HalfTransaction, columns_of, fits, fits_old, are_told, judged, begun, told, changed, committed, finished, with_change, after_message, after_word, after_words, Makes}
-use Rattle.client.specs.Taking.{Reached, Stops, StopsAfter}
+use Rattle.client.specs.Taking.{Reached, Stops}
 
 -- a step that fails, or the one behind it
 refused_at : {A B : Type 0} (r : Result A ClientFault) (f : A → Result B ClientFault) (e : ClientFault) → (r >>= f) ≡ Err e → (r ≡ Err e) ⊎ ((x : A) × (r ≡ Ok x) × (f x ≡ Err e))

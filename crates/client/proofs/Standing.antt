@@ -1,5 +1,5 @@
 -- Of a beginning of the words of items: which items stand whole in it, and what it makes of a subscriber.
-use Rattle.std.proofs.Common.{◌≡◌, ◌≢◌, ℕ, ℤ, ◌+◌, ◌<◌, ◌≤◌, leb, cond, List, [], ◌∷◌, ◌++◌, length, max, Option, Some, None, Result, Ok, Err, refl, sym, ap, subst, ◌∙◌, append_assoc, arith, inl, inr}
+use Rattle.std.proofs.Common.{◌≡◌, ℕ, ℤ, leb, cond, List, [], ◌∷◌, ◌++◌, max, Option, Some, None, Result, Ok, Err, refl, sym, ap, subst, ◌∙◌, append_assoc, inl, inr}
 use Rattle.std.specs.Prelude.{◌⊎◌}
 use Rattle.std.specs.List.{AllByRecursion}
 use Rattle.std.proofs.lemmas.List.{append-nil}
@@ -14,7 +14,6 @@ use Rattle.stream.specs.declared.published.PublishedChange.{PublishedChange}
 use Rattle.stream.proofs.Lists.{all_of_both}
 use Rattle.stream.specs.Items.{Item, KeepaliveItem, Block, xlogdata_word, tables_of, relations_due, relations_sent_by, relation_words, change_words, changes_words, begin_message, commit_message, item_words, words_of, relations_sent_after, IsOfChange, FitsChange, FitsItem, FitItems}
 use Rattle.client.specs.declared.fault.ClientFault.{ClientFault}
-use Rattle.client.specs.declared.fault.ClientFault.TheVariants.{Order}
 use Rattle.client.specs.Subscriber.{Subscriber, HalfTransaction, judged, begun, told, changed, with_change, after_message, after_word, after_words}
 use Rattle.client.specs.Law.{position_after, gained, relations_sent_with}
 use Rattle.client.proofs.Reaching.{after_append}

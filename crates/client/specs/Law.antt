@@ -1,5 +1,5 @@
 -- What a stream makes of a subscriber: from each beginning of it, in any cuts, the transactions that stand whole there.
-use Rattle.std.specs.Prelude.{◌≡◌, ℕ, ◌<◌, List, [], ◌∷◌, ◌++◌, length, max, nat_le, Option, None, Result, Ok, Err, if◌then◌else◌}
+use Rattle.std.specs.Prelude.{◌≡◌, ℕ, ◌<◌, List, [], ◌∷◌, ◌++◌, length, max, nat_le, Result, Ok, Err, if◌then◌else◌}
 use Rattle.pgoutput.specs.declared.relation.Relation.{Relation}
 use Rattle.stream.specs.declared.published.Published.{Published}
 use Rattle.stream.specs.Words.{frames_of}

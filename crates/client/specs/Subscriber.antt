@@ -118,7 +118,8 @@ abbrev pub after_words : Subscriber → List Word → Result Subscriber ClientFa
 after_words s [] = Ok s
 after_words s (w ∷ ws) = after_word s w >>= λ t. after_words t ws
 
--- A call that makes of one subscriber another, or refuses to and changes nothing; for want of memory it may.
+-- What a call answers that makes of one subscriber another: Ok where it did, and else nothing changed. Memory may run out at
+-- any word.
 abbrev pub Makes : Result (Unit {0}) ClientFault → Subscriber → Subscriber → Result Subscriber ClientFault → Type 0
 Makes (Ok u) old new after = after ≡ Ok new
 Makes (Err Memory) old new after = new ≡ old

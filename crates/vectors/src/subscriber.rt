@@ -77,24 +77,44 @@ impl Subscriber {
 }
 
 fn add_applied(alloc: Global, shown: &mut String, applied: &Applied) -> Result<(), AllocError> {
-    let begin = Logical::Begin(Begin {
+    add_begin(alloc, shown, applied)?;
+    for change in applied.changes.as_slice() {
+        let position = Position(change.position);
+        write!(shown, "\n{position} ")?;
+        add_message(alloc, shown, &change.message)?;
+    }
+    add_commit(alloc, shown, applied)
+}
+
+fn add_begin(alloc: Global, shown: &mut String, applied: &Applied) -> Result<(), AllocError> {
+    shown.push('\n')?;
+    let begin = begin_of(applied);
+    add_message(alloc, shown, &begin)
+}
+
+fn add_commit(alloc: Global, shown: &mut String, applied: &Applied) -> Result<(), AllocError> {
+    shown.push('\n')?;
+    let commit = commit_of(applied);
+    add_message(alloc, shown, &commit)
+}
+
+fn add_message(alloc: Global, shown: &mut String, message: &Logical) -> Result<(), AllocError> {
+    let line = render(alloc, message)?;
+    shown.push_str(line.as_str())
+}
+
+fn begin_of(applied: &Applied) -> Logical {
+    Logical::Begin(Begin {
         position: applied.start,
         time: applied.time,
         xid: applied.xid,
-    });
-    let commit = Logical::Commit(Commit {
+    })
+}
+
+fn commit_of(applied: &Applied) -> Logical {
+    Logical::Commit(Commit {
         position: applied.start,
         end: applied.end,
         time: applied.time,
-    });
-    let line = render(alloc, &begin)?;
-    write!(shown, "\n{line}")?;
-    for change in applied.changes.as_slice() {
-        let position = Position(change.position);
-        let line = render(alloc, &change.message)?;
-        write!(shown, "\n{position} {line}")?;
-    }
-    let line = render(alloc, &commit)?;
-    write!(shown, "\n{line}")?;
-    Ok(())
+    })
 }

@@ -1,0 +1,86 @@
+-- Worked streams by which the definitions were checked: one transaction with one insert, and what is out of order.
+use Rattle.std.specs.Prelude.{◌≡◌, ℕ, pos, negsuc, codes, true, false, List, [], ◌∷◌, None, Result, Ok, Err, refl}
+use Rattle.pgoutput.specs.declared.logical.Logical.{Logical}
+use Rattle.pgoutput.specs.declared.logical.Logical.TheVariants as logical
+use Rattle.pgoutput.specs.declared.relation.Relation.{Relation}
+use Rattle.pgoutput.specs.declared.relation.Identity.TheVariants as identities
+use Rattle.pgoutput.specs.declared.tuple.Cell.TheVariants as cells
+use Rattle.stream.specs.declared.word.Word.{Word}
+use Rattle.stream.specs.declared.published.Published.{Published}
+use Rattle.stream.specs.Items.{Item, KeepaliveItem, Block, xlogdata_word, keepalive_word, begin_message, commit_message, words_of}
+use Rattle.client.specs.declared.fault.ClientFault.{ClientFault}
+use Rattle.client.specs.declared.fault.ClientFault.TheVariants.{Order, UnknownRelation}
+use Rattle.client.specs.Subscriber.{Subscriber, resting, after_words}
+use Rattle.client.specs.Law.{position_after, gained}
+
+-- public.item: id int4, the key; name text; qty int8
+abbrev item : ℕ → Relation
+item oid = record {
+  oid = oid;
+  namespace = codes "public";
+  name = codes "item";
+  identity = identities.Default;
+  columns = record { is_key = true; name = codes "id"; kind = 23; modifier = negsuc 0 }
+      ∷ record { is_key = false; name = codes "name"; kind = 25; modifier = negsuc 0 }
+      ∷ record { is_key = false; name = codes "qty"; kind = 20; modifier = negsuc 0 } ∷ [];
+}
+
+abbrev insert : Logical
+insert = logical.Insert (record { oid = 16384; new = cells.Text (codes "1") ∷ cells.Text (codes "ab") ∷ cells.Text (codes "7") ∷ [] })
+
+abbrev transaction : Published
+transaction = record { start = 0x1000030; end = 0x1000050; time = pos 5; xid = 700; changes = record { position = 0x1000000; message = insert } ∷ [] }
+
+abbrev block : Item
+block = Block (pos 9) transaction
+
+abbrev keepalive : ℕ → Item
+keepalive position = KeepaliveItem (record { position = position; clock = pos 9; ask = false })
+
+abbrev sent : List Item → List Word
+sent items = words_of item [] items
+
+abbrev heard : Subscriber → List Word → Result Subscriber ClientFault
+heard = after_words
+
+-- applied once, and once more it is not
+once : heard (resting 0 []) (sent (block ∷ block ∷ [])) ≡ Ok (record { position = 0x1000050; applied = transaction ∷ []; tables = (16384, 3) ∷ []; half = None })
+once = refl
+
+once_by_law : gained 0 (block ∷ block ∷ []) ≡ transaction ∷ []
+once_by_law = refl
+
+-- at its commit record's own position it is applied, and one behind it is not
+at_its_position : gained 0 (keepalive 0x1000030 ∷ block ∷ []) ≡ transaction ∷ []
+at_its_position = refl
+
+behind_its_position : gained 0 (keepalive 0x1000031 ∷ block ∷ []) ≡ []
+behind_its_position = refl
+
+never_back : position_after 0 (keepalive 0x1000100 ∷ block ∷ keepalive 0x1000000 ∷ []) ≡ 0x1000100
+never_back = refl
+
+-- a keepalive inside a transaction moves nothing
+inside : heard (resting 0 []) (xlogdata_word 0x1000030 (pos 9) (begin_message transaction) ∷ keepalive_word 0x1000100 (pos 9) false ∷ xlogdata_word 0x1000050 (pos 9) (commit_message transaction) ∷ [])
+    ≡ Ok (record { position = 0x1000050; applied = record transaction { changes = [] } ∷ []; tables = []; half = None })
+inside = refl
+
+-- ---- out of order
+
+begin_twice : heard (resting 0 []) (xlogdata_word 0 (pos 9) (begin_message transaction) ∷ xlogdata_word 0 (pos 9) (begin_message transaction) ∷ []) ≡ Err Order
+begin_twice = refl
+
+commit_alone : heard (resting 0 []) (xlogdata_word 0 (pos 9) (commit_message transaction) ∷ []) ≡ Err Order
+commit_alone = refl
+
+insert_alone : heard (resting 0 []) (xlogdata_word 0 (pos 9) insert ∷ []) ≡ Err Order
+insert_alone = refl
+
+never_told : heard (resting 0 []) (xlogdata_word 0 (pos 9) (begin_message transaction) ∷ xlogdata_word 0 (pos 9) insert ∷ []) ≡ Err UnknownRelation
+never_told = refl
+
+too_short : heard (resting 0 []) (xlogdata_word 0 (pos 9) (begin_message transaction) ∷ xlogdata_word 0 (pos 9) (logical.Relation (item 16384)) ∷ xlogdata_word 0 (pos 9) (logical.Insert (record { oid = 16384; new = [] })) ∷ []) ≡ Err Order
+too_short = refl
+
+another_commit : heard (resting 0 []) (xlogdata_word 0 (pos 9) (begin_message transaction) ∷ xlogdata_word 0 (pos 9) (logical.Commit (record { position = 0x1000031; end = 0x1000050; time = pos 5 })) ∷ []) ≡ Err Order
+another_commit = refl
