@@ -1,7 +1,7 @@
 //! A condition as a tree, and what it is in a row.
 
 ghost use Rattle.std.specs.Prelude.{◌≡◌, OnOk};
-ghost use Rattle.rowfilter.specs.Truth.{value_in};
+ghost use Rattle.rowfilter.specs.Truth.{truth as truth_in, value_in};
 ghost use Rattle.rowfilter.specs.Kinds.{are_known, sort_of};
 ghost use Rattle.rowfilter.specs.Shapes.{gathered, seen, shape};
 
@@ -52,6 +52,42 @@ impl Expression {
             Expression::Or(a, b) => {
                 Operand::of_truth(a.evaluate(row).truth().or(b.evaluate(row).truth()))
             }
+        }
+    }
+
+    /// What it is of the row of these values, as a condition. A side that decides alone is all that is asked.
+    #[tactic(auto, using(crate::proofs::Truths::truth_again))]
+    pub(crate) fn truth(&self, row: &[Value]) -> Truth
+        ensures { result ≡ truth_in (shape self.now) row.now }
+    {
+        match self {
+            Expression::Compare(how, a, b) => a.operand(row).compared(*how, b.operand(row)),
+            Expression::Not(a) => a.truth(row).not(),
+            Expression::And(a, b) => match a.truth(row) {
+                Truth::False => Truth::False,
+                left => left.and(b.truth(row)),
+            },
+            Expression::Or(a, b) => match a.truth(row) {
+                Truth::True => Truth::True,
+                left => left.or(b.truth(row)),
+            },
+            Expression::Is(_, _, _) | Expression::Column(_) | Expression::Literal(_) => {
+                self.evaluate(row).truth()
+            }
+        }
+    }
+
+    /// The same as `evaluate`, where it's mostly a column or a literal.
+    fn operand<'a>(&'a self, row: &'a [Value]) -> Operand<'a>
+        ensures { seen result ≡ value_in row.now (shape self.now) }
+    {
+        match self {
+            Expression::Column(place) => match row.get(*place) {
+                Some(value) => Operand::of_value(value),
+                None => Operand::Null,
+            },
+            Expression::Literal(literal) => Operand::of_literal(literal),
+            _ => self.evaluate(row),
         }
     }
 

@@ -52,7 +52,7 @@ impl Filter {
     pub fn truth(&self, row: &Row) -> Truth
         ensures { result ≡ truth_in (shape self.now) row.now }
     {
-        self.expression.evaluate(row.values()).truth()
+        self.expression.truth(row.values())
     }
 
     /// The places of the columns that the filter names, each once.
