@@ -17,7 +17,7 @@ use Rattle.tables.specs.declared.table.Table.{Table}
 use Rattle.tables.specs.declared.change.Change.TheVariants as changes
 use Rattle.tables.specs.Tables.{item_table}
 use Rattle.publication.specs.Publications.{PublicationSet, builtin_publications, is_unknown, selected}
-use Rattle.publication.specs.Projection.{message, updated}
+use Rattle.publication.specs.Projection.{delete_message, message, update_message, updated}
 
 -- ---- Tables, rows and messages.
 
@@ -47,6 +47,9 @@ item id name qty = values.Int4 (pos id) ∷ values.Text name ∷ values.Int8 (po
 
 abbrev tag : List ℕ → Value → List Value
 tag k v = values.Text k ∷ v ∷ []
+
+abbrev note : List ℕ → List Value
+note m = values.Int8 (pos 1) ∷ values.Text m ∷ []
 
 abbrev update : ℕ → Option OldTuple → List Cell → Option Logical
 update oid old new = Some (logical.Update (record { oid = oid; old = old; new = new }))
@@ -86,6 +89,15 @@ old_row = refl
 gone_row : message (by (codes "t" ∷ [])) (changes.Delete 16385 (tag (codes "b") (values.Int4 (pos 4)))) ≡ delete 16385 (Full (Text (codes "b") ∷ Text (codes "4") ∷ []))
 unfolding digits int16 int32 int64
 gone_row = refl
+
+-- ---- No identity: of an old row nothing, so of a row that is gone no message.
+
+no_old_row : update_message (note (codes "m")) (note (codes "n")) note_table ≡ logical.Update (record { oid = 16386; old = None; new = Text (codes "1") ∷ Text (codes "n") ∷ [] })
+unfolding digits int16 int32 int64
+no_old_row = refl
+
+gone_unseen : delete_message (note (codes "m")) note_table ≡ None
+gone_unseen = refl
 
 -- ---- Truncates: the published tables in the order of the call.
 

@@ -1,6 +1,6 @@
 //! What a sender was asked to publish.
 
-ghost use Rattle.std.specs.Prelude.{◌≡◌, ◌++◌, ◌==◌, [], IfOk, IfSome, OnSome, option_map, true, filter, drop, is_some, length};
+ghost use Rattle.std.specs.Prelude.{◌≡◌, ◌++◌, ◌==◌, [], IfOk, IfSome, OnSome, option_map, true, false, filter, map, drop, is_some, length};
 ghost use Rattle.std.specs.Option.{option_copied};
 ghost use Rattle.std.specs.List.{AllByRecursion, list_all, list_any};
 ghost use Rattle.pgoutput.specs.declared.logical.Logical.TheVariants as logical;
@@ -82,8 +82,10 @@ impl Selection {
     }
 
     /// The OIDs of its tables, in the order of the catalogue.
+    #[tactic(auto, using(crate::proofs::Filtering::no_repeats))]
     pub fn oids(&self) -> &[u32]
-        ensures { result.now ≡ selected_oids self.now }
+        ensures value { result.now ≡ selected_oids self.now }
+        ensures each_once { repeats (map (λ t. t.oid) self.now.tables) ≡ false → repeats result.now ≡ false }
     {
         self.oids.as_slice()
     }
