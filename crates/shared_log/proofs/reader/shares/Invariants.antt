@@ -1,0 +1,6 @@
+use Rattle.std.proofs.Common.{◌≡◌, ◌++◌, drop}
+use Rattle.txlog.specs.Publishing.{shared}
+use Rattle.shared_log.proofs.reader.shares.Given as goal
+
+abbrev pub invariant-loop-record : goal.invariant-loop-record
+invariant-loop-record l = shared l.copies.items ++ shared (drop l.record-index l.records) ≡ shared l.records

@@ -1,0 +1,6 @@
+use Rattle.txlog.specs.Publishing.{shared}
+use Rattle.shared_log.proofs.Steps.{admits}
+use Rattle.shared_log.proofs.writer.readers_of.Goals as goal
+
+pub reader-requires : goal.reader-requires
+reader-requires g c x views keeps = admits g.L.LogName.book (shared x.records.items) x.mark.seen.book x.mark.seen.log views keeps

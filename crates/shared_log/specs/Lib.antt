@@ -1,0 +1,7 @@
+pub mod Book
+pub mod Fronts
+pub mod Readers
+pub mod Sharing
+pub mod Telling
+pub mod Writing
+pub use Rattle.txlog.specs.Log

@@ -1,0 +1,31 @@
+-- What is true of the log that readers see, between any two steps of any threads.
+use Rattle.std.specs.Prelude.{◌≡◌, ℕ, List, []}
+use mathlib.Core.Option.{some}
+use mathlib.Core.List.{IsPrefix}
+use lib.ListN.{get_elem?}
+use Rattle.logbook.specs.Pages.{Book}
+use Rattle.txlog.specs.declared.record.Record.{Record}
+use Rattle.txlog.specs.Log.{IsWellFormedLog}
+use Rattle.shared_log.specs.declared.entry.Entry.{Entry}
+use Rattle.shared_log.specs.declared.rule.View.{View}
+use Rattle.shared_log.specs.Fronts.{shown}
+
+-- The published log is well formed, it is what a beginning of its history shows, and all that anybody has seen of it is a
+-- beginning of it.
+pub record Keeps (name : Book) (log : List Record) (book : Book) (front : List Entry) (views : List View) : Type 0 where
+  pub good : IsWellFormedLog log
+  pub named : book ≡ name
+  pub says : log ≡ shown front
+  pub seen : (seat : ℕ) (v : View) → get_elem? views seat ≡ some v → IsPrefix v.seen log
+
+-- who has seen nothing
+abbrev pub newcomer : View
+newcomer = record { seen = [] }
+
+-- the log was seen, and begins with all that had been seen before
+pub record Saw (name : Book) (old : View) (log : List Record) (book : Book) (front : List Entry) (new : View) : Type 0 where
+  pub longer : IsPrefix old.seen log
+  pub whole : new.seen ≡ log
+  pub good : IsWellFormedLog log
+  pub named : book ≡ name
+  pub says : log ≡ shown front

@@ -1,0 +1,19 @@
+-- How a writer stands between its calls.
+use Rattle.std.specs.Prelude.{◌≡◌, ℕ, List, length, true}
+use Rattle.std.specs.List.{AllByRecursion}
+use Rattle.txlog.specs.declared.record.TheConstants.{FIRST_POSITION}
+use Rattle.txlog.specs.declared.record.Record.{Record}
+use Rattle.txlog.specs.Log.{end_of}
+use Rattle.shared_log.specs.declared.entry.Entry.{Entry}
+use Rattle.shared_log.specs.declared.copy.Put.{Put}
+use Rattle.shared_log.specs.Fronts.{settled, ends_confirmed}
+
+-- Readers see what is settled, a front is known at which nothing is offered, and each record that still waits for a copy
+-- enters at the log's end.
+pub record Stands (records : List Record) (waiting : List Put) (count end : ℕ) (front sure : List Entry) : Type 0 where
+  pub shown : records ≡ settled front
+  pub counted : count ≡ length (settled front)
+  pub ends : end ≡ end_of FIRST_POSITION (settled front)
+  pub alike : settled sure ≡ settled front
+  pub confirmed : ends_confirmed sure ≡ true
+  pub waits : AllByRecursion (λ put. put.place ≡ length (settled front)) waiting

@@ -1,0 +1,62 @@
+//! The two copies of a log: readers see one, and the writer brings up the other.
+
+ghost use Rattle.std.specs.Prelude.{◌≡◌, ◌++◌, ◌∷◌, [], take};
+ghost use Rattle.std.specs.Arc.{arc_value};
+ghost use Rattle.txlog.specs.Publishing.{shared};
+
+use crate::entry::Entry;
+use crate::law::Law;
+use crate::mark::Mark;
+use left_right::Absorb;
+use logbook::Seen;
+use std::alloc::AllocError;
+use std::sync::Arc;
+use txlog::Record;
+
+/// A copy of the log: its records, shared with the other copy, and the beginning of the history that says so.
+#[derive(Drop)]
+pub struct LogCopy {
+    pub(crate) records: Vec<Arc<Record>>,
+    pub(crate) mark: Mark,
+}
+
+/// A record enters the log at a place, so one that stands there and was never confirmed gives way.
+#[derive(Drop)]
+pub struct Put {
+    pub(crate) place: usize,
+    pub(crate) entry: Arc<Record>,
+    pub(crate) mark: Mark,
+}
+
+impl Absorb<Put> for LogCopy {
+    // A clause reads an array as a list, of any length.
+    type State = ([Record; 0], Seen<Entry, u64, Law>);
+
+    ghost use Rattle.std.specs.Prelude.{◌++◌, ◌∷◌, [], take};
+    ghost use Rattle.std.specs.Arc.{arc_value};
+    ghost use Rattle.txlog.specs.Publishing.{shared};
+
+    ghost state = { λ c. (shared c.records.items, c.mark.seen) };
+
+    ghost applied = { λ s put. (take put.place s.0 ++ arc_value put.entry ∷ [], put.mark.seen) };
+
+    fn absorb_first(&mut self, operation: &Put, _other: &LogCopy) -> Result<(), AllocError> {
+        self.records.reserve(1)?;
+        let share = Arc::try_clone(&operation.entry)?;
+        self.records.truncate(operation.place);
+        self.records.push_reserved(share);
+        self.mark = operation.mark.again();
+        Ok(())
+    }
+
+    fn absorb_second(&mut self, operation: Put, _other: &LogCopy) -> Result<(), Put> {
+        if self.records.reserve(1).is_err() {
+            return Err(operation);
+        }
+        let Put { place, entry, mark } = operation;
+        self.records.truncate(place);
+        self.records.push_reserved(entry);
+        self.mark = mark;
+        Ok(())
+    }
+}

@@ -1,0 +1,13 @@
+//! The entries of a log's history.
+
+use txlog::Record;
+
+/// A step of the history of a log. No value of it is made: the history stands in the proofs alone, and what threads share
+/// is its length.
+#[derive(Debug, Drop)]
+pub enum Entry {
+    /// The record is about to stand at the log's end, in the place of one that was offered and not confirmed.
+    Offered(Record),
+    /// The record that was offered last stands in the log.
+    Confirmed,
+}

@@ -1,0 +1,132 @@
+//! What was seen of a history.
+
+ghost use Rattle.std.specs.Prelude.{◌≡◌, ◌+◌, ◌<◌, ◌≤◌, ◌^◌, ◌++◌, ◌∷◌, [], length, true, MatchBool};
+ghost use mathlib.Core.List.{IsPrefix};
+ghost use Rattle.shared_log.specs.Book.{IsLonger};
+ghost use Rattle.shared_log.specs.Fronts.{ends_confirmed, settled, shown};
+ghost use Rattle.shared_log.specs.declared.entry.Entry.TheVariants.{Offered, Confirmed};
+
+use crate::entry::Entry;
+use crate::history::History;
+use crate::law::{Add, Confirm, Law, Nothing};
+use crate::mark::Mark;
+use crate::name::LogName;
+use logbook::{Offer, Seen};
+use std::marker::{Model, PhantomData};
+use txlog::Record;
+
+/// A beginning of a log's history that was seen. It can be copied, and told to other threads. Contracts see its entries.
+#[derive(Drop)]
+pub struct Front<L: LogName> {
+    pub(crate) count: u64,
+    pub(crate) seen: Seen<Entry, u64, Law>,
+    pub(crate) of: PhantomData<L>,
+}
+
+impl<L: LogName> Model for Front<L> {
+    ghost use Rattle.std.specs.Prelude.{◌≡◌, List, length};
+    ghost use Rattle.shared_log.specs.declared.entry.Entry.{Entry as Step};
+
+    ghost Value = { List Step };
+
+    ghost view = { λ f. f.seen.log };
+
+    ghost invariant = { λ f. (f.count ≡ length f.seen.log) × (f.seen.book ≡ L.book) };
+}
+
+impl<L: LogName> Front<L> {
+    pub(crate) fn again(&self) -> Self
+        ensures { result ≡ self.now }
+    {
+        Front {
+            count: self.count,
+            seen: self.seen.again(),
+            of: PhantomData,
+        }
+    }
+
+    /// The same without the log's name.
+    pub(crate) fn mark(&self) -> Mark
+        ensures { (result.seen.log ≡ self.now) × (result.seen.book ≡ L.book) }
+    {
+        Mark {
+            count: self.count,
+            seen: self.seen.again(),
+        }
+    }
+
+    /// The longer of two fronts, which the other begins.
+    pub(crate) fn longer(&self, other: &Front<L>) -> Self
+        ensures this { IsPrefix self.now result }
+        ensures that { IsPrefix other.now result }
+        ensures ends { ends_confirmed self.now ≡ true → ends_confirmed other.now ≡ true → ends_confirmed result ≡ true }
+    {
+        let mut both = self.seen.again();
+        both.learn(&other.seen);
+        if self.count < other.count {
+            other.again()
+        } else {
+            self.again()
+        }
+    }
+
+    /// Offers a record behind all that was seen, and says whether it did. It did not where the history is longer.
+    pub(crate) fn offer(&mut self, history: &History<L>, about: &Record) -> bool
+        requires room { length self.old < 2 ^ 62 }
+        ensures { MatchBool result (self.new ≡ self.old ++ Offered about.now ∷ []) (IsLonger self.old self.new) }
+    {
+        let mut offer: Offer<Entry, u64, Law, Nothing> = self
+            .seen
+            .plain::<Nothing, Record, Add>(about);
+        let mut pen = self.seen.no_pen();
+        let count = self.count;
+        let found = history
+            .head
+            .compare_exchange::<Add, Nothing>(
+                count,
+                count + 1,
+                &mut self.seen,
+                &mut offer,
+                &mut pen,
+            );
+        self.count = if found == count { count + 1 } else { found };
+        found == count
+    }
+
+    /// Confirms what was offered last, and says whether it did. It did not where the history is longer.
+    pub(crate) fn confirm(&mut self, history: &History<L>) -> bool
+        requires room { length self.old < 2 ^ 62 }
+        ensures { MatchBool result (self.new ≡ self.old ++ Confirmed ∷ []) (IsLonger self.old self.new) }
+    {
+        let mut offer: Offer<Entry, u64, Law, Nothing> = self
+            .seen
+            .plain::<Nothing, (), Confirm>(&());
+        let mut pen = self.seen.no_pen();
+        let count = self.count;
+        let found = history
+            .head
+            .compare_exchange::<Add, Nothing>(
+                count,
+                count + 1,
+                &mut self.seen,
+                &mut offer,
+                &mut pen,
+            );
+        self.count = if found == count { count + 1 } else { found };
+        found == count
+    }
+
+    /// Whether the records that this front has settled are among those that the mark shows. Numbers alone are compared.
+    pub(crate) fn is_in(&self, mark: &Mark) -> bool
+        requires book { mark.now.seen.book ≡ L.book }
+        requires ends { ends_confirmed self.now ≡ true }
+        ensures { result ≡ true → IsPrefix (settled self.now) (shown mark.now.seen.log) }
+    {
+        let mut both = self.seen.again();
+        both.learn(&mark.seen);
+        match self.count.checked_sub(1) {
+            None => true,
+            Some(before) => before <= mark.count,
+        }
+    }
+}

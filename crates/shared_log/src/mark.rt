@@ -1,0 +1,26 @@
+//! A beginning of a history, without the name of its log.
+
+ghost use Rattle.std.specs.Prelude.{◌≡◌, length};
+
+use crate::entry::Entry;
+use crate::law::Law;
+use logbook::Seen;
+
+/// A beginning of a log's history that was seen, as it lies beside the records that it stands for.
+#[derive(Drop)]
+pub struct Mark {
+    pub(crate) count: u64,
+    pub(crate) seen: Seen<Entry, u64, Law>,
+    ghost counted: { count ≡ length seen.log },
+}
+
+impl Mark {
+    pub(crate) fn again(&self) -> Self
+        ensures { result.seen ≡ self.now.seen }
+    {
+        Mark {
+            count: self.count,
+            seen: self.seen.again(),
+        }
+    }
+}

@@ -1,0 +1,39 @@
+//! What is true of the log that readers see, between any two steps of any threads.
+
+use crate::copy::LogCopy;
+use crate::name::LogName;
+use crossbeam_utils::rule::{Outcome, Protocol};
+use std::collections::LinkedList;
+use std::marker::PhantomData;
+use txlog::Record;
+
+/// What a reader or the writer has seen of the log. No value of it is made.
+pub struct View {
+    pub seen: LinkedList<Record>,
+}
+
+/// The rule of a log's readers and its writer.
+pub struct Published<L> {
+    of: PhantomData<L>,
+}
+
+impl<L: LogName> Protocol<LogCopy, View> for Published<L> {
+    ghost use Rattle.txlog.specs.Publishing.{shared};
+    ghost use Rattle.shared_log.specs.Sharing.{Keeps, newcomer};
+
+    ghost holds = { λ c. Keeps L.book (shared c.records.items) c.mark.seen.book c.mark.seen.log };
+
+    ghost first = { newcomer };
+}
+
+/// A step that sees the log whole.
+pub(crate) struct Sees<L> {
+    of: PhantomData<L>,
+}
+
+impl<L: LogName> Outcome<LogCopy, View> for Sees<L> {
+    ghost use Rattle.txlog.specs.Publishing.{shared};
+    ghost use Rattle.shared_log.specs.Sharing.{Saw};
+
+    ghost then = { λ v before after w. Saw L.book v (shared after.records.items) after.mark.seen.book after.mark.seen.log w };
+}

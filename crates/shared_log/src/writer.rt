@@ -1,0 +1,299 @@
+//! The writer of the log.
+
+ghost use Rattle.std.specs.Prelude.{◌≡◌, ◌+◌, ◌<◌, ◌≤◌, ◌^◌, ◌++◌, ◌∷◌, [], length, true, vec_len, IfOk, OnErr};
+ghost use mathlib.Core.List.{IsPrefix};
+ghost use Rattle.txlog.specs.Log.{IsWellFormedLog, end_of, size_of};
+ghost use Rattle.txlog.specs.Publishing.{record_after};
+ghost use Rattle.txlog.specs.declared.record.TheConstants.{FIRST_POSITION};
+ghost use Rattle.std.specs.Arc.{arc_value};
+ghost use Rattle.std.specs.List.{AllByRecursion};
+ghost use Rattle.shared_log.specs.Fronts.{ends_confirmed, settled};
+ghost use Rattle.shared_log.specs.Telling.{TellsOf};
+ghost use Rattle.shared_log.specs.declared.entry.Entry.TheVariants.{Confirmed};
+
+use crate::copy::{LogCopy, Put};
+use crate::front::Front;
+use crate::history::History;
+use crate::name::LogName;
+use crate::opened::Opened;
+use crate::reader::LogReader;
+use crate::receipt::Receipt;
+use crate::rule::{Published, Sees, View};
+use core::mem;
+use left_right::writer::Writer;
+use std::alloc::{AllocError, Global};
+use std::marker::Model;
+use std::sync::{Arc, Wait};
+use txlog::{Body, FIRST_POSITION, Record};
+
+/// How long a history may become: each record that is written, or refused for memory, makes it longer.
+const MOST_STEPS: u64 = 1 << 61;
+
+/// Writes the log, whose records readers see once they stand in it whole. Contracts see the records.
+///
+/// It isn't `Drop`: `close` ends it.
+pub struct LogWriter<L: LogName> {
+    alloc: Global,
+    writer: Writer<LogCopy, Put, View, Published<L>>,
+    history: History<L>,
+    /// The history with all that was offered.
+    front: Front<L>,
+    /// The history up to the record that was confirmed last.
+    sure: Front<L>,
+    count: usize,
+    end: u64,
+}
+
+impl<L: LogName> Model for LogWriter<L> {
+    ghost use Rattle.std.specs.Prelude.{List, drop};
+    ghost use Rattle.txlog.specs.declared.record.Record.{Record as Written};
+    ghost use Rattle.txlog.specs.Publishing.{shared};
+    ghost use Rattle.shared_log.specs.Fronts.{settled};
+    ghost use Rattle.shared_log.specs.Writing.{Stands};
+
+    ghost Value = { List Written };
+
+    ghost view = { λ w. settled w.front };
+
+    ghost invariant = { λ w. Stands (shared w.writer.desk.shown.value.records.items) (drop w.writer.behind w.writer.log.items) w.count w.end w.front w.sure };
+}
+
+impl<L: LogName> LogWriter<L> {
+    ghost use Rattle.shared_log.specs.Readers.{seen_of};
+
+    /// An empty log, and as many readers. Where memory is refused, nothing is left of it.
+    pub fn open<R: Wait>(
+        rt: &R,
+        alloc: Global,
+        opened: Opened,
+        readers: usize,
+    ) -> Result<(Self, Vec<LogReader<L>>), AllocError>
+        requires name { opened.seen.book ≡ L.book }
+        requires some { 0 < readers }
+        requires few { readers ≤ 32 }
+        ensures empty { IfOk result (λ r. r.0 ≡ []) }
+        ensures readers { IfOk result (λ r. (vec_len r.1 ≡ readers) × AllByRecursion (λ reader. reader.place ≡ 0) r.1.items) }
+    {
+        let (history, front) = opened.named::<L>();
+        let mark = front.mark();
+        let first = LogCopy {
+            records: Vec::new(alloc),
+            mark: mark.again(),
+        };
+        let second = LogCopy {
+            records: Vec::new(alloc),
+            mark,
+        };
+        let writer = Writer::new(alloc, first, second, readers)?;
+        match readers_of(alloc, &writer, &front, readers) {
+            Ok(made) => {
+                let writer = LogWriter {
+                    alloc,
+                    writer,
+                    history,
+                    sure: front.again(),
+                    front,
+                    count: 0,
+                    end: FIRST_POSITION,
+                };
+                Ok((writer, made))
+            }
+            Err(_) => {
+                drop(writer.take(rt));
+                Err(AllocError)
+            }
+        }
+    }
+
+    /// How many records the log has.
+    pub fn count(&self) -> usize
+        ensures { result ≡ length self.now }
+    {
+        self.count
+    }
+
+    /// The position where the log ends.
+    pub fn end(&self) -> u64
+        ensures { result ≡ end_of FIRST_POSITION self.now }
+    {
+        self.end
+    }
+
+    /// Tells a reader of the whole log: its next fetch sees no less. It answers how many records that are, and takes no memory.
+    pub fn tell(&mut self, reader: &mut LogReader<L>) -> usize
+        ensures count { result ≡ length self.old }
+        ensures same { self.new ≡ self.old }
+        ensures kept { IsPrefix reader.old.told reader.new.told }
+        ensures told { IsPrefix self.old (settled reader.new.told) }
+        ensures place { (seen_of reader.new ≡ seen_of reader.old) × (reader.new.place ≡ reader.old.place) }
+    {
+        reader.told = reader.told.longer(&self.sure);
+        self.count
+    }
+
+    /// Ends the log. It waits for readers that are in it; later fetches are E1.
+    pub fn close<R: Wait>(self, rt: &R) {
+        let LogWriter {
+            alloc: _,
+            writer,
+            history: _,
+            front: _,
+            sure: _,
+            count: _,
+            end: _,
+        } = self;
+        drop(writer.take(rt));
+    }
+
+    /// Adds a record at the end, or, where memory is refused, nothing. It waits for readers that are in an older copy.
+    pub fn push<R: Wait>(&mut self, rt: &R, body: Body) -> Result<Receipt<L>, AllocError>
+        requires fits { end_of FIRST_POSITION self.old + size_of body < 2 ^ 64 }
+        requires good { IsWellFormedLog (self.old ++ record_after self.old body ∷ []) }
+        ensures ok { IfOk result (λ r. (self.new ≡ self.old ++ record_after self.old body ∷ []) × TellsOf (record_after self.old body) r.start r.end × (r.place ≡ length self.old) × (settled r.front ≡ self.new)) }
+        ensures err { OnErr result (self.new ≡ self.old) }
+    {
+        mem::replace_with(self, (rt, body), |writer, about: (&R, Body)| {
+            writer.pushed(about.0, about.1)
+        })
+    }
+
+    fn pushed<R: Wait>(self, rt: &R, body: Body) -> (Self, Result<Receipt<L>, AllocError>)
+        requires fits { end_of FIRST_POSITION self + size_of body < 2 ^ 64 }
+        requires good { IsWellFormedLog (self ++ record_after self body ∷ []) }
+        ensures ok { IfOk result.1 (λ r. (result.0 ≡ self ++ record_after self body ∷ []) × TellsOf (record_after self body) r.start r.end × (r.place ≡ length self) × (settled r.front ≡ result.0)) }
+        ensures err { OnErr result.1 (result.0 ≡ self) }
+    {
+        let start = self.end;
+        let end = start + body.size();
+        match Arc::new(self.alloc, Record { start, end, body }) {
+            Ok(entry) => return self.offered(rt, entry, start, end),
+            Err(_) => return (self, Err(AllocError)),
+        }
+    }
+
+    /// Offers the record to the history, publishes the log with it, and confirms it.
+    fn offered<R: Wait>(
+        self,
+        rt: &R,
+        entry: Arc<Record>,
+        start: u64,
+        end: u64,
+    ) -> (Self, Result<Receipt<L>, AllocError>)
+        requires tells { TellsOf (arc_value entry) start end }
+        requires good { IsWellFormedLog (self ++ arc_value entry ∷ []) }
+        ensures ok { IfOk result.1 (λ r. (result.0 ≡ self ++ arc_value entry ∷ []) × TellsOf (arc_value entry) r.start r.end × (r.place ≡ length self) × (settled r.front ≡ result.0)) }
+        ensures err { OnErr result.1 (result.0 ≡ self) }
+    {
+        let LogWriter {
+            alloc,
+            mut writer,
+            history,
+            front,
+            sure,
+            count,
+            end: before,
+        } = self;
+        let mut next = front.again();
+        if front.count >= MOST_STEPS || !next.offer(&history, &entry) {
+            let same = LogWriter {
+                alloc,
+                writer,
+                history,
+                front,
+                sure,
+                count,
+                end: before,
+            };
+            return (same, Err(AllocError));
+        }
+        let put = Put {
+            place: count,
+            entry,
+            mark: next.mark(),
+        };
+        match writer.append(put) {
+            Ok(()) => {}
+            Err(_) => {
+                let same = LogWriter {
+                    alloc,
+                    writer,
+                    history,
+                    front: next,
+                    sure,
+                    count,
+                    end: before,
+                };
+                return (same, Err(AllocError));
+            }
+        }
+        let (writer, published) = writer.publish_as::<Sees<L>, R>(rt);
+        match published {
+            Ok(()) => {}
+            Err(_) => {
+                let same = LogWriter {
+                    alloc,
+                    writer,
+                    history,
+                    front: next,
+                    sure,
+                    count,
+                    end: before,
+                };
+                return (same, Err(AllocError));
+            }
+        }
+        let sure = confirmed(rt, &history, next);
+        let receipt = Receipt {
+            place: count,
+            start,
+            end,
+            front: sure.again(),
+        };
+        let grown = LogWriter {
+            alloc,
+            writer,
+            history,
+            front: sure.again(),
+            sure,
+            count: count + 1,
+            end,
+        };
+        (grown, Ok(receipt))
+    }
+}
+
+/// As many readers of a new log.
+fn readers_of<L: LogName>(
+    alloc: Global,
+    writer: &Writer<LogCopy, Put, View, Published<L>>,
+    front: &Front<L>,
+    count: usize,
+) -> Result<Vec<LogReader<L>>, AllocError>
+    requires fresh { ends_confirmed front.now ≡ true }
+    ensures { IfOk result (λ readers. (vec_len readers ≡ count) × AllByRecursion (λ reader. reader.place ≡ 0) readers.items) }
+{
+    let mut readers = Vec::new(alloc);
+    for _ in 0..count {
+        let reader = writer.factory().reader()?;
+        readers.push(LogReader {
+            reader,
+            place: 0,
+            told: front.again(),
+        })?;
+    }
+    Ok(readers)
+}
+
+/// The front with a confirmation. Nobody but the writer makes the history longer, so it is never refused; no contract knows.
+fn confirmed<L: LogName, R: Wait>(rt: &R, history: &History<L>, front: Front<L>) -> Front<L>
+    requires room { length front < 2 ^ 62 }
+    ensures value { result ≡ front ++ Confirmed ∷ [] }
+    ensures ends { ends_confirmed result ≡ true }
+{
+    let mut sure = front;
+    if !sure.confirm(history) {
+        for _ in rt.forever() {}
+        unreachable!();
+    }
+    sure
+}
