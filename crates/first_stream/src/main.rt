@@ -8,7 +8,8 @@ use publication::Publications;
 use sender::Sender;
 use std::alloc::Global;
 use tables::{Catalog, Row, Value};
-use txlog::{FIRST_POSITION, Publisher, SessionFault, Tx};
+use txlog::{Publisher, SessionFault, Tx};
+use wal::FIRST_POSITION;
 
 fn main(rt: HostRuntime) -> Result<()> {
     let bytes = stream(rt.alloc())?;

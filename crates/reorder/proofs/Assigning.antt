@@ -3,12 +3,11 @@ use Rattle.std.proofs.Common.{◌≡◌, ℕ, ◌==◌, Bool, true, false, ◌||
 use Rattle.std.specs.Prelude.{IsSome}
 use Rattle.std.proofs.lemmas.Bool.{eqb-true, ne_eqb}
 use Rattle.std.proofs.lemmas.List.{append-nil}
-use Rattle.txlog.specs.declared.record.Record.{Record}
-use Rattle.txlog.specs.declared.record.Body.TheVariants.{Assign}
-use Rattle.txlog.specs.Log.{Entry, is_named, is_undone, has_ended, chain, last_of, top_of, entries}
-use Rattle.txlog.proofs.Lists.{or_false}
-use Rattle.txlog.proofs.LiveList.{eqb_comm}
-use Rattle.txlog.proofs.Laws.{all_when, chain-append, is_named-one, is_undone-one, has_ended-one}
+use Rattle.wal.specs.declared.record.Record.{Record}
+use Rattle.wal.specs.declared.record.Body.TheVariants.{Assign}
+use Rattle.wal.specs.Log.{Entry, is_named, is_undone, has_ended, chain, last_of, top_of, entries}
+use Rattle.wal.proofs.Lists.{or_false, eqb_comm}
+use Rattle.wal.proofs.Laws.{all_when, chain-append, is_named-one, is_undone-one, has_ended-one}
 use Rattle.reorder.specs.Rising.{IsRising}
 use Rattle.reorder.specs.Strands.{StrandState, ByXid, put, fresh, is_in, assigned, AreDistinct}
 use Rattle.reorder.specs.Bookkeeping.{IsStrand, IsTransaction, AreStrandsOf, changes_of}

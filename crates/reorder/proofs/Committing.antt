@@ -4,10 +4,10 @@ use Rattle.std.specs.Prelude.{IsSome}
 use Rattle.std.specs.List.{filter, flat_map, list_any, AllByRecursion}
 use Rattle.std.specs.List.Sorted.{IsNonDecreasingBy, IsStableByKey, IsPermutation}
 use Rattle.std.proofs.lemmas.Bool.{eqb-true}
-use Rattle.txlog.specs.declared.record.Record.{Record}
-use Rattle.txlog.specs.Log.{Entry, is_named, is_undone, is_dropped, is_kept, has_ended, last_of, top_of, entries, kept}
-use Rattle.txlog.proofs.Lists.{filter_agrees, all_agree, filter_twice}
-use Rattle.txlog.proofs.Laws.{all_when}
+use Rattle.wal.specs.declared.record.Record.{Record}
+use Rattle.wal.specs.Log.{Entry, is_named, is_undone, is_dropped, is_kept, has_ended, last_of, top_of, entries, kept}
+use Rattle.wal.proofs.Lists.{filter_agrees, all_agree, filter_twice}
+use Rattle.wal.proofs.Laws.{all_when}
 use Rattle.reorder.specs.Rising.{IsRising}
 use Rattle.reorder.specs.Strands.{StrandState, ByXid, is_in, all_in, undone_in, kept_in, joined, AreDistinct}
 use Rattle.reorder.specs.Bookkeeping.{IsStrand, IsTransaction, AreStrandsOf}

@@ -6,11 +6,10 @@ use Rattle.std.specs.Option.{option_map}
 use Rattle.std.proofs.lemmas.Bool.{ne_eqb}
 use Rattle.std.proofs.lemmas.List.{append-nil}
 use Rattle.std.proofs.lemmas.List.Elements.{filter-append}
-use Rattle.txlog.specs.declared.record.Record.{Record}
-use Rattle.txlog.specs.Log.{Entry, IsOpen, names, is_named, is_assigned, undoes, is_undone, ends, has_ended, chain, last_of, top_of, entry_at, entries}
-use Rattle.txlog.proofs.Lists.{or_false}
-use Rattle.txlog.proofs.LiveList.{eqb_comm, all_append}
-use Rattle.txlog.proofs.Laws.{chain-append, chain-unassigned, is_named-one, is_undone-one, has_ended-one, entries-append, KeepsChains}
+use Rattle.wal.specs.declared.record.Record.{Record}
+use Rattle.wal.specs.Log.{Entry, IsOpen, names, is_named, is_assigned, undoes, is_undone, ends, has_ended, chain, last_of, top_of, entry_at, entries}
+use Rattle.wal.proofs.Lists.{or_false, eqb_comm, all_append}
+use Rattle.wal.proofs.Laws.{chain-append, chain-unassigned, is_named-one, is_undone-one, has_ended-one, entries-append, KeepsChains}
 use Rattle.reorder.specs.Rising.{IsRising}
 use Rattle.reorder.specs.Strands.{StrandState, ByXid, all_in, is_in, with_change, without_changes, pushed, undone, ended}
 use Rattle.reorder.specs.Bookkeeping.{IsStrand, IsTransaction, AreStrandsOf, changes_of}

@@ -3,7 +3,7 @@ use Rattle.std.proofs.Common.{◌≡◌, ℕ, ◌==◌, List, ◌∷◌, Some, c
 use Rattle.std.specs.Map.{lookup}
 use Rattle.std.specs.Option.{option_map}
 use Rattle.std.specs.List.{flat_map}
-use Rattle.txlog.specs.Log.{Entry, last_of}
+use Rattle.wal.specs.Log.{Entry, last_of}
 use Rattle.reorder.specs.Strands.{StrandState, StrandsState, IsSame, by_xid, put, fresh, above_of, all_in, kept_in, joined, with_member, without_changes, assigned, undone}
 
 pub assigned_same : (s now : StrandsState) (sub parent top : ℕ) (above : List ℕ) (strands : List (ℕ × StrandState)) (members : List (ℕ × List ℕ)) → s ≡ now →

@@ -7,9 +7,9 @@ use Rattle.std.proofs.lemmas.Bool.{eqb-true, eqb-false, ne_eqb}
 use Rattle.std.proofs.lemmas.Bool.Decides.{nat_tests}
 use Rattle.std.proofs.lemmas.List.Elements.{filter-append}
 use Rattle.std.proofs.lemmas.List.Sorted.{IsPermutation-refl, IsPermutation-sym, IsPermutation-trans, IsPermutation-append_right, IsPermutation-filter_both}
-use Rattle.txlog.specs.Log.{Entry}
-use Rattle.txlog.proofs.Lists.{filter_agrees, all_agree, filter_twice}
-use Rattle.txlog.proofs.Laws.{all_when}
+use Rattle.wal.specs.Log.{Entry}
+use Rattle.wal.proofs.Lists.{filter_agrees, all_agree, filter_twice}
+use Rattle.wal.proofs.Laws.{all_when}
 use Rattle.reorder.specs.Rising.{IsRising}
 use Rattle.reorder.specs.Strands.{is_in, AreDistinct}
 

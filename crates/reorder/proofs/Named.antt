@@ -2,12 +2,12 @@
 use Rattle.std.proofs.Common.{◌≡◌, ℕ, ◌<◌, ◌==◌, Bool, true, false, cond, ◌||◌, List, [], ◌∷◌, reverse, refl, sym, ap, ◌∙◌, eq-eqb}
 use Rattle.std.specs.List.{filter, list_any, AllByRecursion}
 use Rattle.std.proofs.lemmas.Bool.{eqb-true}
-use Rattle.txlog.specs.declared.record.Record.{Record}
-use Rattle.txlog.specs.declared.record.Body.{Body}
-use Rattle.txlog.specs.declared.record.Body.TheVariants.{Assign, Change as Changed, AbortSub, Abort, Commit}
-use Rattle.txlog.specs.Log.{Entry, names, is_named, assigns, is_assigned, chain_step, chain_back, undoes, is_undone, is_dropped, entry_at, entries}
-use Rattle.txlog.proofs.LiveList.{eqb_comm, all_append}
-use Rattle.txlog.proofs.Laws.{all_when}
+use Rattle.wal.specs.declared.record.Record.{Record}
+use Rattle.wal.specs.declared.record.Body.{Body}
+use Rattle.wal.specs.declared.record.Body.TheVariants.{Assign, Change as Changed, AbortSub, Abort, Commit}
+use Rattle.wal.specs.Log.{Entry, names, is_named, assigns, is_assigned, chain_step, chain_back, undoes, is_undone, is_dropped, entry_at, entries}
+use Rattle.wal.proofs.Lists.{eqb_comm, all_append}
+use Rattle.wal.proofs.Laws.{all_when}
 use Rattle.reorder.specs.Bookkeeping.{changes_of}
 use Rattle.reorder.specs.Taking.{StartsBehind}
 

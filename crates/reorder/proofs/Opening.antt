@@ -2,9 +2,9 @@
 use Rattle.std.proofs.Common.{◌≡◌, ℕ, ◌==◌, Bool, true, false, cond, ◌||◌, List, [], ◌∷◌, Option, Some, None, is_some, refl, sym, ap, subst, ◌∙◌, eq-eqb}
 use Rattle.std.specs.Prelude.{IsSome}
 use Rattle.std.proofs.lemmas.Bool.{eqb-true}
-use Rattle.txlog.specs.declared.record.Record.{Record}
-use Rattle.txlog.specs.Log.{IsOpen, is_named, has_ended, chain, last_of, top_of}
-use Rattle.txlog.proofs.Laws.{chain-unassigned}
+use Rattle.wal.specs.declared.record.Record.{Record}
+use Rattle.wal.specs.Log.{IsOpen, is_named, has_ended, chain, last_of, top_of}
+use Rattle.wal.proofs.Laws.{chain-unassigned}
 use Rattle.reorder.specs.Strands.{StrandState, StrandsState, ByXid, by_xid, IsSame, put, fresh, is_in, started}
 use Rattle.reorder.specs.Bookkeeping.{IsStrand, IsTransaction, AreStrandsOf}
 use Rattle.reorder.proofs.Named.{unassigned, not_undone, undropped, no_changes}

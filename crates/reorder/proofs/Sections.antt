@@ -3,11 +3,11 @@ use Rattle.std.proofs.Common.{◌≡◌, ℕ, ◌==◌, Bool, true, false, cond,
 use Rattle.std.specs.List.{list_any}
 use Rattle.std.proofs.lemmas.Bool.{eqb-true}
 use Rattle.std.proofs.lemmas.List.{reverse-append}
-use Rattle.txlog.specs.declared.record.Record.{Record}
-use Rattle.txlog.specs.declared.record.Body.{Body}
-use Rattle.txlog.specs.declared.record.Body.TheVariants.{Assign, Change as Changed, AbortSub, Abort, Commit}
-use Rattle.txlog.specs.Log.{IsNext, IsOpen, WellFormedAfter, is_named, is_assigned, chain_step, chain_back, chain, last_of, top_of, is_undone, is_dropped, ends, has_ended}
-use Rattle.txlog.proofs.Laws.{chain-unassigned, has_ended-append, is_named-append, is_assigned-append, is_assigned-one, is_undone-append}
+use Rattle.wal.specs.declared.record.Record.{Record}
+use Rattle.wal.specs.declared.record.Body.{Body}
+use Rattle.wal.specs.declared.record.Body.TheVariants.{Assign, Change as Changed, AbortSub, Abort, Commit}
+use Rattle.wal.specs.Log.{IsNext, IsOpen, WellFormedAfter, is_named, is_assigned, chain_step, chain_back, chain, last_of, top_of, is_undone, is_dropped, ends, has_ended}
+use Rattle.wal.proofs.Laws.{chain-unassigned, has_ended-append, is_named-append, is_assigned-append, is_assigned-one, is_undone-append}
 use Rattle.reorder.specs.Taking.{MayCome}
 use Rattle.reorder.proofs.Named.{or_left, or_right, none_first}
 

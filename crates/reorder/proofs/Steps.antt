@@ -4,12 +4,12 @@ use Rattle.std.specs.Prelude.{IsSome}
 use Rattle.std.specs.Option.{option_map}
 use Rattle.std.specs.List.Sorted.{IsNonDecreasingBy, IsStableByKey}
 use Rattle.tables.specs.declared.change.Change.{Change}
-use Rattle.txlog.specs.declared.record.Record.{Record}
-use Rattle.txlog.specs.declared.record.Body.{Body}
-use Rattle.txlog.specs.declared.record.Body.TheVariants.{Assign, Change as Changed, AbortSub, Abort, Commit}
-use Rattle.txlog.specs.Log.{Entry, names, is_named, has_ended, last_of, top_of, kept}
-use Rattle.txlog.proofs.LiveList.{eqb_comm}
-use Rattle.txlog.proofs.Laws.{chain-unassigned, is_named-one}
+use Rattle.wal.specs.declared.record.Record.{Record}
+use Rattle.wal.specs.declared.record.Body.{Body}
+use Rattle.wal.specs.declared.record.Body.TheVariants.{Assign, Change as Changed, AbortSub, Abort, Commit}
+use Rattle.wal.specs.Log.{Entry, names, is_named, has_ended, last_of, top_of, kept}
+use Rattle.wal.proofs.Lists.{eqb_comm}
+use Rattle.wal.proofs.Laws.{chain-unassigned, is_named-one}
 use Rattle.reorder.specs.Kept.{kept_entry}
 use Rattle.reorder.specs.Strands.{StrandsState, ByXid, IsSame, by_xid, put, fresh, above_of, is_in, all_in, with_change, without_changes, started, assigned, pushed, undone, ended, joined}
 use Rattle.reorder.specs.Bookkeeping.{IsBookkeeping}

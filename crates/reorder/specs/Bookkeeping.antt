@@ -2,8 +2,8 @@
 -- take the next one: `HasTaken` has it as its last field, the proofs alone look inside.
 use Rattle.std.specs.Prelude.{◌≡◌, ◌==◌, ℕ, true, false, List, [], ◌∷◌, filter, Some, None, IsSome}
 use Rattle.std.specs.List.{AllByRecursion}
-use Rattle.txlog.specs.declared.record.Record.{Record}
-use Rattle.txlog.specs.Log.{Entry, is_named, is_undone, has_ended, chain, last_of, top_of, entries}
+use Rattle.wal.specs.declared.record.Record.{Record}
+use Rattle.wal.specs.Log.{Entry, is_named, is_undone, has_ended, chain, last_of, top_of, entries}
 use Rattle.reorder.specs.Strands.{StrandState, ByXid, is_in, AreDistinct}
 use Rattle.reorder.specs.Rising.{IsRising}
 

@@ -2,10 +2,10 @@
 use Rattle.std.specs.Prelude.{◌≡◌, ℕ, slice_get, Some, Bool, true, false, List, []}
 use Rattle.tables.specs.declared.change.Change.{Change}
 use Rattle.tables.specs.declared.change.Change.TheVariants as changes
-use Rattle.txlog.specs.declared.record.Record.{Record}
-use Rattle.txlog.specs.declared.record.Body.{Body}
-use Rattle.txlog.specs.declared.record.Body.TheVariants.{Change as Changed}
-use Rattle.txlog.specs.Log.{Entry, xid_in}
+use Rattle.wal.specs.declared.record.Record.{Record}
+use Rattle.wal.specs.declared.record.Body.{Body}
+use Rattle.wal.specs.declared.record.Body.TheVariants.{Change as Changed}
+use Rattle.wal.specs.Log.{Entry, xid_in}
 
 -- whether the record has a change
 abbrev pub is_changed : Body → Bool

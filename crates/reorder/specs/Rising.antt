@@ -1,7 +1,7 @@
 -- Changes in the order of their positions.
 use Rattle.std.specs.Prelude.{◌<◌, List, [], ◌∷◌}
 use Rattle.std.specs.List.{AllByRecursion}
-use Rattle.txlog.specs.Log.{Entry}
+use Rattle.wal.specs.Log.{Entry}
 
 -- each starts behind all before it
 abbrev pub IsRising : List Entry → Type 0

@@ -3,7 +3,7 @@ use Rattle.std.specs.Prelude.{◌≡◌, ℕ, ◌==◌, Bool, true, false, ◌||
 use Rattle.std.specs.List.{list_any, flat_map}
 use Rattle.std.specs.Map.{lookup}
 use Rattle.std.specs.Option.{option_map}
-use Rattle.txlog.specs.Log.{Entry, last_of}
+use Rattle.wal.specs.Log.{Entry, last_of}
 
 -- of an xid: those above it, from its parent to its transaction, whether it is rolled back, and if not, its changes
 pub record StrandState : Type 0 where

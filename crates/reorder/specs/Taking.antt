@@ -3,10 +3,10 @@
 use Rattle.std.specs.Prelude.{◌≡◌, ◌<◌, ℕ, Bool, true, false, List, [], ◌∷◌, ◌++◌, Option, Some, None}
 use Rattle.std.specs.List.{AllByRecursion}
 use Rattle.std.specs.List.Sorted.{IsPermutation}
-use Rattle.txlog.specs.declared.record.Record.{Record}
-use Rattle.txlog.specs.declared.record.Body.{Body}
-use Rattle.txlog.specs.declared.record.Body.TheVariants.{AbortSub, Commit}
-use Rattle.txlog.specs.Log.{Entry, IsNext, IsOpen, has_ended, kept}
+use Rattle.wal.specs.declared.record.Record.{Record}
+use Rattle.wal.specs.declared.record.Body.{Body}
+use Rattle.wal.specs.declared.record.Body.TheVariants.{AbortSub, Commit}
+use Rattle.wal.specs.Log.{Entry, IsNext, IsOpen, has_ended, kept}
 use Rattle.reorder.specs.Strands.{StrandsState, by_xid, joined}
 use Rattle.reorder.specs.Bookkeeping.{IsBookkeeping}
 use Rattle.reorder.specs.declared.ready.Step.{Step}

@@ -7,7 +7,7 @@ use std::alloc::AllocError;
 use std::marker::Model;
 use std::sync::Arc;
 use tables::Change;
-use txlog::{Body, Record};
+use wal::{Body, Record};
 
 /// A change that is kept until its transaction ends, by the record that made it.
 #[derive(Debug, Drop)]
@@ -17,7 +17,7 @@ pub(crate) struct Kept {
 
 impl Model for Kept {
     ghost use Rattle.std.specs.Prelude.{◌≡◌, true};
-    ghost use Rattle.txlog.specs.Log.{Entry};
+    ghost use Rattle.wal.specs.Log.{Entry};
     ghost use Rattle.reorder.specs.Kept.{is_changed, kept_entry};
 
     ghost Value = { Entry };
@@ -75,7 +75,7 @@ pub struct Ready {
 
 impl Model for Ready {
     ghost use Rattle.std.specs.Prelude.{List};
-    ghost use Rattle.txlog.specs.Log.{Entry};
+    ghost use Rattle.wal.specs.Log.{Entry};
 
     ghost Value = { List Entry };
 

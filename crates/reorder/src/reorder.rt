@@ -11,7 +11,7 @@ use std::alloc::{AllocError, Global};
 use std::marker::Model;
 use std::sync::Arc;
 use tables::Change;
-use txlog::{Body, Record};
+use wal::{Body, Record};
 
 /// The changes of the transactions in progress, by the xids that made them.
 ///

@@ -9,7 +9,7 @@ ghost use Rattle.std.specs.List.{flat_map, list_any};
 ghost use Rattle.std.specs.Option.{option_map};
 ghost use Rattle.std.specs.List.Sorted.{IsNonDecreasingBy, IsStableByKey};
 ghost use Rattle.std.specs.Ordering.{nat_cmp};
-ghost use Rattle.txlog.specs.Log.{last_of};
+ghost use Rattle.wal.specs.Log.{last_of};
 ghost use Rattle.reorder.specs.Strands.{IsSame, above_of, assigned, ended, is_in, joined, kept_in, by_xid, pushed, put, started, undone, undone_in, with_member, without_changes};
 
 use crate::members::Members;

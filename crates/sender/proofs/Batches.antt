@@ -4,13 +4,13 @@ use Rattle.std.proofs.lemmas.List.{append-nil, take_all}
 use Rattle.std.proofs.lemmas.Grind.{flat_map-append}
 use Rattle.std.specs.Global.{Global}
 use Rattle.std.specs.declared.sync.Arc.{Arc}
-use Rattle.txlog.specs.Publishing.{shared}
+use Rattle.wal.specs.Records.{shared}
 use Rattle.publication.specs.Publications.{PublicationSet}
-use Rattle.txlog.specs.declared.record.Record.{Record}
-use Rattle.txlog.specs.declared.record.Body.{Body}
-use Rattle.txlog.specs.declared.record.Body.TheVariants.{Assign, Change as Changed, AbortSub, Abort, Commit}
-use Rattle.txlog.specs.Log.{committed_at, committed_from, end_of}
-use Rattle.txlog.proofs.Laws.{end_of-append, committed_from-append}
+use Rattle.wal.specs.declared.record.Record.{Record}
+use Rattle.wal.specs.declared.record.Body.{Body}
+use Rattle.wal.specs.declared.record.Body.TheVariants.{Assign, Change as Changed, AbortSub, Abort, Commit}
+use Rattle.wal.specs.Log.{committed_at, committed_from, end_of}
+use Rattle.wal.proofs.Laws.{end_of-append, committed_from-append}
 use Rattle.reorder.specs.Taking.{promised}
 use Rattle.publication.specs.Selection.{relation}
 use Rattle.pgoutput.specs.declared.relation.Relation.{Relation}

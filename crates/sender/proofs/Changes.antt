@@ -3,7 +3,7 @@ use Rattle.std.proofs.Common.{◌≡◌, ◌<◌, ◌+◌, ℕ, zero, suc, List,
 use Rattle.std.specs.Prelude.{slice_get}
 use Rattle.publication.specs.Publications.{PublicationSet}
 use Rattle.tables.specs.declared.change.Change.{Change}
-use Rattle.txlog.specs.Log.{Entry}
+use Rattle.wal.specs.Log.{Entry}
 use Rattle.reorder.specs.Kept.{IsEntryAt}
 use Rattle.publication.specs.Projection.{message}
 use Rattle.stream.specs.declared.published.PublishedChange.{PublishedChange}

@@ -2,10 +2,10 @@
 use Rattle.std.proofs.Common.{◌≡◌, ◌<◌, ◌≤◌, ◌==◌, ℕ, Bool, true, false, cond, List, [], ◌∷◌, ◌++◌, refl, sym, subst, ◌∙◌, append_assoc, arith}
 use Rattle.std.specs.List.{AllByRecursion}
 use Rattle.std.proofs.lemmas.Bool.{eqb-true}
-use Rattle.txlog.specs.declared.record.TheConstants.{FIRST_POSITION}
-use Rattle.txlog.specs.declared.record.Record.{Record}
-use Rattle.txlog.specs.Log.{IsWellFormedLog, IsSized, WellFormedAfter, follows, end_of}
-use Rattle.txlog.proofs.Laws.{follows-append, WellFormedAfter-front, WellFormedAfter-back}
+use Rattle.wal.specs.declared.record.TheConstants.{FIRST_POSITION}
+use Rattle.wal.specs.declared.record.Record.{Record}
+use Rattle.wal.specs.Log.{IsWellFormedLog, IsSized, WellFormedAfter, follows, end_of}
+use Rattle.wal.proofs.Laws.{follows-append, WellFormedAfter-front, WellFormedAfter-back}
 use Rattle.reorder.specs.Taking.{StartsBehind}
 use Rattle.reorder.proofs.Sections.{next_within}
 use Rattle.publication.proofs.Rows.{both_true}

@@ -2,10 +2,10 @@
 -- one, which begins behind earlier records of its transactions.
 use Rattle.std.specs.Prelude.{◌≡◌, ◌<◌, ℕ, ℤ, Bool, true, List, [], ◌∷◌, ◌++◌, length, take, map, filter, nat_le, Option, Some, None, if◌then◌else◌}
 use Rattle.publication.specs.Publications.{PublicationSet}
-use Rattle.txlog.specs.declared.record.Record.{Record}
-use Rattle.txlog.specs.declared.record.Body.{Body}
-use Rattle.txlog.specs.declared.record.Body.TheVariants.{Commit}
-use Rattle.txlog.specs.Log.{Entry, Transaction, end_of}
+use Rattle.wal.specs.declared.record.Record.{Record}
+use Rattle.wal.specs.declared.record.Body.{Body}
+use Rattle.wal.specs.declared.record.Body.TheVariants.{Commit}
+use Rattle.wal.specs.Log.{Entry, Transaction, end_of}
 use Rattle.reorder.specs.Taking.{ReorderState, HasTaken, MayCome, StartsBehind, Takes}
 use Rattle.publication.specs.Selection.{relation}
 use Rattle.stream.specs.declared.published.Published.{Published}

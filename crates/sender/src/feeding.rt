@@ -1,7 +1,7 @@
 //! Reading records one by one.
 
 ghost use Rattle.std.specs.Prelude.{◌≡◌, ◌++◌, Some, false, Err, IfErr, OnErr, OnOk};
-ghost use Rattle.txlog.specs.Publishing.{shared};
+ghost use Rattle.wal.specs.Records.{shared};
 ghost use Rattle.publication.specs.Selection.{relation};
 ghost use Rattle.stream.specs.Items.{spelled, relations_sent_through};
 ghost use Rattle.sender.specs.Sending.{ReadAll, RanOutOfMemory, OutputUnchanged, ReadOne, published_by_commit, blocks};
@@ -12,7 +12,7 @@ use crate::sender::Sender;
 use reorder::{Ready, Step};
 use std::alloc::AllocError;
 use std::sync::Arc;
-use txlog::Record;
+use wal::Record;
 
 impl Sender {
     pub(crate) fn take_all(&mut self, records: &[Arc<Record>], clock: i64) -> Result<(), SendFault>

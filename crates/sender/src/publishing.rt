@@ -12,7 +12,7 @@ use reorder::{Ready, Reorder};
 use std::alloc::{AllocError, Global};
 use stream::{Published, PublishedChange};
 use tables::Change;
-use txlog::{Body, Record};
+use wal::{Body, Record};
 
 /// The transaction that a record commits with these changes, if it starts at the start position or later and has a change
 /// with a message.

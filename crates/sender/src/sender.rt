@@ -1,8 +1,8 @@
 //! A sender: records in, the bytes of a stream out.
 
 ghost use Rattle.std.specs.Prelude.{◌≡◌, ◌≢◌, ◌↔◌, ◌++◌, ◌==◌, [], ℕ, false, true, not, min, take, drop, length, Err, IfOk, IsOk, OnErr, OnOk};
-ghost use Rattle.txlog.specs.Log.{follows};
-ghost use Rattle.txlog.specs.Publishing.{shared};
+ghost use Rattle.wal.specs.Log.{follows};
+ghost use Rattle.wal.specs.Records.{shared};
 ghost use Rattle.stream.specs.Words.{word_bytes};
 ghost use Rattle.stream.specs.Items.{keepalive_word};
 ghost use Rattle.sender.specs.Sending.{HasRead, ReadAll, RanOutOfMemory};
@@ -17,7 +17,7 @@ use reorder::Reorder;
 use std::alloc::{AllocError, Global};
 use std::marker::Model;
 use std::sync::Arc;
-use txlog::Record;
+use wal::Record;
 
 /// Reads records of the log, and holds the bytes of the stream that they make until they are drained.
 ///

@@ -4,8 +4,8 @@ use Rattle.std.specs.declared.sync.Arc.{Arc}
 use Rattle.std.specs.List.{take-map}
 use Rattle.std.specs.List.{AllByRecursion}
 use Rattle.std.proofs.lemmas.List.{map-append, take_at}
-use Rattle.txlog.specs.declared.record.Record.{Record}
-use Rattle.txlog.specs.Publishing.{shared}
+use Rattle.wal.specs.declared.record.Record.{Record}
+use Rattle.wal.specs.Records.{shared}
 
 -- the shares of a copy, behind those before the place
 pub entered : {A : Type 0} (old kept new : List (Arc Record A)) (place : ℕ) (share : Arc Record A) → kept ≡ take place old → new ≡ kept ++ share ∷ [] → shared new ≡ take place (shared old) ++ share.value ∷ []

@@ -2,7 +2,7 @@
 use Rattle.std.proofs.Common.{◌≡◌, ◌⊎◌, inl, inr, suc, ◌<◌, ◌≤◌, Bool, true, false, List, [], ◌∷◌, ◌++◌, length, Option, Some, None, refl, ap, sym, subst, ◌∙◌, arith, length-append}
 use Rattle.std.proofs.lemmas.Bool.{cases_lt}
 use mathlib.Core.List.{IsPrefix}
-use Rattle.txlog.specs.declared.record.Record.{Record}
+use Rattle.wal.specs.declared.record.Record.{Record}
 use Rattle.shared_log.specs.declared.entry.Entry.{Entry}
 use Rattle.shared_log.specs.declared.entry.Entry.TheVariants.{Offered, Confirmed}
 use Rattle.shared_log.specs.Fronts.{one_of, settled_from, settled, open_from, shown, ends_from, ends_confirmed}

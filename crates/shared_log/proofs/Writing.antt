@@ -5,10 +5,10 @@ use Rattle.std.specs.Arc.{arc_value}
 use Rattle.std.specs.List.{AllByRecursion}
 use Rattle.std.proofs.lemmas.List.{append-nil}
 use Rattle.logbook.specs.declared.tokens.Seen.{Seen}
-use Rattle.txlog.specs.declared.record.TheConstants.{FIRST_POSITION}
-use Rattle.txlog.specs.declared.record.Record.{Record}
-use Rattle.txlog.specs.Log.{end_of}
-use Rattle.txlog.proofs.Laws.{end_of-append}
+use Rattle.wal.specs.declared.record.TheConstants.{FIRST_POSITION}
+use Rattle.wal.specs.declared.record.Record.{Record}
+use Rattle.wal.specs.Log.{end_of}
+use Rattle.wal.proofs.Laws.{end_of-append}
 use Rattle.shared_log.specs.declared.entry.Entry.{Entry}
 use Rattle.shared_log.specs.declared.entry.Entry.TheVariants.{Offered, Confirmed}
 use Rattle.shared_log.specs.declared.copy.Put.{Put}

@@ -1,7 +1,7 @@
 -- What a history says of its log. A record is offered and then confirmed; an offer that is not confirmed gives way to the
 -- next one.
 use Rattle.std.specs.Prelude.{Bool, true, false, List, [], ◌∷◌, ◌++◌, Option, Some, None}
-use Rattle.txlog.specs.declared.record.Record.{Record}
+use Rattle.wal.specs.declared.record.Record.{Record}
 use Rattle.shared_log.specs.declared.entry.Entry.{Entry}
 use Rattle.shared_log.specs.declared.entry.Entry.TheVariants.{Offered, Confirmed}
 

@@ -4,4 +4,4 @@ pub mod Readers
 pub mod Sharing
 pub mod Telling
 pub mod Writing
-pub use Rattle.txlog.specs.Log
+pub use Rattle.wal.specs.Log

@@ -1,7 +1,7 @@
 -- What a reader has seen of the log.
 use Rattle.std.specs.Prelude.{List}
 use Rattle.left_right.specs.Sides.{view}
-use Rattle.txlog.specs.declared.record.Record.{Record}
+use Rattle.wal.specs.declared.record.Record.{Record}
 use Rattle.shared_log.specs.declared.reader.LogReader.{LogReader}
 
 -- the log as its last entry found it

@@ -4,8 +4,8 @@ use mathlib.Core.Option.{some}
 use mathlib.Core.List.{IsPrefix}
 use lib.ListN.{get_elem?}
 use Rattle.logbook.specs.Pages.{Book}
-use Rattle.txlog.specs.declared.record.Record.{Record}
-use Rattle.txlog.specs.Log.{IsWellFormedLog}
+use Rattle.wal.specs.declared.record.Record.{Record}
+use Rattle.wal.specs.Log.{IsWellFormedLog}
 use Rattle.shared_log.specs.declared.entry.Entry.{Entry}
 use Rattle.shared_log.specs.declared.rule.View.{View}
 use Rattle.shared_log.specs.Fronts.{shown}

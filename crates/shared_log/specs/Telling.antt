@@ -1,6 +1,6 @@
 -- What a receipt tells of its record.
 use Rattle.std.specs.Prelude.{◌≡◌, ℕ}
-use Rattle.txlog.specs.declared.record.Record.{Record}
+use Rattle.wal.specs.declared.record.Record.{Record}
 
 -- where the record starts and ends
 abbrev pub TellsOf : Record → ℕ → ℕ → Type 0

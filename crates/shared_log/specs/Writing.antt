@@ -1,9 +1,9 @@
 -- How a writer stands between its calls.
 use Rattle.std.specs.Prelude.{◌≡◌, ℕ, List, length, true}
 use Rattle.std.specs.List.{AllByRecursion}
-use Rattle.txlog.specs.declared.record.TheConstants.{FIRST_POSITION}
-use Rattle.txlog.specs.declared.record.Record.{Record}
-use Rattle.txlog.specs.Log.{end_of}
+use Rattle.wal.specs.declared.record.TheConstants.{FIRST_POSITION}
+use Rattle.wal.specs.declared.record.Record.{Record}
+use Rattle.wal.specs.Log.{end_of}
 use Rattle.shared_log.specs.declared.entry.Entry.{Entry}
 use Rattle.shared_log.specs.declared.copy.Put.{Put}
 use Rattle.shared_log.specs.Fronts.{settled, ends_confirmed}

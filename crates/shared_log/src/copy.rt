@@ -2,7 +2,7 @@
 
 ghost use Rattle.std.specs.Prelude.{◌≡◌, ◌++◌, ◌∷◌, [], take};
 ghost use Rattle.std.specs.Arc.{arc_value};
-ghost use Rattle.txlog.specs.Publishing.{shared};
+ghost use Rattle.wal.specs.Records.{shared};
 
 use crate::entry::Entry;
 use crate::law::Law;
@@ -11,7 +11,7 @@ use left_right::Absorb;
 use logbook::Seen;
 use std::alloc::AllocError;
 use std::sync::Arc;
-use txlog::Record;
+use wal::Record;
 
 /// A copy of the log: its records, shared with the other copy, and the beginning of the history that says so.
 #[derive(Drop)]
@@ -34,7 +34,7 @@ impl Absorb<Put> for LogCopy {
 
     ghost use Rattle.std.specs.Prelude.{◌++◌, ◌∷◌, [], take};
     ghost use Rattle.std.specs.Arc.{arc_value};
-    ghost use Rattle.txlog.specs.Publishing.{shared};
+    ghost use Rattle.wal.specs.Records.{shared};
 
     ghost state = { λ c. (shared c.records.items, c.mark.seen) };
 

@@ -1,6 +1,6 @@
 //! The entries of a log's history.
 
-use txlog::Record;
+use wal::Record;
 
 /// A step of the history of a log. No value of it is made: the history stands in the proofs alone, and what threads share
 /// is its length.

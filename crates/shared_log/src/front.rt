@@ -13,7 +13,7 @@ use crate::mark::Mark;
 use crate::name::LogName;
 use logbook::{Offer, Seen};
 use std::marker::{Model, PhantomData};
-use txlog::Record;
+use wal::Record;
 
 /// A beginning of a log's history that was seen. It can be copied, and told to other threads. Contracts see its entries.
 #[derive(Drop)]

@@ -2,7 +2,7 @@
 
 use crate::entry::Entry;
 use logbook::{Gain, Plain, Play, Rule};
-use txlog::Record;
+use wal::Record;
 
 /// The rule of the book that keeps the history.
 pub struct Law;

@@ -2,8 +2,8 @@
 
 ghost use Rattle.std.specs.Prelude.{◌≡◌, ◌+◌, ◌≤◌, ◌++◌, [], List, true, IfOk, OnErr, drop, length, take, vec_len};
 ghost use mathlib.Core.List.{IsPrefix};
-ghost use Rattle.txlog.specs.Log.{IsWellFormedLog};
-ghost use Rattle.txlog.specs.Publishing.{shared};
+ghost use Rattle.wal.specs.Log.{IsWellFormedLog};
+ghost use Rattle.wal.specs.Records.{shared};
 ghost use Rattle.shared_log.specs.Fronts.{ends_confirmed, settled};
 
 use crate::copy::LogCopy;
@@ -16,7 +16,7 @@ use core::mem;
 use left_right::reader::Reader;
 use std::alloc::{AllocError, Global};
 use std::sync::Arc;
-use txlog::Record;
+use wal::{Record, part};
 
 /// Reads the log from a place on. It takes no lock and waits for nobody.
 #[derive(Drop)]
@@ -146,18 +146,4 @@ fn shares(alloc: Global, records: &[Arc<Record>]) -> Result<Vec<Arc<Record>>, Al
         copies.push(Arc::try_clone(record)?)?;
     }
     Ok(copies)
-}
-
-/// Up to `max` of the records from the place on.
-fn part(records: &[Arc<Record>], place: usize, max: usize) -> &[Arc<Record>]
-    ensures { result.now ≡ take max (drop place records.now) }
-{
-    let rest = match records.split_at_checked(place) {
-        Some((_, rest)) => rest,
-        None => &[],
-    };
-    match rest.split_at_checked(max) {
-        Some((part, _)) => part,
-        None => rest,
-    }
 }

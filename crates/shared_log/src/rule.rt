@@ -5,7 +5,7 @@ use crate::name::LogName;
 use crossbeam_utils::rule::{Outcome, Protocol};
 use std::collections::LinkedList;
 use std::marker::PhantomData;
-use txlog::Record;
+use wal::Record;
 
 /// What a reader or the writer has seen of the log. No value of it is made.
 pub struct View {
@@ -18,7 +18,7 @@ pub struct Published<L> {
 }
 
 impl<L: LogName> Protocol<LogCopy, View> for Published<L> {
-    ghost use Rattle.txlog.specs.Publishing.{shared};
+    ghost use Rattle.wal.specs.Records.{shared};
     ghost use Rattle.shared_log.specs.Sharing.{Keeps, newcomer};
 
     ghost holds = { λ c. Keeps L.book (shared c.records.items) c.mark.seen.book c.mark.seen.log };
@@ -32,7 +32,7 @@ pub(crate) struct Sees<L> {
 }
 
 impl<L: LogName> Outcome<LogCopy, View> for Sees<L> {
-    ghost use Rattle.txlog.specs.Publishing.{shared};
+    ghost use Rattle.wal.specs.Records.{shared};
     ghost use Rattle.shared_log.specs.Sharing.{Saw};
 
     ghost then = { λ v before after w. Saw L.book v (shared after.records.items) after.mark.seen.book after.mark.seen.log w };

@@ -2,9 +2,9 @@
 
 ghost use Rattle.std.specs.Prelude.{◌≡◌, ◌+◌, ◌<◌, ◌≤◌, ◌^◌, ◌++◌, ◌∷◌, [], length, true, vec_len, IfOk, OnErr};
 ghost use mathlib.Core.List.{IsPrefix};
-ghost use Rattle.txlog.specs.Log.{IsWellFormedLog, end_of, size_of};
-ghost use Rattle.txlog.specs.Publishing.{record_after};
-ghost use Rattle.txlog.specs.declared.record.TheConstants.{FIRST_POSITION};
+ghost use Rattle.wal.specs.Log.{IsWellFormedLog, end_of, size_of};
+ghost use Rattle.wal.specs.Records.{record_after};
+ghost use Rattle.wal.specs.declared.record.TheConstants.{FIRST_POSITION};
 ghost use Rattle.std.specs.Arc.{arc_value};
 ghost use Rattle.std.specs.List.{AllByRecursion};
 ghost use Rattle.shared_log.specs.Fronts.{ends_confirmed, settled};
@@ -24,7 +24,7 @@ use left_right::writer::Writer;
 use std::alloc::{AllocError, Global};
 use std::marker::Model;
 use std::sync::{Arc, Wait};
-use txlog::{Body, FIRST_POSITION, Record};
+use wal::{Body, FIRST_POSITION, Record};
 
 /// How long a history may become: each record that is written, or refused for memory, makes it longer.
 const MOST_STEPS: u64 = 1 << 61;
@@ -46,8 +46,8 @@ pub struct LogWriter<L: LogName> {
 
 impl<L: LogName> Model for LogWriter<L> {
     ghost use Rattle.std.specs.Prelude.{List, drop};
-    ghost use Rattle.txlog.specs.declared.record.Record.{Record as Written};
-    ghost use Rattle.txlog.specs.Publishing.{shared};
+    ghost use Rattle.wal.specs.declared.record.Record.{Record as Written};
+    ghost use Rattle.wal.specs.Records.{shared};
     ghost use Rattle.shared_log.specs.Fronts.{settled};
     ghost use Rattle.shared_log.specs.Writing.{Stands};
 

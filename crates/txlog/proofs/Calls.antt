@@ -13,16 +13,18 @@ use Rattle.tables.specs.Keeping.{StoreState, Keeps}
 use Rattle.tables.proofs.Lengths.{insert_length, delete_length, two_rows_length, truncate_length}
 use Rattle.txlog.specs.declared.savepoint.Savepoint.{Savepoint}
 use Rattle.txlog.specs.declared.limits.TheConstants.{MAX_DEPTH, MAX_LIVE, MAX_RECORDS}
-use Rattle.txlog.specs.declared.record.TheConstants.{FIRST_POSITION}
-use Rattle.txlog.specs.declared.record.Record.{Record}
-use Rattle.txlog.specs.declared.record.Body.TheVariants.{Assign, Change as Changed, AbortSub, Abort, Commit}
-use Rattle.txlog.specs.Log.{IsOpen, end_of, size_of, top_of}
+use Rattle.wal.specs.declared.record.TheConstants.{FIRST_POSITION}
+use Rattle.wal.specs.declared.record.Record.{Record}
+use Rattle.wal.specs.declared.record.Body.TheVariants.{Assign, Change as Changed, AbortSub, Abort, Commit}
+use Rattle.wal.specs.Log.{IsOpen, end_of, size_of, top_of}
 use Rattle.txlog.specs.Rows.{standing, history_of}
 use Rattle.txlog.specs.Publishing as calls
-use Rattle.txlog.specs.Publishing.{LiveTransaction, PublisherState, xids, log_end, record_after, with_record, room, is_live, savepoints_of, innermost, with_savepoints, without, new_publisher, begun, changed, next_savepoint, after_commit, receipt_of}
+use Rattle.wal.specs.Records.{record_after}
+use Rattle.txlog.specs.Publishing.{LiveTransaction, PublisherState, xids, log_end, with_record, room, is_live, savepoints_of, innermost, with_savepoints, without, new_publisher, begun, changed, next_savepoint, after_commit, receipt_of}
 use Rattle.txlog.specs.Invariants.{IsPublisher, IsInProgress, IsBehind, IsMarked, KeepsLog, is_own, is_under}
-use Rattle.txlog.proofs.Growing.{end_of_push}
-use Rattle.txlog.proofs.LiveList.{all_append, found, restored}
+use Rattle.wal.proofs.Growing.{end_of_push}
+use Rattle.wal.proofs.Lists.{all_append}
+use Rattle.txlog.proofs.LiveList.{found, restored}
 use Rattle.txlog.proofs.Progress.{IsOpen-innermost, xids-top}
 use Rattle.txlog.proofs.Histories.{history-change, history-commit, history-abort, history-undo, history-assign}
 use Rattle.txlog.proofs.Marks.{rolled_last}

@@ -16,10 +16,11 @@ use Rattle.tables.specs.Keeping.{StoreState, Keeps}
 use Rattle.txlog.specs.declared.changing.Changing.{Changing}
 use Rattle.txlog.specs.declared.fault.SessionFault.{SessionFault}
 use Rattle.txlog.specs.declared.fault.SessionFault.TheVariants as faults
-use Rattle.txlog.specs.declared.record.Record.{Record}
-use Rattle.txlog.specs.declared.record.Body.TheVariants.{Change as Changed}
+use Rattle.wal.specs.declared.record.Record.{Record}
+use Rattle.wal.specs.declared.record.Body.TheVariants.{Change as Changed}
 use Rattle.txlog.specs.Rows.{history_of}
-use Rattle.txlog.specs.Publishing.{PublisherState, record_after, room, is_live, innermost, changed, change_refusal, tables_refusal, room_refusal, fault_at, fault_of, IsRefusalOrMemory, RefusedOrMemory}
+use Rattle.wal.specs.Records.{record_after}
+use Rattle.txlog.specs.Publishing.{PublisherState, room, is_live, innermost, changed, change_refusal, tables_refusal, room_refusal, fault_at, fault_of, IsRefusalOrMemory, RefusedOrMemory}
 use Rattle.txlog.specs.Invariants.{KeepsLog}
 use Rattle.txlog.proofs.Calls.{changed_kept, unchanged_kept}
 

@@ -5,14 +5,13 @@ use Rattle.std.proofs.lemmas.Bool.{eqb-true}
 use Rattle.std.proofs.lemmas.List.{map-append}
 use Rattle.tables.specs.declared.change.Change.{Change}
 use Rattle.tables.specs.History.{Made, made, is_top, no_longer, settled, forgotten, rolled_back}
-use Rattle.txlog.specs.declared.record.Record.{Record}
-use Rattle.txlog.specs.declared.record.Body.TheVariants.{Assign, Change as Changed, AbortSub, Abort, Commit}
-use Rattle.txlog.specs.Log.{is_named, chain, last_of, top_of, ends, has_ended, Entry, entries, IsOpen}
+use Rattle.wal.specs.declared.record.Record.{Record}
+use Rattle.wal.specs.declared.record.Body.TheVariants.{Assign, Change as Changed, AbortSub, Abort, Commit}
+use Rattle.wal.specs.Log.{is_named, chain, last_of, top_of, ends, has_ended, Entry, entries, IsOpen}
 use Rattle.txlog.specs.Rows.{stands, standing, while_live, made_by, history_of}
 use Rattle.txlog.specs.Invariants.{is_own, is_under, IsBehind}
-use Rattle.txlog.proofs.Lists.{or_false, map_agrees, map_twice, each, all_filter}
-use Rattle.txlog.proofs.LiveList.{eqb_comm}
-use Rattle.txlog.proofs.Laws.{has_ended-one, chain-append, top-kept, KeepsChains, all_when, changes_named}
+use Rattle.wal.proofs.Lists.{or_false, map_agrees, map_twice, each, all_filter, eqb_comm}
+use Rattle.wal.proofs.Laws.{has_ended-one, chain-append, top-kept, KeepsChains, all_when, changes_named}
 use Rattle.txlog.proofs.Standing.{standing-commit, standing-abort, standing-undo, standing-change, standing-assign, chain-assign}
 use Rattle.txlog.proofs.Marks.{undone_behind, undone_all}
 

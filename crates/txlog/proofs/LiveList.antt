@@ -1,25 +1,15 @@
 -- The live transactions as a list: one found, changed or taken out by its xid.
-use Rattle.std.proofs.Common.{◌≡◌, ℕ, zero, suc, ◌+◌, ◌-◌, ◌<◌, ◌==◌, Bool, true, false, cond, ◌||◌, not, List, [], ◌∷◌, ◌++◌, length, take, get_or, set, Some, None, refl, sym, ap, subst, ◌∙◌, arith, eq-eqb}
+use Rattle.std.proofs.Common.{◌≡◌, ℕ, zero, suc, ◌+◌, ◌-◌, ◌<◌, ◌==◌, Bool, true, false, cond, ◌||◌, not, List, [], ◌∷◌, ◌++◌, length, take, get_or, set, Some, None, refl, sym, ap, subst, ◌∙◌, arith}
 use Rattle.std.specs.List.{position, position_from, AllByRecursion}
 use Rattle.std.proofs.lemmas.Iterator.Adapters.{position_from-zero}
 use Rattle.std.proofs.lemmas.List.Quantifiers.{position-Some}
 use Rattle.std.proofs.Math.Seq.{take-append_seam}
-use Rattle.std.proofs.lemmas.Bool.{eqb-true, eqb-false, ne_eqb}
+use Rattle.std.proofs.lemmas.Bool.{eqb-true, ne_eqb}
 use Rattle.txlog.specs.declared.savepoint.Savepoint.{Savepoint}
-use Rattle.txlog.specs.Log.{last_of}
+use Rattle.wal.specs.Log.{last_of}
+use Rattle.wal.proofs.Lists.{all_append}
 use Rattle.txlog.specs.Publishing.{LiveTransaction, xids, is_live, savepoints_of, with_savepoints, without}
 use Rattle.txlog.specs.Invariants.{IsRising}
-
-pub eqb_comm : (a b : ℕ) → (a == b) ≡ (b == a)
-eqb_comm a b = by_test (a == b) (λ same. sym (eq-eqb b a (sym (eqb-true a b same)))) (λ other. sym (ne_eqb b a (λ is. eqb-false a b other (sym is))))
-  where
-    by_test : (c : Bool) → (c ≡ true → true ≡ (b == a)) → (c ≡ false → false ≡ (b == a)) → c ≡ (b == a)
-    by_test true same other = same refl
-    by_test false same other = other refl
-
-pub all_append : {A : Type 0} (P : A → Type 0) (xs ys : List A) → AllByRecursion P xs → AllByRecursion P ys → AllByRecursion P (xs ++ ys)
-all_append P [] ys front back = back
-all_append P (x ∷ xs) ys front back = (front.0, all_append P xs ys front.1 back)
 
 -- what holds of each transaction holds of the one of this xid
 pub found : (P : LiveTransaction → Type 0) (xid : ℕ) (live : List LiveTransaction) → is_live xid live ≡ true → AllByRecursion P live →
@@ -188,14 +178,7 @@ absent_from xid xs i (o ∷ live) none = by_test (o.xid == xid) none (absent_fro
 pub absent : (xid : ℕ) (xs : List Savepoint) (live : List LiveTransaction) → position (λ o. o.xid == xid) live ≡ None → with_savepoints xid xs live ≡ live
 absent xid xs live none = absent_from xid xs 0 live (sym (position_from-zero (λ o. o.xid == xid) live) ∙ none)
 
-pub last_at : (y : ℕ) (xs : List ℕ) → 0 < length xs → get_or xs (length xs - 1) 0 ≡ last_of y xs
-last_at y [] lt = absurd (omega arith)
-last_at y (x ∷ []) lt = refl
-last_at y (x ∷ z ∷ xs) lt =
-    let e : length (x ∷ z ∷ xs) - 1 ≡ suc (length (z ∷ xs) - 1) = omega arith in
-    rw e (last_at x (z ∷ xs) (omega arith))
-
--- the same of savepoints
+-- the innermost savepoint
 pub last_savepoint : (y : ℕ) (savepoints : List Savepoint) (d : Savepoint) → 0 < length savepoints → (get_or savepoints (length savepoints - 1) d).xid ≡ last_of y (xids savepoints)
 last_savepoint y [] d lt = absurd (omega arith)
 last_savepoint y (p ∷ []) d lt = refl

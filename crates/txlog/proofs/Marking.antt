@@ -5,18 +5,19 @@ use Rattle.std.proofs.lemmas.Bool.{eqb-true, eqb-false}
 use Rattle.std.proofs.lemmas.List.Sorted.{list_any-IsPermutation, IsPermutation-reverse}
 use Rattle.tables.specs.declared.change.Change.{Change}
 use Rattle.txlog.specs.declared.savepoint.Savepoint.{Savepoint}
-use Rattle.txlog.specs.declared.record.Record.{Record}
-use Rattle.txlog.specs.declared.record.Body.{Body}
-use Rattle.txlog.specs.declared.record.Body.TheVariants.{Assign, Change as Changed, AbortSub, Abort, Commit}
-use Rattle.txlog.specs.Log.{IsWellFormedLog, IsOpen, names, is_named, chain_step, chain_back, chain, last_of, top_of, Entry, entries}
-use Rattle.txlog.specs.Places.{IsChain}
+use Rattle.wal.specs.declared.record.Record.{Record}
+use Rattle.wal.specs.declared.record.Body.{Body}
+use Rattle.wal.specs.declared.record.Body.TheVariants.{Assign, Change as Changed, AbortSub, Abort, Commit}
+use Rattle.wal.specs.Log.{IsWellFormedLog, IsOpen, names, is_named, chain_step, chain_back, chain, last_of, top_of, Entry, entries}
+use Rattle.wal.specs.Places.{IsChain}
 use Rattle.txlog.specs.Rows.{stands, standing, made_by}
-use Rattle.txlog.specs.Publishing.{LiveTransaction, PublisherState, xids, next_savepoint, record_after, is_live, savepoints_of, innermost, changed, saved, released, rolled_back, after_commit, after_abort}
+use Rattle.wal.specs.Records.{record_after}
+use Rattle.txlog.specs.Publishing.{LiveTransaction, PublisherState, xids, next_savepoint, is_live, savepoints_of, innermost, changed, saved, released, rolled_back, after_commit, after_abort}
 use Rattle.txlog.specs.Invariants.{IsInProgress, IsRunning, IsPublisher, IsBehind, IsMarked, is_own, is_under}
-use Rattle.txlog.proofs.Lists.{or_false, each, all_both, all_filter, all_fewer}
-use Rattle.txlog.proofs.Laws.{chain-append, chain-unassigned, top-kept, KeepsChains, all_when, changes_named}
-use Rattle.txlog.proofs.LiveList.{eqb_comm, xids_take, xids_length, all_append, found, all_changed, all_without, with-own}
-use Rattle.txlog.proofs.Places.{chain-IsChain, chain-only}
+use Rattle.wal.proofs.Lists.{or_false, each, all_both, all_filter, all_fewer, eqb_comm, all_append}
+use Rattle.wal.proofs.Laws.{chain-append, chain-unassigned, top-kept, KeepsChains, all_when, changes_named}
+use Rattle.txlog.proofs.LiveList.{xids_take, xids_length, found, all_changed, all_without, with-own}
+use Rattle.wal.proofs.Places.{chain-IsChain, chain-only}
 use Rattle.txlog.proofs.Progress.{onto, chain-innermost, IsOpen-innermost, xids-top, all_take, in_progress_cut, last_of-take, all_at}
 use Rattle.txlog.proofs.Standing.{standing-commit, standing-abort, standing-undo, standing-change, standing-assign, chain-assign}
 use Rattle.txlog.proofs.Histories.{tells_own}

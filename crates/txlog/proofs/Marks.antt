@@ -3,7 +3,7 @@ use Rattle.std.proofs.Common.{◌≡◌, ℕ, zero, suc, Bool, true, false, cond
 use Rattle.std.specs.List.{filter, AllByRecursion}
 use Rattle.tables.specs.declared.change.Change.{Change}
 use Rattle.tables.specs.History.{Made, made, is_top, rolled_back, count_of}
-use Rattle.txlog.specs.Log.{Entry}
+use Rattle.wal.specs.Log.{Entry}
 use Rattle.txlog.specs.Invariants.{IsBehind}
 
 -- two tests that agree at each element

@@ -3,13 +3,12 @@ use Rattle.std.proofs.Common.{◌≡◌, ℕ, zero, suc, ◌+◌, ◌<◌, ◌�
 use Rattle.std.specs.List.{list_any, AllByRecursion}
 use Rattle.std.proofs.lemmas.Bool.{eqb-true, eqb-false}
 use Rattle.txlog.specs.declared.limits.TheConstants.{MAX_DEPTH}
-use Rattle.txlog.specs.declared.record.Record.{Record}
-use Rattle.txlog.specs.declared.record.Body.{Body}
-use Rattle.txlog.specs.declared.record.Body.TheVariants.{Assign, Change as Changed, AbortSub, Abort, Commit}
-use Rattle.txlog.specs.Log.{assigns, is_assigned, chain_step, chain, last_of, top_of, undoes, is_undone, ends, IsOpen}
+use Rattle.wal.specs.declared.record.Record.{Record}
+use Rattle.wal.specs.declared.record.Body.{Body}
+use Rattle.wal.specs.Log.{assigns, is_assigned, chain, last_of, top_of, undoes, is_undone, ends, IsOpen}
 use Rattle.txlog.specs.Invariants.{IsNested, IsInProgress}
-use Rattle.txlog.proofs.LiveList.{all_append}
-use Rattle.txlog.proofs.Laws.{has_ended-one, is_assigned-one, is_undone-one, chain-append, chain-unassigned}
+use Rattle.wal.proofs.Lists.{all_append}
+use Rattle.wal.proofs.Laws.{has_ended-one, is_assigned-one, is_undone-one, chain-unassigned, chain-quiet}
 
 -- the chain of the innermost savepoint, from the chain of what is below
 abbrev pub onto : List ℕ → List ℕ → List ℕ
@@ -80,16 +79,6 @@ pub record IsQuiet (body : Body) (x : ℕ) : Type 0 where
   pub assigned : assigns x body ≡ false
   pub ended : ends x body ≡ false
   pub undone : undoes x body ≡ false
-
-step-quiet : (above : ℕ → List ℕ) (body : Body) (x : ℕ) → assigns x body ≡ false → chain_step above body x ≡ above x
-step-quiet above (Assign sub parent) x other = rw other refl
-step-quiet above (Changed xid change) x other = refl
-step-quiet above (AbortSub xid) x other = refl
-step-quiet above (Abort xid) x other = refl
-step-quiet above (Commit xid time) x other = refl
-
-pub chain-quiet : (log : List Record) (r : Record) (x : ℕ) → assigns x r.body ≡ false → chain (log ++ r ∷ []) x ≡ chain log x
-chain-quiet log r x other = chain-append log r x ∙ step-quiet (chain log) r.body x other
 
 nested-quiet : (log : List Record) (r : Record) (below xs : List ℕ) → AllByRecursion (IsQuiet r.body) xs → IsNested log below xs → IsNested (log ++ r ∷ []) below xs
 nested-quiet log r below [] quiet h = tt

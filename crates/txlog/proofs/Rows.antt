@@ -7,13 +7,13 @@ use Rattle.tables.specs.declared.change.Change.{Change}
 use Rattle.tables.specs.declared.change.Change.TheVariants as changes
 use Rattle.tables.specs.Rows.{Key}
 use Rattle.tables.specs.Tables.{builtin_tables}
-use Rattle.txlog.specs.declared.record.Record.{Record}
-use Rattle.txlog.specs.declared.record.Body.{Body}
-use Rattle.txlog.specs.declared.record.Body.TheVariants.{Assign, Change as Changed, AbortSub, Commit}
+use Rattle.wal.specs.declared.record.Record.{Record}
+use Rattle.wal.specs.declared.record.Body.{Body}
+use Rattle.wal.specs.declared.record.Body.TheVariants.{Assign, Change as Changed, AbortSub, Commit}
 use Rattle.tables.specs.History.{is_key_held}
 use Rattle.txlog.specs.Rows.{history_of, rows_of}
-use Rattle.txlog.specs.Log.{Entry, Transaction, IsWellFormedLog, committed}
-use Rattle.txlog.proofs.LiveChanges.{live_changes}
+use Rattle.wal.specs.Log.{Entry, Transaction, IsWellFormedLog, committed}
+use Rattle.wal.proofs.LiveChanges.{live_changes}
 
 -- inserts into public.item of a row with this id, name and quantity
 abbrev insert : ℕ → List ℕ → ℕ → Change

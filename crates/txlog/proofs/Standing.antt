@@ -5,15 +5,14 @@ use Rattle.std.proofs.lemmas.List.{append-nil}
 use Rattle.std.proofs.lemmas.List.Elements.{filter-append}
 use Rattle.std.proofs.lemmas.List.Folds.{list_any-append}
 use Rattle.tables.specs.declared.change.Change.{Change}
-use Rattle.txlog.specs.declared.record.Record.{Record}
-use Rattle.txlog.specs.declared.record.Body.{Body}
-use Rattle.txlog.specs.declared.record.Body.TheVariants.{Assign, Change as Changed, AbortSub, Abort, Commit}
-use Rattle.txlog.specs.Log.{is_named, chain, top_of, undoes, is_undone, is_dropped, ends, has_ended, Entry, entry_at, entries}
+use Rattle.wal.specs.declared.record.Record.{Record}
+use Rattle.wal.specs.declared.record.Body.{Body}
+use Rattle.wal.specs.declared.record.Body.TheVariants.{Assign, Change as Changed, AbortSub, Abort, Commit}
+use Rattle.wal.specs.Log.{is_named, chain, top_of, undoes, is_undone, is_dropped, ends, has_ended, Entry, entry_at, entries}
 use Rattle.txlog.specs.Rows.{aborts, is_aborted, stands, standing}
 use Rattle.txlog.specs.Invariants.{is_own, is_under}
-use Rattle.txlog.proofs.LiveList.{eqb_comm}
-use Rattle.txlog.proofs.Lists.{or_false, and_true, filter_agrees, filter_all, all_agree, filter_twice, list_any_agrees, none_of}
-use Rattle.txlog.proofs.Laws.{entries-append, is_undone-one, chain-append, top-kept, dropped-kept, KeepsChains, all_when, changes_named}
+use Rattle.wal.proofs.Lists.{eqb_comm, or_false, and_true, filter_agrees, filter_all, all_agree, filter_twice, list_any_agrees, none_of}
+use Rattle.wal.proofs.Laws.{entries-append, is_undone-one, chain-append, top-kept, dropped-kept, KeepsChains, all_when, changes_named}
 
 is_aborted-one : (log : List Record) (r : Record) (x : ℕ) → is_aborted (log ++ r ∷ []) x ≡ (is_aborted log x || aborts x r.body)
 is_aborted-one log r x = list_any-append (λ r. aborts x r.body) log (r ∷ []) ∙ ap (λ b. is_aborted log x || b) (or_false (aborts x r.body))

@@ -8,16 +8,18 @@ use Rattle.tables.specs.declared.table.Table.{Table}
 use Rattle.tables.specs.declared.change.Change.{Change}
 use Rattle.tables.specs.Tables.{FitsChange}
 use Rattle.txlog.specs.declared.limits.TheConstants.{MAX_LIVE, MAX_DEPTH, MAX_RECORDS}
-use Rattle.txlog.specs.declared.record.TheConstants.{FIRST_POSITION, FIRST_XID}
+use Rattle.wal.specs.declared.record.TheConstants.{FIRST_POSITION, FIRST_XID}
 use Rattle.txlog.specs.declared.savepoint.Savepoint.{Savepoint}
-use Rattle.txlog.specs.declared.record.Record.{Record}
-use Rattle.txlog.specs.declared.record.Body.{Body}
-use Rattle.txlog.specs.declared.record.Body.TheVariants.{Assign, Change as Changed, AbortSub, Abort, Commit}
-use Rattle.txlog.specs.Log.{IsSized, IsOpen, IsNext, FitsBody, FitsRecord, size_of, end_of, names, is_named, assigns, is_assigned, chain, last_of, top_of, undoes, is_undone, ends}
-use Rattle.txlog.specs.Publishing.{LiveTransaction, PublisherState, xids, next_savepoint, record_after, room, is_live, savepoints_of, innermost, with_savepoints, without, begun, changed, saved, released, rolled_back, ended, after_commit, after_abort}
+use Rattle.wal.specs.declared.record.Record.{Record}
+use Rattle.wal.specs.declared.record.Body.{Body}
+use Rattle.wal.specs.declared.record.Body.TheVariants.{Assign, Change as Changed, AbortSub, Abort, Commit}
+use Rattle.wal.specs.Log.{IsSized, IsOpen, IsNext, FitsBody, FitsRecord, size_of, end_of, names, is_named, assigns, is_assigned, chain, last_of, top_of, undoes, is_undone, ends}
+use Rattle.wal.specs.Records.{record_after}
+use Rattle.txlog.specs.Publishing.{LiveTransaction, PublisherState, xids, next_savepoint, room, is_live, savepoints_of, innermost, with_savepoints, without, begun, changed, saved, released, rolled_back, ended, after_commit, after_abort}
 use Rattle.txlog.specs.Invariants.{IsLog, IsInProgress, IsRunning, IsPublisher}
-use Rattle.txlog.proofs.Laws.{end_of-append, follows-append, WellFormedAfter-append, is_named-one, is_assigned-one, is_undone-one, chain-append, chain-unassigned, all_when}
-use Rattle.txlog.proofs.LiveList.{eqb_comm, xids_take, xids_push, xids_length, all_append, found, length-with_savepoints, rising-with_savepoints, all_changed, all_without, rising-without, length-without, rising-push}
+use Rattle.wal.proofs.Laws.{end_of-append, follows-append, WellFormedAfter-append, is_named-one, is_assigned-one, is_undone-one, chain-append, chain-unassigned, all_when}
+use Rattle.wal.proofs.Lists.{eqb_comm, all_append}
+use Rattle.txlog.proofs.LiveList.{xids_take, xids_push, xids_length, found, length-with_savepoints, rising-with_savepoints, all_changed, all_without, rising-without, length-without, rising-push}
 use Rattle.txlog.proofs.Progress.{onto, chain-innermost, IsOpen-innermost, xids-top, in_progress_push, above_xids, last_of-take, all_at, in_progress_cut, IsQuiet, in_progress_quiet, tops_apart}
 
 -- THE LOG

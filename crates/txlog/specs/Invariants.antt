@@ -4,9 +4,9 @@ use Rattle.std.specs.List.{list_any, AllByRecursion}
 use Rattle.tables.specs.Keeping.{StoreState, Keeps}
 use Rattle.tables.specs.declared.table.Table.{Table}
 use Rattle.txlog.specs.declared.limits.TheConstants.{MAX_LIVE, MAX_DEPTH, MAX_RECORDS}
-use Rattle.txlog.specs.declared.record.TheConstants.{FIRST_POSITION, FIRST_XID}
-use Rattle.txlog.specs.declared.record.Record.{Record}
-use Rattle.txlog.specs.Log.{Entry, IsWellFormedLog, IsLogInRange, end_of, chain, top_of, is_named, is_assigned, is_undone, has_ended}
+use Rattle.wal.specs.declared.record.TheConstants.{FIRST_POSITION, FIRST_XID}
+use Rattle.wal.specs.declared.record.Record.{Record}
+use Rattle.wal.specs.Log.{Entry, IsWellFormedLog, IsLogInRange, end_of, chain, top_of, is_named, is_assigned, is_undone, has_ended}
 use Rattle.txlog.specs.Rows.{standing, history_of}
 use Rattle.txlog.specs.Publishing.{LiveTransaction, PublisherState, xids}
 

@@ -1,30 +1,27 @@
 -- What sessions do to a publisher: each call as a function of its state, and the refusal that a call meets, if any. Want of
 -- memory apart, a call is refused exactly where there is such a refusal, and with the first one.
-use Rattle.std.specs.Prelude.{◌≡◌, ℕ, ◌+◌, ◌-◌, ◌==◌, ℤ, Bool, ◌&&◌, ◌||◌, not, List, [], ◌∷◌, ◌++◌, length, take, map, filter, slice_index, codes, nat_le, nat_lt, Option, Some, None, Result, Ok, Err, if◌then◌else◌}
+use Rattle.std.specs.Prelude.{◌≡◌, ℕ, ◌+◌, ◌-◌, ◌==◌, ℤ, Bool, ◌||◌, not, List, [], ◌∷◌, ◌++◌, length, take, map, filter, slice_index, codes, nat_le, nat_lt, Option, Some, None, Result, Ok, Err, if◌then◌else◌}
 use Rattle.std.specs.List.{list_any}
-use Rattle.std.specs.declared.sync.Arc.{Arc}
-use Rattle.tables.specs.declared.row.TheConstants.{MAX_ROW_LENGTH}
 use Rattle.tables.specs.declared.store_fault.StoreFault.{StoreFault}
 use Rattle.tables.specs.declared.store_fault.StoreFault.TheVariants as store_faults
 use Rattle.tables.specs.declared.value.Value.{Value}
 use Rattle.tables.specs.declared.table.Table.{Table}
 use Rattle.tables.specs.declared.change.Change.{Change}
 use Rattle.tables.specs.declared.change.Change.TheVariants as changes
-use Rattle.tables.specs.declared.change_body.TheConstants.{MAX_TRUNCATED}
-use Rattle.tables.specs.Spelling.{row_length}
 use Rattle.tables.specs.Rows.{Key}
 use Rattle.tables.specs.History as history
 use Rattle.tables.specs.History.{count_of}
 use Rattle.txlog.specs.declared.limits.TheConstants.{MAX_LIVE, MAX_DEPTH}
-use Rattle.txlog.specs.declared.record.TheConstants.{FIRST_POSITION, FIRST_XID}
-use Rattle.txlog.specs.declared.record.Record.{Record}
-use Rattle.txlog.specs.declared.record.Body.{Body}
-use Rattle.txlog.specs.declared.record.Body.TheVariants.{Assign, Change as Changed, AbortSub, Abort, Commit}
+use Rattle.wal.specs.declared.record.TheConstants.{FIRST_POSITION, FIRST_XID}
+use Rattle.wal.specs.declared.record.Record.{Record}
+use Rattle.wal.specs.declared.record.Body.{Body}
+use Rattle.wal.specs.declared.record.Body.TheVariants.{Assign, Change as Changed, AbortSub, Abort, Commit}
 use Rattle.txlog.specs.declared.receipt.Receipt.{Receipt}
 use Rattle.txlog.specs.declared.fault.SessionFault.{SessionFault}
 use Rattle.txlog.specs.declared.fault.SessionFault.TheVariants as faults
 use Rattle.txlog.specs.declared.savepoint.Savepoint.{Savepoint}
-use Rattle.txlog.specs.Log.{end_of, last_of, size_of}
+use Rattle.wal.specs.Log.{end_of, last_of, size_of}
+use Rattle.wal.specs.Records.{record_after}
 use Rattle.txlog.specs.Rows.{history_of, rows_of}
 
 -- THE STATE
@@ -77,10 +74,6 @@ abbrev pub without : ℕ → List LiveTransaction → List LiveTransaction
 without xid live = filter (λ o. not (o.xid == xid)) live
 
 -- CALLS
-
--- the record that comes next in a log
-abbrev pub record_after : List Record → Body → Record
-record_after log body = record { start = end_of FIRST_POSITION log; end = end_of FIRST_POSITION log + size_of body; body = body }
 
 abbrev pub with_record : Body → PublisherState → PublisherState
 with_record body s = record s { log = s.log ++ record_after s.log body ∷ [] }
@@ -154,16 +147,6 @@ begin_refusal s = if nat_le MAX_LIVE (length s.live) then Some faults.TooManyLiv
 -- every call on a transaction asks first whether its xid is live
 abbrev pub live_refusal : ℕ → PublisherState → Option SessionFault → Option SessionFault
 live_refusal xid s other = if is_live xid s.live then other else Some faults.NoTransaction
-
--- whether a record can hold the change: each row is of at most 8,000 bytes, and at most 256 tables are truncated
-abbrev pub is_short_row : List Value → Bool
-is_short_row row = nat_le (row_length row) MAX_ROW_LENGTH
-
-abbrev pub fits_record : Change → Bool
-fits_record (changes.Insert oid row) = is_short_row row
-fits_record (changes.Update oid old row) = is_short_row old && is_short_row row
-fits_record (changes.Delete oid old) = is_short_row old
-fits_record (changes.Truncate oids) = nat_le (length oids) MAX_TRUNCATED
 
 -- what the tables refuse, as a refusal of the publisher
 abbrev pub fault_of : StoreFault → SessionFault
@@ -253,9 +236,3 @@ code_of faults.TooManyLive = codes "S10"
 code_of faults.Memory = codes "S11"
 code_of faults.NoReader = codes "S12"
 code_of faults.NoTransaction = codes "S14"
-
--- THE LOG AS IT IS KEPT
-
--- the records of a list of shares
-abbrev pub shared : {A : Type 0} → List (Arc Record A) → List Record
-shared records = map (λ r. r.value) records

@@ -5,10 +5,10 @@ use Rattle.std.specs.List.{list_any}
 use Rattle.tables.specs.declared.table.Table.{Table}
 use Rattle.tables.specs.Rows.{Rows}
 use Rattle.tables.specs.History.{Made, rows_after}
-use Rattle.txlog.specs.declared.record.Record.{Record}
-use Rattle.txlog.specs.declared.record.Body.{Body}
-use Rattle.txlog.specs.declared.record.Body.TheVariants.{Abort}
-use Rattle.txlog.specs.Log.{Entry, entries, top_of, is_dropped, has_ended}
+use Rattle.wal.specs.declared.record.Record.{Record}
+use Rattle.wal.specs.declared.record.Body.{Body}
+use Rattle.wal.specs.declared.record.Body.TheVariants.{Abort}
+use Rattle.wal.specs.Log.{Entry, entries, top_of, is_dropped, has_ended}
 
 abbrev pub aborts : ℕ → Body → Bool
 aborts x (Abort xid) = xid == x

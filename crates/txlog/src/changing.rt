@@ -5,18 +5,18 @@ ghost use Rattle.tables.specs.History.{Made, count_of, rolled_back};
 ghost use Rattle.tables.specs.Keeping.{Keeps};
 ghost use Rattle.tables.specs.Spelling.{IsShort};
 ghost use Rattle.txlog.specs.Invariants.{IsPublisher};
-ghost use Rattle.txlog.specs.Log.{end_of};
-ghost use Rattle.txlog.specs.Publishing.{RefusedOrMemory, changed, deleted, delete_refusal, fault_at, innermost, insert_refusal, is_live, record_after, room, truncate_refusal, update_refusal, updated};
+ghost use Rattle.wal.specs.Log.{end_of};
+ghost use Rattle.wal.specs.Records.{record_after};
+ghost use Rattle.txlog.specs.Publishing.{RefusedOrMemory, changed, deleted, delete_refusal, fault_at, innermost, insert_refusal, is_live, room, truncate_refusal, update_refusal, updated};
 ghost use Rattle.txlog.specs.Rows.{history_of};
-ghost use Rattle.txlog.specs.declared.record.TheConstants.{FIRST_POSITION};
+ghost use Rattle.wal.specs.declared.record.TheConstants.{FIRST_POSITION};
 
 use crate::fault::SessionFault;
 use crate::log::Log;
-use crate::logged::LoggedChange;
 use crate::publisher::Publisher;
-use crate::record::Body;
 use crate::tx::Tx;
 use tables::{Change, Row, Store, StoreFault};
+use wal::{Body, LoggedChange};
 
 /// A change that is about to be made: its transaction, the innermost open subtransaction, how many changes of the transaction
 /// stand before it, and the room of the log.

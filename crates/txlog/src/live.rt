@@ -1,7 +1,7 @@
 //! The transactions that are live.
 
 ghost use Rattle.std.specs.Prelude.{◌≡◌, ◌==◌, ◌∷◌, ◌++◌, [], ◌<◌, IfSome, OnErr, OnOk, length, position, slice_index, take};
-ghost use Rattle.txlog.specs.Log.{last_of};
+ghost use Rattle.wal.specs.Log.{last_of};
 ghost use Rattle.txlog.specs.Publishing.{is_live, savepoints_of, innermost, with_savepoints, without, xids};
 
 use crate::running::Running;

@@ -1,14 +1,14 @@
 //! The records as they are kept: shared, in order, with the position where they end.
 
 ghost use Rattle.std.specs.Prelude.{◌≡◌, ◌+◌, [], ◌∷◌, ◌++◌, ◌<◌, ◌^◌, IfOk, OnErr, OnOk, drop, length, take};
-ghost use Rattle.txlog.specs.Log.{end_of, size_of};
-ghost use Rattle.txlog.specs.Publishing.{record_after, shared};
-ghost use Rattle.txlog.specs.declared.record.TheConstants.{FIRST_POSITION};
+ghost use Rattle.wal.specs.Log.{end_of, size_of};
+ghost use Rattle.wal.specs.Records.{record_after, shared};
+ghost use Rattle.wal.specs.declared.record.TheConstants.{FIRST_POSITION};
 
-use crate::record::{Body, FIRST_POSITION, Record};
 use std::alloc::{AllocError, Global};
 use std::marker::Model;
 use std::sync::Arc;
+use wal::{Body, FIRST_POSITION, Record, part};
 
 /// The records written so far. Contracts see the list of them.
 #[derive(Debug, Drop)]
@@ -19,10 +19,10 @@ pub(crate) struct Log {
 
 impl Model for Log {
     ghost use Rattle.std.specs.Prelude.{◌≡◌, List};
-    ghost use Rattle.txlog.specs.declared.record.Record.{Record};
-    ghost use Rattle.txlog.specs.declared.record.TheConstants.{FIRST_POSITION};
-    ghost use Rattle.txlog.specs.Log.{end_of};
-    ghost use Rattle.txlog.specs.Publishing.{shared};
+    ghost use Rattle.wal.specs.declared.record.Record.{Record};
+    ghost use Rattle.wal.specs.declared.record.TheConstants.{FIRST_POSITION};
+    ghost use Rattle.wal.specs.Log.{end_of};
+    ghost use Rattle.wal.specs.Records.{shared};
 
     ghost Value = { List Record };
 
@@ -54,7 +54,7 @@ impl Log {
     }
 
     /// Adds a record at the end, or, where memory is refused, nothing.
-    #[tactic(auto, using(crate::proofs::Growing::shared_push, crate::proofs::Growing::end_of_push))]
+    #[tactic(auto, using(wal::proofs::Growing::shared_push, wal::proofs::Growing::end_of_push))]
     pub(crate) fn push(&mut self, body: Body) -> Result<(), AllocError>
         requires fits { end_of FIRST_POSITION self.old + size_of body < 2 ^ 64 }
         ensures ok { OnOk result (self.new ≡ self.old ++ record_after self.old body ∷ []) }
@@ -70,26 +70,12 @@ impl Log {
     }
 
     /// Up to `max` records from the place on, shared and not copied.
-    #[tactic(auto, using(crate::proofs::Growing::shared_part))]
+    #[tactic(auto, using(wal::proofs::Growing::shared_part))]
     pub(crate) fn tail(&self, place: usize, max: usize) -> Result<Vec<Arc<Record>>, AllocError>
         ensures { IfOk result (λ v. shared v.items ≡ take max (drop place self.now)) }
     {
         let alloc = *self.records.allocator();
         shares(alloc, part(self.records.as_slice(), place, max))
-    }
-}
-
-#[tactic(auto, using(std::proofs::lemmas::List::drop_all, std::proofs::lemmas::List::take_all))]
-fn part(records: &[Arc<Record>], place: usize, max: usize) -> &[Arc<Record>]
-    ensures { result.now ≡ take max (drop place records.now) }
-{
-    let rest = match records.split_at_checked(place) {
-        Some((_, rest)) => rest,
-        None => &[],
-    };
-    match rest.split_at_checked(max) {
-        Some((part, _)) => part,
-        None => rest,
     }
 }
 

@@ -4,20 +4,21 @@ ghost use Rattle.std.specs.Prelude.{◌≡◌, ◌+◌, ◌-◌, ◌≤◌, ◌<
 ghost use Rattle.std.specs.Option.{option_copied};
 ghost use Rattle.txlog.specs.Invariants.{IsPublisher};
 ghost use Rattle.txlog.specs.Rows.{rows_of};
-ghost use Rattle.txlog.specs.Publishing.{RefusedOrMemory, RefusedOrMemoryBack, RefusedExactly, after_abort, after_commit, new_publisher, begin_refusal, begun, end_refusal, is_live, log_end, receipt_of, release_refusal, released, rollback_refusal, rolled_back, room, saved, savepoint_refusal, savepoints_of, shared};
+ghost use Rattle.wal.specs.Records.{shared};
+ghost use Rattle.txlog.specs.Publishing.{RefusedOrMemory, RefusedOrMemoryBack, RefusedExactly, after_abort, after_commit, new_publisher, begin_refusal, begun, end_refusal, is_live, log_end, receipt_of, release_refusal, released, rollback_refusal, rolled_back, room, saved, savepoint_refusal, savepoints_of};
 
 use crate::fault::SessionFault;
 use crate::limits::{MAX_DEPTH, MAX_LIVE, MAX_RECORDS};
 use crate::live::Live;
 use crate::log::Log;
 use crate::receipt::Receipt;
-use crate::record::{Body, FIRST_XID, Record};
 use crate::savepoint::Savepoint;
 use crate::tx::Tx;
 use std::alloc::{AllocError, Global};
 use std::marker::Model;
 use std::sync::Arc;
 use tables::{Catalog, Row, Store};
+use wal::{Body, FIRST_XID, Record};
 
 /// The log, the transactions that write it, and the rows that it leaves in the tables (`rows_of`). A place in the log is kept
 /// in reserve for the end of each transaction.

@@ -8,7 +8,7 @@ use Rattle.tables.specs.declared.value.Value.{Value}
 use Rattle.tables.specs.declared.column.Column.{Column}
 use Rattle.tables.specs.declared.table.Table.{Table}
 use Rattle.tables.specs.Tables.{table_named}
-use Rattle.txlog.specs.declared.record.Record.{Record}
+use Rattle.wal.specs.declared.record.Record.{Record}
 use Rattle.txlog.specs.declared.fault.SessionFault.{SessionFault}
 use Rattle.txlog.specs.Publishing.{PublisherState, IsRefusalOrMemory, insert_refusal, update_refusal, delete_refusal}
 use Rattle.schedule.specs.declared.event.Literal.{Literal}

@@ -4,7 +4,7 @@ use Rattle.std.specs.Prelude.{Result, Ok, Err, IfOk, OnErr, is_some, not}
 use Rattle.std.specs.List.{AllByRecursion}
 use Rattle.std.proofs.lemmas.Option.{slice_get-map}
 use Rattle.std.proofs.lemmas.List.{length-map, map-append}
-use Rattle.txlog.specs.declared.record.Record.{Record}
+use Rattle.wal.specs.declared.record.Record.{Record}
 use Rattle.txlog.specs.Publishing.{PublisherState}
 use Rattle.sender.specs.declared.fault.SendFault.TheVariants as sends
 use Rattle.schedule.specs.declared.answer.Answer.{Answer}

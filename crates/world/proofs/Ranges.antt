@@ -9,10 +9,10 @@ use Rattle.tables.specs.declared.table.Table.{Table}
 use Rattle.tables.specs.declared.change.Change.{Change}
 use Rattle.tables.specs.declared.change.Change.TheVariants as changes
 use Rattle.tables.specs.Tables.{FitsChange as FitsTables}
-use Rattle.txlog.specs.declared.record.Record.{Record}
-use Rattle.txlog.specs.declared.record.Body.{Body}
-use Rattle.txlog.specs.declared.record.Body.TheVariants.{Assign, Change as Changed, AbortSub, Abort, Commit}
-use Rattle.txlog.specs.Log.{Entry, entry_at, entries, is_kept, kept, Transaction, committed_at, committed_by, committed_from, FitsBody, FitsRecord, IsLogInRange, IsSized, follows}
+use Rattle.wal.specs.declared.record.Record.{Record}
+use Rattle.wal.specs.declared.record.Body.{Body}
+use Rattle.wal.specs.declared.record.Body.TheVariants.{Assign, Change as Changed, AbortSub, Abort, Commit}
+use Rattle.wal.specs.Log.{Entry, entry_at, entries, is_kept, kept, Transaction, committed_at, committed_by, committed_from, FitsBody, FitsRecord, IsLogInRange, IsSized, follows}
 use Rattle.publication.specs.Publications.{PublicationSet}
 use Rattle.publication.specs.Selection.{relation, FitTables}
 use Rattle.publication.specs.Projection.{message, AreValues, MessageFits}

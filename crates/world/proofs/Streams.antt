@@ -8,9 +8,9 @@ use Rattle.std.proofs.lemmas.List.{append-nil, take-append-drop}
 use Rattle.std.proofs.lemmas.Grind.{flat_map-append}
 use Rattle.std.proofs.lemmas.List.Concat.{flat_map-cons}
 use Rattle.pgoutput.specs.declared.relation.Relation.{Relation}
-use Rattle.txlog.specs.declared.record.TheConstants.{FIRST_POSITION}
-use Rattle.txlog.specs.declared.record.Record.{Record}
-use Rattle.txlog.specs.Log.{IsWellFormedLog, IsSized, follows, end_of}
+use Rattle.wal.specs.declared.record.TheConstants.{FIRST_POSITION}
+use Rattle.wal.specs.declared.record.Record.{Record}
+use Rattle.wal.specs.Log.{IsWellFormedLog, IsSized, follows, end_of}
 use Rattle.publication.specs.Publications.{PublicationSet}
 use Rattle.publication.specs.Selection.{relation}
 use Rattle.stream.specs.declared.word.Keepalive.{Keepalive}

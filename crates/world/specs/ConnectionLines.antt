@@ -1,9 +1,9 @@
 -- What a connection's line does to its sender.
 use Rattle.std.specs.Prelude.{◌≡◌, ◌<◌, ℕ, ℤ, codes, true, false, List, [], ◌∷◌, ◌++◌, length, take, drop, nat_le, Option, Some, None, if◌then◌else◌, Bool, ◌&&◌}
 use Rattle.std.specs.Str.{bytes_eq}
-use Rattle.txlog.specs.declared.record.TheConstants.{FIRST_POSITION}
-use Rattle.txlog.specs.declared.record.Record.{Record}
-use Rattle.txlog.specs.Log.{end_of}
+use Rattle.wal.specs.declared.record.TheConstants.{FIRST_POSITION}
+use Rattle.wal.specs.declared.record.Record.{Record}
+use Rattle.wal.specs.Log.{end_of}
 use Rattle.publication.specs.declared.fault.PubFault.TheVariants as pubs
 use Rattle.publication.specs.Publications.{PublicationSet, selected, is_unknown}
 use Rattle.stream.specs.Words.{word_bytes}

@@ -3,9 +3,9 @@
 use Rattle.std.specs.Prelude.{◌≡◌, ◌<◌, ◌≤◌, ◌^◌, ℕ, ◌+◌, ◌==◌, Bool, true, false, List, [], ◌∷◌, ◌++◌, length, map, take, filter, not, Option, Some, None, is_some, vec_len, vec_capacity, slice_get, slice_set, remove, if◌then◌else◌}
 use Rattle.std.specs.Str.{bytes_eq}
 use Rattle.std.specs.List.{AllByRecursion}
-use Rattle.txlog.specs.declared.record.TheConstants.{FIRST_POSITION}
-use Rattle.txlog.specs.declared.record.Record.{Record}
-use Rattle.txlog.specs.Log.{IsWellFormedLog, end_of}
+use Rattle.wal.specs.declared.record.TheConstants.{FIRST_POSITION}
+use Rattle.wal.specs.declared.record.Record.{Record}
+use Rattle.wal.specs.Log.{IsWellFormedLog, end_of}
 use Rattle.txlog.specs.declared.fault.SessionFault.{SessionFault}
 use Rattle.txlog.specs.Publishing.{PublisherState, IsRefusalOrMemory}
 use Rattle.publication.specs.Publications.{PublicationSet}

@@ -14,7 +14,8 @@ use schedule::{Answer, WorldFault};
 use sender::{Ended, Sender};
 use std::alloc::Global;
 use std::mem;
-use txlog::{FIRST_POSITION, Publisher};
+use txlog::Publisher;
+use wal::FIRST_POSITION;
 
 /// A start of a connection's sender. It is open until the connection is cut, and stays with what it produced.
 #[derive(Debug, Drop)]

@@ -10,6 +10,7 @@ use frames::Text;
 use schedule::Answer;
 use std::alloc::Global;
 use stream::Published;
+use wal::part;
 
 /// The subscriber of a connection, for the whole run: each start of the connection's sender sends to it.
 #[derive(Debug, Drop)]
@@ -80,20 +81,6 @@ impl Subscriber {
     {
         self.applier.reconnect();
         self.delivered = 0;
-    }
-}
-
-/// Up to `max` of the bytes from this place on.
-fn part(bytes: &[u8], place: usize, max: usize) -> &[u8]
-    ensures { result.now ≡ take max (drop place bytes.now) }
-{
-    let rest = match bytes.split_at_checked(place) {
-        Some((_, rest)) => rest,
-        None => &[],
-    };
-    match rest.split_at_checked(max) {
-        Some((part, _)) => part,
-        None => rest,
     }
 }
 

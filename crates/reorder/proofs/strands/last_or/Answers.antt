@@ -1,5 +1,5 @@
 use Rattle.std.proofs.Common.{arith}
-use Rattle.txlog.proofs.LiveList.{last_at}
+use Rattle.wal.proofs.Laws.{last_at}
 use Rattle.reorder.proofs.strands.last_or.Goals as goal
 
 pub returns-in-len1-up : goal.returns-in-len1-up

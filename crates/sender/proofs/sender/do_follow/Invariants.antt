@@ -1,6 +1,6 @@
 use Rattle.std.proofs.Common.{◌≡◌, drop}
-use Rattle.txlog.specs.Log.{follows}
-use Rattle.txlog.specs.Publishing.{shared}
+use Rattle.wal.specs.Log.{follows}
+use Rattle.wal.specs.Records.{shared}
 use Rattle.sender.proofs.sender.do_follow.Given as goal
 
 abbrev pub invariant-loop-record : goal.invariant-loop-record

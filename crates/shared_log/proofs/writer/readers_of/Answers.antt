@@ -1,4 +1,4 @@
-use Rattle.txlog.specs.Publishing.{shared}
+use Rattle.wal.specs.Records.{shared}
 use Rattle.shared_log.proofs.Steps.{admits}
 use Rattle.shared_log.proofs.writer.readers_of.Goals as goal
 

@@ -1,5 +1,5 @@
 use Rattle.std.proofs.Common.{◌≡◌, ◌++◌, drop}
-use Rattle.txlog.specs.Publishing.{shared}
+use Rattle.wal.specs.Records.{shared}
 use Rattle.txlog.proofs.log.shares.Given as goal
 
 abbrev pub invariant-loop-record : goal.invariant-loop-record

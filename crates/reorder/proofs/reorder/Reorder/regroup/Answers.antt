@@ -1,7 +1,7 @@
 use Rattle.std.proofs.Common.{◌≡◌, List, Option, ◌∙◌, sym, ap, subst, Some, None}
-use Rattle.txlog.specs.declared.record.Record.{Record}
-use Rattle.txlog.specs.declared.record.Body.{Body}
-use Rattle.txlog.specs.Log.{Entry}
+use Rattle.wal.specs.declared.record.Record.{Record}
+use Rattle.wal.specs.declared.record.Body.{Body}
+use Rattle.wal.specs.Log.{Entry}
 use Rattle.reorder.specs.Taking.{ReorderState, Takes}
 use Rattle.reorder.proofs.Steps.{state, taken_assign, taken_change, taken_rollback, taken_abort, taken_commit}
 use Rattle.reorder.proofs.reorder.Reorder.regroup.Goals as goal

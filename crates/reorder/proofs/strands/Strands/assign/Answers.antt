@@ -1,5 +1,5 @@
 use Rattle.std.proofs.Common.{◌∙◌, ap}
-use Rattle.txlog.specs.Log.{last_of}
+use Rattle.wal.specs.Log.{last_of}
 use Rattle.reorder.proofs.Lookups.{assigned_same}
 use Rattle.reorder.proofs.strands.Strands.assign.Goals as goal
 

@@ -1,6 +1,6 @@
 use Rattle.std.proofs.Common.{rules}
 use Rattle.std.proofs.lemmas.List.Sorted.{IsNonDecreasingBy-from_sort_by_key, answers_always}
-use Rattle.txlog.specs.Log.{Entry}
+use Rattle.wal.specs.Log.{Entry}
 use Rattle.reorder.proofs.strands.Strands.kept.Goals as goal
 
 pub returns-clause-rising : goal.returns-clause-rising

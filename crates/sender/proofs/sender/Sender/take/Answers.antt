@@ -1,7 +1,7 @@
 use Rattle.std.proofs.Common.{Some, ap, reverse, subst, ◌∙◌}
 use Rattle.std.specs.Int.{w64}
 use Rattle.std.proofs.lemmas.Int.{to_z-of_z}
-use Rattle.txlog.specs.declared.record.Record.{Record}
+use Rattle.wal.specs.declared.record.Record.{Record}
 use Rattle.sender.specs.Sending.{SenderState, ReadOne}
 use Rattle.sender.proofs.sender.Sender.take.Goals as goal
 

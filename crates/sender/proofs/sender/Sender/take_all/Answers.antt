@@ -1,7 +1,7 @@
 use Rattle.std.proofs.Common.{◌∷◌, [], true, take, ap, reverse, refl, sym, ◌∙◌, arith}
 use Rattle.std.specs.Int.{w64}
 use Rattle.std.proofs.lemmas.Int.{to_z-of_z}
-use Rattle.txlog.specs.Publishing.{shared}
+use Rattle.wal.specs.Records.{shared}
 use Rattle.sender.specs.Sending.{SenderState}
 use Rattle.sender.proofs.Batches.{ReadOne-ReadAll, ReadAll-append, shared_more, stopped_at}
 use Rattle.sender.proofs.sender.Sender.take_all.Goals as goal

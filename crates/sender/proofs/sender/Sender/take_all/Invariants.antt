@@ -1,5 +1,5 @@
 use Rattle.std.proofs.Common.{◌≡◌, take, false}
-use Rattle.txlog.specs.Publishing.{shared}
+use Rattle.wal.specs.Records.{shared}
 use Rattle.sender.specs.Sending.{ReadAll}
 use Rattle.sender.proofs.sender.Sender.take_all.Given as goal
 

@@ -1,8 +1,8 @@
 use Rattle.std.proofs.Common.{◌≡◌, ◌+◌, List, drop, take, ap, sym, ◌∙◌}
 use Rattle.left_right.specs.Sides.{view}
-use Rattle.txlog.specs.declared.record.Record.{Record}
-use Rattle.txlog.specs.Publishing.{shared}
-use Rattle.txlog.proofs.Growing.{shared_part}
+use Rattle.wal.specs.declared.record.Record.{Record}
+use Rattle.wal.specs.Records.{shared}
+use Rattle.wal.proofs.Growing.{shared_part}
 use Rattle.shared_log.specs.declared.copy.LogCopy.{LogCopy}
 use Rattle.shared_log.specs.declared.rule.View.{View}
 use Rattle.shared_log.proofs.Steps.{enters}

@@ -1,8 +1,8 @@
 use Rattle.std.proofs.Common.{◌≡◌, ◌++◌, ◌∷◌, [], length, refl, ap, sym, subst, ◌∙◌}
 use Rattle.std.specs.Arc.{arc_value}
 use Rattle.std.proofs.lemmas.List.{append-nil}
-use Rattle.txlog.specs.Log.{IsWellFormedLog}
-use Rattle.txlog.specs.Publishing.{shared}
+use Rattle.wal.specs.Log.{IsWellFormedLog}
+use Rattle.wal.specs.Records.{shared}
 use Rattle.shared_log.specs.declared.entry.Entry.TheVariants.{Offered, Confirmed}
 use Rattle.shared_log.specs.Fronts.{settled, shown}
 use Rattle.shared_log.proofs.Fronts.{settled_offer, settled_confirm, shown_offer}

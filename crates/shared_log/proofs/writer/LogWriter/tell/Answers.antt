@@ -1,6 +1,6 @@
 use Rattle.std.proofs.Common.{List, subst, ◌∙◌}
 use mathlib.Core.List.{IsPrefix}
-use Rattle.txlog.specs.declared.record.Record.{Record}
+use Rattle.wal.specs.declared.record.Record.{Record}
 use Rattle.shared_log.specs.Fronts.{settled}
 use Rattle.shared_log.proofs.Fronts.{settled_grows}
 use Rattle.shared_log.proofs.writer.LogWriter.tell.Goals as goal

@@ -1,7 +1,7 @@
 use Rattle.std.proofs.Common.{◌≡◌, ◌+◌, ℕ, take, drop, length, ap, sym, subst, ◌∙◌, false}
 use Rattle.std.specs.Int.{w64}
 use Rattle.std.proofs.lemmas.Int.{to_z-of_z}
-use Rattle.txlog.specs.Publishing.{shared}
+use Rattle.wal.specs.Records.{shared}
 use Rattle.sender.specs.Sending.{SenderState}
 use Rattle.world.specs.declared.action.Action.TheVariants as actions
 use Rattle.schedule.specs.declared.answer.Answer.TheVariants as answers

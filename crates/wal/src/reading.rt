@@ -1,9 +1,9 @@
 //! The law of logs: read record by record, a log says what the whole of it says by places.
 
 ghost use Rattle.std.specs.Prelude.{◌≡◌, ℕ, List};
-ghost use Rattle.txlog.specs.declared.record.Record.{Record};
-ghost use Rattle.txlog.specs.Log.{IsWellFormedLog, chain, committed};
-ghost use Rattle.txlog.specs.Places.{IsChain, committed_by_places};
+ghost use Rattle.wal.specs.declared.record.Record.{Record};
+ghost use Rattle.wal.specs.Log.{IsWellFormedLog, chain, committed};
+ghost use Rattle.wal.specs.Places.{IsChain, committed_by_places};
 
 /// Of a well-formed log, `committed` and `chain`, which judge each record by those before it, are what `specs/Places.antt`
 /// says of the log as a whole.

@@ -1,5 +1,6 @@
 -- Filters and tests of lists.
-use Rattle.std.proofs.Common.{◌≡◌, ℕ, zero, suc, Bool, true, false, cond, ◌&&◌, ◌||◌, List, [], ◌∷◌, map, take, refl, ap}
+use Rattle.std.proofs.Common.{◌≡◌, ℕ, zero, suc, ◌==◌, Bool, true, false, cond, ◌&&◌, ◌||◌, List, [], ◌∷◌, ◌++◌, map, take, refl, sym, ap, eq-eqb}
+use Rattle.std.proofs.lemmas.Bool.{eqb-true, eqb-false, ne_eqb}
 use Rattle.std.specs.List.{filter, list_any, AllByRecursion}
 
 pub or_false : (b : Bool) → (b || false) ≡ b
@@ -79,3 +80,14 @@ pub all_fewer : {A : Type 0} (P : A → Type 0) (n : ℕ) (xs : List A) → AllB
 all_fewer P zero xs all = tt
 all_fewer P (suc n) [] all = tt
 all_fewer P (suc n) (x ∷ xs) all = (all.0, all_fewer P n xs all.1)
+
+pub eqb_comm : (a b : ℕ) → (a == b) ≡ (b == a)
+eqb_comm a b = by_test (a == b) (λ same. sym (eq-eqb b a (sym (eqb-true a b same)))) (λ other. sym (ne_eqb b a (λ is. eqb-false a b other (sym is))))
+  where
+    by_test : (c : Bool) → (c ≡ true → true ≡ (b == a)) → (c ≡ false → false ≡ (b == a)) → c ≡ (b == a)
+    by_test true same other = same refl
+    by_test false same other = other refl
+
+pub all_append : {A : Type 0} (P : A → Type 0) (xs ys : List A) → AllByRecursion P xs → AllByRecursion P ys → AllByRecursion P (xs ++ ys)
+all_append P [] ys front back = back
+all_append P (x ∷ xs) ys front back = (front.0, all_append P xs ys front.1 back)

@@ -3,7 +3,7 @@
 ghost use Rattle.std.specs.Prelude.{◌≡◌, ◌≤◌, Some, None, true, if◌then◌else◌};
 ghost use Rattle.tables.specs.declared.change_body.TheConstants.{MAX_BODY_LENGTH};
 ghost use Rattle.tables.specs.Spelling.{IsShort, body_length};
-ghost use Rattle.txlog.specs.Publishing.{fits_record};
+ghost use Rattle.wal.specs.Records.{fits_record};
 
 use std::marker::Model;
 use tables::{Change, MAX_TRUNCATED, body_len};
@@ -41,7 +41,7 @@ impl LoggedChange {
     }
 
     /// A change that is known to be short.
-    pub(crate) fn of(change: Change) -> Self
+    pub fn of(change: Change) -> Self
         requires { IsShort change }
         ensures { result ≡ change }
     {

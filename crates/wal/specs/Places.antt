@@ -3,10 +3,10 @@
 -- both say the same: that is the law `a_log_has_one_reading` of src/reading.rt.
 use Rattle.std.specs.Prelude.{◌≡◌, ℕ, ◌+◌, ◌==◌, Bool, true, false, ◌&&◌, not, List, [], ◌∷◌, ◌++◌, filter, take, nat_le, if◌then◌else◌}
 use Rattle.std.specs.List.{list_any}
-use Rattle.txlog.specs.declared.record.Record.{Record}
-use Rattle.txlog.specs.declared.record.Body.{Body}
-use Rattle.txlog.specs.declared.record.Body.TheVariants.{Assign, Commit}
-use Rattle.txlog.specs.Log.{Entry, Transaction, entries, is_assigned, is_undone, chain, top_of}
+use Rattle.wal.specs.declared.record.Record.{Record}
+use Rattle.wal.specs.declared.record.Body.{Body}
+use Rattle.wal.specs.declared.record.Body.TheVariants.{Assign, Commit}
+use Rattle.wal.specs.Log.{Entry, Transaction, entries, is_assigned, is_undone, chain, top_of}
 
 -- CHAINS
 

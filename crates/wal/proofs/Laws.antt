@@ -1,15 +1,15 @@
 -- Laws of the definitions: what one more record, or a further list of them, does to each.
-use Rattle.std.proofs.Common.{◌≡◌, ℕ, ◌==◌, Bool, true, false, cond, ◌&&◌, ◌||◌, List, [], ◌∷◌, ◌++◌, reverse, refl, sym, ap, ◌∙◌, append_assoc}
+use Rattle.std.proofs.Common.{◌≡◌, ℕ, suc, ◌-◌, ◌<◌, ◌==◌, Bool, true, false, cond, ◌&&◌, ◌||◌, List, [], ◌∷◌, ◌++◌, length, get_or, reverse, refl, sym, ap, ◌∙◌, arith, append_assoc}
 use Rattle.std.specs.List.{list_any, AllByRecursion}
 use Rattle.std.proofs.lemmas.Grind.{flat_map-append}
 use Rattle.std.proofs.lemmas.List.{reverse-append, append-nil}
 use Rattle.std.proofs.lemmas.List.Folds.{list_any-append}
 use Rattle.std.proofs.lemmas.List.Sorted.{list_any-IsPermutation, IsPermutation-reverse}
-use Rattle.txlog.specs.declared.record.Record.{Record}
-use Rattle.txlog.specs.declared.record.Body.{Body}
-use Rattle.txlog.specs.declared.record.Body.TheVariants.{Assign, Change as Changed, AbortSub, Abort, Commit}
-use Rattle.txlog.specs.Log.{follows, end_of, names, is_named, assigns, is_assigned, chain_step, chain_back, chain, last_of, top_of, undoes, is_undone, is_dropped, ends, has_ended, Entry, entry_at, entries, committed_by, committed_from, WellFormedAfter}
-use Rattle.txlog.proofs.Lists.{or_false, list_any_agrees, list_any_or}
+use Rattle.wal.specs.declared.record.Record.{Record}
+use Rattle.wal.specs.declared.record.Body.{Body}
+use Rattle.wal.specs.declared.record.Body.TheVariants.{Assign, Change as Changed, AbortSub, Abort, Commit}
+use Rattle.wal.specs.Log.{follows, end_of, names, is_named, assigns, is_assigned, chain_step, chain_back, chain, last_of, top_of, undoes, is_undone, is_dropped, ends, has_ended, Entry, entry_at, entries, committed_by, committed_from, WellFormedAfter}
+use Rattle.wal.proofs.Lists.{or_false, list_any_agrees, list_any_or}
 
 -- A FURTHER LIST
 
@@ -139,3 +139,22 @@ changes_named (r ∷ log) x none = by_body r.start r.body (is_named log x) (entr
     by_body start (AbortSub xid) rest es none k = k (right (x == xid) rest none)
     by_body start (Abort xid) rest es none k = k (right (x == xid) rest none)
     by_body start (Commit xid time) rest es none k = k (right (x == xid) rest none)
+
+-- a record that makes no subtransaction of an xid
+step-quiet : (above : ℕ → List ℕ) (body : Body) (x : ℕ) → assigns x body ≡ false → chain_step above body x ≡ above x
+step-quiet above (Assign sub parent) x other = rw other refl
+step-quiet above (Changed xid change) x other = refl
+step-quiet above (AbortSub xid) x other = refl
+step-quiet above (Abort xid) x other = refl
+step-quiet above (Commit xid time) x other = refl
+
+pub chain-quiet : (log : List Record) (r : Record) (x : ℕ) → assigns x r.body ≡ false → chain (log ++ r ∷ []) x ≡ chain log x
+chain-quiet log r x other = chain-append log r x ∙ step-quiet (chain log) r.body x other
+
+-- the last of some
+pub last_at : (y : ℕ) (xs : List ℕ) → 0 < length xs → get_or xs (length xs - 1) 0 ≡ last_of y xs
+last_at y [] lt = absurd (omega arith)
+last_at y (x ∷ []) lt = refl
+last_at y (x ∷ z ∷ xs) lt =
+    let e : length (x ∷ z ∷ xs) - 1 ≡ suc (length (z ∷ xs) - 1) = omega arith in
+    rw e (last_at x (z ∷ xs) (omega arith))

@@ -1,6 +1,6 @@
 use Rattle.std.proofs.Common.{sym}
-use Rattle.txlog.proofs.Places.{committed-by_places, chain-IsChain, chain-only}
-use Rattle.txlog.proofs.reading.a_log_has_one_reading.Goals as goal
+use Rattle.wal.proofs.Places.{committed-by_places, chain-IsChain, chain-only}
+use Rattle.wal.proofs.reading.a_log_has_one_reading.Goals as goal
 
 pub returns-clause-committed : goal.returns-clause-committed
 returns-clause-committed c log s h = sym (committed-by_places log s h)

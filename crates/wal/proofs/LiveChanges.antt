@@ -6,11 +6,11 @@ use Rattle.std.proofs.lemmas.Bool.{eqb-true}
 use Rattle.std.proofs.lemmas.List.{append-nil}
 use Rattle.std.proofs.lemmas.List.Elements.{filter-append}
 use Rattle.tables.specs.declared.change.Change.{Change}
-use Rattle.txlog.specs.declared.record.Record.{Record}
-use Rattle.txlog.specs.declared.record.Body.TheVariants.{Assign, Change as Changed, AbortSub, Abort, Commit}
-use Rattle.txlog.specs.Log.{is_named, is_assigned, chain, last_of, top_of, undoes, is_undone, is_dropped, ends, has_ended, Entry, entry_at, entries, is_kept, kept, IsOpen}
-use Rattle.txlog.proofs.Lists.{or_false, and_true, none_of, filter_all, filter_agrees, all_agree, filter_twice, list_any_agrees}
-use Rattle.txlog.proofs.Laws.{entries-append, is_undone-one, has_ended-one, chain-append, chain-unassigned, top-kept, dropped-kept, KeepsChains, all_when, changes_named}
+use Rattle.wal.specs.declared.record.Record.{Record}
+use Rattle.wal.specs.declared.record.Body.TheVariants.{Assign, Change as Changed, AbortSub, Abort, Commit}
+use Rattle.wal.specs.Log.{is_named, is_assigned, chain, last_of, top_of, undoes, is_undone, is_dropped, ends, has_ended, Entry, entry_at, entries, is_kept, kept, IsOpen}
+use Rattle.wal.proofs.Lists.{or_false, and_true, none_of, filter_all, filter_agrees, all_agree, filter_twice, list_any_agrees}
+use Rattle.wal.proofs.Laws.{entries-append, is_undone-one, has_ended-one, chain-append, chain-unassigned, top-kept, dropped-kept, KeepsChains, all_when, changes_named}
 
 -- whether a change is not dropped and its transaction has not ended
 abbrev pub is_live_change : List Record → Entry → Bool

@@ -3,10 +3,10 @@ use Rattle.std.proofs.Common.{◌≡◌, ℕ, List, [], ◌∷◌, ◌++◌, tak
 use Rattle.std.specs.declared.sync.Arc.{Arc}
 use Rattle.std.specs.List.{take-map, drop-map}
 use Rattle.std.proofs.lemmas.List.{map-append}
-use Rattle.txlog.specs.declared.record.Record.{Record}
-use Rattle.txlog.specs.Log.{end_of}
-use Rattle.txlog.specs.Publishing.{shared}
-use Rattle.txlog.proofs.Laws.{end_of-append}
+use Rattle.wal.specs.declared.record.Record.{Record}
+use Rattle.wal.specs.Log.{end_of}
+use Rattle.wal.specs.Records.{shared}
+use Rattle.wal.proofs.Laws.{end_of-append}
 
 pub shared_push : {A : Type 0} (records : List (Arc Record A)) (record' : Arc Record A) → shared (records ++ record' ∷ []) ≡ shared records ++ record'.value ∷ []
 shared_push records record' = map-append (λ r. r.value) records (record' ∷ [])

@@ -6,15 +6,13 @@ use Rattle.std.proofs.lemmas.Bool.{ne_eqb, eqb-true}
 use Rattle.std.proofs.lemmas.List.{append-nil}
 use Rattle.std.proofs.lemmas.List.Folds.{list_any-append}
 use Rattle.std.proofs.Math.Seq.{take-append_seam}
-use Rattle.txlog.specs.declared.record.Record.{Record}
-use Rattle.txlog.specs.declared.record.Body.{Body}
-use Rattle.txlog.specs.declared.record.Body.TheVariants.{Assign, Change as Changed, AbortSub, Abort, Commit}
-use Rattle.txlog.specs.Log.{names, is_named, assigns, chain, top_of, is_assigned, is_undone, Entry, entry_at, entries, is_kept, kept, committed_at, committed_by, committed_from, committed, IsNext, WellFormedAfter, IsWellFormedLog, chain_step}
-use Rattle.txlog.specs.Places.{puts_under, is_parent, IsChain, kept_at, placed_at, placed_from, committed_by_places}
-use Rattle.txlog.proofs.Lists.{or_false, filter_agrees}
-use Rattle.txlog.proofs.Laws.{is_named-one, is_assigned-one, chain-append, all_when}
-use Rattle.txlog.proofs.LiveList.{eqb_comm}
-use Rattle.txlog.proofs.Progress.{chain-quiet}
+use Rattle.wal.specs.declared.record.Record.{Record}
+use Rattle.wal.specs.declared.record.Body.{Body}
+use Rattle.wal.specs.declared.record.Body.TheVariants.{Assign, Change as Changed, AbortSub, Abort, Commit}
+use Rattle.wal.specs.Log.{names, is_named, assigns, chain, top_of, is_assigned, is_undone, Entry, entry_at, entries, is_kept, kept, committed_at, committed_by, committed_from, committed, IsNext, WellFormedAfter, IsWellFormedLog, chain_step}
+use Rattle.wal.specs.Places.{puts_under, is_parent, IsChain, kept_at, placed_at, placed_from, committed_by_places}
+use Rattle.wal.proofs.Lists.{or_false, filter_agrees, eqb_comm}
+use Rattle.wal.proofs.Laws.{is_named-one, is_assigned-one, chain-append, all_when, chain-quiet}
 
 -- a record assigns no xid that was named before it
 next-assigns : (before : List Record) (body : Body) (x : ℕ) → is_named before x ≡ true → IsNext before body → assigns x body ≡ false

@@ -2,7 +2,7 @@
 
 ghost use Rattle.std.specs.Prelude.{◌≡◌, ◌+◌, ◌≤◌, ◌^◌};
 ghost use Rattle.tables.specs.declared.change_body.TheConstants.{MAX_BODY_LENGTH};
-ghost use Rattle.txlog.specs.Log.{payload_length, size_of};
+ghost use Rattle.wal.specs.Log.{payload_length, size_of};
 
 use crate::logged::LoggedChange;
 

@@ -1,0 +1,5 @@
+pub mod Growing
+pub mod Laws
+pub mod Lists
+pub mod LiveChanges
+pub mod Places

@@ -1,0 +1,6 @@
+pub mod Log
+pub mod Places
+pub mod Records
+pub use Rattle.tables.specs.Spelling
+pub use Rattle.tables.specs.Tables
+pub use Rattle.frames.specs.Fields
