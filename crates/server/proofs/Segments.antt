@@ -1,18 +1,24 @@
 -- Segments of a conversation: one that goes no further, one turn, and one behind the other.
-use Rattle.std.proofs.Common.{◌≡◌, ℕ, ◌+◌, ◌<◌, List, [], ◌∷◌, ◌++◌, length, take, get_or, Result, Ok, Err, refl, sym, ap, subst, ◌∙◌, append_assoc}
-use Rattle.std.specs.Prelude.{◌≢◌}
-use Rattle.std.specs.List.{flat_map}
+use Rattle.std.proofs.Common.{◌≡◌, ℕ, ◌+◌, ◌<◌, List, [], ◌∷◌, ◌++◌, length, take, get_or, Result, Ok, Err, refl, sym, ap, subst, ◌∙◌, inl, inr, append_assoc, arith}
+use Rattle.std.specs.Prelude.{◌≢◌, ◌⊎◌}
+use Rattle.std.specs.List.{flat_map, AllByRecursion}
 use Rattle.std.proofs.lemmas.Grind.{flat_map-append}
 use Rattle.std.proofs.lemmas.List.{append-nil, take_more}
 use Rattle.server.specs.declared.connection.Connection.{Connection}
+use Rattle.server.specs.declared.conversation.Event.{Event}
+use Rattle.server.specs.declared.conversation.Event.TheVariants.{Came, AllSent}
 use Rattle.server.specs.declared.fault.ConnFault.{ConnFault}
 use Rattle.server.specs.declared.fault.ConnFault.TheVariants as faults
-use Rattle.server.specs.declared.turn.Stage.{Stage}
-use Rattle.server.specs.declared.turn.Stage.TheVariants.{Fresh, Closed}
+use Rattle.server.specs.declared.stage.Stage.{Stage}
+use Rattle.server.specs.declared.stage.Stage.TheVariants.{Fresh, Closed}
 use Rattle.server.specs.Calls.{Call, AreAsked}
 use Rattle.server.specs.Conversation.{Gave}
-use Rattle.server.specs.Turns.{Turn, IsTurn, AreTurns, Waits, IsConversation}
-use Rattle.server.specs.Segment.{Went, UnlessMemory}
+use Rattle.server.specs.Turns.{Turn, IsTurn, AreTurns, Waits, HaveEnded, IsConversation, end_turn}
+use Rattle.server.specs.Segment.{Went, HasText, IsAny, Ended, Happened, UnlessMemory, heard}
+
+kind-append : (Kind : Turn → Type 0) (ts us : List Turn) → AllByRecursion Kind ts → AllByRecursion Kind us → AllByRecursion Kind (ts ++ us)
+kind-append Kind [] us first then = then
+kind-append Kind (t ∷ ts) us first then = (first.0, kind-append Kind ts us first.1 then)
 
 turns-append : (number : ℕ) (a : Stage) (ts : List Turn) (b : Stage) (us : List Turn) (c : Stage) → AreTurns number a ts b → AreTurns number b us c → AreTurns number a (ts ++ us) c
 turns-append number a [] b us c first then = subst (λ (s : Stage). AreTurns number s us c) first then
@@ -22,10 +28,11 @@ asked-append : {D : Type 0} (told : D → Call → D → Type 0) (a : D) (xs : L
 asked-append {D} told a [] b ys c first then = subst (λ (d : D). AreAsked told d ys c) first then
 asked-append told a (x ∷ xs) b ys c first then = (first.0, first.1, asked-append told first.0 xs b ys c first.2 then)
 
-pub went-append : {D : Type 0} (told : D → Call → D → Type 0) (x y : List ℕ) (a : Connection) (d : D) (out : List ℕ) (b : Connection) (e : D) (mid : List ℕ) (c : Connection) (f : D) (end : List ℕ)
-    → Went told x a d out b e mid → Went told y b e mid c f end → Went told (x ++ y) a d out c f end
-went-append told x y a d out b e mid c f end first then = record {
+pub went-append : {D : Type 0} (told : D → Call → D → Type 0) (Kind : Turn → Type 0) (x y : List ℕ) (a : Connection) (d : D) (out : List ℕ) (b : Connection) (e : D) (mid : List ℕ) (c : Connection) (f : D) (end : List ℕ)
+    → Went told Kind x a d out b e mid → Went told Kind y b e mid c f end → Went told Kind (x ++ y) a d out c f end
+went-append told Kind x y a d out b e mid c f end first then = record {
   turns = first.turns ++ then.turns;
+  kind = kind-append Kind first.turns then.turns first.kind then.kind;
   same = then.same ∙ first.same;
   follow = turns-append a.number a.stage first.turns b.stage then.turns c.stage first.follow (subst (λ (n : ℕ). AreTurns n b.stage then.turns c.stage) first.same then.follow);
   spell =
@@ -48,10 +55,11 @@ went-append told x y a d out b e mid c f end first then = record {
 }
 
 -- no turn: what came is left behind what was left
-pub went-none : {D : Type 0} (told : D → Call → D → Type 0) (x : List ℕ) (a : Connection) (d : D) (out : List ℕ) (b : Connection) (e : D) (end : List ℕ)
-    → b.number ≡ a.number → b.stage ≡ a.stage → b.pending.items ≡ a.pending.items ++ x → e ≡ d → end ≡ out → Went told x a d out b e end
-went-none told x a d out b e end number stage pending desk says = record {
+pub went-none : {D : Type 0} (told : D → Call → D → Type 0) (Kind : Turn → Type 0) (x : List ℕ) (a : Connection) (d : D) (out : List ℕ) (b : Connection) (e : D) (end : List ℕ)
+    → b.number ≡ a.number → b.stage ≡ a.stage → b.pending.items ≡ a.pending.items ++ x → e ≡ d → end ≡ out → Went told Kind x a d out b e end
+went-none told Kind x a d out b e end number stage pending desk says = record {
   turns = [];
+  kind = tt;
   same = number;
   follow = stage;
   spell = sym pending;
@@ -60,10 +68,11 @@ went-none told x a d out b e end number stage pending desk says = record {
 }
 
 -- one turn, of the front of what was pending with what came
-pub went-one : {D : Type 0} (told : D → Call → D → Type 0) (x : List ℕ) (a : Connection) (d : D) (out : List ℕ) (b : Connection) (e : D) (end : List ℕ) (t : Turn)
-    → b.number ≡ a.number → IsTurn a.number a.stage t b.stage → a.pending.items ++ x ≡ t.text ++ b.pending.items → AreAsked told d t.asked e → end ≡ out ++ t.said → Went told x a d out b e end
-went-one {D} told x a d out b e end t number turn text ask says = record {
+pub went-one : {D : Type 0} (told : D → Call → D → Type 0) (Kind : Turn → Type 0) (x : List ℕ) (a : Connection) (d : D) (out : List ℕ) (b : Connection) (e : D) (end : List ℕ) (t : Turn)
+    → Kind t → b.number ≡ a.number → IsTurn a.number a.stage t b.stage → a.pending.items ++ x ≡ t.text ++ b.pending.items → AreAsked told d t.asked e → end ≡ out ++ t.said → Went told Kind x a d out b e end
+went-one {D} told Kind x a d out b e end t kind number turn text ask says = record {
   turns = t ∷ [];
+  kind = (kind, tt);
   same = number;
   follow = (b.stage, turn, refl);
   spell = text ∙ ap (λ (l : List ℕ). l ++ b.pending.items) (sym (append-nil t.text));
@@ -72,19 +81,35 @@ went-one {D} told x a d out b e end t number turn text ask says = record {
 }
 
 -- one more segment, in which nothing comes
-pub went-on : {D : Type 0} (told : D → Call → D → Type 0) (x : List ℕ) (a : Connection) (d : D) (out : List ℕ) (b : Connection) (e : D) (mid : List ℕ) (c : Connection) (f : D) (end : List ℕ)
-    → Went told x a d out b e mid → Went told [] b e mid c f end → Went told x a d out c f end
-went-on {D} told x a d out b e mid c f end first then = subst (λ (l : List ℕ). Went told l a d out c f end) (append-nil x) (went-append told x [] a d out b e mid c f end first then)
+pub went-on : {D : Type 0} (told : D → Call → D → Type 0) (Kind : Turn → Type 0) (x : List ℕ) (a : Connection) (d : D) (out : List ℕ) (b : Connection) (e : D) (mid : List ℕ) (c : Connection) (f : D) (end : List ℕ)
+    → Went told Kind x a d out b e mid → Went told Kind [] b e mid c f end → Went told Kind x a d out c f end
+went-on {D} told Kind x a d out b e mid c f end first then = subst (λ (l : List ℕ). Went told Kind l a d out c f end) (append-nil x) (went-append told Kind x [] a d out b e mid c f end first then)
 
 passes : (number : ℕ) (stage : Stage) (text : List ℕ) → stage ≡ Closed → IsTurn number stage (record { text = text; asked = []; said = [] }) stage
 passes number stage text is = rw is (refl, refl, refl)
 
 -- what comes to a closed connection
+passed-over : {D : Type 0} (told : D → Call → D → Type 0) (x : List ℕ) (a : Connection) (d : D) (out : List ℕ) (b : Connection) (all : List ℕ) → all ≡ a.pending.items ++ x
+    → b.number ≡ a.number → b.stage ≡ a.stage → b.pending.items ≡ [] → a.stage ≡ Closed → Went told HasText x a d out b d out
+passed-over told x a d out b [] all number stage pending is = went-none told HasText x a d out b d out number stage (pending ∙ all) refl refl
+passed-over told x a d out b (n ∷ ns) all number stage pending is =
+    let text : List ℕ = n ∷ ns in
+    went-one told HasText x a d out b d out (record { text = text; asked = []; said = [] }) (omega arith) number (rw stage (passes a.number a.stage text is)) (sym all ∙ sym (append-nil text) ∙ ap (λ (l : List ℕ). text ++ l) (sym pending)) refl (sym (append-nil out))
+
 pub went-closed : {D : Type 0} (told : D → Call → D → Type 0) (x : List ℕ) (a : Connection) (d : D) (out : List ℕ) (b : Connection)
-    → b.number ≡ a.number → b.stage ≡ a.stage → b.pending.items ≡ [] → a.stage ≡ Closed → Went told x a d out b d out
-went-closed told x a d out b number stage pending is =
-    let all : List ℕ = a.pending.items ++ x in
-    went-one told x a d out b d out (record { text = all; asked = []; said = [] }) number (rw stage (passes a.number a.stage all is)) (sym (append-nil all) ∙ ap (λ (l : List ℕ). all ++ l) (sym pending)) refl (sym (append-nil out))
+    → b.number ≡ a.number → b.stage ≡ a.stage → b.pending.items ≡ [] → a.stage ≡ Closed → Went told HasText x a d out b d out
+went-closed told x a d out b number stage pending is = passed-over told x a d out b (a.pending.items ++ x) refl number stage pending is
+
+-- a stream's end
+went-ended : {D : Type 0} (told : D → Call → D → Type 0) (a : Connection) (d : D) (out : List ℕ) (b : Connection) (end : List ℕ) → Ended a out b end → Went told IsAny [] a d out b d end
+went-ended told a d out b end e = went-one told IsAny [] a d out b d end end_turn tt e.same e.turn (append-nil a.pending.items ∙ sym e.keep) refl e.say
+
+are-any : (turns : List Turn) → AllByRecursion IsAny turns
+are-any [] = tt
+are-any (t ∷ turns) = (tt, are-any turns)
+
+went-any : {D : Type 0} (told : D → Call → D → Type 0) (x : List ℕ) (a : Connection) (d : D) (out : List ℕ) (b : Connection) (e : D) (end : List ℕ) → Went told HasText x a d out b e end → Went told IsAny x a d out b e end
+went-any told x a d out b e end went = record { turns = went.turns; kind = are-any went.turns; same = went.same; follow = went.follow; spell = went.spell; ask = went.ask; say = went.say }
 
 -- ---- from a new connection on
 
@@ -93,8 +118,8 @@ pub record Began {D : Type 0} (told : D → Call → D → Type 0) (number : ℕ
   pub numbered : old.number ≡ number
   pub fresh : old.stage ≡ Fresh
   pub empty : old.pending.items ≡ []
-  pub went : Went told input old desk out new desk' out'
-  pub waits : Waits new.stage new.pending.items
+  pub went : Went told IsAny input old desk out new desk' out'
+  pub waits : HaveEnded went.turns ⊎ Waits new.stage new.pending.items
 
 pub began : {D : Type 0} (told : D → Call → D → Type 0) (number : ℕ) (c : Connection) (desk : D) (out : List ℕ) → c.number ≡ number → c.stage ≡ Fresh → c.pending.items ≡ [] → Began told number [] desk out c desk out
 began told number c desk out numbered fresh empty = record {
@@ -102,20 +127,39 @@ began told number c desk out numbered fresh empty = record {
   numbered = numbered;
   fresh = fresh;
   empty = empty;
-  went = went-none told [] c desk out c desk out refl refl (sym (append-nil c.pending.items)) refl refl;
-  waits = rw (fresh, empty) refl;
+  went = went-none told IsAny [] c desk out c desk out refl refl (sym (append-nil c.pending.items)) refl refl;
+  waits = inr (rw (fresh, empty) refl);
 }
 
-pub began-on : {D : Type 0} (told : D → Call → D → Type 0) (number : ℕ) (x y : List ℕ) (d : D) (out : List ℕ) (b : Connection) (e : D) (mid : List ℕ) (c : Connection) (f : D) (end : List ℕ)
-    → Began told number x d out b e mid → Went told y b e mid c f end → Waits c.stage c.pending.items → Began told number (x ++ y) d out c f end
-began-on told number x y d out b e mid c f end first then waits = record {
+began-took : {D : Type 0} (told : D → Call → D → Type 0) (number : ℕ) (x y : List ℕ) (d : D) (out : List ℕ) (b : Connection) (e : D) (mid : List ℕ) (c : Connection) (f : D) (end : List ℕ)
+    → Began told number x d out b e mid → Went told HasText y b e mid c f end → Waits c.stage c.pending.items → Began told number (x ++ y) d out c f end
+began-took told number x y d out b e mid c f end first then waits = record {
   old = first.old;
   numbered = first.numbered;
   fresh = first.fresh;
   empty = first.empty;
-  went = went-append told x y first.old d out b e mid c f end first.went then;
-  waits = waits;
+  went = went-append told IsAny x y first.old d out b e mid c f end first.went (went-any told y b e mid c f end then);
+  waits = inr waits;
 }
+
+began-ended : {D : Type 0} (told : D → Call → D → Type 0) (number : ℕ) (x : List ℕ) (d : D) (out : List ℕ) (b : Connection) (e : D) (mid : List ℕ) (c : Connection) (end : List ℕ)
+    → Began told number x d out b e mid → Ended b mid c end → Began told number (x ++ []) d out c e end
+unfolding went-append went-ended went-one
+began-ended told number x d out b e mid c end first then = record {
+  old = first.old;
+  numbered = first.numbered;
+  fresh = first.fresh;
+  empty = first.empty;
+  went = went-append told IsAny x [] first.old d out b e mid c e end first.went (went-ended told b e mid c end then);
+  waits = inl (first.went.turns, refl);
+}
+
+-- one more event
+pub began-on : {D : Type 0} (told : D → Call → D → Type 0) (number : ℕ) (x : List ℕ) (d : D) (out : List ℕ) (b : Connection) (e : D) (mid : List ℕ) (event : Event) (c : Connection) (f : D) (end : List ℕ)
+    → Began told number x d out b e mid → Happened told event b e mid c f end → Began told number (x ++ heard event) d out c f end
+began-on told number x d out b e mid (Came bytes) c f end first then = began-took told number x bytes.items d out b e mid c f end first then.0 then.1
+began-on {D} told number x d out b e mid AllSent c f end first (desk, inl then) = rw desk (began-ended told number x d out b e mid c end first then)
+began-on {D} told number x d out b e mid AllSent c f end first (desk, inr (same, says)) = rw (desk, same, says, append-nil x) first
 
 pub conversed : {D : Type 0} (told : D → Call → D → Type 0) (number : ℕ) (input : List ℕ) (desk : D) (out : List ℕ) (new : Connection) (desk' : D) (out' : List ℕ)
     → Began told number input desk out new desk' out' → Gave told (λ asked said. IsConversation number input asked said) desk out desk' out'
@@ -141,9 +185,9 @@ unless_memory (Ok a) Fact is other = is
 unless_memory (Err faults.Closed) Fact is other = is
 unless_memory (Err faults.Memory) Fact is other = absurd (other refl)
 
--- the pieces up to the next one
-pub piece_more : {X : Type 0} (f : X → List ℕ) (pieces : List X) (i : ℕ) (x : X) → i < length pieces → get_or pieces i x ≡ x → flat_map f (take (i + 1) pieces) ≡ flat_map f (take i pieces) ++ f x
-piece_more {X} f pieces i x lt is =
-    ap (λ (l : List X). flat_map f l) (take_more pieces i x lt)
-    ∙ flat_map-append f (take i pieces) (get_or pieces i x ∷ [])
-    ∙ ap (λ (l : List ℕ). flat_map f (take i pieces) ++ l) (append-nil (f (get_or pieces i x)) ∙ ap f is)
+-- the events up to the next one
+pub event_more : {X : Type 0} (f : X → List ℕ) (events : List X) (i : ℕ) (x : X) → i < length events → get_or events i x ≡ x → flat_map f (take (i + 1) events) ≡ flat_map f (take i events) ++ f x
+event_more {X} f events i x lt is =
+    ap (λ (l : List X). flat_map f l) (take_more events i x lt)
+    ∙ flat_map-append f (take i events) (get_or events i x ∷ [])
+    ∙ ap (λ (l : List ℕ). flat_map f (take i events) ++ l) (append-nil (f (get_or events i x)) ∙ ap f is)

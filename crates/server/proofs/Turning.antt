@@ -10,6 +10,7 @@ use Rattle.frames.specs.declared.front.Front.{Front}
 use Rattle.frames.specs.declared.front.Front.TheVariants as fronts
 use Rattle.frames.specs.declared.copy_data.CopyData.{CopyData}
 use Rattle.frames.specs.declared.copy_fail.CopyFail.{CopyFail}
+use Rattle.frames.specs.declared.query.Query.{Query}
 use Rattle.frames.specs.Fields.{int32}
 use Rattle.frames.specs.Frame.{Gives}
 use Rattle.frames.specs.Front.{SpellsFront, IsShortFront, framed_front}
@@ -17,14 +18,14 @@ use Rattle.frames.specs.Startup.{SpellsStartup, framed_startup, startup_number, 
 use Rattle.frames.proofs.Numbers.{length-int32}
 use Rattle.server.specs.declared.connection.Connection.{Connection}
 use Rattle.server.specs.declared.refusal.Refusal.TheVariants.{Violation}
-use Rattle.server.specs.declared.turn.Stage.{Stage}
-use Rattle.server.specs.declared.turn.Stage.TheVariants.{Fresh, Idle, Closed}
-use Rattle.server.specs.declared.turn.Turned.{Turned}
+use Rattle.server.specs.declared.stage.Stage.{Stage}
+use Rattle.server.specs.declared.stage.Stage.TheVariants.{Fresh, Closed}
+use Rattle.server.specs.declared.stage.Turned.{Turned}
 use Rattle.server.specs.Calls.{Call}
 use Rattle.server.specs.Conversation.{Gave}
 use Rattle.server.specs.Said.{refused}
-use Rattle.server.specs.Turns.{Hears, refusal_of}
-use Rattle.server.specs.Segment.{Went, Said, IsTurned}
+use Rattle.server.specs.Turns.{Turn, IsTurn, IsFrameTurn, Hears, Streams, refusal_of}
+use Rattle.server.specs.Segment.{Went, HasText, Said, IsTurned}
 use Rattle.server.proofs.Segments.{went-none, went-one}
 
 -- ---- what is read takes bytes
@@ -59,26 +60,40 @@ front_of_some n bytes le some = rw (length-take-le n bytes le) at some
 
 -- ---- turns
 
-pub front_turned : {D : Type 0} (told : D → Call → D → Type 0) (number : ℕ) (database pending : List ℕ) (count : ℕ) (front : Front) (next : Stage) (Same : Type 0) (desk : D) (out : List ℕ) (desk' : D) (out' : List ℕ)
+pub front_turned : {D : Type 0} (told : D → Call → D → Type 0) (number : ℕ) (stage : Stage) (Answers : Front → List Call → List ℕ → Stage → Type 0) (pending : List ℕ) (count : ℕ) (front : Front) (next : Stage) (Same : Type 0) (desk : D) (out : List ℕ) (desk' : D) (out' : List ℕ)
+    → ((t : Turn) (n : Stage) → IsFrameTurn Answers t n → IsTurn number stage t n)
     → count ≤ length pending → SpellsFront (take count pending) front → IsShortFront front
-    → Gave told (λ asked said. Hears database front asked said next) desk out desk' out'
-    → IsTurned number (Idle database) pending (record { stage = next; count = count }) Same (λ fact. Gave told fact desk out desk' out')
-front_turned told number database pending count front next Same desk out desk' out' le spells short gave = inr (
+    → Gave told (λ asked said. Answers front asked said next) desk out desk' out'
+    → IsTurned number stage pending (record { stage = next; count = count }) Same (λ fact. Gave told fact desk out desk' out')
+front_turned told number stage Answers pending count front next Same desk out desk' out' turn le spells short gave = inr (
   front_of_some count pending le (front_has (take count pending) front spells),
   le,
-  record { asked = gave.asked; text = gave.text; fact = inl (front, spells, short, gave.fact); asks = gave.asks; says = gave.says },
+  record {
+    asked = gave.asked;
+    text = gave.text;
+    fact = turn (record { text = take count pending; asked = gave.asked; said = gave.text }) next (inl (front, spells, short, gave.fact));
+    asks = gave.asks;
+    says = gave.says;
+  },
 )
 
-pub front_refused : {D : Type 0} (told : D → Call → D → Type 0) (number : ℕ) (database pending : List ℕ) (fault : FrameFault) (Same : Type 0) (desk : D) (out out' : List ℕ)
+pub front_refused : {D : Type 0} (told : D → Call → D → Type 0) (number : ℕ) (stage : Stage) (Answers : Front → List Call → List ℕ → Stage → Type 0) (pending : List ℕ) (fault : FrameFault) (Same : Type 0) (desk : D) (out out' : List ℕ)
+    → ((t : Turn) (n : Stage) → IsFrameTurn Answers t n → IsTurn number stage t n)
     → fault ≢ Memory → Gives (Err fault) (framed_front pending) → out' ≡ out ++ refused (refusal_of fault)
-    → IsTurned number (Idle database) pending (record { stage = Closed; count = length pending }) Same (λ fact. Gave told fact desk out desk out')
-front_refused told number database pending fault Same desk out out' other gives says =
+    → IsTurned number stage pending (record { stage = Closed; count = length pending }) Same (λ fact. Gave told fact desk out desk out')
+front_refused told number stage Answers pending fault Same desk out out' turn other gives says =
     let is : framed_front pending ≡ Err fault = read_fault fault (framed_front pending) other gives in
     let whole : take (length pending) pending ≡ pending = take_all (length pending) pending (omega arith) in
     inr (
       faulty_front pending fault is,
       omega arith,
-      record { asked = []; text = refused (refusal_of fault); fact = inr (fault, rw whole is, (refl, refl, refl)); asks = refl; says = says },
+      record {
+        asked = [];
+        text = refused (refusal_of fault);
+        fact = turn (record { text = take (length pending) pending; asked = []; said = refused (refusal_of fault) }) Closed (inr (fault, rw whole is, (refl, refl, refl)));
+        asks = refl;
+        says = says;
+      },
     )
 
 pub startup_refused : (number : ℕ) (pending : List ℕ) (fault : FrameFault) (Same : Type 0) (out out' : List ℕ)
@@ -110,11 +125,11 @@ closed_turned told number (b ∷ bytes) desk out = inr (omega arith, omega arith
 pub turned_went : {D : Type 0} (told : D → Call → D → Type 0) (old : Connection) (desk : D) (out : List ℕ) (t : Turned) (new : Connection) (desk' : D) (out' : List ℕ)
     → new.number ≡ old.number → new.stage ≡ t.stage → new.pending.items ≡ drop t.count old.pending.items
     → IsTurned old.number old.stage old.pending.items t ((desk' ≡ desk) × (out' ≡ out)) (λ fact. Gave told fact desk out desk' out')
-    → Went told [] old desk out new desk' out'
+    → Went told HasText [] old desk out new desk' out'
 turned_went told old desk out t new desk' out' number stage pending (inl (none, same, waits, (desks, outs))) =
-    went-none told [] old desk out new desk' out' number (stage ∙ same) (pending ∙ ap (λ (n : ℕ). drop n old.pending.items) none ∙ sym (append-nil old.pending.items)) desks outs
+    went-none told HasText [] old desk out new desk' out' number (stage ∙ same) (pending ∙ ap (λ (n : ℕ). drop n old.pending.items) none ∙ sym (append-nil old.pending.items)) desks outs
 turned_went told old desk out t new desk' out' number stage pending (inr (some, le, gave)) =
-    went-one told [] old desk out new desk' out' (record { text = take t.count old.pending.items; asked = gave.asked; said = gave.text }) number (rw stage gave.fact)
+    went-one told HasText [] old desk out new desk' out' (record { text = take t.count old.pending.items; asked = gave.asked; said = gave.text }) (rw (length-take-le t.count old.pending.items le) some) number (rw stage gave.fact)
     (append-nil old.pending.items ∙ sym (take-append-drop t.count old.pending.items) ∙ ap (λ (l : List ℕ). take t.count old.pending.items ++ l) (sym pending))
     gave.asks gave.says
 
@@ -124,3 +139,8 @@ pub out_of_place : (database : List ℕ) (f : Front) → ((bytes : CopyData) × 
 out_of_place database f (inl (bytes, is)) = subst (λ (g : Front). Hears database g [] (refused Violation) Closed) (sym is) (refl, refl, refl)
 out_of_place database f (inr (inl is)) = subst (λ (g : Front). Hears database g [] (refused Violation) Closed) (sym is) (refl, refl, refl)
 out_of_place database f (inr (inr (fail, is))) = subst (λ (g : Front). Hears database g [] (refused Violation) Closed) (sym is) (refl, refl, refl)
+
+-- the same in a stream
+pub out_of_stream : (database : List ℕ) (f : Front) → ((query : Query) × (f ≡ fronts.Query query)) ⊎ ((fail : CopyFail) × (f ≡ fronts.CopyFail fail)) → Streams database f [] (refused Violation) Closed
+out_of_stream database f (inl (query, is)) = subst (λ (g : Front). Streams database g [] (refused Violation) Closed) (sym is) (refl, refl, refl)
+out_of_stream database f (inr (fail, is)) = subst (λ (g : Front). Streams database g [] (refused Violation) Closed) (sym is) (refl, refl, refl)

@@ -24,13 +24,13 @@ abbrev pub is_ok : Result (Unit {0}) DeskFault → Bool
 is_ok (Ok u) = true
 is_ok (Err fault) = false
 
--- Each command makes its own calls, each once. A stream that begins leaves no query to wait for.
+-- Each command makes its own calls, each once. One of them may begin a stream.
 abbrev pub Runs : List ℕ → Command → Bool → List Call → List ℕ → Type 0
-Runs database Identify closes asked text = (end : ℕ) × (systemid : List ℕ) × (asked ≡ End end ∷ System systemid ∷ []) × (text ≡ identified systemid end database) × (closes ≡ false)
-Runs database (Create slot) closes asked text = (answer : Result ℕ DeskFault) × (asked ≡ CreateSlot slot answer ∷ []) × (text ≡ created slot answer) × (closes ≡ false)
-Runs database (Drop slot) closes asked text = (answer : Result (Unit {0}) DeskFault) × (asked ≡ DropSlot slot answer ∷ []) × (text ≡ dropped answer) × (closes ≡ false)
-Runs database (Start slot position publications) closes asked text =
-    (answer : Result (Unit {0}) DeskFault) × (asked ≡ StartStream slot position publications answer ∷ []) × (text ≡ started answer) × (closes ≡ is_ok answer)
+Runs database Identify begins asked text = (end : ℕ) × (systemid : List ℕ) × (asked ≡ End end ∷ System systemid ∷ []) × (text ≡ identified systemid end database) × (begins ≡ false)
+Runs database (Create slot) begins asked text = (answer : Result ℕ DeskFault) × (asked ≡ CreateSlot slot answer ∷ []) × (text ≡ created slot answer) × (begins ≡ false)
+Runs database (Drop slot) begins asked text = (answer : Result (Unit {0}) DeskFault) × (asked ≡ DropSlot slot answer ∷ []) × (text ≡ dropped answer) × (begins ≡ false)
+Runs database (Start slot position publications) begins asked text =
+    (answer : Result (Unit {0}) DeskFault) × (asked ≡ StartStream slot position publications answer ∷ []) × (text ≡ started answer) × (begins ≡ is_ok answer)
 
 -- the slot of a command to make one is no longer than slots' names are
 abbrev pub HasShortSlot : Command → Type 0
@@ -45,4 +45,4 @@ pub record IsRefused (query : List ℕ) (asked : List Call) (text : List ℕ) : 
   pub no_command : fault ≢ commands.Memory → (c : Command) → SpellsCommand query c → ⊥
 
 abbrev pub Replies : List ℕ → List ℕ → Bool → List Call → List ℕ → Type 0
-Replies database query closes asked text = ((c : Command) × SpellsCommand query c × Runs database c closes asked text) ⊎ (IsRefused query asked text × (closes ≡ false))
+Replies database query begins asked text = ((c : Command) × SpellsCommand query c × Runs database c begins asked text) ⊎ (IsRefused query asked text × (begins ≡ false))

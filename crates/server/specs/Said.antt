@@ -1,7 +1,7 @@
 -- What the server says, frame by frame, as PostgreSQL 15, 55.2.1, 55.2.2 and 55.4 have it.
 use Rattle.std.specs.Prelude.{ℕ, ◌^◌, ◌≤◌, List, [], ◌∷◌, ◌++◌, length, Option, Some, None, Result, Ok, Err, codes}
 use Rattle.frames.specs.declared.back.Back.{Back}
-use Rattle.frames.specs.declared.back.Back.TheVariants.{AuthenticationOk, ParameterStatus, BackendKeyData, ReadyForQuery, CommandComplete, RowDescription, DataRow, ErrorResponse, CopyBothResponse}
+use Rattle.frames.specs.declared.back.Back.TheVariants.{AuthenticationOk, ParameterStatus, BackendKeyData, ReadyForQuery, CommandComplete, RowDescription, DataRow, ErrorResponse, CopyBothResponse, CopyDone}
 use Rattle.frames.specs.declared.ready_for_query.Status.TheVariants as statuses
 use Rattle.frames.specs.declared.row_description.ColumnType.{ColumnType}
 use Rattle.frames.specs.declared.row_description.ColumnDescription.{ColumnDescription}
@@ -109,7 +109,11 @@ unfoldable pub dropped : Result (Unit {0}) DeskFault → List ℕ
 dropped (Ok u) = said (completed (codes "DROP_REPLICATION_SLOT")) ++ ready
 dropped (Err fault) = refused_ready (Asked fault)
 
--- START_REPLICATION: the stream begins, and no query is waited for
+-- START_REPLICATION: the stream begins
 unfoldable pub started : Result (Unit {0}) DeskFault → List ℕ
 started (Ok u) = said (CopyBothResponse (record { format = 0; formats = [] }))
 started (Err fault) = refused_ready (Asked fault)
+
+-- the end of a stream, behind all of it: the command that began it is complete
+unfoldable pub ended : List ℕ
+ended = said CopyDone ++ (said (completed (codes "START_REPLICATION")) ++ ready)

@@ -1,25 +1,53 @@
 -- The part of a conversation that one call carries on, from the connection before it to the connection after it.
 use Rattle.std.specs.Prelude.{◌≡◌, ℕ, ◌<◌, ◌≤◌, ◌⊎◌, List, [], ◌++◌, length, take, Result, Ok, Err}
-use Rattle.std.specs.List.{flat_map}
+use Rattle.std.specs.List.{flat_map, AllByRecursion}
 use Rattle.server.specs.declared.fault.ConnFault.{ConnFault}
 use Rattle.server.specs.declared.fault.ConnFault.TheVariants as faults
 use Rattle.server.specs.declared.connection.Phase.{Phase}
 use Rattle.server.specs.declared.connection.Phase.TheVariants as phases
 use Rattle.server.specs.declared.connection.Connection.{Connection}
-use Rattle.server.specs.declared.turn.Stage.{Stage}
-use Rattle.server.specs.declared.turn.Stage.TheVariants.{Fresh, Idle, Closed}
-use Rattle.server.specs.declared.turn.Turned.{Turned}
+use Rattle.server.specs.declared.stage.Stage.{Stage}
+use Rattle.server.specs.declared.stage.Stage.TheVariants.{Fresh, Idle, Streaming, Stopping, Closed}
+use Rattle.server.specs.declared.stage.Turned.{Turned}
 use Rattle.server.specs.Calls.{Call, AreAsked}
-use Rattle.server.specs.Turns.{Turn, IsTurn, AreTurns, Waits}
+use Rattle.server.specs.declared.conversation.Event.{Event}
+use Rattle.server.specs.declared.conversation.Event.TheVariants.{Came, AllSent}
+use Rattle.server.specs.Turns.{Turn, IsTurn, AreTurns, Waits, end_turn}
+use Rattle.server.specs.Said.{ended}
 
--- The turns between two connections: they spell what was left and what came, but for what is left now.
-pub record Went {D : Type 0} (told : D → Call → D → Type 0) (input : List ℕ) (old : Connection) (desk : D) (out : List ℕ) (new : Connection) (desk' : D) (out' : List ℕ) : Type 0 where
+-- a turn for a text, so not the end of a stream
+abbrev pub HasText : Turn → Type 0
+HasText t = 0 < length t.text
+
+abbrev pub IsAny : Turn → Type 0
+IsAny t = Unit {0}
+
+-- The turns between two connections, each of this kind: they spell what was left and what came, but for what is left now.
+pub record Went {D : Type 0} (told : D → Call → D → Type 0) (Kind : Turn → Type 0) (input : List ℕ) (old : Connection) (desk : D) (out : List ℕ) (new : Connection) (desk' : D) (out' : List ℕ) : Type 0 where
   pub turns : List Turn
+  pub kind : AllByRecursion Kind turns
   pub same : new.number ≡ old.number
   pub follow : AreTurns old.number old.stage turns new.stage
   pub spell : old.pending.items ++ input ≡ flat_map (λ t. t.text) turns ++ new.pending.items
   pub ask : AreAsked told desk (flat_map (λ t. t.asked) turns) desk'
   pub say : out' ≡ out ++ flat_map (λ t. t.said) turns
+
+-- The end of a stream between two connections: the one turn without a text. What came before it is kept.
+pub record Ended (old : Connection) (out : List ℕ) (new : Connection) (out' : List ℕ) : Type 0 where
+  pub same : new.number ≡ old.number
+  pub turn : IsTurn old.number old.stage end_turn new.stage
+  pub keep : new.pending.items ≡ old.pending.items
+  pub say : out' ≡ out ++ ended
+
+-- what the client sent in it
+abbrev pub heard : Event → List ℕ
+heard (Came bytes) = bytes.items
+heard AllSent = []
+
+-- What comes is taken. That all has been sent ends a stream that stops, and is passed over else.
+abbrev pub Happened : {D : Type 0} → (D → Call → D → Type 0) → Event → Connection → D → List ℕ → Connection → D → List ℕ → Type 0
+Happened told (Came bytes) old desk out new desk' out' = Went told HasText bytes.items old desk out new desk' out' × Waits new.stage new.pending.items
+Happened told AllSent old desk out new desk' out' = (desk' ≡ desk) × (Ended old out new out' ⊎ ((new ≡ old) × (out' ≡ out)))
 
 -- until memory runs out; what comes to a closed connection is no exception
 abbrev pub UnlessMemory : {A : Type 0} → Result A ConnFault → Type 0 → Type 0
@@ -30,6 +58,8 @@ UnlessMemory (Err faults.Memory) Fact = Unit {0}
 abbrev pub phase_of : Stage → Phase
 phase_of Fresh = phases.Startup
 phase_of (Idle database) = phases.Idle
+phase_of (Streaming database) = phases.Streaming
+phase_of (Stopping database) = phases.Stopping
 phase_of Closed = phases.Closed
 
 -- ---- one turn

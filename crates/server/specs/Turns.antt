@@ -1,5 +1,5 @@
 -- A conversation as a list of turns: each is a text of the client, what was asked of the desk for it, and what was said
--- to it (PostgreSQL 15, 55.2.1 to 55.2.3 and 55.4).
+-- to it (PostgreSQL 15, 55.2.1 to 55.2.3, 55.2.6 and 55.4).
 use Rattle.std.specs.Prelude.{◌≡◌, ℕ, ◌⊎◌, List, [], ◌∷◌, ◌++◌, Option, Some, None, Ok, Err, Bool, codes, if◌then◌else◌}
 use Rattle.std.specs.List.{flat_map}
 use Rattle.frames.specs.declared.fault.FrameFault.{FrameFault}
@@ -10,14 +10,17 @@ use Rattle.frames.specs.declared.front.Front.{Front}
 use Rattle.frames.specs.declared.front.Front.TheVariants.{Query, Terminate, CopyData, CopyDone, CopyFail}
 use Rattle.frames.specs.Startup.{SpellsStartup, framed_startup}
 use Rattle.frames.specs.Front.{SpellsFront, IsShortFront, framed_front}
+use Rattle.copyboth.specs.declared.fault.CopyFault.{CopyFault}
+use Rattle.copyboth.specs.declared.status.Status.{Status}
+use Rattle.copyboth.specs.Status.{SpellsStatus, client_fault}
 use Rattle.server.specs.declared.refusal.Refusal.{Refusal}
 use Rattle.server.specs.declared.refusal.Refusal.TheVariants.{Violation, Version}
-use Rattle.server.specs.declared.turn.Stage.{Stage}
-use Rattle.server.specs.declared.turn.Stage.TheVariants.{Fresh, Idle, Closed}
-use Rattle.server.specs.Calls.{Call}
+use Rattle.server.specs.declared.stage.Stage.{Stage}
+use Rattle.server.specs.declared.stage.Stage.TheVariants.{Fresh, Idle, Streaming, Stopping, Closed}
+use Rattle.server.specs.Calls.{Call, Flushed}
 use Rattle.server.specs.Conversation.{Replies}
 use Rattle.server.specs.Opening.{opened}
-use Rattle.server.specs.Said.{refused, greeted}
+use Rattle.server.specs.Said.{refused, greeted, ended}
 
 pub record Turn : Type 0 where
   pub text : List ℕ
@@ -52,16 +55,45 @@ Opens number (Cancel process key) = Says [] Closed
 
 -- ---- in a session
 
--- A query is answered; a stream that begins ends the conversation. Terminate is the client's own end, and the frames of
--- a stream are out of their place.
+-- A query is answered, and may begin a stream. Terminate is the client's own end, and the frames of a stream are out of
+-- their place.
 abbrev pub Hears : List ℕ → Front → List Call → List ℕ → Stage → Type 0
-Hears database (Query query) asked said next = (closes : Bool) × Replies database query.text closes asked said × (next ≡ (if closes then Closed else Idle database))
+Hears database (Query query) asked said next = (begins : Bool) × Replies database query.text begins asked said × (next ≡ (if begins then Streaming database else Idle database))
 Hears database Terminate asked said next = Says [] Closed asked said next
 Hears database (CopyData bytes) asked said next = Refuses Violation asked said next
 Hears database CopyDone asked said next = Refuses Violation asked said next
 Hears database (CopyFail fail) asked said next = Refuses Violation asked said next
 
+-- ---- in a stream
+
+-- The desk is told of a status: how far the client has flushed, and whether it asks for an answer. This is one call.
+pub record Passes (bytes : List ℕ) (asked : List Call) (said : List ℕ) : Type 0 where
+  pub status : Status
+  pub spells : SpellsStatus bytes status
+  pub once : asked ≡ Flushed status.flushed status.ask ∷ []
+  pub silent : said ≡ []
+
+-- A client sends statuses, and nothing is said to them here. CopyDone asks for the stream's end, Terminate is the client's
+-- own, and all else is refused.
+abbrev pub Streams : List ℕ → Front → List Call → List ℕ → Stage → Type 0
+Streams database (CopyData body) asked said next =
+    (Passes body.bytes asked said × (next ≡ Streaming database)) ⊎ ((fault : CopyFault) × (client_fault body.bytes ≡ Some fault) × Refuses Violation asked said next)
+Streams database CopyDone asked said next = Says [] (Stopping database) asked said next
+Streams database Terminate asked said next = Says [] Closed asked said next
+Streams database (Query query) asked said next = Refuses Violation asked said next
+Streams database (CopyFail fail) asked said next = Refuses Violation asked said next
+
+-- A stream that stops is ended by a turn of its own, for no text: once all of the stream has been said.
+abbrev pub end_turn : Turn
+end_turn = record { text = []; asked = []; said = ended }
+
 -- ---- turns
+
+-- a text that is one frame, answered so, or that begins with what is none
+abbrev pub IsFrameTurn : (Front → List Call → List ℕ → Stage → Type 0) → Turn → Stage → Type 0
+IsFrameTurn Answers t next =
+    ((front : Front) × SpellsFront t.text front × IsShortFront front × Answers front t.asked t.said next)
+    ⊎ ((fault : FrameFault) × (framed_front t.text ≡ Err fault) × Refuses (refusal_of fault) t.asked t.said next)
 
 -- A turn from one stage to the next. Its text is one startup, or one frame, or it begins with what is neither: then the
 -- connection closes, and all that follows is passed over.
@@ -69,9 +101,9 @@ abbrev pub IsTurn : ℕ → Stage → Turn → Stage → Type 0
 IsTurn number Fresh t next =
     ((startup : Startup) × SpellsStartup t.text startup × Opens number startup t.asked t.said next)
     ⊎ ((fault : FrameFault) × (framed_startup t.text ≡ Err fault) × Refuses (refusal_of fault) t.asked t.said next)
-IsTurn number (Idle database) t next =
-    ((front : Front) × SpellsFront t.text front × IsShortFront front × Hears database front t.asked t.said next)
-    ⊎ ((fault : FrameFault) × (framed_front t.text ≡ Err fault) × Refuses (refusal_of fault) t.asked t.said next)
+IsTurn number (Idle database) t next = IsFrameTurn (Hears database) t next
+IsTurn number (Streaming database) t next = IsFrameTurn (Streams database) t next
+IsTurn number (Stopping database) t next = (t ≡ end_turn) × (next ≡ Idle database)
 IsTurn number Closed t next = Says [] Closed t.asked t.said next
 
 -- one turn after the other
@@ -79,14 +111,21 @@ abbrev pub AreTurns : ℕ → Stage → List Turn → Stage → Type 0
 AreTurns number old [] new = new ≡ old
 AreTurns number old (t ∷ ts) new = (mid : Stage) × IsTurn number old t mid × AreTurns number mid ts new
 
--- no startup and no frame stands whole at the front; once the connection is closed, nothing is left
+-- No startup and no frame stands whole at the front. While a stream stops, anything is kept; once the connection is
+-- closed, nothing is left.
 abbrev pub Waits : Stage → List ℕ → Type 0
 Waits Fresh rest = framed_startup rest ≡ Ok None
 Waits (Idle database) rest = framed_front rest ≡ Ok None
+Waits (Streaming database) rest = framed_front rest ≡ Ok None
+Waits (Stopping database) rest = Unit {0}
 Waits Closed rest = rest ≡ []
 
+-- a stream has just ended: what came behind its CopyDone counts from the next call on
+abbrev pub HaveEnded : List Turn → Type 0
+HaveEnded turns = (before : List Turn) × (turns ≡ before ++ end_turn ∷ [])
+
 -- What the connection of this number hears, what it asks of its desk and what it says are one conversation: from its
--- startup on, turn by turn, the turns spell the input but for a rest that is waited on.
+-- startup on, turn by turn, the turns spell the input but for a rest that is waited on. The bytes of streams are apart.
 pub record IsConversation (number : ℕ) (input : List ℕ) (asked : List Call) (said : List ℕ) : Type 0 where
   pub turns : List Turn
   pub end : Stage
@@ -95,4 +134,4 @@ pub record IsConversation (number : ℕ) (input : List ℕ) (asked : List Call) 
   pub spell : input ≡ flat_map (λ t. t.text) turns ++ rest
   pub ask : asked ≡ flat_map (λ t. t.asked) turns
   pub say : said ≡ flat_map (λ t. t.said) turns
-  pub waits : Waits end rest
+  pub waits : HaveEnded turns ⊎ Waits end rest

@@ -1,15 +1,15 @@
 //! A connection: what has come of it and isn't answered yet, and how far its conversation is.
 
-ghost use Rattle.std.specs.Prelude.{◌≡◌, ◌≢◌, ◌↔◌, ◌<◌, ◌++◌, length, OnOk, OnErr, IfOk, [], Err, false, true};
-ghost use Rattle.server.specs.Conversation.{Gave};
-ghost use Rattle.server.specs.Segment.{Went, UnlessMemory, phase_of};
-ghost use Rattle.server.specs.Turns.{Waits, IsConversation};
-ghost use Rattle.server.specs.declared.turn.Stage.TheVariants.{Fresh, Closed};
-ghost use Rattle.std.specs.List.{flat_map};
+ghost use Rattle.std.specs.Prelude.{◌≡◌, ◌≢◌, ◌↔◌, ◌<◌, ℕ, length, OnOk, OnErr, IfOk, [], Err, false, true};
+ghost use Rattle.server.specs.Segment.{Went, HasText, Ended, UnlessMemory, phase_of};
+ghost use Rattle.server.specs.Turns.{IsTurn, Waits, end_turn};
+ghost use Rattle.server.specs.declared.stage.Stage.TheVariants.{Fresh, Closed};
 
 use crate::desk::Desk;
 use crate::fault::ConnFault;
-use crate::turn::{Stage, Turned, turn};
+use crate::say::say_ended;
+use crate::stage::{Stage, Turned};
+use crate::turn::turn;
 use bytes::BytesMut;
 use std::alloc::{AllocError, Global};
 use std::mem;
@@ -21,6 +21,10 @@ pub enum Phase {
     Startup,
     /// A query, or the end.
     Idle,
+    /// A status, or the end of the stream.
+    Streaming,
+    /// That all of the stream has been said, of which `stopped` tells.
+    Stopping,
     /// Nothing.
     Closed,
 }
@@ -58,13 +62,15 @@ impl Connection {
         match &self.stage {
             Stage::Fresh => Phase::Startup,
             Stage::Idle(_) => Phase::Idle,
+            Stage::Streaming(_) => Phase::Streaming,
+            Stage::Stopping(_) => Phase::Stopping,
             Stage::Closed => Phase::Closed,
         }
     }
 
     /// Takes one turn; false: what is pending has to wait for more.
     fn step<D: Desk>(&mut self, desk: &mut D, out: &mut BytesMut) -> Result<bool, AllocError>
-        ensures went { OnOk result (Went D.told [] self.old desk.old out.old.items self.new desk.new out.new.items) }
+        ensures went { OnOk result (Went D.told HasText [] self.old desk.old out.old.items self.new desk.new out.new.items) }
         ensures less { IfOk result (λ more. more ≡ true → length self.new.pending.items < length self.old.pending.items) }
         ensures waits { IfOk result (λ more. more ≡ false → Waits self.new.stage self.new.pending.items) }
     {
@@ -90,7 +96,7 @@ impl Connection {
         desk: &mut D,
         out: &mut BytesMut,
     ) -> Result<(), AllocError>
-        ensures went { OnOk result (Went D.told bytes.now self.old desk.old out.old.items self.new desk.new out.new.items) }
+        ensures went { OnOk result (Went D.told HasText bytes.now self.old desk.old out.old.items self.new desk.new out.new.items) }
         ensures waits { OnOk result (Waits self.new.stage self.new.pending.items) }
     {
         self.pending.extend_from_slice(bytes)?;
@@ -114,6 +120,9 @@ impl Connection {
     ///
     /// H1 is want of memory, and it closes the connection without a word. What comes to a closed connection is passed
     /// over: in the call that closed it silently, in later ones by H2.
+    ///
+    /// The client of a stream ends it by CopyDone. What comes behind that is kept, and answered by the first call after
+    /// `stopped`.
     pub fn take<D: Desk>(
         &mut self,
         bytes: &[u8],
@@ -121,7 +130,7 @@ impl Connection {
         out: &mut BytesMut,
     ) -> Result<Phase, ConnFault>
         // The call carries the conversation on.
-        ensures went { UnlessMemory result (Went D.told bytes.now self.old desk.old out.old.items self.new desk.new out.new.items) }
+        ensures went { UnlessMemory result (Went D.told HasText bytes.now self.old desk.old out.old.items self.new desk.new out.new.items) }
         // All that can be answered is.
         ensures waits { UnlessMemory result (Waits self.new.stage self.new.pending.items) }
         ensures phase { IfOk result (λ p. p ≡ phase_of self.new.stage) }
@@ -138,31 +147,31 @@ impl Connection {
         }
         Ok(self.phase())
     }
-}
 
-/// Whether the connection can go on.
-fn unless_memory(answer: Result<Phase, ConnFault>) -> Result<(), AllocError>
-    ensures { OnOk result (answer ≢ Err ConnFault.Memory) }
-{
-    match answer {
-        Err(ConnFault::Memory) => Err(AllocError),
-        _ => Ok(()),
+    /// Ends the stream that stops: all of it has been said. The connection waits for a query again.
+    ///
+    /// H1 is want of memory, and it closes the connection.
+    pub fn stopped(&mut self, out: &mut BytesMut) -> Result<Phase, ConnFault>
+        requires { phase_of self.old.stage ≡ Phase.Stopping }
+        ensures ended { IfOk result (λ _. Ended self.old out.old.items self.new out.new.items) }
+        ensures phase { IfOk result (λ p. p ≡ Phase.Idle) }
+        ensures closed { OnErr result (self.new.stage ≡ Closed) }
+        ensures memory { result ≢ Err ConnFault.Closed }
+    {
+        let stage = mem::replace(&mut self.stage, Stage::Closed);
+        say_ended(self.alloc, out)?;
+        self.stage = after_end(stage);
+        Ok(Phase::Idle)
     }
 }
 
-/// Holds a whole conversation on the connection of this number: the pieces are what the client sends, in any cuts.
-pub fn converse<D: Desk>(
-    alloc: Global,
-    number: u32,
-    pieces: &[Vec<u8>],
-    desk: &mut D,
-    out: &mut BytesMut,
-) -> Result<(), AllocError>
-    ensures { OnOk result (Gave D.told (IsConversation number (flat_map (λ p. p.items) pieces.now)) desk.old out.old.items desk.new out.new.items) }
+/// Where a stream's end leads to.
+fn after_end(stage: Stage) -> Stage
+    requires { phase_of stage ≡ Phase.Stopping }
+    ensures { (number : ℕ) → IsTurn number stage end_turn result }
 {
-    let mut connection = Connection::new(alloc, number);
-    for piece in pieces {
-        unless_memory(connection.take(piece.as_slice(), desk, out))?;
+    match stage {
+        Stage::Stopping(database) => Stage::Idle(database),
+        other => other,
     }
-    Ok(())
 }

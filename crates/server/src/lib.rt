@@ -3,6 +3,7 @@
 #![tactic(auto)]
 
 mod connection;
+mod conversation;
 mod database;
 mod desk;
 mod fault;
@@ -10,9 +11,13 @@ mod opening;
 mod query;
 mod refusal;
 mod say;
+mod session;
+mod stage;
+mod streaming;
 mod turn;
 
-pub use connection::{Connection, Phase, converse};
+pub use connection::{Connection, Phase};
+pub use conversation::{Event, converse};
 pub use database::{Database, MOST_DATABASE_BYTES};
 pub use desk::Desk;
 pub use fault::{ConnFault, DeskFault};

@@ -3,9 +3,9 @@
 ghost use Rattle.std.specs.Prelude.{◌≡◌, ◌<◌, ◌≤◌, ◌^◌, ◌++◌, length, OnOk, IfOk};
 ghost use Rattle.std.specs.List.{AllByRecursion};
 ghost use Rattle.frames.specs.declared.data_row.DataValue.TheVariants.{Bytes};
-ghost use Rattle.frames.specs.declared.back.Back.TheVariants.{AuthenticationOk};
+ghost use Rattle.frames.specs.declared.back.Back.TheVariants.{AuthenticationOk, CopyDone};
 ghost use Rattle.replcmd.specs.Position.{printed};
-ghost use Rattle.server.specs.Said.{said, refused, refused_ready, ready, greeting, completed, status, shown, text_type, int4_type, IsSmall, identity_columns, identity_values, slot_columns, slot_values, key_frame, columns_frame, values_frame, slot_made, identified, created, dropped, started};
+ghost use Rattle.server.specs.Said.{said, refused, refused_ready, ready, greeting, completed, status, shown, text_type, int4_type, IsSmall, identity_columns, identity_values, slot_columns, slot_values, key_frame, columns_frame, values_frame, slot_made, identified, created, dropped, started, ended};
 
 use crate::fault::DeskFault;
 use crate::refusal::Refusal;
@@ -203,6 +203,23 @@ pub(crate) fn say_started(
         }
         Err(fault) => say_refused_ready(alloc, out, Refusal::Asked(fault)),
     }
+}
+
+#[tactic(auto, unfolding(crate::specs::Said::said, frames::specs::Fields::int32))]
+fn say_copy_done(out: &mut BytesMut) -> Result<(), AllocError>
+    ensures { OnOk result (out.new.items ≡ out.old.items ++ said CopyDone) }
+{
+    write_back(&Back::CopyDone, out)
+}
+
+/// The end of a stream.
+#[tactic(auto, unfolding(crate::specs::Said::ended))]
+pub(crate) fn say_ended(alloc: Global, out: &mut BytesMut) -> Result<(), AllocError>
+    ensures { OnOk result (out.new.items ≡ out.old.items ++ ended) }
+{
+    say_copy_done(out)?;
+    say_completed(alloc, out, "START_REPLICATION")?;
+    say_ready(out)
 }
 
 fn position_value(alloc: Global, position: u64) -> Result<DataValue, AllocError>

@@ -1,53 +1,24 @@
 //! One turn of a conversation: the startup or the frame at the front of what is pending, and its answer.
 
-ghost use Rattle.std.specs.Prelude.{◌≡◌, ◌≢◌, ◌≤◌, ◌+◌, ◌++◌, ℕ, length, OnOk, IfOk, codes};
+ghost use Rattle.std.specs.Prelude.{◌≡◌, ◌≤◌, ◌+◌, ◌++◌, length, OnOk, IfOk, codes};
 ghost use Rattle.frames.specs.Parameter.{parameter};
 ghost use Rattle.frames.specs.Startup.{startup_body};
 ghost use Rattle.frames.specs.Steps.{closed};
-ghost use Rattle.frames.specs.declared.front.Front.TheVariants.{Query};
 ghost use Rattle.frames.specs.declared.startup.Startup.TheVariants.{Session};
 ghost use Rattle.server.specs.Conversation.{Gave};
 ghost use Rattle.server.specs.Segment.{IsTurned, Said};
-ghost use Rattle.server.specs.Said.{refused};
-ghost use Rattle.server.specs.Turns.{Opens, Hears, refusal_of};
-ghost use Rattle.server.specs.declared.turn.Stage.TheVariants.{Fresh, Idle};
+ghost use Rattle.server.specs.Turns.{Opens};
+ghost use Rattle.server.specs.declared.stage.Stage.TheVariants.{Fresh};
 
-use crate::database::{Database, MOST_DATABASE_BYTES};
+use crate::database::MOST_DATABASE_BYTES;
 use crate::desk::Desk;
 use crate::opening::open;
-use crate::query::reply;
-use crate::refusal::Refusal;
-use crate::say::say_refused;
+use crate::session::turn_session;
+use crate::stage::{Stage, Turned, refuse};
+use crate::streaming::turn_stream;
 use bytes::BytesMut;
-use frames::{FrameFault, Front, Parameter, STARTUP_LIMIT, Startup, read_front, read_startup};
+use frames::{Parameter, STARTUP_LIMIT, Startup, read_startup};
 use std::alloc::{AllocError, Global};
-
-/// How far a conversation is.
-#[derive(Debug, Drop)]
-pub enum Stage {
-    Fresh,
-    Idle(Database),
-    Closed,
-}
-
-/// What a turn leaves: the stage, and how many of the pending bytes it took. None, if they have to wait for more.
-#[derive(Drop)]
-pub struct Turned {
-    pub stage: Stage,
-    pub count: usize,
-}
-
-/// Refuses what can't be read.
-fn refuse(alloc: Global, fault: FrameFault, out: &mut BytesMut) -> Result<(), AllocError>
-    ensures readable { OnOk result (fault ≢ FrameFault.Memory) }
-    ensures says { OnOk result (out.new.items ≡ out.old.items ++ refused (refusal_of fault)) }
-{
-    match fault {
-        FrameFault::Memory => Err(AllocError),
-        FrameFault::BadVersion => say_refused(alloc, out, Refusal::Version),
-        _ => say_refused(alloc, out, Refusal::Violation),
-    }
-}
 
 /// Answers a session's startup.
 fn open_session(
@@ -123,72 +94,7 @@ fn turn_startup(
     }
 }
 
-/// Answers a query.
-fn answer_query<D: Desk>(
-    alloc: Global,
-    database: Database,
-    query: &str,
-    desk: &mut D,
-    out: &mut BytesMut,
-) -> Result<Stage, AllocError>
-    ensures { IfOk result (λ next. Gave D.told (λ asked said. Hears database (Query (record { text = query.now })) asked said next) desk.old out.old.items desk.new out.new.items) }
-{
-    if reply(alloc, &database, query, desk, out)? {
-        Ok(Stage::Closed)
-    } else {
-        Ok(Stage::Idle(database))
-    }
-}
-
-fn answer_front<D: Desk>(
-    alloc: Global,
-    database: Database,
-    front: &Front,
-    desk: &mut D,
-    out: &mut BytesMut,
-) -> Result<Stage, AllocError>
-    ensures { IfOk result (λ next. Gave D.told (λ asked said. Hears database front.now asked said next) desk.old out.old.items desk.new out.new.items) }
-{
-    match front {
-        Front::Query(query) => answer_query(alloc, database, query.text.as_str(), desk, out),
-        Front::Terminate => Ok(Stage::Closed),
-        Front::CopyData(_) | Front::CopyDone | Front::CopyFail(_) => {
-            say_refused(alloc, out, Refusal::Violation)?;
-            Ok(Stage::Closed)
-        }
-    }
-}
-
-/// The turn of a session.
-fn turn_session<D: Desk>(
-    alloc: Global,
-    database: Database,
-    pending: &[u8],
-    desk: &mut D,
-    out: &mut BytesMut,
-) -> Result<Turned, AllocError>
-    ensures { (number : ℕ) → IfOk result (λ t. IsTurned number (Idle database) pending.now t ((desk.new ≡ desk.old) × (out.new.items ≡ out.old.items)) (λ fact. Gave D.told fact desk.old out.old.items desk.new out.new.items)) }
-{
-    match read_front(alloc, pending) {
-        Ok(None) => Ok(Turned {
-            stage: Stage::Idle(database),
-            count: 0,
-        }),
-        Ok(Some((front, count))) => {
-            let stage = answer_front(alloc, database, &front, desk, out)?;
-            Ok(Turned { stage, count })
-        }
-        Err(fault) => {
-            refuse(alloc, fault, out)?;
-            Ok(Turned {
-                stage: Stage::Closed,
-                count: pending.len(),
-            })
-        }
-    }
-}
-
-/// Takes one turn at this stage. Closed, it passes over all that is pending.
+/// Takes one turn at this stage. While a stream stops, all that is pending waits; closed, it is passed over.
 pub(crate) fn turn<D: Desk>(
     alloc: Global,
     number: u32,
@@ -202,6 +108,11 @@ pub(crate) fn turn<D: Desk>(
     match stage {
         Stage::Fresh => turn_startup(alloc, number, pending, out),
         Stage::Idle(database) => turn_session(alloc, database, pending, desk, out),
+        Stage::Streaming(database) => turn_stream(alloc, database, pending, desk, out),
+        Stage::Stopping(database) => Ok(Turned {
+            stage: Stage::Stopping(database),
+            count: 0,
+        }),
         Stage::Closed => Ok(Turned {
             stage: Stage::Closed,
             count: pending.len(),

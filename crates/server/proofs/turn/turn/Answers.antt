@@ -1,4 +1,4 @@
-use Rattle.server.specs.declared.turn.Stage.TheVariants.{Fresh}
+use Rattle.server.specs.declared.stage.Stage.TheVariants.{Fresh}
 use Rattle.server.proofs.Turning.{quiet_turned, closed_turned}
 use Rattle.server.proofs.turn.turn.Goals as goal
 
@@ -7,6 +7,9 @@ returns-in-Fresh g c = rw c.in-Fresh.is (quiet_turned g.D.Desk.told c.args.numbe
 
 pub returns-in-Idle : goal.returns-in-Idle
 returns-in-Idle g c = rw c.in-Idle.is (c.turn_session.ensures c.args.number)
+
+pub returns-in-Streaming : goal.returns-in-Streaming
+returns-in-Streaming g c = rw c.in-Streaming.is (c.turn_stream.ensures c.args.number)
 
 pub returns-in-Closed : goal.returns-in-Closed
 returns-in-Closed g c = rw c.in-Closed.is (closed_turned g.D.Desk.told c.args.number c.args.pending.now c.args.desk.now c.args.out.now.items)

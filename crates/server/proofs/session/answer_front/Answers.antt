@@ -2,11 +2,11 @@ use Rattle.std.proofs.Common.{[], refl, sym, subst}
 use Rattle.std.proofs.lemmas.List.{append-nil}
 use Rattle.frames.specs.declared.front.Front.{Front}
 use Rattle.server.specs.declared.refusal.Refusal.TheVariants.{Violation}
-use Rattle.server.specs.declared.turn.Stage.TheVariants.{Closed}
+use Rattle.server.specs.declared.stage.Stage.TheVariants.{Closed}
 use Rattle.server.specs.Said.{refused}
 use Rattle.server.specs.Turns.{Hears}
 use Rattle.server.proofs.Turning.{out_of_place}
-use Rattle.server.proofs.turn.answer_front.Goals as goal
+use Rattle.server.proofs.session.answer_front.Goals as goal
 
 pub returns-in-Query : goal.returns-in-Query
 returns-in-Query g c = rw c.in-Query.is (rw c.as_str.ensures.value at c.answer_query.ensures)

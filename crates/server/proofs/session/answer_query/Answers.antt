@@ -1,5 +1,5 @@
 use Rattle.std.proofs.Common.{refl}
-use Rattle.server.proofs.turn.answer_query.Goals as goal
+use Rattle.server.proofs.session.answer_query.Goals as goal
 
 pub returns-then-branch : goal.returns-then-branch
 returns-then-branch g c = record {

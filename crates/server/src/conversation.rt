@@ -1,0 +1,72 @@
+//! A whole conversation over a connection.
+
+ghost use Rattle.std.specs.Prelude.{◌≡◌, ◌≢◌, ◌++◌, OnOk, Err};
+ghost use Rattle.std.specs.List.{flat_map};
+ghost use Rattle.server.specs.Conversation.{Gave};
+ghost use Rattle.server.specs.Segment.{Happened, UnlessMemory, heard};
+ghost use Rattle.server.specs.Turns.{IsConversation};
+
+use crate::connection::{Connection, Phase};
+use crate::desk::Desk;
+use crate::fault::ConnFault;
+use bytes::BytesMut;
+use std::alloc::{AllocError, Global};
+
+/// What happens on a connection.
+#[derive(Debug, Drop)]
+pub enum Event {
+    /// Bytes of the client come.
+    Came(Vec<u8>),
+    /// The sender of a stream that stops has no more.
+    AllSent,
+}
+
+/// Lets this happen on the connection. That all has been sent is passed over where no stream stops.
+fn happen<D: Desk>(
+    connection: &mut Connection,
+    event: &Event,
+    desk: &mut D,
+    out: &mut BytesMut,
+) -> Result<(), ConnFault>
+    ensures { UnlessMemory result (Happened D.told event.now connection.old desk.old out.old.items connection.new desk.new out.new.items) }
+{
+    match event {
+        Event::Came(bytes) => {
+            connection.take(bytes.as_slice(), desk, out)?;
+        }
+        Event::AllSent => {
+            if connection.phase() == Phase::Stopping {
+                connection.stopped(out)?;
+            }
+        }
+    }
+    Ok(())
+}
+
+/// Whether the connection can go on.
+fn unless_memory(answer: Result<(), ConnFault>) -> Result<(), AllocError>
+    ensures { OnOk result (answer ≢ Err ConnFault.Memory) }
+{
+    match answer {
+        Err(ConnFault::Memory) => Err(AllocError),
+        _ => Ok(()),
+    }
+}
+
+/// Holds a whole conversation on the connection of this number: what the client sends comes in any cuts, and streams that
+/// stop end in between.
+pub fn converse<D: Desk>(
+    alloc: Global,
+    number: u32,
+    events: &[Event],
+    desk: &mut D,
+    out: &mut BytesMut,
+) -> Result<(), AllocError>
+    ensures { OnOk result (Gave D.told (IsConversation number (flat_map heard events.now)) desk.old out.old.items desk.new out.new.items) }
+{
+    let mut connection = Connection::new(alloc, number);
+    for event in events {
+        unless_memory(happen(&mut connection, event, desk, out))?;
+    }
+    Ok(())
+}

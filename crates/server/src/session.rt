@@ -1,0 +1,83 @@
+//! The frames of a session, in which queries are answered.
+
+ghost use Rattle.std.specs.Prelude.{◌≡◌, ℕ, IfOk};
+ghost use Rattle.frames.specs.declared.front.Front.TheVariants.{Query};
+ghost use Rattle.server.specs.Conversation.{Gave};
+ghost use Rattle.server.specs.Segment.{IsTurned};
+ghost use Rattle.server.specs.Turns.{Hears};
+ghost use Rattle.server.specs.declared.stage.Stage.TheVariants.{Idle};
+
+use crate::database::Database;
+use crate::desk::Desk;
+use crate::query::reply;
+use crate::refusal::Refusal;
+use crate::say::say_refused;
+use crate::stage::{Stage, Turned, refuse};
+use bytes::BytesMut;
+use frames::{Front, read_front};
+use std::alloc::{AllocError, Global};
+
+/// Answers a query.
+fn answer_query<D: Desk>(
+    alloc: Global,
+    database: Database,
+    query: &str,
+    desk: &mut D,
+    out: &mut BytesMut,
+) -> Result<Stage, AllocError>
+    ensures { IfOk result (λ next. Gave D.told (λ asked said. Hears database (Query (record { text = query.now })) asked said next) desk.old out.old.items desk.new out.new.items) }
+{
+    if reply(alloc, &database, query, desk, out)? {
+        Ok(Stage::Streaming(database))
+    } else {
+        Ok(Stage::Idle(database))
+    }
+}
+
+fn answer_front<D: Desk>(
+    alloc: Global,
+    database: Database,
+    front: &Front,
+    desk: &mut D,
+    out: &mut BytesMut,
+) -> Result<Stage, AllocError>
+    ensures { IfOk result (λ next. Gave D.told (λ asked said. Hears database front.now asked said next) desk.old out.old.items desk.new out.new.items) }
+{
+    match front {
+        Front::Query(query) => answer_query(alloc, database, query.text.as_str(), desk, out),
+        Front::Terminate => Ok(Stage::Closed),
+        Front::CopyData(_) | Front::CopyDone | Front::CopyFail(_) => {
+            say_refused(alloc, out, Refusal::Violation)?;
+            Ok(Stage::Closed)
+        }
+    }
+}
+
+/// The turn of a session.
+pub(crate) fn turn_session<D: Desk>(
+    alloc: Global,
+    database: Database,
+    pending: &[u8],
+    desk: &mut D,
+    out: &mut BytesMut,
+) -> Result<Turned, AllocError>
+    ensures { (number : ℕ) → IfOk result (λ t. IsTurned number (Idle database) pending.now t ((desk.new ≡ desk.old) × (out.new.items ≡ out.old.items)) (λ fact. Gave D.told fact desk.old out.old.items desk.new out.new.items)) }
+{
+    match read_front(alloc, pending) {
+        Ok(None) => Ok(Turned {
+            stage: Stage::Idle(database),
+            count: 0,
+        }),
+        Ok(Some((front, count))) => {
+            let stage = answer_front(alloc, database, &front, desk, out)?;
+            Ok(Turned { stage, count })
+        }
+        Err(fault) => {
+            refuse(alloc, fault, out)?;
+            Ok(Turned {
+                stage: Stage::Closed,
+                count: pending.len(),
+            })
+        }
+    }
+}

@@ -1,0 +1,45 @@
+//! How far a conversation is, what a turn leaves of it, and the answer of what can't be read.
+
+ghost use Rattle.std.specs.Prelude.{◌≡◌, ◌≢◌, ◌++◌, OnOk};
+ghost use Rattle.server.specs.Said.{refused};
+ghost use Rattle.server.specs.Turns.{refusal_of};
+
+use crate::database::Database;
+use crate::refusal::Refusal;
+use crate::say::say_refused;
+use bytes::BytesMut;
+use frames::FrameFault;
+use std::alloc::{AllocError, Global};
+
+/// How far a conversation is.
+#[derive(Debug, Drop)]
+pub enum Stage {
+    /// The startup is waited for.
+    Fresh,
+    /// A query is.
+    Idle(Database),
+    /// A stream has begun.
+    Streaming(Database),
+    /// The client has asked for its end, and not all of it has been said.
+    Stopping(Database),
+    Closed,
+}
+
+/// What a turn leaves: the stage, and how many of the pending bytes it took. None, if they have to wait for more.
+#[derive(Drop)]
+pub struct Turned {
+    pub stage: Stage,
+    pub count: usize,
+}
+
+/// Refuses what can't be read.
+pub(crate) fn refuse(alloc: Global, fault: FrameFault, out: &mut BytesMut) -> Result<(), AllocError>
+    ensures readable { OnOk result (fault ≢ FrameFault.Memory) }
+    ensures says { OnOk result (out.new.items ≡ out.old.items ++ refused (refusal_of fault)) }
+{
+    match fault {
+        FrameFault::Memory => Err(AllocError),
+        FrameFault::BadVersion => say_refused(alloc, out, Refusal::Version),
+        _ => say_refused(alloc, out, Refusal::Violation),
+    }
+}

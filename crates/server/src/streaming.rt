@@ -1,0 +1,89 @@
+//! The frames of a client while a stream runs: how far it is, and that the stream is to end.
+
+ghost use Rattle.std.specs.Prelude.{◌≡◌, ℕ, IfOk};
+ghost use Rattle.frames.specs.declared.front.Front.TheVariants.{CopyData};
+ghost use Rattle.server.specs.Conversation.{Gave};
+ghost use Rattle.server.specs.Segment.{IsTurned};
+ghost use Rattle.server.specs.Turns.{Streams};
+ghost use Rattle.server.specs.declared.stage.Stage.TheVariants.{Streaming};
+
+use crate::database::Database;
+use crate::desk::Desk;
+use crate::refusal::Refusal;
+use crate::say::say_refused;
+use crate::stage::{Stage, Turned, refuse};
+use bytes::BytesMut;
+use copyboth::read_client;
+use frames::{Front, read_front};
+use std::alloc::{AllocError, Global};
+
+/// Tells the desk of a status. What is none is refused.
+fn answer_data<D: Desk>(
+    alloc: Global,
+    database: Database,
+    bytes: &[u8],
+    desk: &mut D,
+    out: &mut BytesMut,
+) -> Result<Stage, AllocError>
+    ensures { IfOk result (λ next. Gave D.told (λ asked said. Streams database (CopyData (record { bytes = bytes.now })) asked said next) desk.old out.old.items desk.new out.new.items) }
+{
+    match read_client(bytes) {
+        Ok(status) => {
+            desk.flushed(status.flushed, status.ask);
+            Ok(Stage::Streaming(database))
+        }
+        Err(_) => {
+            say_refused(alloc, out, Refusal::Violation)?;
+            Ok(Stage::Closed)
+        }
+    }
+}
+
+fn answer_in_stream<D: Desk>(
+    alloc: Global,
+    database: Database,
+    front: &Front,
+    desk: &mut D,
+    out: &mut BytesMut,
+) -> Result<Stage, AllocError>
+    ensures { IfOk result (λ next. Gave D.told (λ asked said. Streams database front.now asked said next) desk.old out.old.items desk.new out.new.items) }
+{
+    match front {
+        Front::CopyData(data) => answer_data(alloc, database, data.bytes.as_slice(), desk, out),
+        Front::CopyDone => Ok(Stage::Stopping(database)),
+        Front::Terminate => Ok(Stage::Closed),
+        Front::Query(_) | Front::CopyFail(_) => {
+            say_refused(alloc, out, Refusal::Violation)?;
+            Ok(Stage::Closed)
+        }
+    }
+}
+
+/// The turn of a client to which a stream runs.
+pub(crate) fn turn_stream<D: Desk>(
+    alloc: Global,
+    database: Database,
+    pending: &[u8],
+    desk: &mut D,
+    out: &mut BytesMut,
+) -> Result<Turned, AllocError>
+    ensures { (number : ℕ) → IfOk result (λ t. IsTurned number (Streaming database) pending.now t ((desk.new ≡ desk.old) × (out.new.items ≡ out.old.items)) (λ fact. Gave D.told fact desk.old out.old.items desk.new out.new.items)) }
+{
+    match read_front(alloc, pending) {
+        Ok(None) => Ok(Turned {
+            stage: Stage::Streaming(database),
+            count: 0,
+        }),
+        Ok(Some((front, count))) => {
+            let stage = answer_in_stream(alloc, database, &front, desk, out)?;
+            Ok(Turned { stage, count })
+        }
+        Err(fault) => {
+            refuse(alloc, fault, out)?;
+            Ok(Turned {
+                stage: Stage::Closed,
+                count: pending.len(),
+            })
+        }
+    }
+}
