@@ -1,6 +1,6 @@
 //! A whole conversation over a connection.
 
-ghost use Rattle.std.specs.Prelude.{◌≡◌, ◌≢◌, ◌++◌, OnOk, Err};
+ghost use Rattle.std.specs.Prelude.{◌≢◌, OnOk, Err};
 ghost use Rattle.std.specs.List.{flat_map};
 ghost use Rattle.server.specs.Conversation.{Gave};
 ghost use Rattle.server.specs.Segment.{Happened, UnlessMemory, heard};

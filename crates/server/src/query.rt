@@ -1,9 +1,7 @@
 //! Queries: the command that a text spells, what it asks of the desk, and its answer.
 
 ghost use Rattle.std.specs.Prelude.{◌≡◌, ◌≤◌, length, OnOk, IfOk, false};
-ghost use Rattle.server.specs.Calls.{End, System, CreateSlot, DropSlot, StartStream};
 ghost use Rattle.server.specs.Conversation.{Gave, Runs, Replies, HasShortSlot, is_ok};
-ghost use Rattle.server.specs.Said.{identified, created, dropped, started};
 ghost use Rattle.replcmd.specs.declared.command.Command.TheVariants.{Identify, Create, Start, Drop};
 
 use crate::database::Database;

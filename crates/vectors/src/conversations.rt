@@ -6,10 +6,14 @@ use crate::sample::{Answer, Said};
 use crate::spoken::{add_heard, add_said};
 use crate::talk::talked;
 use anyhow::{Result, ensure};
+use server::Event;
 use std::alloc::Global;
 
 /// What begins the first line of a conversation, and its name follows.
 const NAMED: &str = "== ";
+
+/// The line that ends a stream.
+const STOPPED: &str = "stopped";
 
 /// What begins the line behind the client's, and the phase follows.
 const ENDS: &str = "-- ";
@@ -22,7 +26,7 @@ const ASKED: &str = "asked ";
 struct Case {
     /// The line of the file where it begins.
     line: usize,
-    heard: Vec<u8>,
+    events: Vec<Event>,
     /// The phase and what is asked, a line each.
     told: String,
     said: Vec<u8>,
@@ -31,7 +35,7 @@ struct Case {
 pub fn judge_conversations(alloc: Global, text: &str) -> Result<Report> {
     let mut report = Report::new(alloc);
     for case in cases_of(alloc, text)? {
-        let answer = Answer::Meaning(answer_of(alloc, case.heard.as_slice())?);
+        let answer = Answer::Meaning(answer_of(alloc, case.events.as_slice())?);
         let said = hex::encode(alloc, case.said.as_slice())?;
         let told = format!(in alloc; "{}{}", case.told.as_str(), said.as_str())?;
         if answer.is_as_said(Said::Meaning(told.as_str())) {
@@ -44,9 +48,9 @@ pub fn judge_conversations(alloc: Global, text: &str) -> Result<Report> {
 }
 
 /// What comes of the bytes at once and one by one, which is the same.
-fn answer_of(alloc: Global, heard: &[u8]) -> Result<String> {
-    let whole = talked(alloc, heard, usize::MAX)?;
-    let pieces = talked(alloc, heard, 1)?;
+fn answer_of(alloc: Global, events: &[Event]) -> Result<String> {
+    let whole = talked(alloc, events, usize::MAX)?;
+    let pieces = talked(alloc, events, 1)?;
     ensure!(whole == pieces, "comes to something else byte by byte");
     Ok(whole)
 }
@@ -60,7 +64,7 @@ fn cases_of(alloc: Global, text: &str) -> Result<Vec<Case>> {
         if line.starts_with(NAMED) {
             cases.push(Case {
                 line: number,
-                heard: Vec::new(alloc),
+                events: Vec::new(alloc),
                 told: String::new(alloc),
                 said: Vec::new(alloc),
             })?;
@@ -79,9 +83,23 @@ fn add_line(alloc: Global, case: &mut Case, line: &str) -> Result<()> {
         return Ok(());
     }
     let line = line_of(alloc, line)?;
-    if case.told.is_empty() {
-        add_heard(alloc, &mut case.heard, line.as_str())
-    } else {
+    if !case.told.is_empty() {
         add_said(alloc, &mut case.said, line.as_str())
+    } else if line.as_str() == STOPPED {
+        case.events.push(Event::AllSent)?;
+        Ok(())
+    } else {
+        add_event(alloc, &mut case.events, line.as_str())
     }
+}
+
+/// The bytes of lines that follow one another come at once.
+fn add_event(alloc: Global, events: &mut Vec<Event>, line: &str) -> Result<()> {
+    if let Some(Event::Came(bytes)) = events.as_mut_slice().last_mut() {
+        return add_heard(alloc, bytes, line);
+    }
+    let mut bytes = Vec::new(alloc);
+    add_heard(alloc, &mut bytes, line)?;
+    events.push(Event::Came(bytes))?;
+    Ok(())
 }

@@ -52,6 +52,12 @@ impl ScriptedDesk {
         }
     }
 
+    fn note_status(&mut self, position: u64, ask: bool) {
+        if add_status(self.alloc, &mut self.asked, position, ask).is_err() {
+            self.is_whole = false;
+        }
+    }
+
     fn note_start(&mut self, slot: &str, position: u64, publications: &[Name]) {
         if add_start(self.alloc, &mut self.asked, slot, position, publications).is_err() {
             self.is_whole = false;
@@ -86,8 +92,8 @@ impl Desk for ScriptedDesk {
         answer_of(slot)
     }
 
-    fn flushed(&mut self, _position: u64, _ask: bool) {
-        self.note("flushed", "");
+    fn flushed(&mut self, position: u64, ask: bool) {
+        self.note_status(position, ask);
     }
 }
 
@@ -98,6 +104,17 @@ fn answer_of(slot: &str) -> Result<(), DeskFault> {
         }
     }
     Ok(())
+}
+
+fn add_status(
+    alloc: Global,
+    asked: &mut String,
+    position: u64,
+    ask: bool,
+) -> Result<(), AllocError> {
+    let position = write_position(alloc, position)?;
+    let asks = if ask { " and asks" } else { "" };
+    write!(asked, "flushed {position}{asks}\n")
 }
 
 fn add_start(

@@ -5,7 +5,7 @@ ghost use Rattle.std.specs.Prelude.{◌≤◌};
 use crate::scripted_desk::ScriptedDesk;
 use anyhow::{Context, Result, ensure};
 use bytes::BytesMut;
-use server::{ConnFault, Connection};
+use server::{ConnFault, Connection, Event, Phase};
 use std::alloc::Global;
 
 /// A connection with what it has asked and said.
@@ -31,8 +31,30 @@ impl Talk {
         let phase = self.connection.phase();
         match self.connection.take(bytes, &mut self.desk, &mut self.out) {
             Ok(answer) => ensure!(answer == self.connection.phase(), "answers another phase"),
-            Err(ConnFault::Closed) => ensure!(phase == server::Phase::Closed, "closes twice"),
+            Err(ConnFault::Closed) => ensure!(phase == Phase::Closed, "closes twice"),
             Err(fault) => return Err(fault.into()),
+        }
+        Ok(())
+    }
+
+    /// Ends the stream, if one stops.
+    pub fn end_stream(&mut self) -> Result<()> {
+        if self.connection.phase() == Phase::Stopping {
+            let phase = self.connection.stopped(&mut self.out)?;
+            ensure!(phase == self.connection.phase(), "answers another phase");
+        }
+        Ok(())
+    }
+
+    /// Hears what the client sends, and ends each stream that stops as soon as it does.
+    pub fn hear_through(&mut self, bytes: &[u8]) -> Result<()> {
+        self.hear(bytes)?;
+        for _ in bytes {
+            if self.connection.phase() != Phase::Stopping {
+                break;
+            }
+            self.end_stream()?;
+            self.hear(&[])?;
         }
         Ok(())
     }
@@ -46,13 +68,25 @@ impl Talk {
     }
 }
 
-/// What comes of bytes that are sent in pieces of this length.
-pub fn talked(alloc: Global, bytes: &[u8], length: usize) -> Result<String>
+/// What comes of a conversation in which bytes are sent in pieces of this length.
+pub fn talked(alloc: Global, events: &[Event], length: usize) -> Result<String>
     requires { 1 ≤ length }
 {
     let mut talk = Talk::new(alloc);
+    for event in events {
+        match event {
+            Event::Came(bytes) => hear_pieces(&mut talk, bytes.as_slice(), length)?,
+            Event::AllSent => talk.end_stream()?,
+        }
+    }
+    talk.shown(alloc)
+}
+
+fn hear_pieces(talk: &mut Talk, bytes: &[u8], length: usize) -> Result<()>
+    requires { 1 ≤ length }
+{
     for piece in bytes.chunks(length) {
         talk.hear(piece)?;
     }
-    talk.shown(alloc)
+    Ok(())
 }
