@@ -148,7 +148,8 @@ impl Connection {
         Ok(self.phase())
     }
 
-    /// Ends the stream that stops: all of it has been said. The connection waits for a query again.
+    /// Ends the stream that stops: all of it has been said. The connection waits for a query again, and the next `take`,
+    /// which may bring no bytes, answers what was kept behind the CopyDone.
     ///
     /// H1 is want of memory, and it closes the connection.
     pub fn stopped(&mut self, out: &mut BytesMut) -> Result<Phase, ConnFault>

@@ -1,7 +1,8 @@
 //! The frames of a client while a stream runs: how far it is, and that the stream is to end.
 
-ghost use Rattle.std.specs.Prelude.{◌≡◌, ℕ, IfOk};
+ghost use Rattle.std.specs.Prelude.{◌≡◌, ◌∷◌, [], ℕ, IfOk};
 ghost use Rattle.frames.specs.declared.front.Front.TheVariants.{CopyData};
+ghost use Rattle.server.specs.Calls.{AreAsked, Flushed};
 ghost use Rattle.server.specs.Conversation.{Gave};
 ghost use Rattle.server.specs.Segment.{IsTurned};
 ghost use Rattle.server.specs.Turns.{Streams};
@@ -13,11 +14,18 @@ use crate::refusal::Refusal;
 use crate::say::say_refused;
 use crate::stage::{Stage, Turned, refuse};
 use bytes::BytesMut;
-use copyboth::read_client;
+use copyboth::{Status, read_client};
 use frames::{Front, read_front};
 use std::alloc::{AllocError, Global};
 
-/// Tells the desk of a status. What is none is refused.
+/// Tells the desk how far the client is, and whether it asks for an answer.
+fn tell<D: Desk>(status: Status, desk: &mut D)
+    ensures { AreAsked D.told desk.old (Flushed status.flushed status.ask ∷ []) desk.new }
+{
+    desk.flushed(status.flushed, status.ask);
+}
+
+/// Answers the bytes of a CopyData: a status is told to the desk, and what is none is refused.
 fn answer_data<D: Desk>(
     alloc: Global,
     database: Database,
@@ -29,7 +37,7 @@ fn answer_data<D: Desk>(
 {
     match read_client(bytes) {
         Ok(status) => {
-            desk.flushed(status.flushed, status.ask);
+            tell(status, desk);
             Ok(Stage::Streaming(database))
         }
         Err(_) => {

@@ -10,7 +10,7 @@ returns-in-Ok g c = record {
   asked = Flushed c.in-Ok.status.flushed c.in-Ok.status.ask ∷ [];
   text = [];
   fact = inl (record { status = c.in-Ok.status; spells = c.in-Ok.ensures.found; once = refl; silent = refl }, refl);
-  asks = (c.flushed.new.self, c.flushed.ensures, refl);
+  asks = c.tell.ensures;
   says = sym (append-nil c.args.out.now.items);
 }
 
