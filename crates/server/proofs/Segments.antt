@@ -5,16 +5,17 @@ use Rattle.std.specs.List.{flat_map, AllByRecursion}
 use Rattle.std.proofs.lemmas.Grind.{flat_map-append}
 use Rattle.std.proofs.lemmas.List.{append-nil, take_more}
 use Rattle.server.specs.declared.connection.Connection.{Connection}
+use Rattle.server.specs.declared.connection.Phase.TheVariants as phases
 use Rattle.server.specs.declared.conversation.Event.{Event}
 use Rattle.server.specs.declared.conversation.Event.TheVariants.{Came, AllSent}
 use Rattle.server.specs.declared.fault.ConnFault.{ConnFault}
 use Rattle.server.specs.declared.fault.ConnFault.TheVariants as faults
 use Rattle.server.specs.declared.stage.Stage.{Stage}
-use Rattle.server.specs.declared.stage.Stage.TheVariants.{Fresh, Closed}
+use Rattle.server.specs.declared.stage.Stage.TheVariants.{Fresh, Idle, Streaming, Stopping, Closed}
 use Rattle.server.specs.Calls.{Call, AreAsked}
 use Rattle.server.specs.Conversation.{Gave}
 use Rattle.server.specs.Turns.{Turn, IsTurn, AreTurns, Waits, HaveEnded, IsConversation, end_turn}
-use Rattle.server.specs.Segment.{Went, HasText, IsAny, Ended, Happened, UnlessMemory, heard}
+use Rattle.server.specs.Segment.{Went, HasText, IsAny, Ended, Happened, IfStopping, UnlessMemory, heard, phase_of}
 
 kind-append : (Kind : Turn → Type 0) (ts us : List Turn) → AllByRecursion Kind ts → AllByRecursion Kind us → AllByRecursion Kind (ts ++ us)
 kind-append Kind [] us first then = then
@@ -154,12 +155,39 @@ began-ended told number x d out b e mid c end first then = record {
   waits = inl (first.went.turns, refl);
 }
 
+either : (stage : Stage) (A B : Type 0) → IfStopping stage A B → A ⊎ B
+either (Stopping database) A B is = inl is
+either Fresh A B is = inr is
+either (Idle database) A B is = inr is
+either (Streaming database) A B is = inr is
+either Closed A B is = inr is
+
+all-sent : {D : Type 0} (told : D → Call → D → Type 0) (number : ℕ) (x : List ℕ) (d : D) (out : List ℕ) (b : Connection) (e : D) (mid : List ℕ) (c : Connection) (f : D) (end : List ℕ)
+    → Began told number x d out b e mid → f ≡ e → Ended b mid c end ⊎ ((c ≡ b) × (end ≡ mid)) → Began told number (x ++ []) d out c f end
+all-sent told number x d out b e mid c f end first desk (inl then) = rw desk (began-ended told number x d out b e mid c end first then)
+all-sent told number x d out b e mid c f end first desk (inr (same, says)) = rw (desk, same, says, append-nil x) first
+
 -- one more event
 pub began-on : {D : Type 0} (told : D → Call → D → Type 0) (number : ℕ) (x : List ℕ) (d : D) (out : List ℕ) (b : Connection) (e : D) (mid : List ℕ) (event : Event) (c : Connection) (f : D) (end : List ℕ)
     → Began told number x d out b e mid → Happened told event b e mid c f end → Began told number (x ++ heard event) d out c f end
 began-on told number x d out b e mid (Came bytes) c f end first then = began-took told number x bytes.items d out b e mid c f end first then.0 then.1
-began-on {D} told number x d out b e mid AllSent c f end first (desk, inl then) = rw desk (began-ended told number x d out b e mid c end first then)
-began-on {D} told number x d out b e mid AllSent c f end first (desk, inr (same, says)) = rw (desk, same, says, append-nil x) first
+began-on told number x d out b e mid AllSent c f end first (desk, then) = all-sent told number x d out b e mid c f end first desk (either b.stage (Ended b mid c end) ((c ≡ b) × (end ≡ mid)) then)
+
+-- ---- whether a stream stops
+
+pub if_stopping : (stage : Stage) (A B : Type 0) → phase_of stage ≡ phases.Stopping → A → IfStopping stage A B
+if_stopping (Stopping database) A B is a = a
+if_stopping Fresh A B is a = absurd cc
+if_stopping (Idle database) A B is a = absurd cc
+if_stopping (Streaming database) A B is a = absurd cc
+if_stopping Closed A B is a = absurd cc
+
+pub unless_stopping : (stage : Stage) (A B : Type 0) → phase_of stage ≢ phases.Stopping → B → IfStopping stage A B
+unless_stopping (Stopping database) A B other b = absurd (other refl)
+unless_stopping Fresh A B other b = b
+unless_stopping (Idle database) A B other b = b
+unless_stopping (Streaming database) A B other b = b
+unless_stopping Closed A B other b = b
 
 pub conversed : {D : Type 0} (told : D → Call → D → Type 0) (number : ℕ) (input : List ℕ) (desk : D) (out : List ℕ) (new : Connection) (desk' : D) (out' : List ℕ)
     → Began told number input desk out new desk' out' → Gave told (λ asked said. IsConversation number input asked said) desk out desk' out'

@@ -44,10 +44,18 @@ abbrev pub heard : Event → List ℕ
 heard (Came bytes) = bytes.items
 heard AllSent = []
 
+-- the first, if a stream stops at this stage, and else the second
+abbrev pub IfStopping : Stage → Type 0 → Type 0 → Type 0
+IfStopping (Stopping database) Then Else = Then
+IfStopping Fresh Then Else = Else
+IfStopping (Idle database) Then Else = Else
+IfStopping (Streaming database) Then Else = Else
+IfStopping Closed Then Else = Else
+
 -- What comes is taken. That all has been sent ends a stream that stops, and is passed over else.
 abbrev pub Happened : {D : Type 0} → (D → Call → D → Type 0) → Event → Connection → D → List ℕ → Connection → D → List ℕ → Type 0
 Happened told (Came bytes) old desk out new desk' out' = Went told HasText bytes.items old desk out new desk' out' × Waits new.stage new.pending.items
-Happened told AllSent old desk out new desk' out' = (desk' ≡ desk) × (Ended old out new out' ⊎ ((new ≡ old) × (out' ≡ out)))
+Happened told AllSent old desk out new desk' out' = (desk' ≡ desk) × IfStopping old.stage (Ended old out new out') ((new ≡ old) × (out' ≡ out))
 
 -- until memory runs out; what comes to a closed connection is no exception
 abbrev pub UnlessMemory : {A : Type 0} → Result A ConnFault → Type 0 → Type 0

@@ -22,6 +22,7 @@ pub enum Event {
 }
 
 /// Lets this happen on the connection. That all has been sent is passed over where no stream stops.
+#[tactic(auto, using(crate::proofs::Segments::if_stopping, crate::proofs::Segments::unless_stopping))]
 fn happen<D: Desk>(
     connection: &mut Connection,
     event: &Event,
