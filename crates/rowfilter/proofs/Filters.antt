@@ -28,13 +28,13 @@ use Rattle.rowfilter.proofs.Sayings.{reading_of, IsRead, read_once, read_found, 
 
 -- ---- one phrase, one condition
 
-same_phrase : (text : List ℕ) (a b : Phrase) → SpellsPhrase text a → SpellsPhrase text b → a ≡ b
+pub same_phrase : (text : List ℕ) (a b : Phrase) → SpellsPhrase text a → SpellsPhrase text b → a ≡ b
 same_phrase text a b one other =
     let tokens : other.tokens ≡ one.tokens = spelled_once text other.tokens one.tokens other.are_spelled one.are_spelled in
     let say = sym (ap said_by_all tokens) ∙ other.say in
     one_phrase one.tokens a b one.say one.bound say other.bound
 
-same_condition : (columns : List TableColumn) (text : List ℕ) (c d : Condition) → SpellsCondition columns text c → SpellsCondition columns text d → c ≡ d
+pub same_condition : (columns : List TableColumn) (text : List ℕ) (c d : Condition) → SpellsCondition columns text c → SpellsCondition columns text d → c ≡ d
 same_condition columns text c d one other = one.is_meant ∙ ap (meant columns) (same_phrase text one.phrase other.phrase one.spells other.spells) ∙ sym other.is_meant
 
 -- ---- what was read
@@ -43,7 +43,7 @@ same_condition columns text c d one other = one.is_meant ∙ ap (meant columns) 
 spelling : (columns : List TableColumn) (text : List ℕ) (tokens : List Token) (g : Grown) → length text ≤ MOST_BYTES → Spells text tokens → (read : IsRead columns tokens g) → SpellsPhrase text read.phrase
 spelling columns text tokens g short spells read = record { short = short; tokens = tokens; are_spelled = spells; say = read.say; bound = read.bound }
 
-tree_read : (columns : List TableColumn) (tokens : List Token) (g : Grown) → (read : IsRead columns tokens g) → IsTree (IsInRange read.phrase) (levels read.phrase) (meant columns read.phrase) g.tree
+pub tree_read : (columns : List TableColumn) (tokens : List Token) (g : Grown) → (read : IsRead columns tokens g) → IsTree (IsInRange read.phrase) (levels read.phrase) (meant columns read.phrase) g.tree
 tree_read columns tokens g read = subst (λ (h : Grown). IsTree (IsInRange read.phrase) (levels read.phrase) (meant columns read.phrase) h.tree) (sym read.is) (grown_tree columns read.phrase)
 
 pub condition_read : (columns : List TableColumn) (text : List ℕ) (tokens : List Token) (g : Grown) (c : Condition) (n : ℕ) → length text ≤ MOST_BYTES → Spells text tokens
@@ -156,7 +156,7 @@ refused_filter table text c TypeMismatch filter refused =
     absurd (refused.unfit (subst (IsCondition table.columns) same filter.fits))
 refused_filter table text c Memory filter refused = refl
 
-pub only_given : (table : Table) (text : List ℕ) (result : Result Expression FilterFault) → MatchResult result (λ f. SpellsFilter table text (shape f)) (λ e. IsRefused table text e)
+pub only_given : (table : Table) (text : List ℕ) (result : Result Condition FilterFault) → MatchResult result (λ f. SpellsFilter table text f) (λ e. IsRefused table text e)
     → (c : Condition) → SpellsFilter table text c → GivesFilter result c
-only_given table text (Ok f) found c filter = spelled_filter table text (shape f) c found filter
+only_given table text (Ok f) found c filter = spelled_filter table text f c found filter
 only_given table text (Err fault) refused c filter = subst (λ (e : FilterFault). GivesFilter (Err e) c) (sym (refused_filter table text c fault filter refused)) tt

@@ -1,5 +1,5 @@
 -- Worked filters over public.tag (k text in the key, v int4), by which the definitions were checked.
-use Rattle.std.proofs.Common.{◌≡◌, ℕ, zero, suc, List, [], ◌∷◌, None, refl, lit≤, true, false, pos}
+use Rattle.std.proofs.Common.{◌≡◌, ℕ, zero, suc, List, [], ◌∷◌, None, Ok, Err, refl, lit≤, true, false, pos}
 use Rattle.std.specs.Prelude.{codes}
 use Rattle.tables.specs.declared.column.Column.{Column as TableColumn}
 use Rattle.tables.specs.declared.kind.Kind.TheVariants as kinds
@@ -9,7 +9,13 @@ use Rattle.rowfilter.specs.declared.question.Question.TheVariants as questions
 use Rattle.rowfilter.specs.declared.token.Token.{Token}
 use Rattle.rowfilter.specs.declared.token.Token.TheVariants.{Word, Number, Mark}
 use Rattle.rowfilter.specs.declared.truth.Truth.TheVariants.{True, False, Unknown}
+use Rattle.rowfilter.specs.declared.fault.FilterFault.TheVariants.{Syntax, UnknownColumn, TypeMismatch, NumberRange}
+use Rattle.tables.specs.declared.identity.Identity.TheVariants as identities
+use Rattle.tables.specs.declared.table.Table.{Table}
+use Rattle.rowfilter.specs.Answers.{read_filter}
+use Rattle.rowfilter.specs.Conditions.{Number, Column, Literal, Compare}
 use Rattle.rowfilter.specs.Truth.{truth}
+use Rattle.rowfilter.specs.Lexing.{token_at}
 use Rattle.rowfilter.specs.Tokens.{Spells}
 use Rattle.rowfilter.specs.Kinds.{sort_of, IsCondition}
 use Rattle.rowfilter.specs.Grammar.{Phrase, InName, InNumber, InText, InCompare, InIs, InNot, InOr, levels, meant, SpellsPhrase}
@@ -97,3 +103,29 @@ nots (suc n) a = InNot (nots n a)
 
 deepest : levels (nots 62 (InCompare Equal (InName (codes "v")) (InNumber (pos 1)))) ≡ 64
 deepest = refl
+
+-- ---- texts as they are read
+
+abbrev tag : Table
+tag = record { oid = 16385; schema = codes "public"; name = codes "tag"; identity = identities.Default; columns = columns }
+
+read_greater : read_filter tag (codes " V>5") ≡ Ok (Compare Greater (Column 1) (Literal (Number (pos 5))))
+unfolding read_filter token_at
+read_greater = refl
+
+read_half : read_filter tag (codes "v >") ≡ Err Syntax
+unfolding read_filter token_at
+read_half = refl
+
+read_unknown : read_filter tag (codes "w = 1") ≡ Err UnknownColumn
+unfolding read_filter token_at
+read_unknown = refl
+
+read_unlike : read_filter tag (codes "v = 'a'") ≡ Err TypeMismatch
+unfolding read_filter token_at
+read_unlike = refl
+
+-- a number of over 64 bits comes before an unknown column
+read_large : read_filter tag (codes "w = 9223372036854775808") ≡ Err NumberRange
+unfolding read_filter token_at
+read_large = refl

@@ -10,3 +10,5 @@ pub mod Stacks
 pub mod Parts
 pub mod Views
 pub mod Readings
+pub mod Codes
+pub mod Answers

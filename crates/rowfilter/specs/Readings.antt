@@ -10,12 +10,11 @@ use Rattle.rowfilter.specs.declared.token.Token.{Token}
 use Rattle.rowfilter.specs.Conditions.{Condition}
 use Rattle.rowfilter.specs.Grammar.{Phrase, SpellsPhrase, HasLargeNumber, HasManyLevels, MOST_BYTES}
 use Rattle.rowfilter.specs.Kinds.{are_known, IsCondition}
-use Rattle.rowfilter.specs.Shapes.{shape}
 use Rattle.rowfilter.specs.Tokens.{Spells}
 
 -- A call that gives this filter, unless memory ran out.
-abbrev pub GivesFilter : Result Expression FilterFault → Condition → Type 0
-GivesFilter (Ok filter) condition = shape filter ≡ condition
+abbrev pub GivesFilter : Result Condition FilterFault → Condition → Type 0
+GivesFilter (Ok filter) condition = filter ≡ condition
 GivesFilter (Err Memory) condition = Unit {0}
 GivesFilter (Err _) condition = ⊥
 

@@ -1,7 +1,8 @@
 //! A condition as a tree, and what it is in a row.
 
-ghost use Rattle.std.specs.Prelude.{◌≡◌, OnOk};
+ghost use Rattle.std.specs.Prelude.{◌≡◌, IfOk, OnOk};
 ghost use Rattle.rowfilter.specs.Truth.{truth as truth_in, value_in};
+ghost use Rattle.rowfilter.specs.Conditions.{names};
 ghost use Rattle.rowfilter.specs.Kinds.{are_known, sort_of};
 ghost use Rattle.rowfilter.specs.Shapes.{gathered, seen, shape};
 
@@ -11,7 +12,7 @@ use crate::operand::Operand;
 use crate::question::Question;
 use crate::sort::{Sort, truths_if};
 use crate::truth::Truth;
-use std::alloc::AllocError;
+use std::alloc::{AllocError, Global};
 use tables::{Column, Value};
 
 /// A condition, or an operand of one.
@@ -29,6 +30,32 @@ pub(crate) enum Expression {
 }
 
 impl Expression {
+    #[cycle(copying)]
+    pub(crate) fn copy(&self, alloc: Global) -> Result<Expression, AllocError>
+        ensures { IfOk result (λ e. shape e ≡ shape self.now) }
+    {
+        Ok(match self {
+            Expression::Column(place) => Expression::Column(*place),
+            Expression::Literal(literal) => Expression::Literal(literal.copy(alloc)?),
+            Expression::Compare(how, a, b) => {
+                Expression::Compare(*how, a.boxed_copy(alloc)?, b.boxed_copy(alloc)?)
+            }
+            Expression::Is(question, is_negated, a) => {
+                Expression::Is(*question, *is_negated, a.boxed_copy(alloc)?)
+            }
+            Expression::Not(a) => Expression::Not(a.boxed_copy(alloc)?),
+            Expression::And(a, b) => { Expression::And(a.boxed_copy(alloc)?, b.boxed_copy(alloc)?) }
+            Expression::Or(a, b) => Expression::Or(a.boxed_copy(alloc)?, b.boxed_copy(alloc)?),
+        })
+    }
+
+    #[cycle(copying)]
+    fn boxed_copy(&self, alloc: Global) -> Result<Box<Expression>, AllocError>
+        ensures { IfOk result (λ e. shape e.value ≡ shape self.now) }
+    {
+        Ok(Box::new(alloc, self.copy(alloc)?)?)
+    }
+
     /// What it is in the row of these values.
     pub(crate) fn evaluate<'a>(&'a self, row: &'a [Value]) -> Operand<'a>
         ensures { seen result ≡ value_in row.now (shape self.now) }
@@ -141,6 +168,20 @@ impl Expression {
             Expression::Is(_, _, a) | Expression::Not(a) => a.is_known(count),
             Expression::Compare(_, a, b) | Expression::And(a, b) | Expression::Or(a, b) => {
                 a.is_known(count) && b.is_known(count)
+            }
+        }
+    }
+
+    /// Whether it names the column at this place.
+    pub(crate) fn names(&self, place: usize) -> bool
+        ensures { result ≡ names (shape self.now) place }
+    {
+        match self {
+            Expression::Column(named) => *named == place,
+            Expression::Literal(_) => false,
+            Expression::Is(_, _, a) | Expression::Not(a) => a.names(place),
+            Expression::Compare(_, a, b) | Expression::And(a, b) | Expression::Or(a, b) => {
+                a.names(place) || b.names(place)
             }
         }
     }

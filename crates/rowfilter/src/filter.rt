@@ -2,7 +2,7 @@
 
 ghost use Rattle.std.specs.Prelude.{◌≡◌, IfOk};
 ghost use Rattle.rowfilter.specs.Truth.{truth as truth_in};
-ghost use Rattle.rowfilter.specs.Conditions.{AreNamed};
+ghost use Rattle.rowfilter.specs.Conditions.{AreNamed, names};
 ghost use Rattle.rowfilter.specs.Shapes.{shape};
 
 use crate::expression::Expression;
@@ -22,22 +22,22 @@ pub struct Filter {
 impl Model for Filter {
     ghost use Rattle.std.specs.Prelude.{◌≡◌, []};
     ghost use Rattle.std.specs.Coded.{codes};
-    ghost use Rattle.rowfilter.specs.contracts.expression.Expression as the_expression;
-    ghost use Rattle.rowfilter.specs.declared.expression.Expression.{Expression as Tree};
+    ghost use Rattle.rowfilter.specs.Codes.{condition_code};
+    ghost use Rattle.rowfilter.specs.Conditions.{Condition};
     ghost use Rattle.rowfilter.specs.Shapes.{gathered, shape};
 
-    ghost Value = { Tree };
+    ghost Value = { Condition };
 
-    ghost coded = { Prim.hlevel (codes, the_expression.the_row.coded) };
+    ghost coded = { condition_code (Prim.hlevel codes) };
 
-    ghost view = { λ f. f.expression };
+    ghost view = { λ f. shape f.expression };
 
     ghost invariant = { λ f. f.columns ≡ gathered (shape f.expression) [] };
 }
 
 impl Filter {
     pub(crate) fn new(alloc: Global, expression: Expression) -> Result<Filter, AllocError>
-        ensures { IfOk result (λ f. f ≡ expression) }
+        ensures { IfOk result (λ f. f ≡ shape expression) }
     {
         let mut columns = Vec::new(alloc);
         expression.gather(&mut columns)?;
@@ -47,17 +47,33 @@ impl Filter {
         })
     }
 
+    pub fn copy(&self, alloc: Global) -> Result<Filter, AllocError>
+        ensures { IfOk result (λ f. f ≡ self.now) }
+    {
+        Ok(Filter {
+            expression: self.expression.copy(alloc)?,
+            columns: Items::new(Vec::from_slice(alloc, self.columns.as_slice())?),
+        })
+    }
+
     /// Whether the filter is true of the row, false, or unknown. The row is one of the table that it was read for; it
     /// takes no memory.
     pub fn truth(&self, row: &Row) -> Truth
-        ensures { result ≡ truth_in (shape self.now) row.now }
+        ensures { result ≡ truth_in self.now row.now }
     {
         self.expression.truth(row.values())
     }
 
+    /// Whether the filter names the column at this place of its table.
+    pub fn names(&self, place: usize) -> bool
+        ensures { result ≡ names self.now place }
+    {
+        self.expression.names(place)
+    }
+
     /// The places of the columns that the filter names, each once.
     pub fn columns(&self) -> &[usize]
-        ensures { AreNamed (shape self.now) result.now }
+        ensures { AreNamed self.now result.now }
     {
         self.columns.as_slice()
     }

@@ -1,6 +1,7 @@
 //! From a text to the filter that it spells.
 
 ghost use Rattle.std.specs.Prelude.{[], ◌≡◌, ◌≤◌, IfErr, IfOk, length, map, MatchResult};
+ghost use Rattle.rowfilter.specs.Answers.{Answers, read_filter};
 ghost use Rattle.rowfilter.specs.Conditions.{Condition};
 ghost use Rattle.rowfilter.specs.Grammar.{IsRefused, MOST_BYTES, SpellsCondition, SpellsFilter};
 ghost use Rattle.rowfilter.specs.Parts.{parts, word_at};
@@ -31,16 +32,17 @@ pub const MOST_BYTES: usize = 4096;
 /// parentheses. A text over 4,096 bytes is X1; of several faults the first in the order X1, X4, X5, X2, X3 is told. It
 /// takes no more stack for a deep text than for a flat one.
 pub fn parse(alloc: Global, text: &str, table: &Table) -> Result<Filter, FilterFault>
-    ensures found { IfOk result (λ f. SpellsFilter table.now text.now (shape f)) }
+    ensures found { IfOk result (λ f. SpellsFilter table.now text.now f) }
     ensures only { (c : Condition) → SpellsFilter table.now text.now c → GivesFilter result c }
     ensures fault { IfErr result (λ e. IsRefused table.now text.now e) }
+    ensures answer { Answers result (read_filter table.now text.now) }
 {
     filter_of(alloc, text, table)
 }
 
 /// The same, with one clause for both cases.
 fn filter_of(alloc: Global, text: &str, table: &Table) -> Result<Filter, FilterFault>
-    ensures { MatchResult result (λ f. SpellsFilter table.now text.now (shape f)) (λ e. IsRefused table.now text.now e) }
+    ensures { MatchResult result (λ f. SpellsFilter table.now text.now f) (λ e. IsRefused table.now text.now e) }
 {
     let columns = table.columns.as_slice();
     let expression = condition_of(alloc, text, columns)?;

@@ -3,8 +3,9 @@
 ghost use Rattle.std.specs.Prelude.{◌≡◌, ◌==◌, not, true, [], IfOk, IfSome, option_map, option_copied};
 ghost use Rattle.std.specs.List.{list_all, list_any};
 ghost use Rattle.std.specs.Str.{bytes_eq};
+ghost use Rattle.toml.specs.Data.{as_table};
 ghost use Rattle.toml.specs.View.{view, items_view};
-ghost use Rattle.tables.specs.Config.{another_name, kind_in, name_in, names_behind, names_in, oid_in, unless_empty, identity_in, identity_of};
+ghost use Rattle.tables.specs.Config.{another_name, is_more_than, kind_in, name_in, names_behind, names_in, oid_in, unless_empty, identity_in, identity_of};
 ghost use Rattle.tables.specs.Tables.{IsName, is_name};
 
 use crate::identity::Identity;
@@ -34,8 +35,9 @@ fn is_without_dot(text: &str) -> bool
     text.as_bytes().iter().all(|b| *b != b'.')
 }
 
+/// The name that a value of a configuration is: 1 to 63 bytes, no zero byte and no dot.
 #[tactic(auto, unfolding(crate::specs::Config::name_in))]
-pub(crate) fn name_in(value: &Value) -> Option<&str>
+pub fn name_in(value: &Value) -> Option<&str>
     ensures value { option_copied result ≡ name_in (view value.now) }
     ensures named { IfSome result (λ name. IsName name.now) }
 {
@@ -90,9 +92,9 @@ pub(crate) fn kind_in(value: &Value) -> Option<Kind>
     }
 }
 
-/// The names of a list, each once.
+/// The names of a list of one or more, each once.
 #[tactic(auto, unfolding(crate::specs::Config::names_in))]
-pub(crate) fn names_in(alloc: Global, value: &Value) -> Result<Option<Items<Text>>, AllocError>
+pub fn names_in(alloc: Global, value: &Value) -> Result<Option<Items<Text>>, AllocError>
     ensures { IfOk result (λ names. names ≡ names_in (view value.now)) }
 {
     match value.as_array() {
@@ -137,4 +139,15 @@ pub(crate) fn unless_empty<T: Drop>(items: Items<T>) -> Option<Items<T>>
         return None;
     }
     Some(items)
+}
+
+/// Whether a value is something else than a table of so many members.
+#[tactic(auto, using(crate::proofs::Members::counted))]
+pub fn is_more_than(value: &Value, known: usize) -> bool
+    ensures { result ≡ is_more_than known (as_table (view value.now)) }
+{
+    match value.as_table() {
+        Some(members) => members.len() != known,
+        None => true,
+    }
 }

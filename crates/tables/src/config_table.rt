@@ -11,7 +11,7 @@ ghost use Rattle.tables.specs.Tables.{AreColumns, IsName, IsTable};
 use crate::column::Column;
 use crate::config_fault::Member;
 use crate::config_member::{
-    identity_in, is_among, kind_in, name_in, names_in, oid_in, unless_empty,
+    identity_in, is_among, is_more_than, kind_in, name_in, names_in, oid_in, unless_empty,
 };
 use crate::table::Table;
 use frames::{Items, Text};
@@ -115,7 +115,6 @@ fn are_columns(columns: &[Column], names: &[Text]) -> bool
 }
 
 /// Whether the table has a member that no table has.
-#[tactic(auto, using(crate::proofs::Members::counted))]
 fn has_others(table: &Value) -> bool
     ensures { result ≡ has_others (view table.now) }
 {
@@ -124,10 +123,7 @@ fn has_others(table: &Value) -> bool
     } else {
         REQUIRED
     };
-    match table.as_table() {
-        Some(members) => members.len() != known,
-        None => true,
-    }
+    is_more_than(table, known)
 }
 
 #[tactic(auto, unfolding(crate::specs::Config::columns_in))]

@@ -38,7 +38,7 @@ pub use change_reading::read_body;
 pub use column::Column;
 pub use config::MAX_TABLES;
 pub use config_fault::{CatalogFault, Member, Misfit};
-pub use config_member::{MAX_NAME_LENGTH, MAX_OID};
+pub use config_member::{MAX_NAME_LENGTH, MAX_OID, is_more_than, name_in, names_in};
 pub use config_table::MAX_COLUMNS;
 pub use document::read_document;
 pub use fault::BodyFault;
