@@ -1,7 +1,7 @@
 -- What is published fits the stream: its fields, its Relation, and a frame.
 use Rattle.std.proofs.Common.{◌≡◌, ℕ, ◌+◌, ◌*◌, ◌^◌, ◌<◌, ◌≤◌, Bool, true, false, cond, eqb, leb, List, [], ◌∷◌, ◌++◌, length, Option, Some, None, refl, sym, ap, subst, ◌∙◌, arith}
-use Rattle.std.specs.Prelude.{◌&&◌, filter, not, is_some, IsSome, option_map, option_and_then}
-use Rattle.std.specs.List.{flat_map, list_all, AllByRecursion}
+use Rattle.std.specs.Prelude.{◌&&◌, ◌||◌, filter, not, is_some, IsSome, option_map, option_and_then}
+use Rattle.std.specs.List.{flat_map, list_all, list_any, AllByRecursion}
 use Rattle.std.proofs.lemmas.Bool.{leb-true}
 use Rattle.std.proofs.lemmas.List.{length-append, length-map}
 use Rattle.std.proofs.lemmas.List.Concat.{flat_map-cons}
@@ -23,25 +23,50 @@ use Rattle.tables.specs.declared.change_body.TheConstants.{MAX_TRUNCATED}
 use Rattle.tables.specs.History.{repeats}
 use Rattle.tables.specs.Tables.{table_of, IsValue}
 use Rattle.stream.specs.Items.{FitsRelationOf}
-use Rattle.publication.specs.Publications.{PublicationSet}
-use Rattle.publication.specs.Selection.{has_table, relation, relation_column, selected_table, FitsTable, FitTables}
+use Rattle.publication.specs.declared.operations.Operation.{Operation}
+use Rattle.publication.specs.declared.operations.Operation.TheVariants.{Insert, Update, Delete, Truncate}
+use Rattle.publication.specs.declared.publication.Publication.{Publication}
+use Rattle.publication.specs.Publications.{PublicationSet, has, publishes}
+use Rattle.publication.specs.Selection.{has_table, list_by, narrowed, relation, relation_column, selected_table, whole_table, FitsTable, FitTables}
 use Rattle.publication.specs.Tuples.{old_by, replaced_by, tuple_of}
-use Rattle.publication.specs.Projection.{delete_message, insert_message, may_be_emptied, message, message_by, only_if, stands, truncate_message, update_message, updated, AreValues, MessageFits}
+use Rattle.publication.specs.Projection.{delete_message, insert_message, is_published, may_be_emptied, message, message_by, only_if, passes, shown, stands, stands_in, truncate_message, update_message, updated, AreValues, MessageFits}
+use Rattle.publication.proofs.Choosing.{all_chosen, narrowed_fits, narrowed_stands}
 use Rattle.publication.proofs.Rows.{both_true, OldFits, TupleFits, old_fits, replaced_fits, tuple_fits}
 use Rattle.publication.proofs.Relations.{found_table, relation_tells, some_is}
 
 -- ---- a message
 
--- a table that the selection has
+-- a table as the selection shows it
 record Found (s : PublicationSet) (t : Table) : Type 0 where
   selected : selected_table s t.oid ≡ Some t
   fits : FitsTable t
 
-found_selected : (s : PublicationSet) (oid : ℕ) (t : Table) → FitTables s → has_table s oid ≡ true → table_of oid s.tables ≡ Some t → Found s t
+found_selected : (s : PublicationSet) (oid : ℕ) (t : Table) → FitTables s → has_table s oid ≡ true → table_of oid s.tables ≡ Some t → Found s (narrowed (list_by s.publications oid) t)
 found_selected s oid t all has found =
+    let listed = list_by s.publications oid in
     let p = found_table FitsTable oid s.tables t all found in
-    let here : selected_table s oid ≡ Some t = ap (λ (b : Bool). cond b (table_of oid s.tables) None) has ∙ found in
-    record { selected = ap (λ (n : ℕ). selected_table s n) p.1 ∙ here; fits = p.0 }
+    let whole : whole_table s oid ≡ Some t = ap (λ (b : Bool). cond b (table_of oid s.tables) None) has ∙ found in
+    let here : selected_table s oid ≡ Some (narrowed listed t) = ap (option_map (narrowed listed)) whole in
+    record { selected = ap (λ (n : ℕ). selected_table s n) p.1 ∙ here; fits = narrowed_fits listed t p.0 }
+
+-- the same, in which the listed columns stand of every row that stands in the whole table
+record Shown (s : PublicationSet) (oid : ℕ) (t : Table) : Type 0 where
+  found : Found s t
+  stay : (row : List Value) → stands (table_of oid s.tables) row ≡ true → stands_in t (shown s oid row) ≡ true
+
+shown_by : (s : PublicationSet) (oid : ℕ) (t : Table) → FitTables s → selected_table s oid ≡ Some t → Shown s oid t
+shown_by s oid t all e = by_table (has_table s oid) refl (table_of oid s.tables) refl e
+  where
+    by_table : (b : Bool) → has_table s oid ≡ b → (o : Option Table) → table_of oid s.tables ≡ o → option_map (narrowed (list_by s.publications oid)) (cond b o None) ≡ Some t → Shown s oid t
+    by_table false has o found is = absurd cc
+    by_table true has None found is = absurd cc
+    by_table true has (Some u) found is =
+        let listed = list_by s.publications oid in
+        let P : Table → Type 0 = λ v. Shown s oid v in
+        subst P (some_is (narrowed listed u) t is) (record {
+          found = found_selected s oid u all has found;
+          stay = λ row is. narrowed_stands listed u row (ap (λ (o : Option Table). stands o row) (sym found) ∙ is);
+        })
 
 told_count : (s : PublicationSet) (t : Table) (cells : List Cell) → Found s t → TupleFits t cells → length cells ≡ length (relation s t.oid).columns
 told_count s t cells found tuple = rw found.selected (tuple.count ∙ sym (length-map t.columns (relation_column t.identity)))
@@ -99,23 +124,34 @@ record KeptFits (s : PublicationSet) (oids kept : List ℕ) : Type 0 where
   relations : AllByRecursion (FitsRelationOf (relation s)) kept
   fewer : length kept ≤ length oids
 
-kept_fit : (s : PublicationSet) (oids : List ℕ) → FitTables s → list_all (λ oid. is_some (table_of oid s.tables)) oids ≡ true → KeptFits s oids (filter (has_table s) oids)
+is_had : (operation : Operation) (oid : ℕ) (publications : List Publication) → list_any (λ p. publishes p.operations operation && has oid p) publications ≡ true → list_any (has oid) publications ≡ true
+is_had operation oid [] e = absurd cc
+is_had operation oid (p ∷ publications) e = by_test (publishes p.operations operation) (has oid p) e (is_had operation oid publications)
+  where
+    by_test : (a b : Bool) → ((a && b) || list_any (λ p. publishes p.operations operation && has oid p) publications) ≡ true
+        → (list_any (λ p. publishes p.operations operation && has oid p) publications ≡ true → list_any (has oid) publications ≡ true) → (b || list_any (has oid) publications) ≡ true
+    by_test a true e others = refl
+    by_test true false e others = others e
+    by_test false false e others = others e
+
+kept_fit : (s : PublicationSet) (oids : List ℕ) → FitTables s → list_all (λ oid. is_some (table_of oid s.tables)) oids ≡ true → KeptFits s oids (filter (is_published s Truncate) oids)
 kept_fit s [] all known = record { known = tt; in_range = tt; relations = tt; fewer = omega arith }
 kept_fit s (oid ∷ oids) all known =
     let tests = both_true (is_some (table_of oid s.tables)) (list_all (λ oid. is_some (table_of oid s.tables)) oids) known in
-    by_has (has_table s oid) refl (table_of oid s.tables) refl tests.0 (kept_fit s oids all tests.1)
+    by_published (is_published s Truncate oid) (is_had Truncate oid s.publications) (table_of oid s.tables) refl tests.0 (kept_fit s oids all tests.1)
   where
-    by_has : (b : Bool) → has_table s oid ≡ b → (o : Option Table) → table_of oid s.tables ≡ o → is_some o ≡ true → KeptFits s oids (filter (has_table s) oids)
-        → KeptFits s (oid ∷ oids) (cond b (oid ∷ filter (has_table s) oids) (filter (has_table s) oids))
-    by_has false has o found is others = record { known = others.known; in_range = others.in_range; relations = others.relations; fewer = omega (arith, others.fewer) }
-    by_has true has None found is others = absurd cc
-    by_has true has (Some t) found is others =
-        let f = found_selected s oid t all has found in
-        let same : t.oid ≡ oid = (found_table FitsTable oid s.tables t all found).1 in
+    by_published : (b : Bool) → (b ≡ true → has_table s oid ≡ true) → (o : Option Table) → table_of oid s.tables ≡ o → is_some o ≡ true → KeptFits s oids (filter (is_published s Truncate) oids)
+        → KeptFits s (oid ∷ oids) (cond b (oid ∷ filter (is_published s Truncate) oids) (filter (is_published s Truncate) oids))
+    by_published false has o found is others = record { known = others.known; in_range = others.in_range; relations = others.relations; fewer = omega (arith, others.fewer) }
+    by_published true has None found is others = absurd cc
+    by_published true has (Some t) found is others =
+        let f = found_selected s oid t all (has refl) found in
+        let u = narrowed (list_by s.publications oid) t in
+        let same : u.oid ≡ oid = (found_table FitsTable oid s.tables t all found).1 in
         record {
           known = (subst (λ (n : ℕ). IsSome (selected_table s n)) same (rw f.selected refl), others.known);
           in_range = (subst (λ (n : ℕ). n < 2 ^ 32) same f.fits.oid, others.in_range);
-          relations = (subst (λ (n : ℕ). FitsRelationOf (relation s) n) same (relation_tells s t f.selected f.fits), others.relations);
+          relations = (subst (λ (n : ℕ). FitsRelationOf (relation s) n) same (relation_tells s u f.selected f.fits), others.relations);
           fewer = omega (arith, others.fewer);
         }
 
@@ -158,48 +194,65 @@ deleted_fits : (s : PublicationSet) (t : Table) (o : Option OldTuple) (m : Logic
 deleted_fits s t None m found fits e = absurd cc
 deleted_fits s t (Some old) m found fits e = let P : Logical → Type 0 = λ n. MessageFits s n in subst P (some_is (logical.Delete (record { oid = t.oid; old = old })) m e) (delete_fits s t old found fits)
 
--- by whether the selection has the table, and which one it is
-insert_fits_by : (s : PublicationSet) (oid : ℕ) (row : List Value) (m : Logical) → FitTables s → AllByRecursion IsValue row → (b : Bool) → has_table s oid ≡ b → (o : Option Table) → table_of oid s.tables ≡ o
-    → stands o row ≡ true → cond b (option_map (insert_message row) o) None ≡ Some m → MessageFits s m
-insert_fits_by s oid row m all in_range false has o found is e = absurd cc
-insert_fits_by s oid row m all in_range true has None found is e = absurd cc
-insert_fits_by s oid row m all in_range true has (Some t) found is e =
-    let f = found_selected s oid t all has found in
-    let P : Logical → Type 0 = λ n. MessageFits s n in
-    subst P (some_is (insert_message row t) m e) (insert_fits s t (tuple_of row) f (tuple_fits t row f.fits in_range is))
+shown_values : (s : PublicationSet) (oid : ℕ) (row : List Value) → AllByRecursion IsValue row → AllByRecursion IsValue (shown s oid row)
+shown_values s oid row in_range = all_chosen IsValue (list_by s.publications oid) row in_range
 
-update_fits_by : (s : PublicationSet) (oid : ℕ) (old new : List Value) (m : Logical) → FitTables s → AllByRecursion IsValue old → AllByRecursion IsValue new → (b : Bool) → has_table s oid ≡ b → (o : Option Table)
-    → table_of oid s.tables ≡ o → stands o old ≡ true → stands o new ≡ true → updated b b o old new ≡ Some m → MessageFits s m
-update_fits_by s oid old new m all old_values new_values false has o found is_old is_new e = absurd cc
-update_fits_by s oid old new m all old_values new_values true has None found is_old is_new e = absurd cc
-update_fits_by s oid old new m all old_values new_values true has (Some t) found is_old is_new e =
-    let f = found_selected s oid t all has found in
+-- a message that is told of a table as the selection shows it
+inserted_fits : (s : PublicationSet) (oid : ℕ) (row : List Value) (m : Logical) → FitTables s → AllByRecursion IsValue row → stands (table_of oid s.tables) row ≡ true
+    → (o : Option Table) → selected_table s oid ≡ o → option_map (insert_message (shown s oid row)) o ≡ Some m → MessageFits s m
+inserted_fits s oid row m all in_range is None found e = absurd cc
+inserted_fits s oid row m all in_range is (Some t) found e =
+    let u = shown_by s oid t all found in
     let P : Logical → Type 0 = λ n. MessageFits s n in
-    subst P (some_is (update_message old new t) m e)
-    (update_fits s t (replaced_by t.identity t old new) (tuple_of new) f (replaced_fits t t.identity old new f.fits old_values is_old) (tuple_fits t new f.fits new_values is_new))
+    subst P (some_is (insert_message (shown s oid row) t) m e)
+    (insert_fits s t (tuple_of (shown s oid row)) u.found (tuple_fits t (shown s oid row) u.found.fits (shown_values s oid row in_range) (u.stay row is)))
 
-delete_fits_by : (s : PublicationSet) (oid : ℕ) (old : List Value) (m : Logical) → FitTables s → AllByRecursion IsValue old → (b : Bool) → has_table s oid ≡ b → (o : Option Table) → table_of oid s.tables ≡ o
-    → stands o old ≡ true → cond b (option_and_then (delete_message old) o) None ≡ Some m → MessageFits s m
-delete_fits_by s oid old m all in_range false has o found is e = absurd cc
-delete_fits_by s oid old m all in_range true has None found is e = absurd cc
-delete_fits_by s oid old m all in_range true has (Some t) found is e =
-    let f = found_selected s oid t all has found in
-    deleted_fits s t (old_by t.identity t old) m f (old_fits t t.identity old f.fits in_range is) e
+replaced_row_fits : (s : PublicationSet) (oid : ℕ) (old new : List Value) (m : Logical) → FitTables s → AllByRecursion IsValue old → AllByRecursion IsValue new → stands (table_of oid s.tables) old ≡ true
+    → stands (table_of oid s.tables) new ≡ true → (o : Option Table) → selected_table s oid ≡ o → option_map (update_message (shown s oid old) (shown s oid new)) o ≡ Some m → MessageFits s m
+replaced_row_fits s oid old new m all old_values new_values is_old is_new None found e = absurd cc
+replaced_row_fits s oid old new m all old_values new_values is_old is_new (Some t) found e =
+    let u = shown_by s oid t all found in
+    let a = shown s oid old in
+    let b = shown s oid new in
+    let P : Logical → Type 0 = λ n. MessageFits s n in
+    subst P (some_is (update_message a b t) m e)
+    (update_fits s t (replaced_by t.identity t a b) (tuple_of b) u.found (replaced_fits t t.identity a b u.found.fits (shown_values s oid old old_values) (u.stay old is_old))
+    (tuple_fits t b u.found.fits (shown_values s oid new new_values) (u.stay new is_new)))
+
+deleted_row_fits : (s : PublicationSet) (oid : ℕ) (old : List Value) (m : Logical) → FitTables s → AllByRecursion IsValue old → stands (table_of oid s.tables) old ≡ true → (o : Option Table)
+    → selected_table s oid ≡ o → option_and_then (delete_message (shown s oid old)) o ≡ Some m → MessageFits s m
+deleted_row_fits s oid old m all in_range is None found e = absurd cc
+deleted_row_fits s oid old m all in_range is (Some t) found e =
+    let u = shown_by s oid t all found in
+    deleted_fits s t (old_by t.identity t (shown s oid old)) m u.found (old_fits t t.identity (shown s oid old) u.found.fits (shown_values s oid old in_range) (u.stay old is)) e
+
+-- only what passes has a message
+where_it_passes : (passes : Bool) (o : Option Logical) (m : Logical) → cond passes o None ≡ Some m → o ≡ Some m
+where_it_passes true o m e = e
+where_it_passes false o m e = absurd cc
+
+updated_fits : (s : PublicationSet) (oid : ℕ) (old new : List Value) (m : Logical) → FitTables s → AllByRecursion IsValue old → AllByRecursion IsValue new → stands (table_of oid s.tables) old ≡ true
+    → stands (table_of oid s.tables) new ≡ true → (old_passes new_passes : Bool) → updated old_passes new_passes (selected_table s oid) (shown s oid old) (shown s oid new) ≡ Some m → MessageFits s m
+updated_fits s oid old new m all old_values new_values is_old is_new true true e = replaced_row_fits s oid old new m all old_values new_values is_old is_new (selected_table s oid) refl e
+updated_fits s oid old new m all old_values new_values is_old is_new false true e = inserted_fits s oid new m all new_values is_new (selected_table s oid) refl e
+updated_fits s oid old new m all old_values new_values is_old is_new true false e = deleted_row_fits s oid old m all old_values is_old (selected_table s oid) refl e
+updated_fits s oid old new m all old_values new_values is_old is_new false false e = absurd cc
 
 pub message_fits : (s : PublicationSet) (c : Change) (m : Logical) → FitTables s → AreValues c → message s c ≡ Some m → MessageFits s m
 message_fits s (changes.Insert oid row) m all in_range e =
     let both = only_some (message_by s (changes.Insert oid row)) (stands (table_of oid s.tables) row) m e in
-    insert_fits_by s oid row m all in_range (has_table s oid) refl (table_of oid s.tables) refl both.true_is both.is
+    inserted_fits s oid row m all in_range both.true_is (selected_table s oid) refl (where_it_passes (passes s Insert oid row) (option_map (insert_message (shown s oid row)) (selected_table s oid)) m both.is)
 message_fits s (changes.Update oid old new) m all in_range e =
     let both = only_some (message_by s (changes.Update oid old new)) (stands (table_of oid s.tables) old && stands (table_of oid s.tables) new) m e in
     let tests = both_true (stands (table_of oid s.tables) old) (stands (table_of oid s.tables) new) both.true_is in
-    update_fits_by s oid old new m all in_range.0 in_range.1 (has_table s oid) refl (table_of oid s.tables) refl tests.0 tests.1 both.is
+    updated_fits s oid old new m all in_range.0 in_range.1 tests.0 tests.1 (passes s Update oid old) (passes s Update oid new) both.is
 message_fits s (changes.Delete oid old) m all in_range e =
     let both = only_some (message_by s (changes.Delete oid old)) (stands (table_of oid s.tables) old) m e in
-    delete_fits_by s oid old m all in_range (has_table s oid) refl (table_of oid s.tables) refl both.true_is both.is
+    deleted_row_fits s oid old m all in_range both.true_is (selected_table s oid) refl
+    (where_it_passes (passes s Delete oid old) (option_and_then (delete_message (shown s oid old)) (selected_table s oid)) m both.is)
 message_fits s (changes.Truncate oids) m all in_range e =
     let both = only_some (message_by s (changes.Truncate oids)) (may_be_emptied s.tables oids) m e in
     let some = both_true (list_all (λ oid. is_some (table_of oid s.tables)) oids) _ both.true_is in
     let others = both_true (not (eqb (length oids) 0)) _ some.1 in
     let few = both_true (not (repeats oids)) (leb (length oids) MAX_TRUNCATED) others.1 in
-    truncate_fits s oids (filter (has_table s) oids) m (kept_fit s oids all some.0) (leb-true _ _ few.1) both.is
+    truncate_fits s oids (filter (is_published s Truncate) oids) m (kept_fit s oids all some.0) (leb-true _ _ few.1) both.is

@@ -1,4 +1,6 @@
 pub mod Catalogued
+pub mod Choosing
+pub mod Configured
 pub mod Filtering
 pub mod Fitting
 pub mod Relations

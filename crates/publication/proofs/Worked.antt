@@ -1,6 +1,6 @@
 -- Worked changes, by which the definitions were checked.
 use Rattle.std.proofs.Common.{◌≡◌, ℕ, pos, true, false, List, [], ◌∷◌, Option, Some, None, refl}
-use Rattle.std.specs.Prelude.{codes}
+use Rattle.std.specs.Prelude.{codes, map, option_to_list}
 use Rattle.std.specs.Fmt.{digits}
 use Rattle.frames.specs.Fields.{int16, int32, int64}
 use Rattle.pgoutput.specs.declared.logical.Logical.{Logical}
@@ -15,8 +15,9 @@ use Rattle.tables.specs.declared.value.Value.{Value}
 use Rattle.tables.specs.declared.value.Value.TheVariants as values
 use Rattle.tables.specs.declared.table.Table.{Table}
 use Rattle.tables.specs.declared.change.Change.TheVariants as changes
-use Rattle.tables.specs.Tables.{item_table}
-use Rattle.publication.specs.Publications.{PublicationSet, builtin_publications, is_unknown, selected}
+use Rattle.tables.specs.Tables.{item_table, table_named}
+use Rattle.publication.specs.declared.publication.Publication.{Publication}
+use Rattle.publication.specs.Publications.{PublicationSet, all_operations, is_unknown, published_whole, selected}
 use Rattle.publication.specs.Projection.{delete_message, message, update_message, updated}
 
 -- ---- Tables, rows and messages.
@@ -37,6 +38,17 @@ note_table = record {
   name = codes "note";
   identity = identities.Nothing;
   columns = record { name = codes "id"; kind = kinds.Int8; is_key = true } ∷ record { name = codes "m"; kind = kinds.Text; is_key = false } ∷ [];
+}
+
+-- the publication of one table whole, or of nothing where the catalogue has no such table
+abbrev publication_of : List ℕ → List ℕ → List Table → Publication
+publication_of name table tables = record { name = name; operations = all_operations; tables = map published_whole (option_to_list (table_named table tables)) }
+
+-- p of the table public.item, and t of the table public.tag
+abbrev builtin_publications : List Table → PublicationSet
+builtin_publications tables = record {
+  tables = tables;
+  publications = publication_of (codes "p") (codes "public.item") tables ∷ publication_of (codes "t") (codes "public.tag") tables ∷ [];
 }
 
 abbrev by : List (List ℕ) → PublicationSet

@@ -1,7 +1,6 @@
--- The message of a change, or none (PostgreSQL 15, 31.1 and 55.9). The publications of a selection are of whole tables so far: each
--- publishes every operation, and lets every row pass.
+-- The message of a change, or none (PostgreSQL 15, 31.1 to 31.4 and 55.9).
 use Rattle.std.specs.Prelude.{◌&&◌, ◌==◌, ℕ, Bool, true, false, not, List, [], length, filter, nat_le, is_some, Option, Some, None, IsSome, option_map, option_and_then, if◌then◌else◌}
-use Rattle.std.specs.List.{list_all, AllByRecursion}
+use Rattle.std.specs.List.{list_all, list_any, AllByRecursion}
 use Rattle.pgoutput.specs.declared.logical.Logical.{Logical}
 use Rattle.pgoutput.specs.declared.logical.Logical.TheVariants as logical
 use Rattle.pgoutput.specs.Logical.{FitsLogical}
@@ -15,28 +14,23 @@ use Rattle.tables.specs.Spelling.{row_length}
 use Rattle.tables.specs.History.{repeats}
 use Rattle.tables.specs.Tables.{table_of, fits_table, IsValue}
 use Rattle.stream.specs.Items.{tables_of, IsShortMessage, IsOfChange, FitsRelationOf}
-use Rattle.publication.specs.Publications.{PublicationSet}
-use Rattle.publication.specs.Selection.{has_table, selected_table, relation}
+use Rattle.publication.specs.declared.operations.Operation.{Operation}
+use Rattle.publication.specs.declared.operations.Operation.TheVariants.{Insert, Update, Delete, Truncate}
+use Rattle.publication.specs.Publications.{PublicationSet, has, passes_in, publishes}
+use Rattle.publication.specs.Selection.{chosen, list_by, selected_table, relation}
 use Rattle.publication.specs.Tuples.{tuple_of, old_by, replaced_by}
 use Rattle.publication.specs.declared.projection.Projected.{Projected}
 use Rattle.publication.specs.declared.projection.Projected.TheVariants.{Nothing, Message}
 
 -- ---- What passes.
 
--- what a session does to rows or tables
-pub data Operation : Type 0 where
-  Insert : Operation
-  Update : Operation
-  Delete : Operation
-  Truncate : Operation
-
 -- whether some publication of the selection publishes the operation for the table
 abbrev pub is_published : PublicationSet → Operation → ℕ → Bool
-is_published s operation oid = has_table s oid
+is_published s operation oid = list_any (λ p. publishes p.operations operation && has oid p) s.publications
 
--- whether a row of the table passes for the operation
+-- whether some publication of the selection publishes the operation for the table, and has no filter for it or one that is true of the row
 abbrev pub passes : PublicationSet → Operation → ℕ → List Value → Bool
-passes s operation oid row = is_published s operation oid
+passes s operation oid row = list_any (passes_in operation oid row) s.publications
 
 -- ---- What fits the catalogue: the table, the rows and the list of a change are none that S1, S2 or S6 refuses.
 
@@ -80,11 +74,15 @@ updated false true t old new = option_map (insert_message new) t
 updated true false t old new = option_and_then (delete_message old) t
 updated false false t old new = None
 
--- the message of a change that fits the catalogue
+-- the listed columns of a row
+abbrev pub shown : PublicationSet → ℕ → List Value → List Value
+shown s oid row = chosen (list_by s.publications oid) row
+
+-- The message of a change that fits the catalogue. The whole row is judged, its listed columns are told.
 abbrev pub message_by : PublicationSet → Change → Option Logical
-message_by s (changes.Insert oid row) = if passes s Insert oid row then option_map (insert_message row) (table_of oid s.tables) else None
-message_by s (changes.Update oid old new) = updated (passes s Update oid old) (passes s Update oid new) (table_of oid s.tables) old new
-message_by s (changes.Delete oid old) = if passes s Delete oid old then option_and_then (delete_message old) (table_of oid s.tables) else None
+message_by s (changes.Insert oid row) = if passes s Insert oid row then option_map (insert_message (shown s oid row)) (selected_table s oid) else None
+message_by s (changes.Update oid old new) = updated (passes s Update oid old) (passes s Update oid new) (selected_table s oid) (shown s oid old) (shown s oid new)
+message_by s (changes.Delete oid old) = if passes s Delete oid old then option_and_then (delete_message (shown s oid old)) (selected_table s oid) else None
 message_by s (changes.Truncate oids) = truncate_message (filter (is_published s Truncate) oids)
 
 abbrev pub only_if : Option Logical → Bool → Option Logical

@@ -1,5 +1,5 @@
--- The tables of a selection, and what it says of each: its Relation (PostgreSQL 15, 55.9).
-use Rattle.std.specs.Prelude.{ℕ, ◌<◌, ◌≤◌, ◌^◌, Bool, true, false, List, [], map, filter, length, Option, Some, None, if◌then◌else◌}
+-- The tables of a selection, and what it says of each: its listed columns, and its Relation (PostgreSQL 15, 31.4 and 55.9).
+use Rattle.std.specs.Prelude.{ℕ, get_or, ◌<◌, ◌≤◌, ◌^◌, Bool, true, false, List, [], ◌∷◌, map, filter, length, Option, Some, None, option_map, if◌then◌else◌}
 use Rattle.std.specs.List.{list_any, AllByRecursion}
 use Rattle.pgoutput.specs.declared.relation.Relation.{Relation}
 use Rattle.pgoutput.specs.declared.relation.Column.{Column as ToldColumn}
@@ -14,15 +14,45 @@ use Rattle.tables.specs.declared.column.Column.{Column}
 use Rattle.tables.specs.declared.table.Table.{Table}
 use Rattle.tables.specs.Tables.{table_of}
 use Rattle.publication.specs.declared.relation.TheConstants.{BOOL_OID, INT4_OID, INT8_OID, TEXT_OID, NO_MODIFIER}
-use Rattle.publication.specs.Publications.{PublicationSet, has}
+use Rattle.publication.specs.declared.publication.Publication.{Publication}
+use Rattle.publication.specs.declared.published_table.PublishedTable.{PublishedTable}
+use Rattle.publication.specs.Publications.{PublicationSet, has, table_in}
 
 -- whether some publication of the selection has the table of this OID
 abbrev pub has_table : PublicationSet → ℕ → Bool
 has_table s oid = list_any (has oid) s.publications
 
+-- what stands at the places that a list has, in its order; the rest is left out
+abbrev pub chosen : {A : Type 0} → List Bool → List A → List A
+chosen [] xs = []
+chosen (listed ∷ flags) [] = []
+chosen (listed ∷ flags) (x ∷ xs) = if listed then x ∷ chosen flags xs else chosen flags xs
+
+-- whether a list has the column at this place
+abbrev pub is_listed : List Bool → ℕ → Bool
+is_listed listed place = get_or listed place false
+
+-- the list of a table, or this one where there is no such table
+abbrev pub listed_or : List Bool → Option PublishedTable → List Bool
+listed_or others None = others
+listed_or others (Some t) = t.listed
+
+-- The column list for the table of this OID. The publications of a selection agree on it, so it is that of the first that has the table.
+abbrev pub list_by : List Publication → ℕ → List Bool
+list_by [] oid = []
+list_by (p ∷ publications) oid = listed_or (list_by publications oid) (table_in oid p)
+
+-- a table as a subscriber sees it: with the columns of the list alone
+abbrev pub narrowed : List Bool → Table → Table
+narrowed listed t = record t { columns = chosen listed t.columns }
+
 -- the table of this OID, if the selection has it
+abbrev pub whole_table : PublicationSet → ℕ → Option Table
+whole_table s oid = if has_table s oid then table_of oid s.tables else None
+
+-- the same as the selection shows it
 abbrev pub selected_table : PublicationSet → ℕ → Option Table
-selected_table s oid = if has_table s oid then table_of oid s.tables else None
+selected_table s oid = option_map (narrowed (list_by s.publications oid)) (whole_table s oid)
 
 -- the tables of the selection, in the order of the catalogue
 abbrev pub selected_oids : PublicationSet → List ℕ

@@ -3,6 +3,7 @@
 ghost use Rattle.std.specs.Prelude.{◌≡◌, ◌++◌, ◌&&◌, not, IfOk, length, codes, if◌then◌else◌};
 ghost use Rattle.std.specs.List.{list_any, zip};
 ghost use Rattle.pgoutput.specs.declared.tuple.Cell.TheVariants as cells;
+ghost use Rattle.publication.specs.Selection.{chosen, is_listed, narrowed};
 ghost use Rattle.publication.specs.Tuples.{cell_of, changes_key, key_tuple_of, old_by, replaced_by, same_value, tuple_of};
 
 use frames::{Items, Text};
@@ -10,15 +11,28 @@ use pgoutput::{Cell, OldTuple};
 use std::alloc::{AllocError, Global};
 use tables::{Column, Identity, Row, Table, Value};
 
-/// The tuple of a row: bool is `t` or `f`, an integer its decimal digits, a text its bytes.
-pub(crate) fn tuple_of(alloc: Global, row: &[Value]) -> Result<Items<Cell>, AllocError>
-    ensures { IfOk result (λ cells. cells ≡ tuple_of row.now) }
+/// The tuple of the listed columns of a row: bool is `t` or `f`, an integer its decimal digits, a text its bytes.
+pub(crate) fn tuple_of(
+    alloc: Global,
+    listed: &[bool],
+    row: &[Value],
+) -> Result<Items<Cell>, AllocError>
+    ensures { IfOk result (λ cells. cells ≡ tuple_of (chosen listed.now row.now)) }
 {
     let mut cells = Vec::with_capacity(alloc, row.len())?;
-    for value in row {
-        cells.push(cell(alloc, value)?)?;
+    for (i, value) in row.iter().enumerate() {
+        if is_listed(listed, i) {
+            cells.push(cell(alloc, value)?)?;
+        }
     }
     Ok(Items::new(cells))
+}
+
+/// Whether a column list has the column at this place of the table.
+pub(crate) fn is_listed(listed: &[bool], place: usize) -> bool
+    ensures { result ≡ is_listed listed.now place }
+{
+    listed.get(place).copied().unwrap_or(false)
 }
 
 fn cell(alloc: Global, value: &Value) -> Result<Cell, AllocError>
@@ -38,18 +52,19 @@ fn cell(alloc: Global, value: &Value) -> Result<Cell, AllocError>
 pub(crate) fn old_of(
     alloc: Global,
     table: &Table,
+    listed: &[bool],
     old: &Row,
 ) -> Result<Option<OldTuple>, AllocError>
     requires { length table.now.columns ≡ length old.now }
-    ensures { IfOk result (λ o. o ≡ old_by table.now.identity table.now old.now) }
+    ensures { IfOk result (λ o. o ≡ old_by table.now.identity (narrowed listed.now table.now) (chosen listed.now old.now)) }
 {
     Ok(match table.identity {
         Identity::Default => {
             let columns = table.columns.as_slice();
-            Some(OldTuple::Key(key_tuple_of(alloc, columns, old.values())?))
+            Some(OldTuple::Key(key_tuple_of(alloc, columns, listed, old.values())?))
         }
         Identity::Nothing => None,
-        Identity::Full => Some(OldTuple::Full(tuple_of(alloc, old.values())?)),
+        Identity::Full => Some(OldTuple::Full(tuple_of(alloc, listed, old.values())?)),
     })
 }
 
@@ -57,25 +72,35 @@ pub(crate) fn old_of(
 pub(crate) fn replaced_of(
     alloc: Global,
     table: &Table,
+    listed: &[bool],
     old: &Row,
     new: &Row,
 ) -> Result<Option<OldTuple>, AllocError>
     requires { length table.now.columns ≡ length old.now }
-    ensures { IfOk result (λ o. o ≡ replaced_by table.now.identity table.now old.now new.now) }
+    ensures { IfOk result (λ o. o ≡ replaced_by table.now.identity (narrowed listed.now table.now) (chosen listed.now old.now) (chosen listed.now new.now)) }
 {
     let columns = table.columns.as_slice();
-    if table.identity == Identity::Default && !changes_key(columns, old.values(), new.values()) {
+    if table.identity == Identity::Default
+        && !changes_key(columns, listed, old.values(), new.values())
+    {
         return Ok(None);
     }
-    old_of(alloc, table, old)
+    old_of(alloc, table, listed, old)
 }
 
-/// Whether a column of the primary key has one value in the one row and another one in the other.
-fn changes_key(columns: &[Column], old: &[Value], new: &[Value]) -> bool
-    ensures { result ≡ changes_key columns.now old.now new.now }
+/// Whether a listed column of the primary key has one value in the one row and another one in the other.
+fn changes_key(columns: &[Column], listed: &[bool], old: &[Value], new: &[Value]) -> bool
+    ensures { result ≡ changes_key (chosen listed.now columns.now) (chosen listed.now old.now) (chosen listed.now new.now) }
 {
-    let mut columns = columns.iter().zip(old.iter().zip(new));
-    columns.any(|(column, (old, new))| column.is_key && !is_same(old, new))
+    has_other_key(columns, listed, old, new)
+}
+
+/// The same, asked of the columns side by side.
+fn has_other_key(columns: &[Column], listed: &[bool], old: &[Value], new: &[Value]) -> bool
+    ensures { result ≡ list_any (λ p. p.0 && (p.1.0.is_key && not (same_value p.1.1.0 p.1.1.1))) (zip listed.now (zip columns.now (zip old.now new.now))) }
+{
+    let mut cells = listed.iter().zip(columns.iter().zip(old.iter().zip(new)));
+    cells.any(|(listed, (column, (old, new)))| *listed && (column.is_key && !is_same(old, new)))
 }
 
 fn is_same(a: &Value, b: &Value) -> bool
@@ -91,14 +116,22 @@ fn is_same(a: &Value, b: &Value) -> bool
     }
 }
 
-/// The cells of the primary key, with as many cells as columns.
-fn key_tuple_of(alloc: Global, columns: &[Column], row: &[Value]) -> Result<Items<Cell>, AllocError>
+/// The cells of the primary key, with as many cells as listed columns.
+fn key_tuple_of(
+    alloc: Global,
+    columns: &[Column],
+    listed: &[bool],
+    row: &[Value],
+) -> Result<Items<Cell>, AllocError>
     requires { length columns.now ≡ length row.now }
-    ensures { IfOk result (λ cells. cells ≡ key_tuple_of columns.now row.now) }
+    ensures { IfOk result (λ cells. cells ≡ key_tuple_of (chosen listed.now columns.now) (chosen listed.now row.now)) }
 {
     let mut cells = Vec::with_capacity(alloc, columns.len())?;
     for (i, column) in columns.iter().enumerate() {
-        cells.push(key_cell(alloc, column, &row[i])?)?;
+        let value = &row[i];
+        if is_listed(listed, i) {
+            cells.push(key_cell(alloc, column, value)?)?;
+        }
     }
     Ok(Items::new(cells))
 }

@@ -2,14 +2,24 @@
 #![tactic(auto)]
 
 mod cells;
+mod config;
+mod config_fault;
+mod config_publication;
+mod config_table;
+mod explaining;
 mod fault;
+mod judging;
 mod messages;
+mod operations;
 mod projection;
 mod publication;
 mod publications;
+mod published_table;
 mod relation;
 mod selection;
 
+pub use config_fault::{Member, Misfit, Place, TableMember};
+pub use explaining::explained;
 pub use fault::PubFault;
 pub use projection::Projected;
 pub use publications::Publications;

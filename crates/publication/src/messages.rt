@@ -1,6 +1,7 @@
 //! The messages of changes in one table, and of tables that were emptied.
 
 ghost use Rattle.std.specs.Prelude.{◌≡◌, IfOk, length};
+ghost use Rattle.publication.specs.Selection.{chosen, narrowed};
 ghost use Rattle.publication.specs.Projection.{delete_message, insert_message, truncate_message, update_message};
 
 use crate::cells::{old_of, replaced_of, tuple_of};
@@ -9,28 +10,34 @@ use pgoutput::{Delete, Insert, Logical, Truncate, TruncateOptions, Update};
 use std::alloc::{AllocError, Global};
 use tables::{Row, Table};
 
-pub(crate) fn insertion(alloc: Global, table: &Table, row: &Row) -> Result<Logical, AllocError>
-    ensures { IfOk result (λ m. m ≡ insert_message row.now table.now) }
+pub(crate) fn insertion(
+    alloc: Global,
+    table: &Table,
+    listed: &[bool],
+    row: &Row,
+) -> Result<Logical, AllocError>
+    ensures { IfOk result (λ m. m ≡ insert_message (chosen listed.now row.now) (narrowed listed.now table.now)) }
 {
     Ok(Logical::Insert(Insert {
         oid: table.oid,
-        new: tuple_of(alloc, row.values())?,
+        new: tuple_of(alloc, listed, row.values())?,
     }))
 }
 
 pub(crate) fn replacement(
     alloc: Global,
     table: &Table,
+    listed: &[bool],
     old: &Row,
     new: &Row,
 ) -> Result<Logical, AllocError>
     requires { length table.now.columns ≡ length old.now }
-    ensures { IfOk result (λ m. m ≡ update_message old.now new.now table.now) }
+    ensures { IfOk result (λ m. m ≡ update_message (chosen listed.now old.now) (chosen listed.now new.now) (narrowed listed.now table.now)) }
 {
     Ok(Logical::Update(Update {
         oid: table.oid,
-        old: replaced_of(alloc, table, old, new)?,
-        new: tuple_of(alloc, new.values())?,
+        old: replaced_of(alloc, table, listed, old, new)?,
+        new: tuple_of(alloc, listed, new.values())?,
     }))
 }
 
@@ -38,12 +45,13 @@ pub(crate) fn replacement(
 pub(crate) fn deletion(
     alloc: Global,
     table: &Table,
+    listed: &[bool],
     old: &Row,
 ) -> Result<Option<Logical>, AllocError>
     requires { length table.now.columns ≡ length old.now }
-    ensures { IfOk result (λ o. o ≡ delete_message old.now table.now) }
+    ensures { IfOk result (λ o. o ≡ delete_message (chosen listed.now old.now) (narrowed listed.now table.now)) }
 {
-    let Some(old) = old_of(alloc, table, old)? else {
+    let Some(old) = old_of(alloc, table, listed, old)? else {
         return Ok(None);
     };
     let oid = table.oid;

@@ -1,25 +1,29 @@
 //! The publications of a publisher.
 
-ghost use Rattle.std.specs.Prelude.{◌≡◌, ◌++◌, ◌∷◌, [], IfOk, Err, false, true, not, filter, drop, map, option_to_list};
+ghost use Rattle.std.specs.Prelude.{◌≡◌, ◌++◌, ◌∷◌, [], IfOk, IfErr, Err, false, true, not, filter, drop};
 ghost use Rattle.std.specs.List.{list_any, AllByRecursion};
 ghost use Rattle.std.specs.Str.{bytes_eq};
 ghost use Rattle.publication.specs.declared.fault.PubFault.{PubFault};
-ghost use Rattle.tables.specs.Tables.{table_named};
+ghost use Rattle.toml.specs.View.{view};
+ghost use Rattle.publication.specs.Config.{Configures, ReadsPublications, configured_by, publications_in};
 ghost use Rattle.publication.specs.Selection.{FitsTable};
-ghost use Rattle.publication.specs.Publications.{builtin_publications, publication_of, selected, is_unknown};
+ghost use Rattle.publication.specs.Publications.{IsOfSelect, conflicts, is_unknown, selected};
 
+use crate::config::{fault_of, publications_of};
+use crate::config_fault::Unread;
 use crate::fault::PubFault;
 use crate::publication::Publication;
 use crate::selection::Selection;
 use frames::{Items, Text};
 use std::alloc::{AllocError, Global};
 use std::marker::Model;
-use tables::{Catalog, Table};
+use tables::{Catalog, CatalogFault, Table, read_document};
+use toml::Value;
 
-/// The publications of a publisher: for now two, each of one table whole.
+/// The publications of a publisher, over the tables of its catalogue.
 ///
-/// `builtin` makes them over a catalogue, and `select` may be called any number of times. Its P1 says that a name is no publication's, and P7
-/// is want of memory; neither changes anything.
+/// A configuration names them, and `select` may be called any number of times. Its P1 says that a name is no publication's, P2 that two of
+/// the publications list other columns of one table, and P7 is want of memory; none changes anything.
 #[derive(Debug, Drop)]
 pub struct Publications {
     alloc: Global,
@@ -28,11 +32,14 @@ pub struct Publications {
 }
 
 impl Model for Publications {
-    ghost use Rattle.publication.specs.Publications.{PublicationSet};
+    ghost use Rattle.std.specs.Coded.{codes};
+    ghost use Rattle.publication.specs.Publications.{PublicationSet, condition_code};
     ghost use Rattle.std.specs.List.{AllByRecursion};
     ghost use Rattle.publication.specs.Selection.{FitsTable};
 
     ghost Value = { PublicationSet };
+
+    ghost coded = { Prim.hlevel (codes, condition_code (Prim.hlevel codes)) };
 
     ghost view = { λ p. record { tables = p.tables; publications = p.publications } };
 
@@ -40,34 +47,54 @@ impl Model for Publications {
 }
 
 impl Publications {
-    /// The publications `p` of the catalogue's table public.item, and `t` of public.tag. Where the catalogue has no such table, the
-    /// publication has none.
-    #[tactic(auto, using(crate::proofs::Catalogued::all_fit))]
-    pub fn builtin(alloc: Global, catalog: &Catalog) -> Result<Self, AllocError>
-        ensures { IfOk result (λ p. p ≡ builtin_publications catalog.now) }
+    /// The publications that the text of a configuration names over the tables of the catalogue, in its order. What a publication is told by
+    /// stands in docs/CONFIGURATION.md.
+    #[tactic(auto, using(crate::proofs::Configured::configured))]
+    pub fn from_toml(alloc: Global, text: &str, catalog: &Catalog) -> Result<Self, PubFault>
+        ensures { Configures result (configured_by catalog.now text.now) }
     {
-        let publications = vec![in alloc;
-            publication_of(alloc, "p", "public.item", catalog)?,
-            publication_of(alloc, "t", "public.tag", catalog)?,
-        ]?;
+        match read_document(alloc, text) {
+            Ok(document) => Publications::of_document(alloc, &document, catalog),
+            Err(CatalogFault::NotToml(line)) => Err(PubFault::NotToml(line)),
+            Err(_) => Err(PubFault::Memory),
+        }
+    }
+
+    /// The publications that the document of a configuration names over the tables of the catalogue.
+    #[tactic(auto, using(crate::proofs::Catalogued::all_fit, crate::proofs::Configured::refused_so))]
+    pub fn of_document(alloc: Global, document: &Value, catalog: &Catalog) -> Result<Self, PubFault>
+        ensures { ReadsPublications result (publications_in catalog.now (view document.now)) }
+    {
+        let publications = match publications_of(alloc, catalog, document.get("publication")) {
+            Ok(publications) => publications,
+            Err(Unread::Refused(refusal)) => return Err(fault_of(refusal)),
+            Err(Unread::Memory) => return Err(PubFault::Memory),
+        };
         Ok(Publications {
             alloc,
             tables: copies(alloc, catalog.tables())?,
-            publications: Items::new(publications),
+            publications,
         })
     }
 
-    /// The publications of these names, each once. A name that no publication has is P1.
+    /// The publications of these names, each once. A name that no publication has is P1; two of them that have different column
+    /// lists for one table are P2, a table without a list having all columns.
     pub fn select(&self, names: &[Text]) -> Result<Selection, PubFault>
         ensures ok { IfOk result (λ s. s ≡ selected self.now names.now) }
         ensures known { IfOk result (λ s. is_unknown self.now names.now ≡ false) }
+        ensures agree { IfOk result (λ s. conflicts s.publications ≡ false) }
         ensures unknown { result ≡ Err PubFault.Unknown → is_unknown self.now names.now ≡ true }
+        ensures conflict { result ≡ Err PubFault.ListConflict → (is_unknown self.now names.now ≡ false) × (conflicts (selected self.now names.now).publications ≡ true) }
         ensures memory { result ≡ Err PubFault.Memory → is_unknown self.now names.now ≡ false }
+        ensures only { IfErr result IsOfSelect }
     {
         if self.lacks_one(names) {
             return Err(PubFault::Unknown);
         }
         let publications = named(self.alloc, self.publications.as_slice(), names)?;
+        if conflicts(publications.as_slice()) {
+            return Err(PubFault::ListConflict);
+        }
         let tables = copies(self.alloc, self.tables.as_slice())?;
         Ok(Selection::new(self.alloc, tables, publications)?)
     }
@@ -89,23 +116,13 @@ impl Publications {
     }
 }
 
-/// The publication of one table of the catalogue, or of none where it has no such table.
-fn publication_of(
-    alloc: Global,
-    name: &str,
-    table: &str,
-    catalog: &Catalog,
-) -> Result<Publication, AllocError>
-    ensures { IfOk result (λ p. p ≡ publication_of name.now table.now catalog.now) }
+/// Whether two of the publications have different column lists for one table.
+fn conflicts(publications: &[Publication]) -> bool
+    ensures { result ≡ conflicts publications.now }
 {
-    let mut tables = Vec::new(alloc);
-    if let Some(table) = catalog.named(table) {
-        tables.push(table.oid)?;
-    }
-    Ok(Publication {
-        name: Text::copy_of(alloc, name)?,
-        tables: Items::new(tables),
-    })
+    publications
+        .iter()
+        .any(|p| p.is_contradicted_by(publications))
 }
 
 fn copies(alloc: Global, tables: &[Table]) -> Result<Items<Table>, AllocError>

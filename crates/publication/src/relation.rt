@@ -1,8 +1,9 @@
 //! The Relation message of a table.
 
 ghost use Rattle.std.specs.Prelude.{◌≡◌, ◌++◌, IfOk, map, pos, negsuc};
-ghost use Rattle.publication.specs.Selection.{relation_of, relation_column, identity_of, is_identity, type_oid};
+ghost use Rattle.publication.specs.Selection.{chosen, narrowed, relation_of, relation_column, identity_of, is_identity, type_oid};
 
+use crate::cells::is_listed;
 use frames::Items;
 use pgoutput::{Column, Identity, Relation};
 use std::alloc::{AllocError, Global};
@@ -20,28 +21,36 @@ pub const TEXT_OID: u32 = 25;
 /// The modifier of a column whose type has none.
 pub const NO_MODIFIER: i32 = -1;
 
-pub(crate) fn relation_message(alloc: Global, table: &Table) -> Result<Relation, AllocError>
-    ensures { IfOk result (λ m. m ≡ relation_of table.now) }
+/// The Relation of a table with its listed columns.
+pub(crate) fn relation_message(
+    alloc: Global,
+    table: &Table,
+    listed: &[bool],
+) -> Result<Relation, AllocError>
+    ensures { IfOk result (λ m. m ≡ relation_of (narrowed listed.now table.now)) }
 {
     Ok(Relation {
         oid: table.oid,
         namespace: table.schema.copy(alloc)?,
         name: table.name.copy(alloc)?,
         identity: identity(table.identity),
-        columns: columns(alloc, table.identity, table.columns.as_slice())?,
+        columns: columns(alloc, table.identity, listed, table.columns.as_slice())?,
     })
 }
 
 fn columns(
     alloc: Global,
     identity: tables::Identity,
+    listed: &[bool],
     columns: &[tables::Column],
 ) -> Result<Items<Column>, AllocError>
-    ensures { IfOk result (λ cs. cs ≡ map (relation_column identity) columns.now) }
+    ensures { IfOk result (λ cs. cs ≡ map (relation_column identity) (chosen listed.now columns.now)) }
 {
     let mut told = Vec::with_capacity(alloc, columns.len())?;
-    for column in columns {
-        told.push(column_of(alloc, identity, column)?)?;
+    for (i, column) in columns.iter().enumerate() {
+        if is_listed(listed, i) {
+            told.push(column_of(alloc, identity, column)?)?;
+        }
     }
     Ok(Items::new(told))
 }
@@ -72,7 +81,7 @@ fn identity(identity: tables::Identity) -> Identity
 }
 
 /// Whether a column belongs to the identity, by whether it belongs to the primary key.
-fn is_in_identity(identity: tables::Identity, is_key: bool) -> bool
+pub(crate) fn is_in_identity(identity: tables::Identity, is_key: bool) -> bool
     ensures { result ≡ is_identity identity is_key }
 {
     match identity {

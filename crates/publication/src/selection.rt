@@ -10,10 +10,12 @@ ghost use Rattle.tables.specs.Tables.{table_of, IsValue};
 ghost use Rattle.tables.specs.declared.change.Change.{Change};
 ghost use Rattle.stream.specs.Items.{IsShortMessage};
 ghost use Rattle.publication.specs.Publications.{has};
-ghost use Rattle.publication.specs.Selection.{relation_of, FitsTable, has_table, selected_oids, selected_table};
-ghost use Rattle.publication.specs.Projection.{may_be_emptied, message, projected, stands_in, AreValues, FitsProjected, MessageFits};
+ghost use Rattle.publication.specs.Selection.{relation_of, FitsTable, has_table, list_by, selected_oids, selected_table, whole_table};
+ghost use Rattle.publication.specs.declared.operations.Operation.{Operation};
+ghost use Rattle.publication.specs.Projection.{is_published, may_be_emptied, message, passes, projected, stands_in, AreValues, FitsProjected, MessageFits};
 
 use crate::messages::{deletion, insertion, replacement, truncation};
+use crate::operations::Operation;
 use crate::projection::Projected;
 use crate::publication::Publication;
 use crate::relation::relation_message;
@@ -40,10 +42,13 @@ pub struct Selection {
 impl Model for Selection {
     ghost use Rattle.std.specs.Prelude.{◌≡◌};
     ghost use Rattle.std.specs.List.{AllByRecursion};
-    ghost use Rattle.publication.specs.Publications.{PublicationSet};
+    ghost use Rattle.std.specs.Coded.{codes};
+    ghost use Rattle.publication.specs.Publications.{PublicationSet, condition_code};
     ghost use Rattle.publication.specs.Selection.{FitsTable, selected_oids};
 
     ghost Value = { PublicationSet };
+
+    ghost coded = { Prim.hlevel (codes, condition_code (Prim.hlevel codes)) };
 
     ghost view = { λ s. record { tables = s.tables; publications = s.publications } };
 
@@ -119,48 +124,49 @@ impl Selection {
         ensures value { IfOk result (λ o. o ≡ message self.now (Change.Insert oid row.now)) }
         ensures in_range { IfOk result (λ o. OnSome o (AllByRecursion IsValue row.now)) }
     {
-        if !self.has_table(oid) {
-            return Ok(None);
-        }
-        let Some(table) = found(self.tables.as_slice(), oid) else {
+        let Some(table) = self.table(oid) else {
             return Ok(None);
         };
-        if !stands(table, row) {
+        if !stands(table, row) || !self.passes(Operation::Insert, oid, row) {
             return Ok(None);
         }
-        Ok(Some(insertion(self.alloc, table, row)?))
+        let listed = self.listed(oid);
+        Ok(Some(insertion(self.alloc, table, listed, row)?))
     }
 
     fn updated(&self, oid: u32, old: &Row, new: &Row) -> Result<Option<Logical>, AllocError>
         ensures value { IfOk result (λ o. o ≡ message self.now (Change.Update oid old.now new.now)) }
         ensures in_range { IfOk result (λ o. OnSome o (AllByRecursion IsValue old.now × AllByRecursion IsValue new.now)) }
     {
-        if !self.has_table(oid) {
-            return Ok(None);
-        }
-        let Some(table) = found(self.tables.as_slice(), oid) else {
+        let Some(table) = self.table(oid) else {
             return Ok(None);
         };
         if !stands(table, old) || !stands(table, new) {
             return Ok(None);
         }
-        Ok(Some(replacement(self.alloc, table, old, new)?))
+        let listed = self.listed(oid);
+        let old_passes = self.passes(Operation::Update, oid, old);
+        let new_passes = self.passes(Operation::Update, oid, new);
+        match (old_passes, new_passes) {
+            (true, true) => Ok(Some(replacement(self.alloc, table, listed, old, new)?)),
+            (false, true) => Ok(Some(insertion(self.alloc, table, listed, new)?)),
+            (true, false) => deletion(self.alloc, table, listed, old),
+            (false, false) => Ok(None),
+        }
     }
 
     fn deleted(&self, oid: u32, old: &Row) -> Result<Option<Logical>, AllocError>
         ensures value { IfOk result (λ o. o ≡ message self.now (Change.Delete oid old.now)) }
         ensures in_range { IfOk result (λ o. OnSome o (AllByRecursion IsValue old.now)) }
     {
-        if !self.has_table(oid) {
-            return Ok(None);
-        }
-        let Some(table) = found(self.tables.as_slice(), oid) else {
+        let Some(table) = self.table(oid) else {
             return Ok(None);
         };
-        if !stands(table, old) {
+        if !stands(table, old) || !self.passes(Operation::Delete, oid, old) {
             return Ok(None);
         }
-        deletion(self.alloc, table, old)
+        let listed = self.listed(oid);
+        deletion(self.alloc, table, listed, old)
     }
 
     fn truncated(&self, oids: &[u32]) -> Result<Option<Logical>, AllocError>
@@ -173,13 +179,13 @@ impl Selection {
         Ok(truncation(published))
     }
 
-    /// The tables among these that the selection has, in this order.
+    /// The tables among these of which truncates are published, in this order.
     fn published_among(&self, oids: &[u32]) -> Result<Items<u32>, AllocError>
-        ensures { IfOk result (λ kept. kept ≡ filter (has_table self.now) oids.now) }
+        ensures { IfOk result (λ kept. kept ≡ filter (is_published self.now Operation.Truncate) oids.now) }
     {
         let mut kept = Vec::new(self.alloc);
         for oid in oids {
-            if self.has_table(*oid) {
+            if self.publishes(Operation::Truncate, *oid) {
                 kept.push(*oid)?;
             }
         }
@@ -194,19 +200,40 @@ impl Selection {
         let Some(table) = self.table(oid) else {
             return Ok(None);
         };
-        let relation = relation_message(self.alloc, table)?;
+        let relation = relation_message(self.alloc, table, self.listed(oid))?;
         Ok(Some(Logical::Relation(relation)))
     }
 
-    /// The table of this OID, if the selection has it.
+    /// The table of this OID, with all its columns, if the selection has it.
     fn table(&self, oid: u32) -> Option<&Table>
-        ensures value { option_copied result ≡ selected_table self.now oid }
+        ensures value { option_copied result ≡ whole_table self.now oid }
         ensures fits { IfSome result (λ table. FitsTable table.now) }
     {
         if !self.has_table(oid) {
             return None;
         }
         found(self.tables.as_slice(), oid)
+    }
+
+    /// The column list for the table of this OID.
+    fn listed(&self, oid: u32) -> &[bool]
+        ensures { result.now ≡ list_by self.now.publications oid }
+    {
+        list_by(self.publications.as_slice(), oid)
+    }
+
+    fn publishes(&self, operation: Operation, oid: u32) -> bool
+        ensures { result ≡ is_published self.now operation oid }
+    {
+        let mut publications = self.publications.as_slice().iter();
+        publications.any(|publication| publication.publishes(operation, oid))
+    }
+
+    fn passes(&self, operation: Operation, oid: u32, row: &Row) -> bool
+        ensures { result ≡ passes self.now operation oid row.now }
+    {
+        let mut publications = self.publications.as_slice().iter();
+        publications.any(|publication| publication.passes(operation, oid, row))
     }
 
     fn has_table(&self, oid: u32) -> bool
@@ -220,6 +247,18 @@ fn has_table(publications: &[Publication], oid: u32) -> bool
     ensures { result ≡ list_any (has oid) publications.now }
 {
     publications.iter().any(|publication| publication.has(oid))
+}
+
+/// The column list of the first publication that has the table of this OID.
+fn list_by(publications: &[Publication], oid: u32) -> &[bool]
+    ensures { result.now ≡ list_by publications.now oid }
+{
+    for publication in publications {
+        if let Some(table) = publication.table(oid) {
+            return table.listed.as_slice();
+        }
+    }
+    &[]
 }
 
 /// The OIDs of the tables that some publication has.

@@ -39,10 +39,14 @@ pub struct Sender {
 }
 
 impl Model for Sender {
+    ghost use Rattle.std.specs.Coded.{codes};
+    ghost use Rattle.publication.specs.Publications.{condition_code};
     ghost use Rattle.std.specs.Prelude.{reverse};
     ghost use Rattle.sender.specs.Sending.{SenderState};
 
     ghost Value = { SenderState };
+
+    ghost coded = { Prim.hlevel (codes, condition_code (Prim.hlevel codes)) };
 
     ghost view = { λ s. record {
       selection = s.selection;

@@ -1,6 +1,8 @@
-use Rattle.std.proofs.Common.{◌≡◌, ◌++◌, drop}
-use Rattle.publication.specs.Tuples.{key_tuple_of}
+use Rattle.std.proofs.Common.{◌≡◌, ◌++◌, drop, map}
+use Rattle.std.specs.List.{zip}
+use Rattle.publication.specs.Selection.{chosen}
+use Rattle.publication.proofs.Choosing.{key_cell_of}
 use Rattle.publication.proofs.cells.key_tuple_of.Given as goal
 
 abbrev pub invariant-loop-i : goal.invariant-loop-i
-invariant-loop-i l = l.cells.items ++ key_tuple_of (drop l.i l.columns) (drop l.i l.row) ≡ key_tuple_of l.columns l.row
+invariant-loop-i l = l.cells.items ++ map key_cell_of (chosen (drop l.i l.listed) (drop l.i (zip l.columns l.row))) ≡ map key_cell_of (chosen l.listed (zip l.columns l.row))

@@ -1,7 +1,8 @@
 use Rattle.std.proofs.Common.{◌≡◌, ◌++◌, drop}
 use Rattle.std.specs.Prelude.{filter}
-use Rattle.publication.specs.Selection.{has_table}
+use Rattle.publication.specs.declared.operations.Operation.TheVariants.{Truncate}
+use Rattle.publication.specs.Projection.{is_published}
 use Rattle.publication.proofs.selection.Selection.published_among.Given as goal
 
 abbrev pub invariant-loop-oid : goal.invariant-loop-oid
-invariant-loop-oid l = l.kept.items ++ filter (has_table l.self) (drop l.oid-index l.oids) ≡ filter (has_table l.self) l.oids
+invariant-loop-oid l = l.kept.items ++ filter (is_published l.self Truncate) (drop l.oid-index l.oids) ≡ filter (is_published l.self Truncate) l.oids

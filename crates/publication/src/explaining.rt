@@ -1,0 +1,157 @@
+//! Refusals of a configuration, for whoever wrote it.
+
+use crate::config_fault::{Misfit, Place};
+use crate::fault::PubFault;
+use rowfilter::{FilterFault, fault_at};
+use std::alloc::{AllocError, Global};
+use tables::{Catalog, Table};
+use toml::Value;
+
+/// The fault that a document was refused with over this catalogue, in lines for whoever wrote it: the fault, the names of its publication and
+/// its table, and of a filter that is none its text, with a mark under the byte at fault.
+pub fn explained(
+    alloc: Global,
+    document: &Value,
+    catalog: &Catalog,
+    fault: PubFault,
+) -> Result<String, AllocError> {
+    let mut lines = format!(in alloc; "{fault}")?;
+    let Some(place) = place_of(fault) else {
+        return Ok(lines);
+    };
+    let publications = document.get("publication");
+    let Some(publication) = numbered(publications, place.publication) else {
+        return Ok(lines);
+    };
+    if let Some(name) = name_of(publication) {
+        lines.push_str("\npublication ")?;
+        lines.push_str(name)?;
+    }
+    if let Some(name) = table_name(publication, place.table) {
+        lines.push_str("\ntable ")?;
+        lines.push_str(name)?;
+    } else if let Some(table) = whole_table(publication, catalog, place.table) {
+        lines.push_str("\ntable ")?;
+        lines.push_str(table.schema.as_str())?;
+        lines.push_str(".")?;
+        lines.push_str(table.name.as_str())?;
+    }
+    if let PubFault::BadFilter(_, why) = fault {
+        mark_filter(alloc, &mut lines, publication, catalog, place.table, why)?;
+    }
+    Ok(lines)
+}
+
+/// Where a fault stands; a fault of a publication alone at its table 0, which none is.
+fn place_of(fault: PubFault) -> Option<Place> {
+    match fault {
+        PubFault::BadFilter(place, _)
+        | PubFault::NoIdentity(place)
+        | PubFault::ListWithoutIdentity(place)
+        | PubFault::FilterOutsideIdentity(place)
+        | PubFault::BadToml(Misfit::Table(place, _)) => Some(place),
+        PubFault::BadToml(Misfit::Publication(publication, _)) => Some(Place {
+            publication,
+            table: 0,
+        }),
+        _ => None,
+    }
+}
+
+/// The value of this number, from 1, of a list.
+fn numbered(list: Option<&Value>, number: usize) -> Option<&Value> {
+    list?.get(number.checked_sub(1)?)
+}
+
+fn name_of(value: &Value) -> Option<&str> {
+    value.get("name")?.as_str()
+}
+
+fn table_name(publication: &Value, number: usize) -> Option<&str> {
+    name_of(numbered(publication.get("tables"), number)?)
+}
+
+/// The table of this number of a publication of schemas, or of all tables.
+fn whole_table<'c>(publication: &Value, catalog: &'c Catalog, number: usize) -> Option<&'c Table> {
+    if publication.get("tables").is_some() {
+        return None;
+    }
+    let before = number.checked_sub(1)?;
+    match publication.get("schemas") {
+        None => catalog.tables().get(before),
+        Some(schemas) => table_behind(schemas, catalog.tables(), before),
+    }
+}
+
+/// The table of these schemas before which there are so many others of them.
+fn table_behind<'c>(schemas: &Value, tables: &'c [Table], before: usize) -> Option<&'c Table> {
+    let mut left = before;
+    for table in tables {
+        if is_among(schemas, table.schema.as_str()) {
+            match left.checked_sub(1) {
+                None => return Some(table),
+                Some(fewer) => left = fewer,
+            }
+        }
+    }
+    None
+}
+
+fn is_among(schemas: &Value, name: &str) -> bool {
+    match schemas.as_array() {
+        Some(values) => values
+            .as_slice()
+            .iter()
+            .any(|value| value.as_str() == Some(name)),
+        None => false,
+    }
+}
+
+/// Adds the line of the filter's text that the fault stands in, and below it the mark.
+fn mark_filter(
+    alloc: Global,
+    lines: &mut String,
+    publication: &Value,
+    catalog: &Catalog,
+    number: usize,
+    why: FilterFault,
+) -> Result<(), AllocError> {
+    let Some(value) = numbered(publication.get("tables"), number) else {
+        return Ok(());
+    };
+    let Some(text) = text_of(value) else {
+        return Ok(());
+    };
+    let Some(table) = table_of(value, catalog) else {
+        return Ok(());
+    };
+    let at = fault_at(alloc, text, table, why)?;
+    push_marked(lines, text, at)
+}
+
+fn text_of(value: &Value) -> Option<&str> {
+    value.get("where")?.as_str()
+}
+
+fn table_of<'c>(value: &Value, catalog: &'c Catalog) -> Option<&'c Table> {
+    catalog.named(name_of(value)?)
+}
+
+/// The mark stands below the character that begins at this byte. Each line is indented alike, and a tab stands below a tab.
+fn push_marked(lines: &mut String, text: &str, at: usize) -> Result<(), AllocError> {
+    let before = text.get(..at).unwrap_or(text);
+    let line = match before.rfind('\n') {
+        Some(end) => end.saturating_add(1),
+        None => 0,
+    };
+    let shown = text.get(line..).unwrap_or("");
+    let shown = shown.split('\n').next().unwrap_or("");
+    lines.push_str("\n    ")?;
+    lines.push_str(shown)?;
+    lines.push_str("\n    ")?;
+    for c in before.get(line..).unwrap_or("").chars() {
+        lines.push(if c == '\t' { '\t' } else { ' ' })?;
+    }
+    lines.push('^')?;
+    Ok(())
+}
