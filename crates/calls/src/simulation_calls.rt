@@ -6,7 +6,7 @@ use std::io::{ErrorKind, Read, Write};
 use std::test::Fail;
 use world::{Config, ConfigFault, SimFault, simulate};
 
-/// One table and a server.
+/// A server, one table and its publication.
 const TEXT: &str = "\
 [server]
 systemid = '42'
@@ -19,6 +19,10 @@ schema = 'public'
 name = 'item'
 key = ['id']
 columns = [['id', 'int4'], ['name', 'text'], ['qty', 'int8']]
+
+[[publication]]
+name = 'p'
+tables = [{ name = 'public.item' }]
 ";
 
 fn config(alloc: Global) -> Result<Config, ConfigFault> {

@@ -11,6 +11,19 @@ use tables::{Catalog, Row, Value};
 use txlog::{Publisher, SessionFault, Tx};
 use wal::FIRST_POSITION;
 
+/// One table, and a publication of it.
+const CONFIGURATION: &str = "\
+[[table]]
+oid = 16384
+schema = 'public'
+name = 'item'
+key = ['id']
+columns = [['id', 'int4'], ['name', 'text'], ['qty', 'int8']]
+[[publication]]
+name = 'p'
+tables = [{ name = 'public.item' }]
+";
+
 fn main(rt: HostRuntime) -> Result<()> {
     let bytes = stream(rt.alloc())?;
     println!(rt; "{bytes}")?;
@@ -25,15 +38,17 @@ fn stream(alloc: Global) -> Result<String> {
     Ok(hex::encode(alloc, bytes.as_slice())?)
 }
 
-/// A publisher of the built-in table, whose log has room for 1,000 records.
+/// A publisher of the configured table, whose log has room for 1,000 records.
 fn publisher(alloc: Global) -> Result<Publisher> {
-    Ok(Publisher::new(alloc, Catalog::builtin(alloc)?, 1000)?)
+    let catalog = Catalog::from_toml(alloc, CONFIGURATION)?;
+    Ok(Publisher::new(alloc, catalog, 1000)?)
 }
 
 /// A sender of what the publication `p` publishes, from the beginning of the log on.
 fn sender_of_p(alloc: Global, catalog: &Catalog) -> Result<Sender> {
     let names = [Text::copy_of(alloc, "p")?];
-    let selection = Publications::builtin(alloc, catalog)?.select(&names)?;
+    let publications = Publications::from_toml(alloc, CONFIGURATION, catalog)?;
+    let selection = publications.select(&names)?;
     Ok(Sender::start(alloc, selection, 0, FIRST_POSITION)?)
 }
 

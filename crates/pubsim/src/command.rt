@@ -6,12 +6,12 @@ use std::alloc::Global;
 const ABOUT: &str =
     "Runs a schedule of sessions and replication senders over a publisher in memory, and prints what the senders produced";
 
-const CONFIG_HELP: &str = "A TOML file with the tables and the server";
+const CONFIG_HELP: &str = "A TOML file with the tables, their publications and the server";
 
 const SCHEDULE_HELP: &str = "A text file with one event a line";
 
 const AFTER_HELP: &str = "\
-A configuration names the server and the tables, as in
+A configuration names the server, the tables and their publications, as in
 
   [server]
   systemid = '42'
@@ -26,9 +26,15 @@ A configuration names the server and the tables, as in
   key = ['id']
   columns = [['id', 'int4'], ['name', 'text'], ['qty', 'int8']]
 
+  [[publication]]
+  name = 'p'
+  tables = [{ name = 'public.item', where = 'id > 0', columns = ['id', 'qty'] }]
+
 The log has room for that number of records; chunks are not used yet. The types are bool,
-int4, int8 and text. There are two publications: p publishes the table public.item, and t
-the table public.tag.
+int4, int8 and text. A table of a publication may have a filter and a column list; without
+them all its rows and columns are published. A publication has tables = [..], or
+schemas = [..], or all_tables = true, and publishes what publish = [..] names of insert,
+update, delete and truncate, or all of them.
 
 A schedule has one event a line, and fields separated by single spaces. Empty lines and
 lines that begin with # are passed over. T is a transaction's name and C a connection's.

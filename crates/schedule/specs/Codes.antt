@@ -1,8 +1,7 @@
 -- The codes by which refusals are printed.
 use Rattle.std.specs.Prelude.{ℕ, codes, List, Option, Some, None}
 use Rattle.txlog.specs.Publishing.{code_of}
-use Rattle.publication.specs.declared.fault.PubFault.{PubFault}
-use Rattle.publication.specs.declared.fault.PubFault.TheVariants as pubs
+use Rattle.publication.specs.Faults.{publication_code_of}
 use Rattle.sender.specs.declared.fault.SendFault.{SendFault}
 use Rattle.sender.specs.declared.fault.SendFault.TheVariants as sends
 use Rattle.client.specs.declared.fault.ClientFault.{ClientFault}
@@ -14,10 +13,6 @@ use Rattle.schedule.specs.declared.answer.SlotFault.TheVariants as slots
 
 abbrev pub slot_code : SlotFault → List ℕ
 slot_code slots.Missing = codes "L1"
-
-abbrev pub publication_code : PubFault → List ℕ
-publication_code pubs.Unknown = codes "P1"
-publication_code pubs.Memory = codes "P7"
 
 abbrev pub sender_code : SendFault → List ℕ
 sender_code sends.Memory = codes "G2"
@@ -36,6 +31,6 @@ abbrev pub answer_code : Answer → Option (List ℕ)
 answer_code answers.Done = None
 answer_code (answers.Session fault) = Some (code_of fault)
 answer_code (answers.Slot fault) = Some (slot_code fault)
-answer_code (answers.Publication fault) = Some (publication_code fault)
+answer_code (answers.Publication fault) = Some (publication_code_of fault)
 answer_code (answers.Sender fault) = Some (sender_code fault)
 answer_code (answers.Subscriber fault) = Some (subscriber_code fault)

@@ -5,7 +5,6 @@ ghost use Rattle.schedule.specs.Codes.{answer_code};
 
 use crate::answer::{Answer, SlotFault};
 use client::ClientFault;
-use publication::PubFault;
 use sender::SendFault;
 
 impl Answer {
@@ -17,8 +16,7 @@ impl Answer {
             Answer::Done => None,
             Answer::Session(fault) => Some(fault.code()),
             Answer::Slot(SlotFault::Missing) => Some("L1"),
-            Answer::Publication(PubFault::Unknown) => Some("P1"),
-            Answer::Publication(PubFault::Memory) => Some("P7"),
+            Answer::Publication(fault) => Some(fault.code()),
             Answer::Sender(SendFault::Memory) => Some("G2"),
             Answer::Sender(SendFault::Failed) => Some("G3"),
             Answer::Sender(SendFault::Gap) => Some("G4"),

@@ -1,5 +1,5 @@
--- What a TOML text names as a configuration: its tables, the publications over them that are built in, and the server. The tables are
--- judged first, then the names of the text's members, then the members of the server; the first that is wrong is told.
+-- What a TOML text names as a configuration: its tables, the publications over them, and the server. The tables are judged first, then
+-- the publications, then the names of the text's members, then the members of the server; the first that is wrong is told.
 use Rattle.std.specs.Prelude.{◌≡◌, ℕ, ℤ, pos, negsuc, ◌≤◌, nat_le, Bool, true, false, ◌&&◌, ◌||◌, not, if◌then◌else◌, List, codes, Option, Some, None, option_map, ok_or, Result, Ok, Err}
 use Rattle.std.specs.Str.{bytes_eq}
 use Rattle.toml.specs.Data.{Data, Members, no_members, member, get, as_str, as_integer, as_table}
@@ -9,7 +9,10 @@ use Rattle.tables.specs.declared.config_fault.Misfit.{Misfit}
 use Rattle.tables.specs.declared.config_fault.CatalogFault.TheVariants as catalog_faults
 use Rattle.tables.specs.Config.{and_then, told, tables_in, document_of}
 use Rattle.txlog.specs.declared.limits.TheConstants.{MAX_RECORDS}
-use Rattle.publication.specs.Publications.{builtin_publications}
+use Rattle.publication.specs.declared.fault.PubFault.{PubFault}
+use Rattle.publication.specs.declared.fault.PubFault.TheVariants as pubs
+use Rattle.publication.specs.Publications.{PublicationSet}
+use Rattle.publication.specs.Config.{publications_in}
 use Rattle.world.specs.declared.server.TheConstants.{MAX_CHUNKS}
 use Rattle.world.specs.declared.server.Server.{Server}
 use Rattle.world.specs.declared.server.Unread.{Unread}
@@ -75,17 +78,21 @@ pub record IsServer (server : Server) : Type 0 where
   pub some_chunks : 1 ≤ server.chunks
   pub chunks : server.chunks ≤ MAX_CHUNKS
 
-abbrev pub with_server : List Table → Result Server ServerMisfit → Result Setting ConfigFault
-with_server tables (Ok server) = Ok (record { tables = tables; publications = builtin_publications tables; server = server })
-with_server tables (Err misfit) = Err (faults.BadServer misfit)
+abbrev pub with_server : List Table → PublicationSet → Result Server ServerMisfit → Result Setting ConfigFault
+with_server tables publications (Ok server) = Ok (record { tables = tables; publications = publications; server = server })
+with_server tables publications (Err misfit) = Err (faults.BadServer misfit)
 
--- the tables first, then the server
-abbrev pub setting_with : Result (List Table) Misfit → Result Server ServerMisfit → Result Setting ConfigFault
-setting_with (Ok tables) server = with_server tables server
-setting_with (Err misfit) server = Err (faults.Catalog (catalog_faults.BadTables misfit))
+abbrev pub with_publications : List Table → Result PublicationSet PubFault → Result Server ServerMisfit → Result Setting ConfigFault
+with_publications tables (Ok publications) server = with_server tables publications server
+with_publications tables (Err fault) server = Err (faults.Publications fault)
+
+-- the tables first, then the publications over them, then the server
+abbrev pub setting_with : Data → Result (List Table) Misfit → Result Setting ConfigFault
+setting_with d (Ok tables) = with_publications tables (publications_in tables d) (server_of d)
+setting_with d (Err misfit) = Err (faults.Catalog (catalog_faults.BadTables misfit))
 
 abbrev pub setting_in : Data → Result Setting ConfigFault
-setting_in d = setting_with (tables_in d) (server_of d)
+setting_in d = setting_with d (tables_in d)
 
 -- the configuration that a text names; None where it is no TOML
 abbrev pub named_by : List ℕ → Option (Result Setting ConfigFault)
@@ -97,6 +104,9 @@ ReadsSetting (Ok setting) read = read ≡ Ok setting
 ReadsSetting (Err (faults.Catalog (catalog_faults.NotToml line))) read = ⊥
 ReadsSetting (Err (faults.Catalog (catalog_faults.BadTables misfit))) read = read ≡ Err (faults.Catalog (catalog_faults.BadTables misfit))
 ReadsSetting (Err (faults.Catalog catalog_faults.Memory)) read = Unit {0}
+ReadsSetting (Err (faults.Publications (pubs.NotToml line))) read = ⊥
+ReadsSetting (Err (faults.Publications pubs.Memory)) read = Unit {0}
+ReadsSetting (Err (faults.Publications fault)) read = read ≡ Err (faults.Publications fault)
 ReadsSetting (Err (faults.BadServer misfit)) read = read ≡ Err (faults.BadServer misfit)
 ReadsSetting (Err faults.Memory) read = Unit {0}
 
@@ -106,11 +116,15 @@ Names (Ok setting) named = named ≡ Some (Ok setting)
 Names (Err (faults.Catalog (catalog_faults.NotToml line))) named = named ≡ None
 Names (Err (faults.Catalog (catalog_faults.BadTables misfit))) named = named ≡ Some (Err (faults.Catalog (catalog_faults.BadTables misfit)))
 Names (Err (faults.Catalog catalog_faults.Memory)) named = Unit {0}
+Names (Err (faults.Publications (pubs.NotToml line))) named = ⊥
+Names (Err (faults.Publications pubs.Memory)) named = Unit {0}
+Names (Err (faults.Publications fault)) named = named ≡ Some (Err (faults.Publications fault))
 Names (Err (faults.BadServer misfit)) named = named ≡ Some (Err (faults.BadServer misfit))
 Names (Err faults.Memory) named = Unit {0}
 
 -- memory ran out, which is no fault of the text
 abbrev pub is_memory : ConfigFault → Bool
 is_memory (faults.Catalog catalog_faults.Memory) = true
+is_memory (faults.Publications pubs.Memory) = true
 is_memory faults.Memory = true
 is_memory fault = false

@@ -5,7 +5,7 @@ use Rattle.wal.specs.declared.record.TheConstants.{FIRST_POSITION}
 use Rattle.wal.specs.declared.record.Record.{Record}
 use Rattle.wal.specs.Log.{end_of}
 use Rattle.publication.specs.declared.fault.PubFault.TheVariants as pubs
-use Rattle.publication.specs.Publications.{PublicationSet, selected, is_unknown}
+use Rattle.publication.specs.Publications.{PublicationSet, conflicts, selected, is_unknown}
 use Rattle.stream.specs.Words.{word_bytes}
 use Rattle.stream.specs.Items.{keepalive_word}
 use Rattle.sender.specs.declared.fault.SendFault.TheVariants as sends
@@ -96,11 +96,13 @@ new_start connection selection start =
 abbrev pub is_slotless : List ℕ → Bool
 is_slotless slot = bytes_eq slot (codes "-")
 
--- L1 where a slot is named, since there are no slots; then P1, and P7 for memory
+-- L1 where a slot is named, since there are no slots; then P1, then P2, and P7 for memory
 abbrev pub IsStart : List ℕ → List ℕ → ℕ → List (List ℕ) → WorldState → Answer → WorldState → Type 0
 IsStart connection slot start names old answers.Done new =
-    (is_slotless slot ≡ true) × (is_unknown old.publications names ≡ false) × (new ≡ record old { starts = old.starts ++ new_start connection (selected old.publications names) start ∷ []; subscribers = with_one_for connection old.subscribers })
+    (is_slotless slot ≡ true) × (is_unknown old.publications names ≡ false) × (conflicts (selected old.publications names).publications ≡ false) × (new ≡ record old { starts = old.starts ++ new_start connection (selected old.publications names) start ∷ []; subscribers = with_one_for connection old.subscribers })
 IsStart connection slot start names old (answers.Slot fault) new = (is_slotless slot ≡ false) × (new ≡ old)
 IsStart connection slot start names old (answers.Publication pubs.Unknown) new = (is_slotless slot ≡ true) × (is_unknown old.publications names ≡ true) × (new ≡ old)
+IsStart connection slot start names old (answers.Publication pubs.ListConflict) new =
+    (is_slotless slot ≡ true) × (is_unknown old.publications names ≡ false) × (conflicts (selected old.publications names).publications ≡ true) × (new ≡ old)
 IsStart connection slot start names old (answers.Publication pubs.Memory) new = (is_slotless slot ≡ true) × (is_unknown old.publications names ≡ false) × (new ≡ old)
 IsStart connection slot start names old answer new = ⊥

@@ -21,10 +21,14 @@ pub struct Config {
 }
 
 impl Model for Config {
+    ghost use Rattle.std.specs.Coded.{codes};
+    ghost use Rattle.publication.specs.Publications.{condition_code};
     ghost use Rattle.world.specs.Config.{IsServer};
     ghost use Rattle.world.specs.State.{Setting};
 
     ghost Value = { Setting };
+
+    ghost coded = { Prim.hlevel (codes, condition_code (Prim.hlevel codes)) };
 
     ghost view = { λ c. record { tables = c.catalog; publications = c.publications; server = c.server } };
 
@@ -32,8 +36,7 @@ impl Model for Config {
 }
 
 impl Config {
-    /// The configuration that a TOML text names. Its publications are not read yet: there are two, `p` of the table public.item and `t` of
-    /// public.tag.
+    /// The configuration that a TOML text names.
     pub fn from_toml(alloc: Global, text: &str) -> Result<Self, ConfigFault>
         ensures { Names result (named_by text.now) }
     {
@@ -45,8 +48,8 @@ impl Config {
         ensures { ReadsSetting result (setting_in (view document.now)) }
     {
         let catalog = Catalog::of_document(alloc, document)?;
+        let publications = Publications::of_document(alloc, document, &catalog)?;
         let server = server_of(alloc, document)?;
-        let publications = Publications::builtin(alloc, &catalog)?;
         Ok(Config {
             catalog,
             publications,

@@ -1,16 +1,17 @@
 //! Why a text is no configuration.
 
 ghost use Rattle.std.specs.Prelude.{◌≡◌};
-ghost use Rattle.world.specs.declared.config_fault.ConfigFault.TheVariants.{Catalog, Memory};
+ghost use Rattle.world.specs.declared.config_fault.ConfigFault.TheVariants.{Catalog, Memory, Publications};
 ghost use Rattle.world.specs.Config.{is_memory, unread_fault};
 
 use crate::server::Unread;
+use publication::PubFault;
 use std::alloc::AllocError;
 use std::fmt;
 use tables::CatalogFault;
 use thiserror::Error;
 
-/// What is wrong with a configuration besides its tables.
+/// What is wrong with a configuration besides its tables and publications.
 #[derive(Clone, Copy, Debug, PartialEq, Eq)]
 pub enum ServerMisfit {
     /// The text has another member than `table`, `publication` and `server`.
@@ -38,11 +39,13 @@ impl fmt::Display for ServerMisfit {
     }
 }
 
-/// Why a text is no configuration. What is wrong with its tables has a code.
+/// Why a text is no configuration. What is wrong with its tables and publications has a code.
 #[derive(Clone, Copy, Debug, PartialEq, Eq, Error)]
 pub enum ConfigFault {
     #[error("{0}")]
     Catalog(CatalogFault),
+    #[error("{0}")]
+    Publications(PubFault),
     #[error("{0}")]
     BadServer(ServerMisfit),
     #[error("out of memory")]
@@ -56,7 +59,9 @@ impl ConfigFault {
     {
         matches!(
             self,
-            ConfigFault::Catalog(CatalogFault::Memory) | ConfigFault::Memory
+            ConfigFault::Catalog(CatalogFault::Memory)
+                | ConfigFault::Publications(PubFault::Memory)
+                | ConfigFault::Memory
         )
     }
 }
@@ -66,6 +71,14 @@ impl From<CatalogFault> for ConfigFault {
 
     fn from(fault: CatalogFault) -> ConfigFault {
         ConfigFault::Catalog(fault)
+    }
+}
+
+impl From<PubFault> for ConfigFault {
+    ghost from_gives = { λ fault e. e ≡ Publications fault };
+
+    fn from(fault: PubFault) -> ConfigFault {
+        ConfigFault::Publications(fault)
     }
 }
 

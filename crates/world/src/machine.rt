@@ -121,7 +121,7 @@ impl Machine {
         }
     }
 
-    /// Starts a sender, which reads the log from its first record on. L1 where a slot is named, then P1.
+    /// Starts a sender, which reads the log from its first record on. L1 where a slot is named, then P1, then P2.
     fn start(
         &mut self,
         alloc: Global,

@@ -39,10 +39,14 @@ pub enum RunFault {
 }
 
 impl Model for World {
+    ghost use Rattle.std.specs.Coded.{codes};
+    ghost use Rattle.publication.specs.Publications.{condition_code};
     ghost use Rattle.world.specs.State.{WorldView};
     ghost use Rattle.world.specs.Machine.{IsMachine, shown};
 
     ghost Value = { WorldView };
+
+    ghost coded = { Prim.hlevel (codes, condition_code (Prim.hlevel codes)) };
 
     ghost view = { λ w. record { state = shown w.machine; answers = w.answers.items } };
 
