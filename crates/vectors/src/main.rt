@@ -24,6 +24,7 @@ mod noise;
 mod numbers;
 mod play;
 mod projection;
+mod publication_text;
 mod random;
 mod report;
 mod sample;

@@ -5,7 +5,7 @@ use anyhow::{Result, ensure};
 use std::alloc::{AllocError, Global};
 use world::{Config, SimFault, simulate};
 
-/// The tables public.item and public.tag.
+/// The tables public.item and public.tag, and a publication of each.
 const TABLES: &str = "\
 [[table]]
 oid = 16384
@@ -20,9 +20,16 @@ name = 'tag'
 identity = 'full'
 key = ['k']
 columns = [['k', 'text'], ['v', 'int4']]
+[[publication]]
+name = 'p'
+tables = [{ name = 'public.item' }]
+[[publication]]
+name = 't'
+tables = [{ name = 'public.tag' }]
 ";
 
-/// How a publisher is configured: with the tables public.item and public.tag, unless others are named, and a log for so many records.
+/// How a publisher is configured: with the tables public.item and public.tag and their publications p and t, unless others are named,
+/// and a log for so many records.
 #[derive(Drop)]
 pub struct Setting {
     pub records: u32,

@@ -10,7 +10,7 @@ use std::alloc::Global;
 use tables::{Catalog, Change, read_body};
 
 /// The tables public.item, public.tag and public.note, one of each identity.
-const TABLES: &str = "\
+pub const TABLES: &str = "\
 [[table]]
 oid = 16384
 schema = 'public'
@@ -31,6 +31,44 @@ name = 'note'
 identity = 'nothing'
 key = ['id']
 columns = [['id', 'int8'], ['m', 'text']]
+";
+
+/// Publications of them.
+const PUBLICATIONS: &str = "\
+[[publication]]
+name = 'p'
+tables = [{ name = 'public.item' }]
+[[publication]]
+name = 't'
+tables = [{ name = 'public.tag' }]
+[[publication]]
+name = 'f'
+tables = [{ name = 'public.tag', where = 'v > 5' }]
+[[publication]]
+name = 'l'
+tables = [{ name = 'public.item', columns = ['qty', 'id'] }]
+[[publication]]
+name = 'a'
+tables = [{ name = 'public.item', where = 'id > 10' }]
+[[publication]]
+name = 'b'
+publish = ['insert']
+tables = [{ name = 'public.item', where = \"name = 'x'\" }]
+[[publication]]
+name = 'whole'
+tables = [{ name = 'public.item', columns = ['id', 'name', 'qty'] }]
+[[publication]]
+name = 'n'
+publish = ['insert', 'truncate']
+tables = [{ name = 'public.note', where = 'm IS NOT NULL', columns = ['m'] }]
+[[publication]]
+name = 'every'
+publish = ['insert']
+all_tables = true
+[[publication]]
+name = 'nothing'
+publish = []
+schemas = ['public']
 ";
 
 /// The sample is names of publications, joined by commas, and the body of a change.
@@ -73,7 +111,7 @@ fn shown_tables(alloc: Global, selection: &Selection) -> Result<String> {
 
 fn selection(alloc: Global, names: &str) -> Result<Result<Selection, PubFault>> {
     let catalog = Catalog::from_toml(alloc, TABLES)?;
-    let publications = Publications::builtin(alloc, &catalog)?;
+    let publications = Publications::from_toml(alloc, PUBLICATIONS, &catalog)?;
     let mut named = Vec::new(alloc);
     for name in names.split(',') {
         named.push(Text::copy_of(alloc, name)?)?;

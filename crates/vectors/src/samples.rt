@@ -12,6 +12,7 @@ use crate::given::Given;
 use crate::message::logical_answer;
 use crate::noise::noise_answer;
 use crate::projection::{change_answer, tables_answer};
+use crate::publication_text::{explained_answer, publications_answer};
 use crate::random::random_answer;
 use crate::report::Report;
 use crate::sample::{Answer, Sample};
@@ -87,6 +88,8 @@ fn answer_of(alloc: Global, sample: Sample<'_>) -> Result<Answer> {
         "config" => config_answer(alloc, sample.given),
         "change" => change_answer(alloc, sample.given),
         "tables" => tables_answer(alloc, sample.given),
+        "publications" => publications_answer(alloc, sample.given),
+        "explained" => explained_answer(alloc, sample.given),
         "command" => command_answer(alloc, sample.given),
         "position" => position_answer(alloc, sample.given),
         "event" => event_answer(alloc, sample.given),

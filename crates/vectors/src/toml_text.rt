@@ -3,12 +3,18 @@
 use anyhow::{Context, Result};
 use std::alloc::Global;
 
-/// `;` ends a line, and `{N*TEXT}` stands for TEXT N times, with the number of each, from 1, in place of `#`.
+/// `;` ends a line, and `{N*TEXT}` stands for TEXT N times, with the number of each, from 1, in place of `#`. Other brackets stand for
+/// themselves.
 pub fn toml_text(alloc: Global, given: &str) -> Result<String> {
     let lines = given.replace(alloc, ";", "\n")?;
     let mut text = String::new(alloc);
     for (number, piece) in lines.split('{').enumerate() {
         if number == 0 {
+            text.push_str(piece)?;
+            continue;
+        }
+        if !piece.starts_with(|c: char| c.is_ascii_digit()) {
+            text.push('{')?;
             text.push_str(piece)?;
             continue;
         }
