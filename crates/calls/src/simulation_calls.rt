@@ -3,6 +3,7 @@
 use std::alloc::Global;
 use std::io;
 use std::io::{ErrorKind, Read, Write};
+use std::sync::Wait;
 use std::test::Fail;
 use world::{Config, ConfigFault, SimFault, simulate};
 
@@ -51,7 +52,7 @@ fn a_schedule_that_cannot_be_read_to_its_end(rt: HostRuntime) -> Result<(), Fail
     let alloc = rt.alloc();
     let mut output = Vec::new(alloc);
     let mut torn = Torn { is_read: false };
-    let read = simulate(alloc, config(alloc)?, &mut torn, &mut output);
+    let read = simulate(&rt, alloc, config(alloc)?, &mut torn, &mut output);
     assert!(rt; read.err().is_some_and(|fault| !fault.is_bad_schedule()));
     assert!(rt; output.is_empty());
     Ok(())
@@ -62,7 +63,7 @@ fn a_schedule_that_is_not_text(rt: HostRuntime) -> Result<(), Fail> {
     let alloc = rt.alloc();
     let mut output = Vec::new(alloc);
     let mut bytes = b"# \xff".as_slice();
-    let decoded = simulate(alloc, config(alloc)?, &mut bytes, &mut output);
+    let decoded = simulate(&rt, alloc, config(alloc)?, &mut bytes, &mut output);
     assert!(rt; decoded.err().is_some_and(|fault| fault.is_bad_schedule()));
     assert!(rt; output.is_empty());
     Ok(())
@@ -87,10 +88,10 @@ impl Write for Narrow {
 }
 
 /// Whether the report of a start is printed to a place that takes so many bytes, or fails where it is printed.
-fn is_printed(alloc: Global, left: usize) -> Result<bool, Fail> {
+fn is_printed<R: Wait>(rt: &R, alloc: Global, left: usize) -> Result<bool, Fail> {
     let mut input = b"start c - 0/0 p\n".as_slice();
     let mut output = Narrow { left };
-    match simulate(alloc, config(alloc)?, &mut input, &mut output) {
+    match simulate(rt, alloc, config(alloc)?, &mut input, &mut output) {
         Ok(()) => Ok(true),
         Err(SimFault::Write(_)) => Ok(false),
         Err(_) => Err(Fail::from("another fault")),
@@ -100,7 +101,7 @@ fn is_printed(alloc: Global, left: usize) -> Result<bool, Fail> {
 #[test]
 fn a_report_that_cannot_be_printed(rt: HostRuntime) -> Result<(), Fail> {
     for left in 0..4 {
-        assert_eq!(rt; is_printed(rt.alloc(), left)?, left == 3, "{left} bytes");
+        assert_eq!(rt; is_printed(&rt, rt.alloc(), left)?, left == 3, "{left} bytes");
     }
     Ok(())
 }

@@ -1,14 +1,19 @@
 //! The shortest use of the crates: a session writes the log, and a sender makes the bytes that a subscriber gets of it.
 #![tactic(auto)]
 
+ghost use Rattle.std.specs.Prelude.{◌≡◌};
+
 use anyhow::Result;
 use bytes::BytesMut;
 use frames::Text;
 use publication::Publications;
 use sender::Sender;
+use shared_log::LogName;
 use std::alloc::Global;
+use std::marker::Brand;
+use std::sync::Wait;
 use tables::{Catalog, Row, Value};
-use txlog::{Publisher, SessionFault, Tx};
+use txlog::{Opened, Publisher, SessionFault, Tx};
 use wal::FIRST_POSITION;
 
 /// One table, and a publication of it.
@@ -25,23 +30,36 @@ tables = [{ name = 'public.item' }]
 ";
 
 fn main(rt: HostRuntime) -> Result<()> {
-    let bytes = stream(rt.alloc())?;
+    let bytes = stream(&rt, rt.alloc())?;
     println!(rt; "{bytes}")?;
     Ok(())
 }
 
-/// What a subscriber gets, in hexadecimal digits.
-fn stream(alloc: Global) -> Result<String> {
-    let mut publisher = publisher(alloc)?;
-    run_session(alloc, &mut publisher)?;
-    let bytes = sent(alloc, &publisher)?;
+/// What a subscriber gets, in hexadecimal digits, of a publisher of the configured table, whose log has room for 1,000 records.
+fn stream<R: Wait>(rt: &R, alloc: Global) -> Result<String> {
+    let catalog = Catalog::from_toml(alloc, CONFIGURATION)?;
+    let opened = Opened::new(alloc, catalog, 1000, 1)?;
+    let bytes = written::<Brand, R>(rt, alloc, opened)?;
     Ok(hex::encode(alloc, bytes.as_slice())?)
 }
 
-/// A publisher of the configured table, whose log has room for 1,000 records.
-fn publisher(alloc: Global) -> Result<Publisher> {
-    let catalog = Catalog::from_toml(alloc, CONFIGURATION)?;
-    Ok(Publisher::new(alloc, catalog, 1000)?)
+/// The log is named by the call. A publisher must be closed, so whatever may fail stands in calls that borrow it.
+fn written<L: LogName, R: Wait>(rt: &R, alloc: Global, opened: Opened) -> Result<BytesMut>
+    requires { opened.history.seen.book ≡ L.book }
+{
+    let (mut publisher, _) = Publisher::<L>::open(rt, opened)?;
+    let bytes = session_sent(rt, alloc, &mut publisher);
+    publisher.close(rt);
+    bytes
+}
+
+fn session_sent<L: LogName, R: Wait>(
+    rt: &R,
+    alloc: Global,
+    publisher: &mut Publisher<L>,
+) -> Result<BytesMut> {
+    run_session(rt, alloc, publisher)?;
+    sent(alloc, publisher)
 }
 
 /// A sender of what the publication `p` publishes, from the beginning of the log on.
@@ -53,7 +71,7 @@ fn sender_of_p(alloc: Global, catalog: &Catalog) -> Result<Sender> {
 }
 
 /// The bytes that a sender makes of the log.
-fn sent(alloc: Global, publisher: &Publisher) -> Result<BytesMut> {
+fn sent<L: LogName>(alloc: Global, publisher: &Publisher<L>) -> Result<BytesMut> {
     let mut sender = sender_of_p(alloc, publisher.catalog())?;
     let mut bytes = BytesMut::new(alloc);
     send(publisher, &mut sender, &mut bytes)?;
@@ -61,7 +79,11 @@ fn sent(alloc: Global, publisher: &Publisher) -> Result<BytesMut> {
 }
 
 /// The sender reads the log under clock 9, and tells how far it has read.
-fn send(publisher: &Publisher, sender: &mut Sender, bytes: &mut BytesMut) -> Result<()> {
+fn send<L: LogName>(
+    publisher: &Publisher<L>,
+    sender: &mut Sender,
+    bytes: &mut BytesMut,
+) -> Result<()> {
     let records = publisher.tail(0, 100)?;
     sender.feed(records.as_slice(), 9)?;
     sender.keepalive(9, false)?;
@@ -71,13 +93,17 @@ fn send(publisher: &Publisher, sender: &mut Sender, bytes: &mut BytesMut) -> Res
 }
 
 /// One transaction. What it did behind its savepoint is rolled back, and no subscriber gets it.
-fn run_session(alloc: Global, publisher: &mut Publisher) -> Result<(), SessionFault> {
+fn run_session<L: LogName, R: Wait>(
+    rt: &R,
+    alloc: Global,
+    publisher: &mut Publisher<L>,
+) -> Result<(), SessionFault> {
     let mut tx = publisher.begin()?;
-    let written = write(alloc, publisher, &mut tx);
+    let written = write(rt, alloc, publisher, &mut tx);
     // A transaction ends by commit or abort. Either gives it back where it is refused for memory, and it may stay live.
     let ended = match written {
-        Ok(()) => publisher.commit(tx, 5).map(|_| ()),
-        Err(_) => publisher.abort(tx),
+        Ok(()) => publisher.commit(rt, tx, 5).map(|_| ()),
+        Err(_) => publisher.abort(rt, tx),
     };
     if let Err((tx, fault)) = ended {
         publisher.leave(tx);
@@ -86,11 +112,16 @@ fn run_session(alloc: Global, publisher: &mut Publisher) -> Result<(), SessionFa
     written
 }
 
-fn write(alloc: Global, publisher: &mut Publisher, tx: &mut Tx) -> Result<(), SessionFault> {
-    publisher.insert(tx, 16384, item(alloc, 1, "ab", 7)?)?;
-    let depth = publisher.savepoint(tx)?;
-    publisher.insert(tx, 16384, item(alloc, 2, "cd", 8)?)?;
-    publisher.rollback_to(tx, depth)
+fn write<L: LogName, R: Wait>(
+    rt: &R,
+    alloc: Global,
+    publisher: &mut Publisher<L>,
+    tx: &mut Tx,
+) -> Result<(), SessionFault> {
+    publisher.insert(rt, tx, 16384, item(alloc, 1, "ab", 7)?)?;
+    let depth = publisher.savepoint(rt, tx)?;
+    publisher.insert(rt, tx, 16384, item(alloc, 2, "cd", 8)?)?;
+    publisher.rollback_to(rt, tx, depth)
 }
 
 /// A row of the table public.item.

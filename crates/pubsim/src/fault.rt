@@ -14,8 +14,8 @@ pub enum Fault {
     Usage(clap::Error),
     #[error("the configuration cannot be read: {0}")]
     ReadConfig(io::Error),
-    #[error("in the configuration: {0}")]
-    Config(ConfigFault),
+    #[error("in the configuration: {1}")]
+    Config(ConfigFault, String),
     #[error("the schedule cannot be opened: {0}")]
     Open(io::Error),
     #[error("standard output cannot be used: {0}")]
@@ -42,9 +42,9 @@ impl Fault {
             },
             // A file that is no text is a bad configuration, and no file that can't be read.
             Fault::ReadConfig(error) if error.kind() == io::ErrorKind::InvalidData => 2,
-            Fault::Config(fault) if !fault.is_memory() => 2,
+            Fault::Config(fault, _) if !fault.is_memory() => 2,
             Fault::Run(fault) if fault.is_bad_schedule() => 2,
-            Fault::ReadConfig(_) | Fault::Config(_) => 1,
+            Fault::ReadConfig(_) | Fault::Config(_, _) => 1,
             Fault::Run(_) | Fault::Open(_) | Fault::Output(_) | Fault::Memory => 1,
         }
     }

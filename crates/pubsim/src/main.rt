@@ -9,11 +9,12 @@ use command::words_of;
 use fault::Fault;
 use std::io::BufWriter;
 use std::process::ExitCode;
+use std::sync::Wait;
 use std::{env, fs, io};
-use world::{Config, simulate};
+use world::{Config, explained, simulate};
 
 fn main(rt: HostRuntime) -> ExitCode {
-    match run(&rt) {
+    match run(&rt, &rt) {
         Ok(()) => ExitCode::SUCCESS,
         Err(fault) => {
             let _ = fault.print(&rt);
@@ -22,17 +23,25 @@ fn main(rt: HostRuntime) -> ExitCode {
     }
 }
 
-fn run(rt: &HostRuntime) -> Result<(), Fault> {
+/// The runtime has the files, and `waits` may wait for readers of the log.
+fn run<R: Wait>(rt: &HostRuntime, waits: &R) -> Result<(), Fault> {
     let alloc = rt.alloc();
     let arguments: Vec<String> = env::args(rt).map_err(Fault::Arguments)?.collect(alloc)?;
     let words = words_of(alloc, arguments.as_slice()).map_err(Fault::Usage)?;
     let config = config_of(rt, words.config)?;
     let mut schedule = fs::open(rt, words.schedule).map_err(Fault::Open)?;
     let mut output = BufWriter::new(alloc, io::writer(rt)).map_err(Fault::Output)?;
-    simulate(alloc, config, &mut schedule, &mut output).map_err(Fault::Run)
+    simulate(waits, alloc, config, &mut schedule, &mut output).map_err(Fault::Run)
 }
 
 fn config_of(rt: &HostRuntime, path: &str) -> Result<Config, Fault> {
     let text = fs::read_to_string(rt, path).map_err(Fault::ReadConfig)?;
-    Config::from_toml(rt.alloc(), text.as_str()).map_err(Fault::Config)
+    let alloc = rt.alloc();
+    match Config::from_toml(alloc, text.as_str()) {
+        Ok(config) => Ok(config),
+        Err(fault) => {
+            let lines = explained(alloc, text.as_str(), &fault)?;
+            Err(Fault::Config(fault, lines))
+        }
+    }
 }

@@ -16,13 +16,12 @@ use Rattle.txlog.specs.declared.limits.TheConstants.{MAX_DEPTH, MAX_LIVE, MAX_RE
 use Rattle.wal.specs.declared.record.TheConstants.{FIRST_POSITION}
 use Rattle.wal.specs.declared.record.Record.{Record}
 use Rattle.wal.specs.declared.record.Body.TheVariants.{Assign, Change as Changed, AbortSub, Abort, Commit}
-use Rattle.wal.specs.Log.{IsOpen, end_of, size_of, top_of}
+use Rattle.wal.specs.Log.{IsOpen, IsWellFormedLog, end_of, size_of, top_of}
 use Rattle.txlog.specs.Rows.{standing, history_of}
 use Rattle.txlog.specs.Publishing as calls
 use Rattle.wal.specs.Records.{record_after}
 use Rattle.txlog.specs.Publishing.{LiveTransaction, PublisherState, xids, log_end, with_record, room, is_live, savepoints_of, innermost, with_savepoints, without, new_publisher, begun, changed, next_savepoint, after_commit, receipt_of}
 use Rattle.txlog.specs.Invariants.{IsPublisher, IsInProgress, IsBehind, IsMarked, KeepsLog, is_own, is_under}
-use Rattle.wal.proofs.Growing.{end_of_push}
 use Rattle.wal.proofs.Lists.{all_append}
 use Rattle.txlog.proofs.LiveList.{found, restored}
 use Rattle.txlog.proofs.Progress.{IsOpen-innermost, xids-top}
@@ -83,15 +82,30 @@ unchanged_kept store new s xid mark change h at keeps =
 pub rows_kept : (store new : StoreState) (s : PublisherState) → KeepsLog store s → Keeps new (history_of s.log) → KeepsLog new s
 rows_kept store new s h keeps = record { publisher = h.publisher; marked = h.marked; rows = keeps }
 
+-- THE RECORD MAY COME
+
+pub commit_good : (store : StoreState) (s : PublisherState) (xid : ℕ) (time kept : ℤ) → KeepsLog store s → true ≡ is_live xid s.live → FitsSigned w64 time → kept ≡ time →
+    IsWellFormedLog (s.log ++ record_after s.log (Commit xid kept) ∷ [])
+commit_good store s xid time kept h is fits t = (after_commit-IsPublisher s xid kept h.publisher (sym is) (rw t fits)).log.good
+
+pub abort_good : (store : StoreState) (s : PublisherState) (xid : ℕ) → KeepsLog store s → true ≡ is_live xid s.live → IsWellFormedLog (s.log ++ record_after s.log (Abort xid) ∷ [])
+abort_good store s xid h is = (after_abort-IsPublisher s xid h.publisher (sym is)).log.good
+
+pub saved_good : (store : StoreState) (s now : PublisherState) (xid parent depth : ℕ) → s ≡ now → KeepsLog store s → is_live xid now.live ≡ true → 0 < room now →
+    depth ≡ length (savepoints_of xid now.live) → depth < MAX_DEPTH → parent ≡ innermost xid s.live → IsWellFormedLog (s.log ++ record_after s.log (Assign s.next_xid parent) ∷ [])
+saved_good store s now xid parent depth same h is free at shallow inner =
+    let here : length (savepoints_of xid s.live) ≡ length (savepoints_of xid now.live) = ap (λ (n : PublisherState). length (savepoints_of xid n.live)) same in
+    let lives : is_live xid s.live ≡ true = ap (λ (n : PublisherState). is_live xid n.live) same ∙ is in
+    rw inner (saved-IsPublisher s xid h.publisher lives (omega (arith, at, shallow, here)) (omega (arith, free, ap room same))).log.good
+
 -- COMMIT AND ABORT
 
 pub committed_is : (tables : List Table) (s now : PublisherState) (tx xid place start end : ℕ) (time kept : ℤ) (log : List Record) (live : List LiveTransaction) → s ≡ now → tables ≡ s.tables →
-    xid ≡ tx → kept ≡ time → place ≡ length s.log → start ≡ log_end s → log ≡ s.log ++ record_after s.log (Commit xid kept) ∷ [] →
-    end ≡ end_of FIRST_POSITION log → live ≡ without xid s.live →
+    xid ≡ tx → kept ≡ time → place ≡ length s.log → log_end s ≡ start → log_end s + size_of (Commit xid kept) ≡ end → log ≡ s.log ++ record_after s.log (Commit xid kept) ∷ [] →
+    live ≡ without xid s.live →
     (record { place = place; start = start; end = end; xid = xid } ≡ receipt_of tx time now) × (record s { tables = tables; log = log; live = live } ≡ after_commit tx time now)
-committed_is tables s now tx xid place start end time kept log live same fixed n t p b grown e fewer =
-    let ends : end ≡ log_end s + size_of (Commit xid kept) = e ∙ ap (end_of FIRST_POSITION) grown ∙ end_of_push FIRST_POSITION s.log (record_after s.log (Commit xid kept)) in
-    let told : record { place = place; start = start; end = end; xid = xid } ≡ receipt_of xid kept s = rw (p, b, ends) refl in
+committed_is tables s now tx xid place start end time kept log live same fixed n t p b e grown fewer =
+    let told : record { place = place; start = start; end = end; xid = xid } ≡ receipt_of xid kept s = rw (p, ← b, ← e) refl in
     let moved : record s { tables = tables; log = log; live = live } ≡ after_commit xid kept s = rw (fixed, grown, fewer) refl in
     (told ∙ ap (receipt_of xid kept) same ∙ ap (λ (x : ℕ). receipt_of x kept now) n, moved ∙ ap (after_commit xid kept) same ∙ rw (n, t) refl)
 
@@ -185,6 +199,16 @@ released_kept store s xid depth live h is less =
       marked = marked-released s xid depth h.publisher h.marked (sym is);
       rows = h.rows;
     })
+
+pub rolled_back_good : (store : StoreState) (s now : PublisherState) (xid depth : ℕ) (savepoint : Savepoint) → s ≡ now → KeepsLog store s → is_live xid now.live ≡ true → 0 < room now → 0 < depth →
+    depth ≤ length (savepoints_of xid now.live) → slice_get (savepoints_of xid now.live) (depth - 1) ≡ Some savepoint → IsWellFormedLog (s.log ++ record_after s.log (AbortSub savepoint.xid) ∷ [])
+rolled_back_good store s now xid depth savepoint same h is free some enough at =
+    let back : savepoints_of xid now.live ≡ savepoints_of xid s.live = ap (λ (n : PublisherState). savepoints_of xid n.live) (sym same) in
+    let lives : is_live xid s.live ≡ true = ap (λ (n : PublisherState). is_live xid n.live) same ∙ is in
+    let here : slice_get (savepoints_of xid s.live) (depth - 1) ≡ Some savepoint = ap (λ (l : List Savepoint). slice_get l (depth - 1)) (sym back) ∙ at in
+    let value : savepoint.xid ≡ slice_index (xids (savepoints_of xid s.live)) (depth - 1) = sym (xid_at (savepoints_of xid s.live) (depth - 1) savepoint here) in
+    let within : depth ≤ length (savepoints_of xid s.live) = omega (arith, enough, ap length back) in
+    rw value (rolled_back-IsPublisher s xid depth h.publisher lives some within (omega (arith, free, ap room same))).log.good
 
 -- without memory for the record, the savepoint is taken off again
 pub unsaved : (s now : PublisherState) (xid depth : ℕ) (savepoint : Savepoint) (log : List Record) (more less : List LiveTransaction) → s ≡ now → is_live xid now.live ≡ true →

@@ -22,7 +22,9 @@ use Rattle.txlog.specs.Rows.{history_of}
 use Rattle.wal.specs.Records.{record_after}
 use Rattle.txlog.specs.Publishing.{PublisherState, room, is_live, innermost, changed, change_refusal, tables_refusal, room_refusal, fault_at, fault_of, IsRefusalOrMemory, RefusedOrMemory}
 use Rattle.txlog.specs.Invariants.{KeepsLog}
-use Rattle.txlog.proofs.Calls.{changed_kept, unchanged_kept}
+use Rattle.wal.specs.Log.{IsWellFormedLog}
+use Rattle.txlog.proofs.Transitions.{changed-IsPublisher}
+use Rattle.txlog.proofs.Calls.{change_small, changed_kept, unchanged_kept}
 
 -- SHORT CHANGES
 
@@ -36,6 +38,17 @@ update_short tables c oid old row is fits =
 
 pub delete_short : (tables : List Table) (c : Change) (oid : ℕ) (old : List Value) → c ≡ changes.Delete oid old → FitsChange tables c → IsShort c
 delete_short tables c oid old is fits = let fit : FitsChange tables (changes.Delete oid old) = subst (FitsChange tables) is fits in subst IsShort (sym is) fit.short
+
+-- THE RECORD MAY COME
+
+pub change_good : (store : StoreState) (s now : PublisherState) (tx : ℕ) (at : Changing) (change : Change) → s ≡ now → KeepsLog store s → (at.xid ≡ tx) × (is_live tx now.live ≡ true) →
+    at.innermost ≡ innermost tx now.live → at.room ≡ room now → FitsChange s.tables change → IsShort change → 0 < at.room →
+    IsWellFormedLog (s.log ++ record_after s.log (Changed at.innermost change) ∷ [])
+change_good store s now tx at change same h own inner free fits short some =
+    let lives : is_live at.xid s.live ≡ true = ap (λ (p : PublisherState). is_live at.xid p.live) same ∙ ap (λ (n : ℕ). is_live n now.live) own.0 ∙ own.1 in
+    let under : at.innermost ≡ innermost at.xid s.live = inner ∙ ap (λ (n : ℕ). innermost n now.live) (sym own.0) ∙ ap (λ (p : PublisherState). innermost at.xid p.live) (sym same) in
+    let roomy : 0 < room s = omega (arith, some, free, ap room same) in
+    rw under (changed-IsPublisher s at.xid change h.publisher lives roomy fits (change_small (innermost at.xid s.live) change short)).log.good
 
 -- WHAT IS KEPT
 

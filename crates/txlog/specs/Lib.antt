@@ -1,5 +1,6 @@
 pub mod Invariants
 pub mod Publishing
+pub mod Receipts
 pub mod Rows
 pub use Rattle.tables.specs.Spelling
 pub use Rattle.tables.specs.Tables

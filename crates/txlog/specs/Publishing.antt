@@ -11,17 +11,17 @@ use Rattle.tables.specs.declared.change.Change.TheVariants as changes
 use Rattle.tables.specs.Rows.{Key}
 use Rattle.tables.specs.History as history
 use Rattle.tables.specs.History.{count_of}
-use Rattle.txlog.specs.declared.limits.TheConstants.{MAX_LIVE, MAX_DEPTH}
+use Rattle.txlog.specs.declared.limits.TheConstants.{MAX_LIVE, MAX_DEPTH, MAX_READERS}
 use Rattle.wal.specs.declared.record.TheConstants.{FIRST_POSITION, FIRST_XID}
 use Rattle.wal.specs.declared.record.Record.{Record}
 use Rattle.wal.specs.declared.record.Body.{Body}
 use Rattle.wal.specs.declared.record.Body.TheVariants.{Assign, Change as Changed, AbortSub, Abort, Commit}
-use Rattle.txlog.specs.declared.receipt.Receipt.{Receipt}
 use Rattle.txlog.specs.declared.fault.SessionFault.{SessionFault}
 use Rattle.txlog.specs.declared.fault.SessionFault.TheVariants as faults
 use Rattle.txlog.specs.declared.savepoint.Savepoint.{Savepoint}
 use Rattle.wal.specs.Log.{end_of, last_of, size_of}
 use Rattle.wal.specs.Records.{record_after}
+use Rattle.txlog.specs.Receipts.{Committed}
 use Rattle.txlog.specs.Rows.{history_of, rows_of}
 
 -- THE STATE
@@ -127,7 +127,7 @@ abbrev pub after_abort : ℕ → PublisherState → PublisherState
 after_abort xid s = ended xid (Abort xid) s
 
 -- what a commit tells: the place of its record in the log, where it starts and ends, and the transaction's xid
-abbrev pub receipt_of : ℕ → ℤ → PublisherState → Receipt
+abbrev pub receipt_of : ℕ → ℤ → PublisherState → Committed
 receipt_of xid time s = record {
   place = length s.log;
   start = log_end s;
@@ -140,6 +140,10 @@ receipt_of xid time s = record {
 -- a call that writes a record is refused last for room
 abbrev pub room_refusal : PublisherState → Option SessionFault
 room_refusal s = if room s == 0 then Some faults.LogFull else None
+
+-- a publisher has from one to so many readers
+abbrev pub new_refusal : ℕ → Option SessionFault
+new_refusal readers = if (readers == 0) || nat_lt MAX_READERS readers then Some faults.NoReader else None
 
 abbrev pub begin_refusal : PublisherState → Option SessionFault
 begin_refusal s = if nat_le MAX_LIVE (length s.live) then Some faults.TooManyLive else room_refusal s

@@ -5,16 +5,17 @@ ghost use Rattle.tables.specs.History.{Made, count_of, rolled_back};
 ghost use Rattle.tables.specs.Keeping.{Keeps};
 ghost use Rattle.tables.specs.Spelling.{IsShort};
 ghost use Rattle.txlog.specs.Invariants.{IsPublisher};
-ghost use Rattle.wal.specs.Log.{end_of};
+ghost use Rattle.wal.specs.Log.{IsWellFormedLog, end_of};
 ghost use Rattle.wal.specs.Records.{record_after};
 ghost use Rattle.txlog.specs.Publishing.{RefusedOrMemory, changed, deleted, delete_refusal, fault_at, innermost, insert_refusal, is_live, room, truncate_refusal, update_refusal, updated};
 ghost use Rattle.txlog.specs.Rows.{history_of};
 ghost use Rattle.wal.specs.declared.record.TheConstants.{FIRST_POSITION};
 
 use crate::fault::SessionFault;
-use crate::log::Log;
 use crate::publisher::Publisher;
 use crate::tx::Tx;
+use shared_log::{LogName, LogWriter};
+use std::sync::Wait;
 use tables::{Change, Row, Store, StoreFault};
 use wal::{Body, LoggedChange};
 
@@ -28,9 +29,15 @@ struct Changing {
     room: usize,
 }
 
-impl Publisher {
+impl<L: LogName> Publisher<L> {
     /// Inserts a row. S14, S1, S2, S6, S5, S3, S7, S11 in this order.
-    pub fn insert(&mut self, tx: &mut Tx, oid: u32, row: Row) -> Result<(), SessionFault>
+    pub fn insert<R: Wait>(
+        &mut self,
+        rt: &R,
+        tx: &mut Tx,
+        oid: u32,
+        row: Row,
+    ) -> Result<(), SessionFault>
         ensures ok { OnOk result (self.new ≡ changed tx.old (Change.Insert oid row) self.old) }
         ensures err { OnErr result (self.new ≡ self.old) }
         ensures refused { RefusedOrMemory (insert_refusal tx.old oid row self.old) result }
@@ -39,14 +46,21 @@ impl Publisher {
     {
         let at = self.changing(tx)?;
         match self.store.insert(at.xid, oid, row) {
-            Ok(change) => write(&mut self.store, &mut self.log, at, change),
+            Ok(change) => write(&mut self.store, &mut self.log, rt, at, change),
             Err(fault) => Err(refusal(fault, at.room)),
         }
     }
 
     /// Puts a row in the place of the one with this key, whose key it may change. S14, S1, S2, S6, S5, S4, S3, S7, S11 in this
     /// order.
-    pub fn update(&mut self, tx: &mut Tx, oid: u32, key: &Row, row: Row) -> Result<(), SessionFault>
+    pub fn update<R: Wait>(
+        &mut self,
+        rt: &R,
+        tx: &mut Tx,
+        oid: u32,
+        key: &Row,
+        row: Row,
+    ) -> Result<(), SessionFault>
         ensures ok { OnOk result (self.new ≡ updated tx.old (record { oid = oid; values = key.now }) row self.old) }
         ensures err { OnErr result (self.new ≡ self.old) }
         ensures refused { RefusedOrMemory (update_refusal tx.old (record { oid = oid; values = key.now }) row self.old) result }
@@ -55,13 +69,19 @@ impl Publisher {
     {
         let at = self.changing(tx)?;
         match self.store.update(at.xid, oid, key, row) {
-            Ok(change) => write(&mut self.store, &mut self.log, at, change),
+            Ok(change) => write(&mut self.store, &mut self.log, rt, at, change),
             Err(fault) => Err(refusal(fault, at.room)),
         }
     }
 
     /// Deletes the row with this key. S14, S1, S2, S5, S4, S7, S11 in this order.
-    pub fn delete(&mut self, tx: &mut Tx, oid: u32, key: &Row) -> Result<(), SessionFault>
+    pub fn delete<R: Wait>(
+        &mut self,
+        rt: &R,
+        tx: &mut Tx,
+        oid: u32,
+        key: &Row,
+    ) -> Result<(), SessionFault>
         ensures ok { OnOk result (self.new ≡ deleted tx.old (record { oid = oid; values = key.now }) self.old) }
         ensures err { OnErr result (self.new ≡ self.old) }
         ensures refused { RefusedOrMemory (delete_refusal tx.old (record { oid = oid; values = key.now }) self.old) result }
@@ -70,13 +90,18 @@ impl Publisher {
     {
         let at = self.changing(tx)?;
         match self.store.delete(at.xid, oid, key) {
-            Ok(change) => write(&mut self.store, &mut self.log, at, change),
+            Ok(change) => write(&mut self.store, &mut self.log, rt, at, change),
             Err(fault) => Err(refusal(fault, at.room)),
         }
     }
 
     /// Empties tables, and holds them. S14, S1, S2, S6, S5, S7, S11 in this order.
-    pub fn truncate(&mut self, tx: &mut Tx, oids: &[u32]) -> Result<(), SessionFault>
+    pub fn truncate<R: Wait>(
+        &mut self,
+        rt: &R,
+        tx: &mut Tx,
+        oids: &[u32],
+    ) -> Result<(), SessionFault>
         ensures ok { OnOk result (self.new ≡ changed tx.old (Change.Truncate oids.now) self.old) }
         ensures err { OnErr result (self.new ≡ self.old) }
         ensures refused { RefusedOrMemory (truncate_refusal tx.old oids.now self.old) result }
@@ -85,7 +110,7 @@ impl Publisher {
     {
         let at = self.changing(tx)?;
         match self.store.truncate(at.xid, oids) {
-            Ok(change) => write(&mut self.store, &mut self.log, at, change),
+            Ok(change) => write(&mut self.store, &mut self.log, rt, at, change),
             Err(fault) => Err(refusal(fault, at.room)),
         }
     }
@@ -112,9 +137,16 @@ impl Publisher {
 }
 
 /// Writes the record of a change that the store has made. Where the log has no room or no memory, the change is undone.
-fn write(store: &mut Store, log: &mut Log, at: Changing, change: Change) -> Result<(), SessionFault>
+fn write<L: LogName, R: Wait>(
+    store: &mut Store,
+    log: &mut LogWriter<L>,
+    rt: &R,
+    at: Changing,
+    change: Change,
+) -> Result<(), SessionFault>
     requires short { IsShort change }
     requires fits { end_of FIRST_POSITION log.old + 2 ^ 14 < 2 ^ 64 }
+    requires good { 0 < at.room → IsWellFormedLog (log.old ++ record_after log.old (Body.Change at.innermost change) ∷ []) }
     ensures ok { OnOk result ((log.new ≡ log.old ++ record_after log.old (Body.Change at.innermost change) ∷ []) × (store.new ≡ store.old)) }
     ensures room { OnOk result (0 < at.room) }
     ensures err { OnErr result (log.new ≡ log.old) }
@@ -126,8 +158,8 @@ fn write(store: &mut Store, log: &mut Log, at: Changing, change: Change) -> Resu
         store.undo_to(at.xid, at.mark);
         return Err(SessionFault::LogFull);
     }
-    match log.push(Body::Change(at.innermost, LoggedChange::of(change))) {
-        Ok(()) => Ok(()),
+    match log.push(rt, Body::Change(at.innermost, LoggedChange::of(change))) {
+        Ok(_) => Ok(()),
         Err(_) => {
             store.undo_to(at.xid, at.mark);
             Err(SessionFault::Memory)

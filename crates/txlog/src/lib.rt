@@ -6,7 +6,7 @@ mod changing;
 mod fault;
 mod limits;
 mod live;
-mod log;
+mod opened;
 mod publisher;
 mod receipt;
 mod running;
@@ -14,7 +14,8 @@ mod savepoint;
 mod tx;
 
 pub use fault::SessionFault;
-pub use limits::{MAX_DEPTH, MAX_LIVE, MAX_RECORDS};
+pub use limits::{MAX_DEPTH, MAX_LIVE, MAX_READERS, MAX_RECORDS};
+pub use opened::Opened;
 pub use publisher::Publisher;
 pub use receipt::Receipt;
 pub use tx::Tx;

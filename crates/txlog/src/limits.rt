@@ -8,3 +8,6 @@ pub const MAX_LIVE: usize = 256;
 
 /// The greatest number of open savepoints of a transaction.
 pub const MAX_DEPTH: usize = 16;
+
+/// The greatest number of readers of a log.
+pub const MAX_READERS: usize = 32;

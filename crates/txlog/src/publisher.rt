@@ -1,22 +1,26 @@
 //! The publisher: what sessions call to write the log.
 
-ghost use Rattle.std.specs.Prelude.{◌≡◌, ◌+◌, ◌-◌, ◌≤◌, ◌<◌, IfErr, IfOk, Ok, OnErr, OnOk, Some, None, drop, length, slice_get, take, true};
+ghost use Rattle.std.specs.Prelude.{◌≡◌, ◌+◌, ◌-◌, ◌≤◌, ◌<◌, IfErr, IfOk, Ok, OnErr, OnOk, Some, None, drop, length, slice_get, take, true, vec_len};
+ghost use Rattle.std.specs.List.{AllByRecursion};
 ghost use Rattle.std.specs.Option.{option_copied};
+ghost use mathlib.Core.List.{IsPrefix};
+ghost use Rattle.shared_log.specs.Fronts.{settled};
 ghost use Rattle.txlog.specs.Invariants.{IsPublisher};
 ghost use Rattle.txlog.specs.Rows.{rows_of};
 ghost use Rattle.wal.specs.Records.{shared};
 ghost use Rattle.txlog.specs.Publishing.{RefusedOrMemory, RefusedOrMemoryBack, RefusedExactly, after_abort, after_commit, new_publisher, begin_refusal, begun, end_refusal, is_live, log_end, receipt_of, release_refusal, released, rollback_refusal, rolled_back, room, saved, savepoint_refusal, savepoints_of};
 
 use crate::fault::SessionFault;
-use crate::limits::{MAX_DEPTH, MAX_LIVE, MAX_RECORDS};
+use crate::limits::{MAX_DEPTH, MAX_LIVE};
 use crate::live::Live;
-use crate::log::Log;
+use crate::opened::Opened;
 use crate::receipt::Receipt;
 use crate::savepoint::Savepoint;
 use crate::tx::Tx;
+use shared_log::{LogName, LogReader, LogWriter};
 use std::alloc::{AllocError, Global};
 use std::marker::Model;
-use std::sync::Arc;
+use std::sync::{Arc, Wait};
 use tables::{Catalog, Row, Store};
 use wal::{Body, FIRST_XID, Record};
 
@@ -29,16 +33,17 @@ use wal::{Body, FIRST_XID, Record};
 /// Ok means that the one record of the call stands at the log's end; `begin`, `release` and `leave` write none. An error
 /// means that nothing has changed, so the call may be made again: S11 is want of memory, S7 a full log, S14 a `Tx` that is not
 /// live in this log, and the others say what is wrong with the call. `get`, `end` and `tail` may be called at any time.
-#[derive(Drop)]
-pub struct Publisher {
+///
+/// It isn't `Drop`: `close` ends it.
+pub struct Publisher<L: LogName> {
     pub(crate) store: Store,
     capacity: usize,
-    pub(crate) log: Log,
+    pub(crate) log: LogWriter<L>,
     next_xid: u32,
     pub(crate) live: Live,
 }
 
-impl Model for Publisher {
+impl<L: LogName> Model for Publisher<L> {
     ghost use Rattle.txlog.specs.Publishing.{PublisherState};
     ghost use Rattle.txlog.specs.Invariants.{KeepsLog};
 
@@ -49,21 +54,48 @@ impl Model for Publisher {
     ghost invariant = { λ p. KeepsLog p.store (record { tables = p.store.tables; capacity = p.capacity; log = p.log; next_xid = p.next_xid; live = p.live }) };
 }
 
-impl Publisher {
-    /// A publisher of an empty log for this many records.
-    pub fn new(alloc: Global, catalog: Catalog, records: usize) -> Result<Self, SessionFault>
-        requires some { 1 ≤ records }
-        requires few { records ≤ MAX_RECORDS }
-        ensures ok { IfOk result (λ p. p ≡ new_publisher catalog records) }
+impl<L: LogName> Publisher<L> {
+    ghost use Rattle.shared_log.specs.Readers.{seen_of};
+
+    /// A publisher of an empty log, and its readers. Where memory is refused, nothing is left of it.
+    pub fn open<R: Wait>(rt: &R, opened: Opened) -> Result<(Self, Vec<LogReader<L>>), SessionFault>
+        requires name { opened.history.seen.book ≡ L.book }
+        ensures ok { IfOk result (λ made. made.0 ≡ new_publisher opened.catalog opened.capacity) }
+        ensures readers { IfOk result (λ made. (vec_len made.1 ≡ opened.readers) × AllByRecursion (λ reader. reader.place ≡ 0) made.1.items) }
         ensures err { IfErr result (λ e. e ≡ SessionFault.Memory) }
     {
-        Ok(Publisher {
-            store: Store::new(alloc, catalog),
-            capacity: records,
-            log: Log::new(alloc),
-            next_xid: FIRST_XID,
-            live: Live::new(alloc),
-        })
+        let Opened {
+            alloc,
+            catalog,
+            capacity,
+            readers,
+            history,
+        } = opened;
+        match LogWriter::open(rt, alloc, history, readers) {
+            Ok((log, made)) => {
+                let publisher = Publisher {
+                    store: Store::new(alloc, catalog),
+                    capacity,
+                    log,
+                    next_xid: FIRST_XID,
+                    live: Live::new(alloc),
+                };
+                Ok((publisher, made))
+            }
+            Err(_) => Err(SessionFault::Memory),
+        }
+    }
+
+    /// Ends the log. It waits for readers that are in it; later fetches are E1.
+    pub fn close<R: Wait>(self, rt: &R) {
+        let Publisher {
+            store: _,
+            capacity: _,
+            log,
+            next_xid: _,
+            live: _,
+        } = self;
+        log.close(rt);
     }
 
     pub fn catalog(&self) -> &Catalog
@@ -88,6 +120,18 @@ impl Publisher {
         self.log.tail(place, max)
     }
 
+    /// Tells a reader of the whole log: its next fetch sees no less. It answers how many records that are, and takes no memory.
+    pub fn tell(&mut self, reader: &mut LogReader<L>) -> usize
+        ensures count { result ≡ length self.old.log }
+        ensures same { self.new ≡ self.old }
+        ensures kept { IsPrefix reader.old.told reader.new.told }
+        ensures told { IsPrefix self.old.log (settled reader.new.told) }
+        ensures place { (seen_of reader.new ≡ seen_of reader.old) × (reader.new.place ≡ reader.old.place) }
+        ensures publisher { IsPublisher self.new }
+    {
+        self.log.tell(reader)
+    }
+
     /// The row with this key, committed or not. The key's values stand in table order.
     pub fn get(&self, oid: u32, key: &Row) -> Option<&Row>
         ensures row { option_copied result ≡ rows_of self.now.tables self.now.log (record { oid = oid; values = key.now }) }
@@ -100,7 +144,7 @@ impl Publisher {
     pub(crate) fn room(&self) -> usize
         ensures { result ≡ room self.now }
     {
-        self.capacity - (self.log.len() + self.live.len())
+        self.capacity - (self.log.count() + self.live.len())
     }
 
     /// A new transaction. S10 where 256 are live, then S7 without room, then S11.
@@ -123,7 +167,12 @@ impl Publisher {
     }
 
     /// Commits the transaction. It is never refused for room; S14 and S11 give it back.
-    pub fn commit(&mut self, tx: Tx, time: i64) -> Result<Receipt, (Tx, SessionFault)>
+    pub fn commit<R: Wait>(
+        &mut self,
+        rt: &R,
+        tx: Tx,
+        time: i64,
+    ) -> Result<Receipt<L>, (Tx, SessionFault)>
         ensures ok { IfOk result (λ receipt. (receipt ≡ receipt_of tx time self.old) × (self.new ≡ after_commit tx time self.old)) }
         ensures err { IfErr result (λ back. (back.0 ≡ tx) × (self.new ≡ self.old)) }
         ensures refused { RefusedOrMemoryBack (end_refusal tx self.old) result }
@@ -133,25 +182,18 @@ impl Publisher {
         if !self.live.contains(xid) {
             return Err((tx, SessionFault::NoTransaction));
         }
-        let place = self.log.len();
-        let start = self.log.end();
-        match self.log.push(Body::Commit(xid, time)) {
-            Ok(()) => {}
+        let told = match self.log.push(rt, Body::Commit(xid, time)) {
+            Ok(told) => told,
             Err(_) => return Err((tx, SessionFault::Memory)),
-        }
+        };
         self.store.forget(xid);
         self.live.remove(xid);
         tx.spend();
-        Ok(Receipt {
-            place,
-            start,
-            end: self.log.end(),
-            xid,
-        })
+        Ok(Receipt::new(told, xid))
     }
 
     /// Aborts the transaction. It is never refused for room; S14 and S11 give it back.
-    pub fn abort(&mut self, tx: Tx) -> Result<(), (Tx, SessionFault)>
+    pub fn abort<R: Wait>(&mut self, rt: &R, tx: Tx) -> Result<(), (Tx, SessionFault)>
         ensures ok { OnOk result (self.new ≡ after_abort tx self.old) }
         ensures err { IfErr result (λ back. (back.0 ≡ tx) × (self.new ≡ self.old)) }
         ensures refused { RefusedOrMemoryBack (end_refusal tx self.old) result }
@@ -161,8 +203,8 @@ impl Publisher {
         if !self.live.contains(xid) {
             return Err((tx, SessionFault::NoTransaction));
         }
-        match self.log.push(Body::Abort(xid)) {
-            Ok(()) => {}
+        match self.log.push(rt, Body::Abort(xid)) {
+            Ok(_) => {}
             Err(_) => return Err((tx, SessionFault::Memory)),
         }
         self.store.undo_to(xid, 0);
@@ -173,7 +215,7 @@ impl Publisher {
     }
 
     /// Sets a savepoint, and answers its depth. S14, S9 at depth 16, S7, S11 in this order.
-    pub fn savepoint(&mut self, tx: &mut Tx) -> Result<u32, SessionFault>
+    pub fn savepoint<R: Wait>(&mut self, rt: &R, tx: &mut Tx) -> Result<u32, SessionFault>
         ensures depth { IfOk result (λ depth. depth ≡ length (savepoints_of tx.old self.old.live) + 1) }
         ensures ok { OnOk result (self.new ≡ saved tx.old self.old) }
         ensures err { OnErr result (self.new ≡ self.old) }
@@ -191,8 +233,8 @@ impl Publisher {
             mark,
         };
         self.live.push_savepoint(xid, opened)?;
-        match self.log.push(Body::Assign(savepoint, parent)) {
-            Ok(()) => {}
+        match self.log.push(rt, Body::Assign(savepoint, parent)) {
+            Ok(_) => {}
             Err(_) => {
                 self.live.truncate_savepoints(xid, depth);
                 return Err(SessionFault::Memory);
@@ -223,7 +265,12 @@ impl Publisher {
     }
 
     /// Rolls back to the savepoint of this depth, 1 for the outermost, and closes it. S14, S8, S7, S11 in this order.
-    pub fn rollback_to(&mut self, tx: &mut Tx, depth: u32) -> Result<(), SessionFault>
+    pub fn rollback_to<R: Wait>(
+        &mut self,
+        rt: &R,
+        tx: &mut Tx,
+        depth: u32,
+    ) -> Result<(), SessionFault>
         ensures ok { OnOk result (self.new ≡ rolled_back tx.old depth self.old) }
         ensures err { OnErr result (self.new ≡ self.old) }
         ensures refused { RefusedOrMemory (rollback_refusal tx.old depth self.old) result }
@@ -232,7 +279,7 @@ impl Publisher {
     {
         let xid = tx.xid();
         let savepoint = self.test_rollback(xid, depth as usize)?;
-        self.log.push(Body::AbortSub(savepoint.xid))?;
+        self.log.push(rt, Body::AbortSub(savepoint.xid))?;
         self.store.undo_to(xid, savepoint.mark);
         self.live.truncate_savepoints(xid, depth as usize - 1);
         Ok(())

@@ -1,13 +1,72 @@
 //! What a commit answers.
 
-/// What a commit tells of its record. A reader whose position is `end` or more has read the transaction whole.
-#[derive(Clone, Copy, Debug, PartialEq, Eq)]
-pub struct Receipt {
+ghost use Rattle.std.specs.Prelude.{◌≡◌, true};
+ghost use Rattle.shared_log.specs.Fronts.{settled};
+ghost use Rattle.txlog.specs.Receipts.{has_commit};
+
+use shared_log::LogName;
+use std::marker::Model;
+
+/// What a commit tells of its record. A reader whose position is `end` or more has read the transaction whole; one that learns
+/// what was `told` has the record at its next fetch. It may go to other threads.
+#[derive(Drop)]
+pub struct Receipt<L: LogName> {
+    told: shared_log::Receipt<L>,
+    xid: u32,
+}
+
+impl<L: LogName> Model for Receipt<L> {
+    ghost use Rattle.std.specs.Prelude.{◌≡◌, true};
+    ghost use Rattle.shared_log.specs.Fronts.{settled};
+    ghost use Rattle.txlog.specs.Receipts.{Committed, has_commit};
+
+    ghost Value = { Committed };
+
+    ghost view = { λ r. record { place = r.told.place; start = r.told.start; end = r.told.end; xid = r.xid } };
+
+    ghost invariant = { λ r. has_commit (settled r.told.front) (record { place = r.told.place; start = r.told.start; end = r.told.end; xid = r.xid }) ≡ true };
+}
+
+impl<L: LogName> Receipt<L> {
+    pub(crate) fn new(told: shared_log::Receipt<L>, xid: u32) -> Self
+        requires { has_commit (settled told.front) (record { place = told.place; start = told.start; end = told.end; xid = xid }) ≡ true }
+        ensures { result ≡ record { place = told.place; start = told.start; end = told.end; xid = xid } }
+    {
+        Receipt { told, xid }
+    }
+
     /// The record's index in the log.
-    pub place: usize,
-    /// The positions where the record starts and ends.
-    pub start: u64,
-    pub end: u64,
+    pub fn place(&self) -> usize
+        ensures { result ≡ self.now.place }
+    {
+        self.told.place
+    }
+
+    /// The position where the record starts.
+    pub fn start(&self) -> u64
+        ensures { result ≡ self.now.start }
+    {
+        self.told.start
+    }
+
+    /// The position where it ends.
+    pub fn end(&self) -> u64
+        ensures { result ≡ self.now.end }
+    {
+        self.told.end
+    }
+
     /// The xid of the transaction.
-    pub xid: u32,
+    pub fn xid(&self) -> u32
+        ensures { result ≡ self.now.xid }
+    {
+        self.xid
+    }
+
+    /// What a reader learns. The Commit stands in the log that it then knows of.
+    pub fn told(&self) -> &shared_log::Receipt<L>
+        ensures { has_commit (settled result.now.front) self.now ≡ true }
+    {
+        &self.told
+    }
 }

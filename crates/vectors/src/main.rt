@@ -48,6 +48,7 @@ use report::Report;
 use samples::judge_samples;
 use schedules::judge_schedules;
 use std::alloc::Global;
+use std::sync::Wait;
 use std::{env, fs};
 use streams::judge_streams;
 
@@ -56,7 +57,7 @@ fn main(rt: HostRuntime) -> Result<()> {
     let mut held = true;
     for path in env::args(&rt)?.skip(1) {
         let text = fs::read_to_string(&rt, path.as_str())?;
-        let report = judged(alloc, path.as_str(), text.as_str())?;
+        let report = judged(&rt, alloc, path.as_str(), text.as_str())?;
         report.print(&rt, name_of(path.as_str()))?;
         held = held && report.has_held();
     }
@@ -65,12 +66,12 @@ fn main(rt: HostRuntime) -> Result<()> {
 }
 
 /// The file is of the kind that its name ends with.
-fn judged(alloc: Global, path: &str, text: &str) -> Result<Report> {
+fn judged<R: Wait>(rt: &R, alloc: Global, path: &str, text: &str) -> Result<Report> {
     if path.ends_with(".samples") {
         return judge_samples(alloc, text);
     }
     if path.ends_with(".schedules") {
-        return judge_schedules(alloc, text);
+        return judge_schedules(rt, alloc, text);
     }
     if path.ends_with(".streams") {
         return judge_streams(alloc, text);

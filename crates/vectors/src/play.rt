@@ -3,6 +3,7 @@
 use crate::sample::Answer;
 use anyhow::{Result, ensure};
 use std::alloc::{AllocError, Global};
+use std::sync::Wait;
 use world::{Config, SimFault, simulate};
 
 /// The tables public.item and public.tag, and a publication of each.
@@ -61,9 +62,9 @@ impl Setting {
 }
 
 /// What the schedule prints, or why it is refused.
-pub fn played(alloc: Global, setting: &Setting, text: &str) -> Result<Answer> {
+pub fn played<R: Wait>(rt: &R, alloc: Global, setting: &Setting, text: &str) -> Result<Answer> {
     let mut output = Vec::new(alloc);
-    match refusal(alloc, setting, text, &mut output)? {
+    match refusal(rt, alloc, setting, text, &mut output)? {
         None => Ok(Answer::Meaning(String::from_utf8(output)?)),
         Some(fault) => {
             ensure!(output.is_empty(), "prints something, though it is refused");
@@ -73,7 +74,8 @@ pub fn played(alloc: Global, setting: &Setting, text: &str) -> Result<Answer> {
 }
 
 /// Why the schedule is refused, or None where it printed what it says.
-fn refusal(
+fn refusal<R: Wait>(
+    rt: &R,
     alloc: Global,
     setting: &Setting,
     text: &str,
@@ -81,7 +83,7 @@ fn refusal(
 ) -> Result<Option<String>> {
     let config = config_of(alloc, setting)?;
     let mut input = text.as_bytes();
-    match simulate(alloc, config, &mut input, output) {
+    match simulate(rt, alloc, config, &mut input, output) {
         Ok(()) => Ok(None),
         Err(fault) => Ok(Some(shown_fault(alloc, &fault)?)),
     }

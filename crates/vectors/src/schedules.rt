@@ -6,6 +6,7 @@ use crate::report::Report;
 use crate::sample::Said;
 use anyhow::{Context, Result};
 use std::alloc::Global;
+use std::sync::Wait;
 
 /// What begins the first line of a schedule, and its name follows.
 const NAMED: &str = "== ";
@@ -33,11 +34,11 @@ impl Case {
     }
 }
 
-pub fn judge_schedules(alloc: Global, text: &str) -> Result<Report> {
+pub fn judge_schedules<R: Wait>(rt: &R, alloc: Global, text: &str) -> Result<Report> {
     let mut report = Report::new(alloc);
     let setting = setting_of(alloc, text)?;
     for case in cases_of(alloc, text)? {
-        let answer = played(alloc, &setting, case.schedule.as_str())?;
+        let answer = played(rt, alloc, &setting, case.schedule.as_str())?;
         if answer.is_as_said(case.said()) {
             report.hold();
         } else {

@@ -103,7 +103,7 @@ pub kept_starts : (cs : List Start) (place : ℕ) (c new : Start) (r : Result An
 kept_starts cs place c new (Ok a) value same = tt
 kept_starts cs place c new (Err e) value same = map-set_same start_state cs place new c (same ∙ ap start_state value)
 
-pub acted_at : (name : List ℕ) (place : ℕ) (action : Action) (m : Machine) (new : List Start) (a : Answer) → IsOpenStartAt name place m.starts.items
+pub acted_at : (name : List ℕ) (place : ℕ) (action : Action) {L : Type 0} (m : Machine L) (new : List Start) (a : Answer) → IsOpenStartAt name place m.starts.items
     → ActsIn m.publisher.log place action m.starts.items a new → ActsAt name action (shown m) a (record (shown m) { starts = map start_state new; subscribers = subscribers_after name action (shown m).subscribers })
 acted_at name place action m new a at acts =
     let here : at.start ≡ acts.before = one_there m.starts.items place at.start acts.before at.there acts.there in
@@ -133,7 +133,7 @@ same_connection log action old new (answers.Publication fault) acts = absurd act
 same_connection log action old new (answers.Subscriber fault) acts = absurd acts
 
 -- each start goes on having a subscriber
-pub subscribed_on : (name : List ℕ) (place : ℕ) (action : Action) (m : Machine) (new : List Start) (a : Answer) → IsOpenStartAt name place m.starts.items → ActsIn m.publisher.log place action m.starts.items a new
+pub subscribed_on : (name : List ℕ) (place : ℕ) (action : Action) {L : Type 0} (m : Machine L) (new : List Start) (a : Answer) → IsOpenStartAt name place m.starts.items → ActsIn m.publisher.log place action m.starts.items a new
     → AllByRecursion (IsSubscribed (map subscriber_state m.subscribers.items)) (map start_state m.starts.items) → AllByRecursion (IsSubscribed (map subscriber_state m.subscribers.items)) (map start_state new)
 subscribed_on name place action m new a at acts all =
     let here : at.start ≡ acts.before = one_there m.starts.items place at.start acts.before at.there acts.there in

@@ -56,12 +56,12 @@ stepped (events.Drain c n) old p ss a calls = absurd calls
 stepped (events.Deliver c n) old p ss a calls = absurd calls
 stepped (events.Cut c) old p ss a calls = absurd calls
 
-pub all_stepped : (e : Event) (m : Machine) (p : PublisherState) (ss : List Session) (r : Result Answer WorldFault) → IfOk r (λ a. IsCallOf e m.publisher m.sessions.items a p ss)
+pub all_stepped : (e : Event) {L : Type 0} (m : Machine L) (p : PublisherState) (ss : List Session) (r : Result Answer WorldFault) → IfOk r (λ a. IsCallOf e m.publisher m.sessions.items a p ss)
     → IfOk r (λ a. IsStep (shown m) e a (record (shown m) { publisher = p; transactions = map named_tx ss }))
 all_stepped e m p ss (Ok a) calls = stepped e (shown m) p ss a calls
 all_stepped e m p ss (Err fault) calls = tt
 
-pub none_stepped : (m : Machine) (p : PublisherState) (ss : List Session) (r : Result Answer WorldFault) → OnErr r (sessions_state p ss ≡ sessions_state m.publisher m.sessions.items)
+pub none_stepped : {L : Type 0} (m : Machine L) (p : PublisherState) (ss : List Session) (r : Result Answer WorldFault) → OnErr r (sessions_state p ss ≡ sessions_state m.publisher m.sessions.items)
     → OnErr r (record (shown m) { publisher = p; transactions = map named_tx ss } ≡ shown m)
 none_stepped m p ss (Ok a) same = tt
 none_stepped m p ss (Err fault) same = ap (λ (s : SessionState). record (shown m) { publisher = s.publisher; transactions = s.transactions }) same

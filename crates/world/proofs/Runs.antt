@@ -58,7 +58,7 @@ all_exact : (log : List Record) (cs : List Start) → IsWellFormedLog log → Al
 all_exact log [] good all = tt
 all_exact log (c ∷ cs) good all = (exact_by log c.connection c.produced.items c.place c.walsender good all.0, all_exact log cs good all.1)
 
-pub headline : (m : Machine) → IsMachine m → Headline (shown m)
+pub headline : {L : Type 0} (m : Machine L) → IsMachine m → Headline (shown m)
 headline m is = all_exact m.publisher.log m.starts.items is.good is.served
 
 joined : (start mid new : WorldState) (es : List Event) (answers : List Answer) (e : Event) (a : Answer) → IsRun start es answers mid → IsStep mid e a new → IsRun start (es ++ e ∷ []) (answers ++ a ∷ []) new

@@ -201,7 +201,7 @@ joined_known name ss k known = by_subscriber (subscriber_of name ss) refl
     by_subscriber None is = let never : true ≡ false = sym (ap is_some known) ∙ is_found_alike name ss 0 ∙ ap is_some is in absurd cc
 
 -- what a subscriber got
-pub delivered : (name : List ℕ) (n at_start place : ℕ) (m : Machine) (start : Start) (old new : Subscriber) (produced : List ℕ) (a : Answer) → IsOpenStartAt name at_start m.starts.items → start ≡ slice_index_or m.starts.items at_start start
+pub delivered : (name : List ℕ) (n at_start place : ℕ) {L : Type 0} (m : Machine L) (start : Start) (old new : Subscriber) (produced : List ℕ) (a : Answer) → IsOpenStartAt name at_start m.starts.items → start ≡ slice_index_or m.starts.items at_start start
     → produced ≡ (start_state start).produced → IsSubscriberAt name place m.subscribers.items → old ≡ slice_index_or m.subscribers.items place old
     → Gets (take n (drop old.delivered produced)) (subscriber_state old) a (subscriber_state new)
     → Delivers name n (shown m) a (record (shown m) { subscribers = map subscriber_state (slice_set m.subscribers.items place new) })
@@ -219,7 +219,7 @@ delivered name n at_start place m start old new produced a opened start_value is
       is = ap (λ (l : List SubscriberState). record (shown m) { subscribers = l }) (placed name place m.subscribers.items new at);
     }
 
-pub still_subscribed : (name : List ℕ) (place : ℕ) (m : Machine) (old new : Subscriber) (bytes : List ℕ) (a : Answer) → IsSubscriberAt name place m.subscribers.items → old ≡ slice_index_or m.subscribers.items place old
+pub still_subscribed : (name : List ℕ) (place : ℕ) {L : Type 0} (m : Machine L) (old new : Subscriber) (bytes : List ℕ) (a : Answer) → IsSubscriberAt name place m.subscribers.items → old ≡ slice_index_or m.subscribers.items place old
     → Gets bytes (subscriber_state old) a (subscriber_state new) → AllByRecursion (IsSubscribed (map subscriber_state m.subscribers.items)) (map start_state m.starts.items)
     → AllByRecursion (IsSubscribed (map subscriber_state (slice_set m.subscribers.items place new))) (map start_state m.starts.items)
 still_subscribed name place m old new bytes a at value gets all =

@@ -183,17 +183,17 @@ IsSubscribed subscribers s = is_some (subscriber_of s.connection subscribers) �
 
 -- ---- The machine.
 
-abbrev pub shown : Machine → WorldState
+abbrev pub shown : {L : Type 0} → Machine L → WorldState
 shown m = record { publications = m.publications; publisher = m.publisher; transactions = map named_tx m.sessions.items; starts = map start_state m.starts.items; subscribers = map subscriber_state m.subscribers.items }
 
 -- there is room for one more start
-pub record HasRoom (m : Machine) : Type 0 where
+pub record HasRoom {L : Type 0} (m : Machine L) : Type 0 where
   pub starts : vec_len m.starts < vec_capacity m.starts
   pub opened : vec_len m.opened < vec_capacity m.opened
   pub subscribers : vec_len m.subscribers < vec_capacity m.subscribers
 
 -- the log is one, each start has read it up to its place, the open ones are found, and each has a subscriber
-pub record IsMachine (m : Machine) : Type 0 where
+pub record IsMachine {L : Type 0} (m : Machine L) : Type 0 where
   pub good : IsWellFormedLog m.publisher.log
   pub served : AllByRecursion (IsServed m.publisher.log) m.starts.items
   pub found : m.opened.items ≡ open_places 0 (map start_state m.starts.items)

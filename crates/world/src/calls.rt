@@ -8,12 +8,15 @@ ghost use Rattle.world.specs.Machine.{Grows, IsCallOf, IsNamedAt, named_tx, sess
 use crate::session::{Session, place_of};
 use frames::Text;
 use schedule::{Answer, Event, Literal, WorldFault};
+use shared_log::LogName;
 use std::alloc::Global;
+use std::sync::Wait;
 use txlog::Publisher;
 
 /// Does a session's line. V1 where its name is not known, or is for a second time.
-pub(crate) fn call(
-    publisher: &mut Publisher,
+pub(crate) fn call<L: LogName, R: Wait>(
+    rt: &R,
+    publisher: &mut Publisher<L>,
     sessions: &mut Vec<Session>,
     alloc: Global,
     event: &Event,
@@ -26,10 +29,11 @@ pub(crate) fn call(
     match event {
         Event::Begin(name) => begin(publisher, sessions, alloc, name),
         Event::Insert(name, table, row) => {
-            insert(publisher, sessions, alloc, name, table, row.as_slice())
+            insert(rt, publisher, sessions, alloc, name, table, row.as_slice())
         }
         Event::Update(name, table, key, row) => {
             update(
+                rt,
                 publisher,
                 sessions,
                 alloc,
@@ -40,16 +44,16 @@ pub(crate) fn call(
             )
         }
         Event::Delete(name, table, key) => {
-            delete(publisher, sessions, alloc, name, table, key.as_slice())
+            delete(rt, publisher, sessions, alloc, name, table, key.as_slice())
         }
         Event::Truncate(name, names) => {
-            truncate(publisher, sessions, alloc, name, names.as_slice())
+            truncate(rt, publisher, sessions, alloc, name, names.as_slice())
         }
-        Event::Savepoint(name) => savepoint(publisher, sessions, name),
-        Event::Rollback(name, depth) => rollback(publisher, sessions, name, *depth),
+        Event::Savepoint(name) => savepoint(rt, publisher, sessions, name),
+        Event::Rollback(name, depth) => rollback(rt, publisher, sessions, name, *depth),
         Event::Release(name, depth) => release(publisher, sessions, name, *depth),
-        Event::Commit(name, time) => commit(publisher, sessions, name, *time),
-        Event::Abort(name) => abort(publisher, sessions, name),
+        Event::Commit(name, time) => commit(rt, publisher, sessions, name, *time),
+        Event::Abort(name) => abort(rt, publisher, sessions, name),
         Event::Start(_, _, _, _)
         | Event::Read(_, _, _)
         | Event::Keepalive(_, _)
@@ -78,8 +82,8 @@ pub(crate) fn is_known(sessions: &[Session], name: &Text) -> bool
 }
 
 /// Room for the session is made before the transaction begins.
-fn begin(
-    publisher: &mut Publisher,
+fn begin<L: LogName>(
+    publisher: &mut Publisher<L>,
     sessions: &mut Vec<Session>,
     alloc: Global,
     name: &Text,
@@ -105,8 +109,9 @@ fn begin(
     }
 }
 
-fn insert(
-    publisher: &mut Publisher,
+fn insert<L: LogName, R: Wait>(
+    rt: &R,
+    publisher: &mut Publisher<L>,
     sessions: &mut Vec<Session>,
     alloc: Global,
     name: &Text,
@@ -119,11 +124,12 @@ fn insert(
     ensures grows { Grows publisher.old.log publisher.new.log }
 {
     let place = known_place(sessions.as_slice(), name)?;
-    Ok(sessions[place].insert(publisher, alloc, table, row)?)
+    Ok(sessions[place].insert(rt, publisher, alloc, table, row)?)
 }
 
-fn update(
-    publisher: &mut Publisher,
+fn update<L: LogName, R: Wait>(
+    rt: &R,
+    publisher: &mut Publisher<L>,
     sessions: &mut Vec<Session>,
     alloc: Global,
     name: &Text,
@@ -137,11 +143,12 @@ fn update(
     ensures grows { Grows publisher.old.log publisher.new.log }
 {
     let place = known_place(sessions.as_slice(), name)?;
-    Ok(sessions[place].update(publisher, alloc, table, key, row)?)
+    Ok(sessions[place].update(rt, publisher, alloc, table, key, row)?)
 }
 
-fn delete(
-    publisher: &mut Publisher,
+fn delete<L: LogName, R: Wait>(
+    rt: &R,
+    publisher: &mut Publisher<L>,
     sessions: &mut Vec<Session>,
     alloc: Global,
     name: &Text,
@@ -154,11 +161,12 @@ fn delete(
     ensures grows { Grows publisher.old.log publisher.new.log }
 {
     let place = known_place(sessions.as_slice(), name)?;
-    Ok(sessions[place].delete(publisher, alloc, table, key)?)
+    Ok(sessions[place].delete(rt, publisher, alloc, table, key)?)
 }
 
-fn truncate(
-    publisher: &mut Publisher,
+fn truncate<L: LogName, R: Wait>(
+    rt: &R,
+    publisher: &mut Publisher<L>,
     sessions: &mut Vec<Session>,
     alloc: Global,
     name: &Text,
@@ -170,11 +178,12 @@ fn truncate(
     ensures grows { Grows publisher.old.log publisher.new.log }
 {
     let place = known_place(sessions.as_slice(), name)?;
-    Ok(sessions[place].truncate(publisher, alloc, names)?)
+    Ok(sessions[place].truncate(rt, publisher, alloc, names)?)
 }
 
-fn savepoint(
-    publisher: &mut Publisher,
+fn savepoint<L: LogName, R: Wait>(
+    rt: &R,
+    publisher: &mut Publisher<L>,
     sessions: &mut Vec<Session>,
     name: &Text,
 ) -> Result<Answer, WorldFault>
@@ -184,11 +193,12 @@ fn savepoint(
     ensures grows { Grows publisher.old.log publisher.new.log }
 {
     let place = known_place(sessions.as_slice(), name)?;
-    Ok(sessions[place].savepoint(publisher))
+    Ok(sessions[place].savepoint(rt, publisher))
 }
 
-fn rollback(
-    publisher: &mut Publisher,
+fn rollback<L: LogName, R: Wait>(
+    rt: &R,
+    publisher: &mut Publisher<L>,
     sessions: &mut Vec<Session>,
     name: &Text,
     depth: u32,
@@ -199,11 +209,11 @@ fn rollback(
     ensures grows { Grows publisher.old.log publisher.new.log }
 {
     let place = known_place(sessions.as_slice(), name)?;
-    Ok(sessions[place].rollback_to(publisher, depth))
+    Ok(sessions[place].rollback_to(rt, publisher, depth))
 }
 
-fn release(
-    publisher: &mut Publisher,
+fn release<L: LogName>(
+    publisher: &mut Publisher<L>,
     sessions: &mut Vec<Session>,
     name: &Text,
     depth: u32,
@@ -218,8 +228,9 @@ fn release(
 }
 
 /// A refused transaction goes back to its place.
-fn commit(
-    publisher: &mut Publisher,
+fn commit<L: LogName, R: Wait>(
+    rt: &R,
+    publisher: &mut Publisher<L>,
     sessions: &mut Vec<Session>,
     name: &Text,
     time: i64,
@@ -230,7 +241,7 @@ fn commit(
     ensures grows { Grows publisher.old.log publisher.new.log }
 {
     let place = known_place(sessions.as_slice(), name)?;
-    match sessions.remove(place).commit(publisher, time) {
+    match sessions.remove(place).commit(rt, publisher, time) {
         Ok(()) => return Ok(Answer::Done),
         Err((session, fault)) => {
             match sessions.insert(place, session) {
@@ -241,8 +252,9 @@ fn commit(
     }
 }
 
-fn abort(
-    publisher: &mut Publisher,
+fn abort<L: LogName, R: Wait>(
+    rt: &R,
+    publisher: &mut Publisher<L>,
     sessions: &mut Vec<Session>,
     name: &Text,
 ) -> Result<Answer, WorldFault>
@@ -252,7 +264,7 @@ fn abort(
     ensures grows { Grows publisher.old.log publisher.new.log }
 {
     let place = known_place(sessions.as_slice(), name)?;
-    match sessions.remove(place).abort(publisher) {
+    match sessions.remove(place).abort(rt, publisher) {
         Ok(()) => return Ok(Answer::Done),
         Err((session, fault)) => {
             match sessions.insert(place, session) {

@@ -7,7 +7,7 @@ ghost use Rattle.world.specs.Config.{Names, ReadsSetting, named_by, setting_in};
 use crate::config_fault::ConfigFault;
 use crate::server::{Server, server_of};
 use publication::Publications;
-use std::alloc::Global;
+use std::alloc::{AllocError, Global};
 use std::marker::Model;
 use tables::{Catalog, read_document};
 use toml::Value;
@@ -33,6 +33,19 @@ impl Model for Config {
     ghost view = { λ c. record { tables = c.catalog; publications = c.publications; server = c.server } };
 
     ghost invariant = { λ c. IsServer c.server };
+}
+
+/// Why the text is no configuration, in lines for whoever wrote it. A fault of publications is told with their names, and a filter
+/// that is none with a mark under the byte at fault.
+pub fn explained(alloc: Global, text: &str, fault: &ConfigFault) -> Result<String, AllocError> {
+    if let ConfigFault::Publications(fault) = fault {
+        if let Ok(document) = read_document(alloc, text) {
+            if let Ok(catalog) = Catalog::of_document(alloc, &document) {
+                return publication::explained(alloc, &document, &catalog, *fault);
+            }
+        }
+    }
+    fault.to_string(alloc)
 }
 
 impl Config {

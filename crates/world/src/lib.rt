@@ -19,7 +19,7 @@ mod start;
 mod subscriber;
 mod world;
 
-pub use config::Config;
+pub use config::{Config, explained};
 pub use config_fault::{ConfigFault, ServerMisfit};
 pub use schedule::{Answer, BadEvent, Event, LineFault, Literal, Schedule, SlotFault, WorldFault};
 pub use server::{MAX_CHUNKS, Server};

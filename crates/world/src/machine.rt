@@ -1,7 +1,8 @@
 //! The publisher with its sessions and the starts of its senders.
 
-ghost use Rattle.std.specs.Prelude.{◌≡◌, ◌↔◌, ◌++◌, ◌∷◌, [], map, is_some, true, false, IfErr, IfOk, IsSome, IsNone, OnErr, OnOk, None};
+ghost use Rattle.std.specs.Prelude.{◌≡◌, ◌≤◌, ◌↔◌, ◌++◌, ◌∷◌, [], map, is_some, true, false, IfErr, IfOk, IsSome, IsNone, OnErr, OnOk, None};
 ghost use Rattle.std.specs.List.{AllByRecursion};
+ghost use Rattle.txlog.specs.Publishing.{new_publisher};
 ghost use Rattle.world.specs.State.{new_subscriber, new_world, open_start, with_one_for, xid_of};
 ghost use Rattle.world.specs.ConnectionLines.{ActsAt, IsStart};
 ghost use Rattle.world.specs.Delivering.{Delivers};
@@ -18,38 +19,33 @@ use crate::subscriber::{Subscriber, place_of, reconnect, subscribe};
 use frames::Text;
 use publication::Publications;
 use schedule::{Answer, Event, SlotFault, WorldFault};
+use shared_log::LogName;
 use std::alloc::{AllocError, Global};
-use txlog::Publisher;
+use std::sync::Wait;
+use tables::Catalog;
+use txlog::{MAX_RECORDS, Opened, Publisher, SessionFault};
 
 /// What a start names instead of a slot.
 const NO_SLOT: &str = "-";
 
 /// A publisher, its sessions by name, every start of a sender, where the open ones stand, in order, and the subscribers.
-pub(crate) struct Machine {
+pub(crate) struct Machine<L: LogName> {
     pub(crate) publications: Publications,
-    pub(crate) publisher: Publisher,
+    pub(crate) publisher: Publisher<L>,
     pub(crate) sessions: Vec<Session>,
     pub(crate) starts: Vec<Start>,
     pub(crate) opened: Vec<usize>,
     pub(crate) subscribers: Vec<Subscriber>,
 }
 
-impl Drop for Machine {
-    fn drop(self) {
-        let Machine {
-            publications: _,
-            publisher,
-            sessions,
-            starts: _,
-            opened: _,
-            subscribers: _,
-        } = self;
-        leave_all(&publisher, sessions);
-    }
-}
-
-impl Machine {
-    pub(crate) fn new(alloc: Global, config: Config) -> Result<Self, WorldFault>
+impl<L: LogName> Machine<L> {
+    pub(crate) fn new<R: Wait>(
+        rt: &R,
+        alloc: Global,
+        history: shared_log::Opened,
+        config: Config,
+    ) -> Result<Self, WorldFault>
+        requires name { history.seen.book ≡ L.book }
         ensures start { IfOk result (λ m. shown m ≡ new_world config) }
         ensures err { IfErr result (λ e. e ≡ WorldFault.Memory) }
         ensures machine { IfOk result IsMachine }
@@ -59,7 +55,7 @@ impl Machine {
             publications,
             server,
         } = config;
-        match Publisher::new(alloc, catalog, server.records) {
+        match publisher_of(rt, alloc, history, catalog, server.records) {
             Ok(publisher) => {
                 return Ok(Machine {
                     publications,
@@ -72,6 +68,20 @@ impl Machine {
             }
             Err(_) => return Err(WorldFault::Memory),
         }
+    }
+
+    /// Leaves every transaction as it is, and ends the log.
+    pub(crate) fn close<R: Wait>(self, rt: &R) {
+        let Machine {
+            publications: _,
+            publisher,
+            sessions,
+            starts: _,
+            opened: _,
+            subscribers: _,
+        } = self;
+        leave_all(&publisher, sessions);
+        publisher.close(rt);
     }
 
     /// Whether the event can't happen now, since its name is unknown or wrongly repeated.
@@ -100,7 +110,7 @@ impl Machine {
     }
 
     /// Does one line. A fault is that of a line that doesn't happen at all, and changes nothing.
-    pub(crate) fn step(&mut self, event: &Event) -> Result<Answer, WorldFault>
+    pub(crate) fn step<R: Wait>(&mut self, rt: &R, event: &Event) -> Result<Answer, WorldFault>
         requires machine { IsMachine self.old }
         ensures step { IfOk result (λ a. IsStep (shown self.old) event.now a (shown self.new)) }
         ensures bad { result ≡ Err WorldFault.BadEvent → is_bad event.now (shown self.old) ≡ true }
@@ -117,7 +127,7 @@ impl Machine {
             Event::Drain(name, max) => self.act(alloc, name, Action::Drain(*max)),
             Event::Deliver(name, max) => self.deliver(name, *max),
             Event::Cut(name) => self.act(alloc, name, Action::Cut),
-            _ => call(&mut self.publisher, &mut self.sessions, alloc, event),
+            _ => call(rt, &mut self.publisher, &mut self.sessions, alloc, event),
         }
     }
 
@@ -236,11 +246,29 @@ impl Machine {
     }
 }
 
-fn act_at(
+/// A publisher for this many records. Its log is read by `tail`, so its one reader goes.
+fn publisher_of<L: LogName, R: Wait>(
+    rt: &R,
+    alloc: Global,
+    history: shared_log::Opened,
+    catalog: Catalog,
+    records: usize,
+) -> Result<Publisher<L>, SessionFault>
+    requires name { history.seen.book ≡ L.book }
+    requires some { 1 ≤ records }
+    requires few { records ≤ MAX_RECORDS }
+    ensures ok { IfOk result (λ p. p ≡ new_publisher catalog records) }
+{
+    let opened = Opened::over(alloc, history, catalog, records, 1)?;
+    let (publisher, _) = Publisher::open(rt, opened)?;
+    Ok(publisher)
+}
+
+fn act_at<L: LogName>(
     starts: &mut Vec<Start>,
     place: usize,
     alloc: Global,
-    publisher: &Publisher,
+    publisher: &Publisher<L>,
     action: Action,
 ) -> Result<Answer, WorldFault>
     requires opened { IsOpenAt place starts.old.items }

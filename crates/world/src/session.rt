@@ -9,7 +9,9 @@ ghost use Rattle.world.specs.Machine.{Called, Grows, named_tx, place_from};
 use crate::rows::{key_of, row_of};
 use frames::{Items, Text};
 use schedule::{Answer, Literal};
+use shared_log::LogName;
 use std::alloc::{AllocError, Global};
+use std::sync::Wait;
 use tables::Catalog;
 use txlog::{Publisher, SessionFault, Tx};
 
@@ -22,9 +24,10 @@ pub(crate) struct Session {
 
 impl Session {
     /// Inserts a row. A table that is not known has no columns to read the row by.
-    pub(crate) fn insert(
+    pub(crate) fn insert<L: LogName, R: Wait>(
         &mut self,
-        publisher: &mut Publisher,
+        rt: &R,
+        publisher: &mut Publisher<L>,
         alloc: Global,
         table: &Text,
         row: &[Literal],
@@ -39,16 +42,17 @@ impl Session {
         };
         let oid = table.oid;
         let row = row_of(alloc, table.columns.as_slice(), row)?;
-        match publisher.insert(&mut self.tx, oid, row) {
+        match publisher.insert(rt, &mut self.tx, oid, row) {
             Ok(()) => return Ok(Answer::Done),
             Err(fault) => return Ok(Answer::Session(fault)),
         }
     }
 
     /// Puts a row in the place of the one with this key.
-    pub(crate) fn update(
+    pub(crate) fn update<L: LogName, R: Wait>(
         &mut self,
-        publisher: &mut Publisher,
+        rt: &R,
+        publisher: &mut Publisher<L>,
         alloc: Global,
         table: &Text,
         key: &[Literal],
@@ -65,15 +69,16 @@ impl Session {
         let oid = table.oid;
         let key = key_of(alloc, table.columns.as_slice(), key)?;
         let row = row_of(alloc, table.columns.as_slice(), row)?;
-        match publisher.update(&mut self.tx, oid, &key, row) {
+        match publisher.update(rt, &mut self.tx, oid, &key, row) {
             Ok(()) => return Ok(Answer::Done),
             Err(fault) => return Ok(Answer::Session(fault)),
         }
     }
 
-    pub(crate) fn delete(
+    pub(crate) fn delete<L: LogName, R: Wait>(
         &mut self,
-        publisher: &mut Publisher,
+        rt: &R,
+        publisher: &mut Publisher<L>,
         alloc: Global,
         table: &Text,
         key: &[Literal],
@@ -88,15 +93,16 @@ impl Session {
         };
         let oid = table.oid;
         let key = key_of(alloc, table.columns.as_slice(), key)?;
-        match publisher.delete(&mut self.tx, oid, &key) {
+        match publisher.delete(rt, &mut self.tx, oid, &key) {
             Ok(()) => return Ok(Answer::Done),
             Err(fault) => return Ok(Answer::Session(fault)),
         }
     }
 
-    pub(crate) fn truncate(
+    pub(crate) fn truncate<L: LogName, R: Wait>(
         &mut self,
-        publisher: &mut Publisher,
+        rt: &R,
+        publisher: &mut Publisher<L>,
         alloc: Global,
         names: &[Text],
     ) -> Result<Answer, AllocError>
@@ -108,35 +114,44 @@ impl Session {
         let Some(oids) = oids_of(alloc, publisher.catalog(), names)? else {
             return Ok(Answer::Session(SessionFault::UnknownTable));
         };
-        match publisher.truncate(&mut self.tx, oids.as_slice()) {
+        match publisher.truncate(rt, &mut self.tx, oids.as_slice()) {
             Ok(()) => return Ok(Answer::Done),
             Err(fault) => return Ok(Answer::Session(fault)),
         }
     }
 
-    pub(crate) fn savepoint(&mut self, publisher: &mut Publisher) -> Answer
+    pub(crate) fn savepoint<L: LogName, R: Wait>(
+        &mut self,
+        rt: &R,
+        publisher: &mut Publisher<L>,
+    ) -> Answer
         ensures called { Called (savepoint_refusal self.old.tx publisher.old) (saved self.old.tx publisher.old) publisher.old result publisher.new }
         ensures same { self.new ≡ self.old }
         ensures grows { Grows publisher.old.log publisher.new.log }
     {
-        match publisher.savepoint(&mut self.tx) {
+        match publisher.savepoint(rt, &mut self.tx) {
             Ok(_) => return Answer::Done,
             Err(fault) => return Answer::Session(fault),
         }
     }
 
-    pub(crate) fn rollback_to(&mut self, publisher: &mut Publisher, depth: u32) -> Answer
+    pub(crate) fn rollback_to<L: LogName, R: Wait>(
+        &mut self,
+        rt: &R,
+        publisher: &mut Publisher<L>,
+        depth: u32,
+    ) -> Answer
         ensures called { Called (rollback_refusal self.old.tx depth publisher.old) (rolled_back self.old.tx depth publisher.old) publisher.old result publisher.new }
         ensures same { self.new ≡ self.old }
         ensures grows { Grows publisher.old.log publisher.new.log }
     {
-        match publisher.rollback_to(&mut self.tx, depth) {
+        match publisher.rollback_to(rt, &mut self.tx, depth) {
             Ok(()) => return Answer::Done,
             Err(fault) => return Answer::Session(fault),
         }
     }
 
-    pub(crate) fn release(&mut self, publisher: &mut Publisher, depth: u32) -> Answer
+    pub(crate) fn release<L: LogName>(&mut self, publisher: &mut Publisher<L>, depth: u32) -> Answer
         ensures called { Called (release_refusal self.old.tx depth publisher.old) (released self.old.tx depth publisher.old) publisher.old result publisher.new }
         ensures same { self.new ≡ self.old }
         ensures grows { Grows publisher.old.log publisher.new.log }
@@ -148,9 +163,10 @@ impl Session {
     }
 
     /// A refused transaction is given back.
-    pub(crate) fn commit(
+    pub(crate) fn commit<L: LogName, R: Wait>(
         self,
-        publisher: &mut Publisher,
+        rt: &R,
+        publisher: &mut Publisher<L>,
         time: i64,
     ) -> Result<(), (Session, SessionFault)>
         ensures ok { OnOk result ((end_refusal self.tx publisher.old ≡ None) × (publisher.new ≡ after_commit self.tx time publisher.old)) }
@@ -158,20 +174,24 @@ impl Session {
         ensures grows { Grows publisher.old.log publisher.new.log }
     {
         let Session { name, tx } = self;
-        match publisher.commit(tx, time) {
+        match publisher.commit(rt, tx, time) {
             Ok(_) => return Ok(()),
             Err((tx, fault)) => return Err((Session { name, tx }, fault)),
         }
     }
 
     /// A refused transaction is given back.
-    pub(crate) fn abort(self, publisher: &mut Publisher) -> Result<(), (Session, SessionFault)>
+    pub(crate) fn abort<L: LogName, R: Wait>(
+        self,
+        rt: &R,
+        publisher: &mut Publisher<L>,
+    ) -> Result<(), (Session, SessionFault)>
         ensures ok { OnOk result ((end_refusal self.tx publisher.old ≡ None) × (publisher.new ≡ after_abort self.tx publisher.old)) }
         ensures err { IfErr result (λ back. (back.0 ≡ self) × IsRefusalOrMemory (end_refusal self.tx publisher.old) back.1 × (publisher.new ≡ publisher.old)) }
         ensures grows { Grows publisher.old.log publisher.new.log }
     {
         let Session { name, tx } = self;
-        match publisher.abort(tx) {
+        match publisher.abort(rt, tx) {
             Ok(()) => return Ok(()),
             Err((tx, fault)) => return Err((Session { name, tx }, fault)),
         }
@@ -210,7 +230,7 @@ pub(crate) fn place_of(sessions: &[Session], name: &Text) -> Option<usize>
 }
 
 /// Leaves every transaction as it is.
-pub(crate) fn leave_all(publisher: &Publisher, mut sessions: Vec<Session>) {
+pub(crate) fn leave_all<L: LogName>(publisher: &Publisher<L>, mut sessions: Vec<Session>) {
     while let Some(session) = sessions.pop() {
         let Session { name: _, tx } = session;
         publisher.leave(tx);

@@ -9,9 +9,12 @@ use crate::world::{RunFault, World};
 use schedule::{
     BadEvent, LineFault, Schedule, WorldFault, write_refusals, write_stream, write_subscriber,
 };
+use shared_log::{LogName, Opened};
 use std::alloc::Global;
 use std::io;
 use std::io::{Read, Write};
+use std::marker::Brand;
+use std::sync::Wait;
 use thiserror::Error;
 
 /// Why a schedule was not run and reported.
@@ -47,18 +50,38 @@ impl SimFault {
 
 /// Reads the whole schedule, runs its events and writes the report: a line for each refused event, then one for each start
 /// of a sender. Where that fails, nothing was written, unless the writing itself failed.
-pub fn simulate<R: Read, W: Write>(
+pub fn simulate<R: Wait, I: Read, W: Write>(
+    rt: &R,
     alloc: Global,
     config: Config,
-    input: &mut R,
+    input: &mut I,
     output: &mut W,
 ) -> Result<(), SimFault>
     ensures silent { (fault : SimFault) → result ≡ Err fault → is_writing fault ≡ false → output.new ≡ output.old }
 {
     let text = read_schedule(alloc, input)?;
     let schedule = Schedule::parse(alloc, text.as_str()).map_err(SimFault::Line)?;
-    match World::run(alloc, config, schedule.events()) {
-        Ok(world) => write_report(alloc, output, &schedule, &world).map_err(SimFault::Write),
+    report_run::<Brand, R, W>(rt, alloc, Opened::new(), config, schedule, output)
+}
+
+/// Runs the events over a log that the call names, and writes the report.
+fn report_run<L: LogName, R: Wait, W: Write>(
+    rt: &R,
+    alloc: Global,
+    history: Opened,
+    config: Config,
+    schedule: Schedule,
+    output: &mut W,
+) -> Result<(), SimFault>
+    requires name { history.seen.book ≡ L.book }
+    ensures silent { (fault : SimFault) → result ≡ Err fault → is_writing fault ≡ false → output.new ≡ output.old }
+{
+    match World::<L>::run(rt, alloc, history, config, schedule.events()) {
+        Ok(world) => {
+            let written = write_report(alloc, output, &schedule, &world);
+            world.close(rt);
+            written.map_err(SimFault::Write)
+        }
         Err(fault) => Err(stopped(schedule, fault)),
     }
 }
@@ -79,11 +102,11 @@ fn read_schedule<R: Read>(alloc: Global, input: &mut R) -> Result<String, SimFau
     String::from_utf8(bytes).map_err(|_| SimFault::NotUtf8)
 }
 
-fn write_report<W: Write>(
+fn write_report<L: LogName, W: Write>(
     alloc: Global,
     output: &mut W,
     schedule: &Schedule,
-    world: &World,
+    world: &World<L>,
 ) -> io::Result<()> {
     write_refusals(output, schedule.lines(), world.answers())?;
     for start in world.starts() {

@@ -12,6 +12,7 @@ use frames::Text;
 use publication::Selection;
 use schedule::{Answer, WorldFault};
 use sender::{Ended, Sender};
+use shared_log::LogName;
 use std::alloc::Global;
 use std::mem;
 use txlog::Publisher;
@@ -36,9 +37,9 @@ pub(crate) enum Walsender {
 
 impl Start {
     /// A sender that reads the log from its first record on.
-    pub(crate) fn new(
+    pub(crate) fn new<L: LogName>(
         alloc: Global,
-        publisher: &Publisher,
+        publisher: &Publisher<L>,
         connection: Text,
         selection: Selection,
         position: u64,
@@ -86,10 +87,10 @@ impl Start {
     }
 
     /// Does what a line asks of the sender. It is open.
-    pub(crate) fn act(
+    pub(crate) fn act<L: LogName>(
         &mut self,
         alloc: Global,
-        publisher: &Publisher,
+        publisher: &Publisher<L>,
         action: Action,
     ) -> Result<Answer, WorldFault>
         requires served { IsServed publisher.now.log self.old }
@@ -107,7 +108,12 @@ impl Start {
         }
     }
 
-    fn read(&mut self, publisher: &Publisher, max: u32, clock: i64) -> Result<Answer, WorldFault>
+    fn read<L: LogName>(
+        &mut self,
+        publisher: &Publisher<L>,
+        max: u32,
+        clock: i64,
+    ) -> Result<Answer, WorldFault>
         requires served { IsServed publisher.now.log self.old }
         requires opened { is_open self.old.walsender ≡ true }
         ensures acts { IfOk result (λ a. Acts publisher.now.log (Action.Read max clock) (start_state self.old) a (start_state self.new)) }
@@ -129,7 +135,7 @@ impl Start {
         }
     }
 
-    fn keepalive(&mut self, publisher: &Publisher, clock: i64) -> Answer
+    fn keepalive<L: LogName>(&mut self, publisher: &Publisher<L>, clock: i64) -> Answer
         requires served { IsServed publisher.now.log self.old }
         requires opened { is_open self.old.walsender ≡ true }
         ensures acts { Acts publisher.now.log (Action.Keepalive clock) (start_state self.old) result (start_state self.new) }
@@ -144,7 +150,11 @@ impl Start {
         }
     }
 
-    fn drain(&mut self, publisher: &Publisher, max: u32) -> Result<Answer, WorldFault>
+    fn drain<L: LogName>(
+        &mut self,
+        publisher: &Publisher<L>,
+        max: u32,
+    ) -> Result<Answer, WorldFault>
         requires served { IsServed publisher.now.log self.old }
         requires opened { is_open self.old.walsender ≡ true }
         ensures acts { IfOk result (λ a. Acts publisher.now.log (Action.Drain max) (start_state self.old) a (start_state self.new)) }
@@ -160,7 +170,7 @@ impl Start {
     }
 
     /// What the sender still held is lost.
-    fn cut(&mut self, alloc: Global, publisher: &Publisher) -> Answer
+    fn cut<L: LogName>(&mut self, alloc: Global, publisher: &Publisher<L>) -> Answer
         requires served { IsServed publisher.now.log self.old }
         requires opened { is_open self.old.walsender ≡ true }
         ensures acts { Acts publisher.now.log Action.Cut (start_state self.old) result (start_state self.new) }

@@ -13,17 +13,18 @@ use crate::machine::Machine;
 use crate::start::Start;
 use crate::subscriber::Subscriber;
 use schedule::{Answer, Event, WorldFault};
+use shared_log::{LogName, Opened};
 use std::alloc::Global;
 use std::marker::Model;
+use std::sync::Wait;
 use thiserror::Error;
 
 /// The publisher, its sessions and connections, and what the events so far answered.
 ///
-/// `new` makes one and `step` does an event in it; `run` is both for a list of events. An event that happens answers
+/// `new` makes one and `step` does an event in it; `run` is both for a list of events. It isn't `Drop`: `close` ends it. An event that happens answers
 /// `Done`, or the refusal of the part that it asked. One that doesn't happen is a `WorldFault`, and changes nothing.
-#[derive(Drop)]
-pub struct World {
-    machine: Machine,
+pub struct World<L: LogName> {
+    machine: Machine<L>,
     answers: Vec<Answer>,
 }
 
@@ -38,7 +39,7 @@ pub enum RunFault {
     Step(usize, WorldFault),
 }
 
-impl Model for World {
+impl<L: LogName> Model for World<L> {
     ghost use Rattle.std.specs.Coded.{codes};
     ghost use Rattle.publication.specs.Publications.{condition_code};
     ghost use Rattle.world.specs.State.{WorldView};
@@ -53,21 +54,27 @@ impl Model for World {
     ghost invariant = { λ w. IsMachine w.machine };
 }
 
-impl World {
+impl<L: LogName> World<L> {
     /// A world with an empty log. V2 where there was no memory for it.
-    pub fn new(alloc: Global, config: Config) -> Result<Self, WorldFault>
+    pub fn new<R: Wait>(
+        rt: &R,
+        alloc: Global,
+        history: Opened,
+        config: Config,
+    ) -> Result<Self, WorldFault>
+        requires name { history.seen.book ≡ L.book }
         ensures start { IfOk result (λ w. w ≡ record { state = new_world config; answers = [] }) }
         ensures err { IfErr result (λ e. e ≡ WorldFault.Memory) }
     {
         Ok(World {
-            machine: Machine::new(alloc, config)?,
+            machine: Machine::new(rt, alloc, history, config)?,
             answers: Vec::new(alloc),
         })
     }
 
     /// Does one event, keeps what it answered, and answers it. V1 exactly where its name is unknown or wrongly repeated, and
     /// V2 for memory; both change nothing.
-    pub fn step(&mut self, event: &Event) -> Result<Answer, WorldFault>
+    pub fn step<R: Wait>(&mut self, rt: &R, event: &Event) -> Result<Answer, WorldFault>
         ensures step { IfOk result (λ a. IsStep self.old.state event.now a self.new.state) }
         ensures kept { IfOk result (λ a. self.new.answers ≡ self.old.answers ++ a ∷ []) }
         ensures bad { (result ≡ Err WorldFault.BadEvent) ↔ (is_bad event.now self.old.state ≡ true) }
@@ -78,24 +85,41 @@ impl World {
             return Err(WorldFault::BadEvent);
         }
         self.answers.reserve(1)?;
-        let answer = self.machine.step(event)?;
+        let answer = self.machine.step(rt, event)?;
         self.answers.push(answer).unwrap();
         Ok(answer)
     }
 
     /// Does the events one after the other, up to the first that doesn't happen.
-    pub fn run(alloc: Global, config: Config, events: &[Event]) -> Result<Self, RunFault>
+    pub fn run<R: Wait>(
+        rt: &R,
+        alloc: Global,
+        history: Opened,
+        config: Config,
+        events: &[Event],
+    ) -> Result<Self, RunFault>
+        requires name { history.seen.book ≡ L.book }
         ensures run { IfOk result (λ w. IsRun (new_world config) events.now w.answers w.state) }
         ensures headline { IfOk result (λ w. Headline w.state) }
         ensures stops { (done : ℕ) (fault : Fault) → result ≡ Err (RunFault.Step done fault) → StopsAt (new_world config) events.now done fault }
     {
-        let mut world = World::new(alloc, config).map_err(|_| RunFault::New)?;
+        let mut world = World::new(rt, alloc, history, config).map_err(|_| RunFault::New)?;
         for (done, event) in events.iter().enumerate() {
-            if let Err(fault) = world.step(event) {
+            if let Err(fault) = world.step(rt, event) {
+                world.close(rt);
                 return Err(RunFault::Step(done, fault));
             }
         }
         Ok(world)
+    }
+
+    /// Ends the log. Transactions in progress are left as they are.
+    pub fn close<R: Wait>(self, rt: &R) {
+        let World {
+            machine,
+            answers: _,
+        } = self;
+        machine.close(rt);
     }
 
     /// What each event answered, in order.

@@ -4,7 +4,7 @@ use Rattle.world.proofs.Asking.{asked}
 use Rattle.world.proofs.calls.insert.Goals as goal
 
 pub returns-clause-calls : goal.returns-clause-calls
-returns-clause-calls c =
+returns-clause-calls g c =
     let table = table_named c.args.table.now c.args.publisher.now.tables in
     asked c.args.name.now c.in_ok-place.place c.args.sessions.now.items c.args.publisher.now c.insert.new.publisher c.index_mut.result.now c.insert.new.self c.in_ok-insert.field-0
     (λ n. insert_refused table n c.args.row.now c.args.publisher.now) (λ n. inserted_in table n c.args.row.now c.args.publisher.now)

@@ -2,4 +2,4 @@ use Rattle.std.proofs.Common.{vec_len}
 use Rattle.world.proofs.session.leave_all.Given as goal
 
 abbrev pub decreases-loop-session : goal.decreases-loop-session
-decreases-loop-session l = vec_len l.sessions
+decreases-loop-session g l = vec_len l.sessions

@@ -11,17 +11,17 @@ use Rattle.world.proofs.Machines.{found_on, found_less, kept_subscribers, no_cut
 use Rattle.world.proofs.machine.Machine.act.Goals as goal
 
 pub returns-in_default-clause-bad : goal.returns-in_default-clause-bad
-returns-in_default-clause-bad c = λ same.
+returns-in_default-clause-bad g c = λ same.
     none_open c.args.name.now _ c.args.self.now.opened.items c.requires.machine.found (rw (c.as_slice.ensures.value, c.as_slice-2.ensures.value) at (sym c.place_among-found.ensures ∙ c.in_default.is))
 
 pub act_at-requires-clause-opened : goal.act_at-requires-clause-opened
-act_at-requires-clause-opened c =
+act_at-requires-clause-opened g c =
     let at = open_at c.args.name.now c.args.self.now.starts.items c.args.self.now.opened.items c.in-Some.place c.requires.machine.found
     (rw (c.as_slice.ensures.value, c.as_slice-2.ensures.value) at (sym c.place_among-found.ensures ∙ c.in-Some.is)) in
     record { start = at.start; there = at.there; opened = at.opened }
 
 pub returns-in-Cut-clause-acts : goal.returns-in-Cut-clause-acts
-returns-in-Cut-clause-acts c =
+returns-in-Cut-clause-acts g c =
     let at = open_at c.args.name.now c.args.self.now.starts.items c.args.self.now.opened.items c.in-Some.place c.requires.machine.found
     (rw (c.as_slice.ensures.value, c.as_slice-2.ensures.value) at (sym c.place_among-found.ensures ∙ c.in-Some.is)) in
     let did = acted_at c.args.name.now c.in-Some.place c.args.action c.args.self.now c.act_at.new.starts.items c.in_ok-answer.answer at c.in_ok-answer.ensures.acts in
@@ -30,7 +30,7 @@ returns-in-Cut-clause-acts c =
     subst (λ (l : List SubscriberState). ActsAt c.args.name.now c.args.action (shown c.args.self.now) c.in_ok-answer.answer (record (shown c.args.self.now) { starts = map start_state c.act_at.new.starts.items; subscribers = l })) subscribers did
 
 pub returns-in-Cut-clause-machine : goal.returns-in-Cut-clause-machine
-returns-in-Cut-clause-machine c =
+returns-in-Cut-clause-machine g c =
     let log = c.args.self.now.publisher.log in
     let at = open_at c.args.name.now c.args.self.now.starts.items c.args.self.now.opened.items c.in-Some.place c.requires.machine.found
     (rw (c.as_slice.ensures.value, c.as_slice-2.ensures.value) at (sym c.place_among-found.ensures ∙ c.in-Some.is)) in
@@ -47,7 +47,7 @@ returns-in-Cut-clause-machine c =
     }
 
 pub returns-in_default-action : goal.returns-in_default-action
-returns-in_default-action c =
+returns-in_default-action g c =
     let log = c.args.self.now.publisher.log in
     let at = open_at c.args.name.now c.args.self.now.starts.items c.args.self.now.opened.items c.in-Some.place c.requires.machine.found
     (rw (c.as_slice.ensures.value, c.as_slice-2.ensures.value) at (sym c.place_among-found.ensures ∙ c.in-Some.is)) in

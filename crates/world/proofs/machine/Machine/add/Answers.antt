@@ -10,7 +10,7 @@ use Rattle.world.proofs.Subscribing.{all_joined}
 use Rattle.world.proofs.machine.Machine.add.Goals as goal
 
 pub returns-clause-machine : goal.returns-clause-machine
-returns-clause-machine c =
+returns-clause-machine g c =
     let log = c.args.self.now.publisher.log in
     let cs = c.args.self.now.starts.items in
     let ss = map subscriber_state c.args.self.now.subscribers.items in

@@ -6,24 +6,24 @@ use Rattle.world.proofs.Subscribing.{delivered, has_place, open_subscribed, stil
 use Rattle.world.proofs.machine.Machine.deliver.Goals as goal
 
 pub returns-in_default-clause-bad : goal.returns-in_default-clause-bad
-returns-in_default-clause-bad c = λ same.
+returns-in_default-clause-bad g c = λ same.
     none_open c.args.name.now _ c.args.self.now.opened.items c.requires.machine.found (rw (c.as_slice.ensures.value, c.as_slice-2.ensures.value) at (sym c.place_among-found.ensures ∙ c.in_default.is))
 
 pub unreachable-requires : goal.unreachable-requires
-unreachable-requires c =
+unreachable-requires g c =
     let at = open_at c.args.name.now c.args.self.now.starts.items c.args.self.now.opened.items c.in-Some.place c.requires.machine.found
     (rw (c.as_slice.ensures.value, c.as_slice-2.ensures.value) at (sym c.place_among-found.ensures ∙ c.in-Some.is)) in
     let has = open_subscribed c.args.name.now (map subscriber_state c.args.self.now.subscribers.items) (map start_state c.args.self.now.starts.items) (start_state at.start) c.requires.machine.subscribed at.of in
     has_place c.args.name.now (map subscriber_state c.args.self.now.subscribers.items) has (rw c.as_slice-3.ensures.value at (sym c.place_of.ensures.place ∙ c.in_default-place_of.is))
 
 pub index-start-requires : goal.index-start-requires
-index-start-requires c =
+index-start-requires g c =
     let at = open_at c.args.name.now c.args.self.now.starts.items c.args.self.now.opened.items c.in-Some.place c.requires.machine.found
     (rw (c.as_slice.ensures.value, c.as_slice-2.ensures.value) at (sym c.place_among-found.ensures ∙ c.in-Some.is)) in
     omega (arith, slice_get_within c.args.self.now.starts.items c.in-Some.place at.start at.there, ap length c.as_slice.ensures.value, c.as_slice.ensures.len)
 
 pub returns-clause-delivers : goal.returns-clause-delivers
-returns-clause-delivers c =
+returns-clause-delivers g c =
     let at = open_at c.args.name.now c.args.self.now.starts.items c.args.self.now.opened.items c.in-Some.place c.requires.machine.found
     (rw (c.as_slice.ensures.value, c.as_slice-2.ensures.value) at (sym c.place_among-found.ensures ∙ c.in-Some.is)) in
     let one = subscriber_at c.args.name.now c.args.self.now.subscribers.items c.in-Some-place_of.at (rw c.as_slice-3.ensures.value at (sym c.place_of.ensures.place ∙ c.in-Some-place_of.is)) in
@@ -31,7 +31,7 @@ returns-clause-delivers c =
     at c.index-start.ensures c.produced.ensures one c.index_mut.ensures.value c.take.ensures
 
 pub returns-clause-machine : goal.returns-clause-machine
-returns-clause-machine c =
+returns-clause-machine g c =
     let one = subscriber_at c.args.name.now c.args.self.now.subscribers.items c.in-Some-place_of.at (rw c.as_slice-3.ensures.value at (sym c.place_of.ensures.place ∙ c.in-Some-place_of.is)) in
     record {
       good = c.requires.machine.good;

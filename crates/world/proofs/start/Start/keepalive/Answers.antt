@@ -12,7 +12,7 @@ use Rattle.world.proofs.Sections.{kept_alive, was_running, refused_keepalive}
 use Rattle.world.proofs.start.Start.keepalive.Goals as goal
 
 pub returns-in-Ok-clause-served : goal.returns-in-Ok-clause-served
-returns-in-Ok-clause-served c =
+returns-in-Ok-clause-served g c =
     let log = c.args.publisher.now.log in
     let place = c.args.self.now.place in
     let produced = c.args.self.now.produced.items in
@@ -23,7 +23,7 @@ returns-in-Ok-clause-served c =
     rw told (kept_alive log place c.args.clock produced s serving c.ranges.clock)
 
 pub returns-in-Ok-clause-acts : goal.returns-in-Ok-clause-acts
-returns-in-Ok-clause-acts c =
+returns-in-Ok-clause-acts g c =
     let log = c.args.publisher.now.log in
     let produced = c.args.self.now.produced.items in
     let name = c.args.self.now.connection in
@@ -36,7 +36,7 @@ returns-in-Ok-clause-acts c =
     )
 
 pub returns-in-Err-clause-acts : goal.returns-in-Err-clause-acts
-returns-in-Err-clause-acts c =
+returns-in-Err-clause-acts g c =
     let log = c.args.publisher.now.log in
     let produced = c.args.self.now.produced.items in
     let name = c.args.self.now.connection in

@@ -6,7 +6,7 @@ use Rattle.world.proofs.Sections.{started}
 use Rattle.world.proofs.start.Start.new.Goals as goal
 
 pub returns-clause-served : goal.returns-clause-served
-returns-clause-served c =
+returns-clause-served g c =
     let log = c.args.publisher.now.log in
     let sender = c.in-Ok.sender in
     let P : PublicationSet → Type 0 = λ s. FitTables s in

@@ -13,7 +13,7 @@ use Rattle.world.proofs.Sections.{section_of, was_running, fed_alive, fed_acts, 
 use Rattle.world.proofs.start.Start.read.Goals as goal
 
 pub returns-in-Ok-clause-acts : goal.returns-in-Ok-clause-acts
-returns-in-Ok-clause-acts c =
+returns-in-Ok-clause-acts g c =
     let log = c.args.publisher.now.log in
     let place = c.args.self.now.place in
     let produced = c.args.self.now.produced.items in
@@ -32,7 +32,7 @@ returns-in-Ok-clause-acts c =
     )
 
 pub returns-in-Ok-clause-served : goal.returns-in-Ok-clause-served
-returns-in-Ok-clause-served c =
+returns-in-Ok-clause-served g c =
     let log = c.args.publisher.now.log in
     let place = c.args.self.now.place in
     let produced = c.args.self.now.produced.items in
@@ -50,7 +50,7 @@ returns-in-Ok-clause-served c =
     subst N len (fed_alive c.args.publisher.now.tables log place (take c.args.max (drop place log)) c.args.clock produced s c.feed.new.self part c.ranges.clock serving running fed)
 
 pub returns-in-Err-clause-acts : goal.returns-in-Err-clause-acts
-returns-in-Err-clause-acts c =
+returns-in-Err-clause-acts g c =
     let log = c.args.publisher.now.log in
     let place = c.args.self.now.place in
     let produced = c.args.self.now.produced.items in
@@ -67,7 +67,7 @@ returns-in-Err-clause-acts c =
     (record { memory = clocked; failed = c.feed.ensures.failed; unchanged = c.feed.ensures.unchanged; unread = c.feed.ensures.unread; gap = λ is. (rw section_is at (c.feed.ensures.gap.0 is)).1 }))
 
 pub returns-in-Err-clause-served : goal.returns-in-Err-clause-served
-returns-in-Err-clause-served c =
+returns-in-Err-clause-served g c =
     let log = c.args.publisher.now.log in
     let place = c.args.self.now.place in
     let produced = c.args.self.now.produced.items in

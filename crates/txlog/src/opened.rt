@@ -1,0 +1,64 @@
+//! A publisher before its log has a name.
+
+ghost use Rattle.std.specs.Prelude.{◌≡◌, ◌≤◌, ◌<◌, IfOk};
+ghost use Rattle.txlog.specs.Publishing.{RefusedExactly, new_refusal};
+ghost use Rattle.txlog.specs.declared.limits.TheConstants.{MAX_READERS, MAX_RECORDS};
+
+use crate::fault::SessionFault;
+use crate::limits::{MAX_READERS, MAX_RECORDS};
+use std::alloc::Global;
+use tables::Catalog;
+
+/// What a publisher is opened with: `Publisher::open` names its log, and makes it and the readers.
+#[derive(Drop)]
+pub struct Opened {
+    pub(crate) alloc: Global,
+    pub(crate) catalog: Catalog,
+    pub(crate) capacity: usize,
+    pub(crate) readers: usize,
+    pub history: shared_log::Opened,
+    ghost few: { capacity ≤ MAX_RECORDS },
+    ghost read: { (0 < readers) × (readers ≤ MAX_READERS) },
+}
+
+impl Opened {
+    /// For a log of this many records, and this many readers. S12 unless there are 1 to 32.
+    pub fn new(
+        alloc: Global,
+        catalog: Catalog,
+        records: usize,
+        readers: usize,
+    ) -> Result<Self, SessionFault>
+        requires some { 1 ≤ records }
+        requires few { records ≤ MAX_RECORDS }
+        ensures ok { IfOk result (λ o. (o.catalog ≡ catalog) × (o.capacity ≡ records) × (o.readers ≡ readers)) }
+        ensures refused { RefusedExactly (new_refusal readers) result }
+    {
+        Opened::over(alloc, shared_log::Opened::new(), catalog, records, readers)
+    }
+
+    /// The same over a history that is there, so that whoever made it may name the log.
+    pub fn over(
+        alloc: Global,
+        history: shared_log::Opened,
+        catalog: Catalog,
+        records: usize,
+        readers: usize,
+    ) -> Result<Self, SessionFault>
+        requires some { 1 ≤ records }
+        requires few { records ≤ MAX_RECORDS }
+        ensures ok { IfOk result (λ o. (o.history ≡ history) × (o.catalog ≡ catalog) × (o.capacity ≡ records) × (o.readers ≡ readers)) }
+        ensures refused { RefusedExactly (new_refusal readers) result }
+    {
+        if readers == 0 || readers > MAX_READERS {
+            return Err(SessionFault::NoReader);
+        }
+        Ok(Opened {
+            alloc,
+            catalog,
+            capacity: records,
+            readers,
+            history,
+        })
+    }
+}
