@@ -3,3 +3,4 @@ pub mod Lists
 pub mod Batches
 pub mod Changes
 pub mod Sections
+pub mod Turns

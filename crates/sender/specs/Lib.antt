@@ -1,2 +1,4 @@
 pub mod Published
 pub mod Sending
+pub mod Turning
+pub mod Faults

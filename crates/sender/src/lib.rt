@@ -4,11 +4,17 @@
 mod ended;
 mod fault;
 mod feeding;
+mod limits;
 mod outgoing;
 mod publishing;
 mod sender;
+mod turn_fault;
+mod turning;
 mod word;
 
 pub use ended::Ended;
 pub use fault::SendFault;
+pub use limits::TURN_RECORDS;
 pub use sender::Sender;
+pub use turn_fault::TurnFault;
+pub use turning::turn;

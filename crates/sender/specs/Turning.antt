@@ -1,0 +1,29 @@
+-- A turn: which records it fetches, and what it makes of its sender and its writer.
+use Rattle.std.specs.Prelude.{◌≡◌, ◌++◌, ℕ, ℤ, true, false, List, take, drop}
+use Rattle.wal.specs.declared.record.Record.{Record}
+use Rattle.wal.specs.Log.{follows}
+use Rattle.sender.specs.declared.fault.SendFault.{SendFault}
+use Rattle.sender.specs.declared.fault.SendFault.TheVariants as sends
+use Rattle.sender.specs.declared.limits.TheConstants.{TURN_RECORDS}
+use Rattle.sender.specs.Sending.{SenderState, ReadAll, RanOutOfMemory}
+
+-- the records from the place on, as many as a turn fetches, of what its reader sees
+abbrev pub fetched_from : ℕ → List Record → List Record
+fetched_from place seen = take TURN_RECORDS (drop place seen)
+
+-- The sender read these records, and then gave away these bytes: the front of what it held before, followed by what the
+-- records published.
+pub record ReadAndGave (clock : ℤ) (old new : SenderState) (rs : List Record) (given : List ℕ) : Type 0 where
+  pub running : old.failed ≡ false
+  pub follow : follows old.position rs ≡ true
+  pub fed : SenderState
+  pub read : ReadAll clock old fed rs
+  pub runs_on : fed.failed ≡ false
+  pub parts : fed.held ≡ given ++ new.held
+  pub rest : new ≡ record fed { held = new.held }
+
+-- why the sender refused these records, and how it is then
+abbrev pub IsRefused : ℤ → SenderState → SenderState → List Record → SendFault → Type 0
+IsRefused clock old new rs sends.Memory = (old.failed ≡ false) × RanOutOfMemory clock old new rs
+IsRefused clock old new rs sends.Failed = (old.failed ≡ true) × (new ≡ old)
+IsRefused clock old new rs sends.Gap = (old.failed ≡ false) × (follows old.position rs ≡ false) × (new ≡ old)
