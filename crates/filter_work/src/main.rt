@@ -1,13 +1,17 @@
 //! Work for row filters, so that it can be timed: `filter_work TURNS WORK` makes a thousand rows, and in each turn asks of
-//! each row whether it passes a filter of ten comparisons, or the same test written by hand. `bench/time-filter` runs it.
+//! each row whether it passes a filter of ten comparisons (`filter`) or the same test written by hand (`hand`), or makes the
+//! message of its insert, published by one publication of its table (`one`) or by the last of sixteen (`sixteen`).
+//! `bench/time-filter` runs it.
 #![tactic(auto)]
 
 use anyhow::{Context, Result, bail};
 use frames::{Items, Text};
+use publication::{Projected, Publications, Selection};
 use rowfilter::{Filter, Truth, parse};
 use std::alloc::Global;
 use std::env;
-use tables::{Column, Identity, Kind, Row, Table, Value};
+use std::fmt::Write;
+use tables::{Catalog, Change, Column, Identity, Kind, Row, Table, Value};
 
 const ROWS: i32 = 1000;
 
@@ -26,6 +30,8 @@ fn main(rt: HostRuntime) -> Result<()> {
     let passed = match work.as_str() {
         "filter" => turns_by_filter(alloc, turns, rows.as_slice())?,
         "hand" => turns_by_hand(turns, rows.as_slice()),
+        "one" => turns_by_selection(alloc, turns, 1, rows)?,
+        "sixteen" => turns_by_selection(alloc, turns, 16, rows)?,
         _ => bail!("no work is called {work}"),
     };
     println!(&rt; "{passed} passed")?;
@@ -86,6 +92,59 @@ fn passed_by_filter(filter: &Filter, rows: &[Row]) -> u64 {
         }
     }
     passed
+}
+
+/// A table, and so many publications of it; only the last lets rows pass.
+fn configuration(alloc: Global, publications: u32) -> Result<String> {
+    let mut text = String::from_str(
+        alloc,
+        "[[table]]\noid = 16384\nschema = \"public\"\nname = \"item\"\nidentity = \"full\"\nkey = [\"id\"]\n\
+        columns = [[\"id\", \"int4\"], [\"name\", \"text\"], [\"qty\", \"int8\"]]\n",
+    )?;
+    for number in 1..=publications {
+        let least = if number == publications { 0 } else { 1_000_000 };
+        write!(
+            text,
+            "[[publication]]\nname = \"p{number}\"\ntables = [{{ name = \"public.item\", where = \"qty >= {least}\" }}]\n"
+        )?;
+    }
+    Ok(text)
+}
+
+fn selection(alloc: Global, publications: u32) -> Result<Selection> {
+    let text = configuration(alloc, publications)?;
+    let catalog = Catalog::from_toml(alloc, text.as_str())?;
+    let known = Publications::from_toml(alloc, text.as_str(), &catalog)?;
+    let mut names = Vec::new(alloc);
+    for number in 1..=publications {
+        let mut name = String::new(alloc);
+        write!(name, "p{number}")?;
+        names.push(Text::new(name))?;
+    }
+    Ok(known.select(names.as_slice())?)
+}
+
+fn turns_by_selection(alloc: Global, turns: u32, publications: u32, rows: Vec<Row>) -> Result<u64> {
+    let selection = selection(alloc, publications)?;
+    let mut inserts = Vec::new(alloc);
+    for row in rows {
+        inserts.push(Change::Insert(16384, row))?;
+    }
+    let mut published: u64 = 0;
+    for _ in 0..turns {
+        published = published.saturating_add(published_by(&selection, inserts.as_slice())?);
+    }
+    Ok(published)
+}
+
+fn published_by(selection: &Selection, changes: &[Change]) -> Result<u64> {
+    let mut published: u64 = 0;
+    for change in changes {
+        if let Projected::Message(_) = selection.project(change)? {
+            published = published.saturating_add(1);
+        }
+    }
+    Ok(published)
 }
 
 fn turns_by_hand(turns: u32, rows: &[Row]) -> u64 {

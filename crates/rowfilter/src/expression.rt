@@ -1,11 +1,12 @@
 //! A condition as a tree, and what it is in a row.
 
 ghost use Rattle.std.specs.Prelude.{◌≡◌, IfOk, OnOk};
-ghost use Rattle.rowfilter.specs.Truth.{truth as truth_in, value_in};
+ghost use Rattle.rowfilter.specs.Truth.{compared, truth as truth_in, value_in};
 ghost use Rattle.rowfilter.specs.Conditions.{names};
 ghost use Rattle.rowfilter.specs.Kinds.{are_known, sort_of};
-ghost use Rattle.rowfilter.specs.Shapes.{gathered, seen, shape};
+ghost use Rattle.rowfilter.specs.Shapes.{gathered, literal_datum, seen, shape};
 
+use crate::against::column_against;
 use crate::comparison::Comparison;
 use crate::literal::Literal;
 use crate::operand::Operand;
@@ -88,7 +89,10 @@ impl Expression {
         ensures { result ≡ truth_in (shape self.now) row.now }
     {
         match self {
-            Expression::Compare(how, a, b) => a.operand(row).compared(*how, b.operand(row)),
+            Expression::Compare(how, a, b) => match &**b {
+                Expression::Literal(literal) => a.against(*how, literal, row),
+                _ => a.operand(row).compared(*how, b.operand(row)),
+            },
             Expression::Not(a) => a.truth(row).not(),
             Expression::And(a, b) => match a.truth(row) {
                 Truth::False => Truth::False,
@@ -101,6 +105,18 @@ impl Expression {
             Expression::Is(_, _, _) | Expression::Column(_) | Expression::Literal(_) => {
                 self.evaluate(row).truth()
             }
+        }
+    }
+
+    /// How it compares with the literal in the row.
+    fn against(&self, how: Comparison, literal: &Literal, row: &[Value]) -> Truth
+        ensures { result ≡ compared how (value_in row.now (shape self.now)) (literal_datum literal.now) }
+    {
+        match self {
+            Expression::Column(place) => column_against(how, row, *place, literal),
+            _ => self
+                .operand(row)
+                .compared(how, Operand::of_literal(literal)),
         }
     }
 

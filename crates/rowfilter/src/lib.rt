@@ -1,6 +1,7 @@
 //! Row filters: conditions over the row of a table, and which rows they are true of.
 #![tactic(auto)]
 
+mod against;
 mod class;
 mod comparison;
 mod expression;
