@@ -8,7 +8,7 @@ use bytes::BytesMut;
 use frames::Text;
 use publication::Publications;
 use sender::Sender;
-use shared_log::LogName;
+use shared_log::{LogName, LogReader};
 use std::alloc::Global;
 use std::marker::Brand;
 use std::sync::Wait;
@@ -47,8 +47,8 @@ fn stream<R: Wait>(rt: &R, alloc: Global) -> Result<String> {
 fn written<L: LogName, R: Wait>(rt: &R, alloc: Global, opened: Opened) -> Result<BytesMut>
     requires { opened.history.seen.book ≡ L.book }
 {
-    let (mut publisher, _) = Publisher::<L>::open(rt, opened)?;
-    let bytes = session_sent(rt, alloc, &mut publisher);
+    let (mut publisher, readers) = Publisher::<L>::open(rt, opened)?;
+    let bytes = session_sent(rt, alloc, &mut publisher, readers);
     publisher.close(rt);
     bytes
 }
@@ -57,9 +57,11 @@ fn session_sent<L: LogName, R: Wait>(
     rt: &R,
     alloc: Global,
     publisher: &mut Publisher<L>,
+    mut readers: Vec<LogReader<L>>,
 ) -> Result<BytesMut> {
     run_session(rt, alloc, publisher)?;
-    sent(alloc, publisher)
+    let mut reader = readers.pop().ok_or(SessionFault::NoReader)?;
+    sent(alloc, publisher, &mut reader)
 }
 
 /// A sender of what the publication `p` publishes, from the beginning of the log on.
@@ -71,20 +73,26 @@ fn sender_of_p(alloc: Global, catalog: &Catalog) -> Result<Sender> {
 }
 
 /// The bytes that a sender makes of the log.
-fn sent<L: LogName>(alloc: Global, publisher: &Publisher<L>) -> Result<BytesMut> {
+fn sent<L: LogName>(
+    alloc: Global,
+    publisher: &mut Publisher<L>,
+    reader: &mut LogReader<L>,
+) -> Result<BytesMut> {
     let mut sender = sender_of_p(alloc, publisher.catalog())?;
     let mut bytes = BytesMut::new(alloc);
-    send(publisher, &mut sender, &mut bytes)?;
+    publisher.tell(reader);
+    send(alloc, reader, &mut sender, &mut bytes)?;
     Ok(bytes)
 }
 
-/// The sender reads the log under clock 9, and tells how far it has read.
+/// The sender reads the log under clock 9, and tells how far it has read. The reader was told of the whole log.
 fn send<L: LogName>(
-    publisher: &Publisher<L>,
+    alloc: Global,
+    reader: &mut LogReader<L>,
     sender: &mut Sender,
     bytes: &mut BytesMut,
 ) -> Result<()> {
-    let records = publisher.tail(0, 100)?;
+    let records = reader.fetch(alloc, 100)?;
     sender.feed(records.as_slice(), 9)?;
     sender.keepalive(9, false)?;
     // All that is held; for a socket, `drain` takes as much as a buffer has room for.

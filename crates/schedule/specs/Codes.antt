@@ -31,6 +31,7 @@ abbrev pub answer_code : Answer → Option (List ℕ)
 answer_code answers.Done = None
 answer_code (answers.Session fault) = Some (code_of fault)
 answer_code (answers.Slot fault) = Some (slot_code fault)
+answer_code answers.NoReader = Some (codes "L6")
 answer_code (answers.Publication fault) = Some (publication_code_of fault)
 answer_code (answers.Sender fault) = Some (sender_code fault)
 answer_code (answers.Subscriber fault) = Some (subscriber_code fault)

@@ -11,6 +11,8 @@ pub enum Answer {
     Done,
     Session(SessionFault),
     Slot(SlotFault),
+    /// L6: every reader of the log serves a sender already.
+    NoReader,
     Publication(PubFault),
     Sender(SendFault),
     Subscriber(ClientFault),

@@ -16,6 +16,7 @@ impl Answer {
             Answer::Done => None,
             Answer::Session(fault) => Some(fault.code()),
             Answer::Slot(SlotFault::Missing) => Some("L1"),
+            Answer::NoReader => Some("L6"),
             Answer::Publication(fault) => Some(fault.code()),
             Answer::Sender(SendFault::Memory) => Some("G2"),
             Answer::Sender(SendFault::Failed) => Some("G3"),

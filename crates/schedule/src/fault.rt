@@ -16,6 +16,8 @@ pub enum WorldFault {
     BadEvent,
     #[error("V2: out of memory")]
     Memory,
+    #[error("V3: the log lets no reader in")]
+    NoEntry,
 }
 
 impl From<AllocError> for WorldFault {

@@ -138,7 +138,7 @@ impl<L: LogName> LogReader<L> {
 }
 
 /// Shares of the records.
-pub(crate) fn shares(alloc: Global, records: &[Arc<Record>]) -> Result<Vec<Arc<Record>>, AllocError>
+fn shares(alloc: Global, records: &[Arc<Record>]) -> Result<Vec<Arc<Record>>, AllocError>
     ensures { IfOk result (λ v. shared v.items ≡ shared records.now) }
 {
     let mut copies = Vec::new(alloc);

@@ -1,9 +1,9 @@
 //! The writer of the log.
 
-ghost use Rattle.std.specs.Prelude.{◌≡◌, ◌+◌, ◌<◌, ◌≤◌, ◌^◌, ◌++◌, ◌∷◌, [], drop, length, take, true, vec_len, IfOk, OnErr};
+ghost use Rattle.std.specs.Prelude.{◌≡◌, ◌+◌, ◌<◌, ◌≤◌, ◌^◌, ◌++◌, ◌∷◌, [], length, true, vec_len, IfOk, OnErr};
 ghost use mathlib.Core.List.{IsPrefix};
 ghost use Rattle.wal.specs.Log.{IsWellFormedLog, end_of, size_of};
-ghost use Rattle.wal.specs.Records.{record_after, shared};
+ghost use Rattle.wal.specs.Records.{record_after};
 ghost use Rattle.wal.specs.declared.record.TheConstants.{FIRST_POSITION};
 ghost use Rattle.std.specs.Arc.{arc_value};
 ghost use Rattle.std.specs.List.{AllByRecursion};
@@ -16,7 +16,7 @@ use crate::front::Front;
 use crate::history::History;
 use crate::name::LogName;
 use crate::opened::Opened;
-use crate::reader::{LogReader, shares};
+use crate::reader::LogReader;
 use crate::receipt::Receipt;
 use crate::rule::{Published, Sees, View};
 use core::mem;
@@ -24,7 +24,7 @@ use left_right::writer::Writer;
 use std::alloc::{AllocError, Global};
 use std::marker::Model;
 use std::sync::{Arc, Wait};
-use wal::{Body, FIRST_POSITION, Record, part};
+use wal::{Body, FIRST_POSITION, Record};
 
 /// How long a history may become: each record that is written, or refused for memory, makes it longer.
 const MOST_STEPS: u64 = 1 << 61;
@@ -117,14 +117,6 @@ impl<L: LogName> LogWriter<L> {
         ensures { result ≡ end_of FIRST_POSITION self.now }
     {
         self.end
-    }
-
-    /// Up to `max` records from the place on, shared and not copied.
-    pub fn tail(&self, place: usize, max: usize) -> Result<Vec<Arc<Record>>, AllocError>
-        ensures { IfOk result (λ v. shared v.items ≡ take max (drop place self.now)) }
-    {
-        let copy = self.writer.desk.shown.get();
-        shares(self.alloc, part(copy.records.as_slice(), place, max))
     }
 
     /// Tells a reader of the whole log: its next fetch sees no less. It answers how many records that are, and takes no memory.

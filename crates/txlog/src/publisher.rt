@@ -1,13 +1,12 @@
 //! The publisher: what sessions call to write the log.
 
-ghost use Rattle.std.specs.Prelude.{◌≡◌, ◌+◌, ◌-◌, ◌≤◌, ◌<◌, IfErr, IfOk, Ok, OnErr, OnOk, Some, None, drop, length, slice_get, take, true, vec_len};
+ghost use Rattle.std.specs.Prelude.{◌≡◌, ◌+◌, ◌-◌, ◌≤◌, ◌<◌, IfErr, IfOk, Ok, OnErr, OnOk, Some, None, length, slice_get, true, vec_len};
 ghost use Rattle.std.specs.List.{AllByRecursion};
 ghost use Rattle.std.specs.Option.{option_copied};
 ghost use mathlib.Core.List.{IsPrefix};
 ghost use Rattle.shared_log.specs.Fronts.{settled};
 ghost use Rattle.txlog.specs.Invariants.{IsPublisher};
 ghost use Rattle.txlog.specs.Rows.{rows_of};
-ghost use Rattle.wal.specs.Records.{shared};
 ghost use Rattle.txlog.specs.Publishing.{RefusedOrMemory, RefusedOrMemoryBack, RefusedExactly, after_abort, after_commit, new_publisher, begin_refusal, begun, end_refusal, is_live, log_end, receipt_of, release_refusal, released, rollback_refusal, rolled_back, room, saved, savepoint_refusal, savepoints_of};
 
 use crate::fault::SessionFault;
@@ -18,11 +17,11 @@ use crate::receipt::Receipt;
 use crate::savepoint::Savepoint;
 use crate::tx::Tx;
 use shared_log::{LogName, LogReader, LogWriter};
-use std::alloc::{AllocError, Global};
+use std::alloc::Global;
 use std::marker::Model;
-use std::sync::{Arc, Wait};
+use std::sync::Wait;
 use tables::{Catalog, Row, Store};
-use wal::{Body, FIRST_XID, Record};
+use wal::{Body, FIRST_XID};
 
 /// The log, the transactions that write it, and the rows that it leaves in the tables (`rows_of`). A place in the log is kept
 /// in reserve for the end of each transaction.
@@ -32,7 +31,7 @@ use wal::{Body, FIRST_XID, Record};
 ///
 /// Ok means that the one record of the call stands at the log's end; `begin`, `release` and `leave` write none. An error
 /// means that nothing has changed, so the call may be made again: S11 is want of memory, S7 a full log, S14 a `Tx` that is not
-/// live in this log, and the others say what is wrong with the call. `get`, `end` and `tail` may be called at any time.
+/// live in this log, and the others say what is wrong with the call. `get`, `end` and `tell` may be called at any time.
 ///
 /// It isn't `Drop`: `close` ends it.
 pub struct Publisher<L: LogName> {
@@ -110,14 +109,6 @@ impl<L: LogName> Publisher<L> {
         ensures publisher { IsPublisher self.now }
     {
         self.log.end()
-    }
-
-    /// Up to `max` records from the place on, shared and not copied.
-    pub fn tail(&self, place: usize, max: usize) -> Result<Vec<Arc<Record>>, AllocError>
-        ensures records { IfOk result (λ v. shared v.items ≡ take max (drop place self.now.log)) }
-        ensures publisher { IsPublisher self.now }
-    {
-        self.log.tail(place, max)
     }
 
     /// Tells a reader of the whole log: its next fetch sees no less. It answers how many records that are, and takes no memory.

@@ -73,7 +73,11 @@ const REORDER_FAULTS: [ReorderFault; 2] = [ReorderFault::Memory, ReorderFault::F
 
 const SEND_FAULTS: [SendFault; 3] = [SendFault::Memory, SendFault::Failed, SendFault::Gap];
 
-const WORLD_FAULTS: [WorldFault; 2] = [WorldFault::BadEvent, WorldFault::Memory];
+const WORLD_FAULTS: [WorldFault; 3] = [
+    WorldFault::BadEvent,
+    WorldFault::Memory,
+    WorldFault::NoEntry,
+];
 
 const CONFIG_FAULTS: [ConfigFault; 1] = [ConfigFault::Memory];
 
@@ -113,6 +117,7 @@ pub fn code_answer(alloc: Global, given: &str) -> Result<Answer> {
     let mut answers = vec![in alloc;
         world::Answer::Done,
         world::Answer::Slot(SlotFault::Missing),
+        world::Answer::NoReader,
     ]?;
     for fault in SESSION_FAULTS {
         answers.push(world::Answer::Session(fault))?;

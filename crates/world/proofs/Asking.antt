@@ -47,6 +47,7 @@ answered answers.Done refusal done p q ts new same called = (called.0, rw (calle
 answered (answers.Session fault) refusal done p q ts new same called = (called.0, rw (called.1, same) refl)
 answered (answers.Slot fault) refusal done p q ts new same called = absurd called
 answered (answers.Publication fault) refusal done p q ts new same called = absurd called
+answered answers.NoReader refusal done p q ts new same called = absurd called
 answered (answers.Sender fault) refusal done p q ts new same called = absurd called
 answered (answers.Subscriber fault) refusal done p q ts new same called = absurd called
 
@@ -88,7 +89,7 @@ given_back name place ss rest new p q s back fault refusal done at value same ju
 
 -- ---- starts
 
-pub acted_in : (log : List Record) (place : ℕ) (action : Action) (cs : List Start) (c new : Start) (r : Result Answer WorldFault) → IsOpenAt place cs → c ≡ slice_index_or cs place c
+pub acted_in : {L : Type 0} (log : List Record) (place : ℕ) (action : Action) (cs : List (Start L)) (c new : Start L) (r : Result Answer WorldFault) → IsOpenAt place cs → c ≡ slice_index_or cs place c
     → IfOk r (λ a. Acts log action (start_state c) a (start_state new)) → IfOk r (λ a. ActsIn log place action cs a (slice_set cs place new))
 acted_in log place action cs c new (Ok a) at value acts = record {
   before = c;
@@ -99,18 +100,18 @@ acted_in log place action cs c new (Ok a) at value acts = record {
 }
 acted_in log place action cs c new (Err e) at value acts = tt
 
-pub kept_starts : (cs : List Start) (place : ℕ) (c new : Start) (r : Result Answer WorldFault) → c ≡ slice_index_or cs place c → OnErr r (start_state new ≡ start_state c) → OnErr r (map start_state (slice_set cs place new) ≡ map start_state cs)
+pub kept_starts : {L : Type 0} (cs : List (Start L)) (place : ℕ) (c new : Start L) (r : Result Answer WorldFault) → c ≡ slice_index_or cs place c → OnErr r (start_state new ≡ start_state c) → OnErr r (map start_state (slice_set cs place new) ≡ map start_state cs)
 kept_starts cs place c new (Ok a) value same = tt
 kept_starts cs place c new (Err e) value same = map-set_same start_state cs place new c (same ∙ ap start_state value)
 
-pub acted_at : (name : List ℕ) (place : ℕ) (action : Action) {L : Type 0} (m : Machine L) (new : List Start) (a : Answer) → IsOpenStartAt name place m.starts.items
+pub acted_at : (name : List ℕ) (place : ℕ) (action : Action) {L : Type 0} (m : Machine L) (new : List (Start L)) (a : Answer) → IsOpenStartAt name place m.starts.items
     → ActsIn m.publisher.log place action m.starts.items a new → ActsAt name action (shown m) a (record (shown m) { starts = map start_state new; subscribers = subscribers_after name action (shown m).subscribers })
-acted_at name place action m new a at acts =
+acted_at name place action {L} m new a at acts =
     let here : at.start ≡ acts.before = one_there m.starts.items place at.start acts.before at.there acts.there in
     record {
       before = start_state acts.before;
       after = acts.after;
-      there = at.of ∙ ap (λ (c : Start). Option.Some (start_state c)) here;
+      there = at.of ∙ ap (λ (c : Start L). Option.Some (start_state c)) here;
       acts = acts.acts;
       is = ap (λ (l : List StartState). record (shown m) { starts = l; subscribers = subscribers_after name action (shown m).subscribers }) (acts.is ∙ sym (at.changed acts.after));
     }
@@ -130,15 +131,16 @@ same_connection log action old new (answers.Sender sends.Gap) acts = absurd acts
 same_connection log action old new (answers.Session fault) acts = absurd acts
 same_connection log action old new (answers.Slot fault) acts = absurd acts
 same_connection log action old new (answers.Publication fault) acts = absurd acts
+same_connection log action old new answers.NoReader acts = absurd acts
 same_connection log action old new (answers.Subscriber fault) acts = absurd acts
 
 -- each start goes on having a subscriber
-pub subscribed_on : (name : List ℕ) (place : ℕ) (action : Action) {L : Type 0} (m : Machine L) (new : List Start) (a : Answer) → IsOpenStartAt name place m.starts.items → ActsIn m.publisher.log place action m.starts.items a new
+pub subscribed_on : (name : List ℕ) (place : ℕ) (action : Action) {L : Type 0} (m : Machine L) (new : List (Start L)) (a : Answer) → IsOpenStartAt name place m.starts.items → ActsIn m.publisher.log place action m.starts.items a new
     → AllByRecursion (IsSubscribed (map subscriber_state m.subscribers.items)) (map start_state m.starts.items) → AllByRecursion (IsSubscribed (map subscriber_state m.subscribers.items)) (map start_state new)
-subscribed_on name place action m new a at acts all =
+subscribed_on name place action {L} m new a at acts all =
     let here : at.start ≡ acts.before = one_there m.starts.items place at.start acts.before at.there acts.there in
     let ss : List SubscriberState = map subscriber_state m.subscribers.items in
-    let told : Option.Some (start_state acts.before) ≡ open_start name (map start_state m.starts.items) = ap (λ (c : Start). Option.Some (start_state c)) (sym here) ∙ sym at.of in
+    let told : Option.Some (start_state acts.before) ≡ open_start name (map start_state m.starts.items) = ap (λ (c : Start L). Option.Some (start_state c)) (sym here) ∙ sym at.of in
     let same : acts.after.connection ≡ (start_state acts.before).connection = same_connection m.publisher.log action (start_state acts.before) acts.after a acts.acts in
     let P : List StartState → Type 0 = λ l. AllByRecursion (IsSubscribed ss) l in
     subst P (sym (acts.is ∙ sym (at.changed acts.after)))

@@ -8,3 +8,4 @@ pub mod Subscribing
 pub mod Asking
 pub mod Runs
 pub mod Machines
+pub mod Readers

@@ -1,9 +1,9 @@
 -- The machine between two events: a longer log leaves every start served, a call or an act is its event in the world.
-use Rattle.std.proofs.Common.{◌≡◌, ◌+◌, length, ℕ, ℤ, Bool, true, false, List, [], ◌∷◌, ◌++◌, map, Option, Some, None, refl, sym, ap, subst, ◌∙◌, option_map, arith}
-use Rattle.std.specs.Prelude.{Result, Ok, Err, IfOk, OnErr, is_some, not}
+use Rattle.std.proofs.Common.{◌≡◌, ◌+◌, ◌<◌, length, ℕ, ℤ, Bool, true, false, List, [], ◌∷◌, ◌++◌, map, Option, Some, None, refl, sym, ap, subst, ◌∙◌, option_map, arith}
+use Rattle.std.specs.Prelude.{Result, Ok, Err, IfOk, OnErr, is_some, not, slice_get, slice_set, slice_index_or, vec_capacity, vec_len}
 use Rattle.std.specs.List.{AllByRecursion}
-use Rattle.std.proofs.lemmas.Option.{slice_get-map}
-use Rattle.std.proofs.lemmas.List.{length-map, map-append}
+use Rattle.std.proofs.lemmas.Option.{slice_get-map, slice_get_read, slice_get_within}
+use Rattle.std.proofs.lemmas.List.{length-map, map-append, map-set}
 use Rattle.wal.specs.declared.record.Record.{Record}
 use Rattle.txlog.specs.Publishing.{PublisherState}
 use Rattle.sender.specs.declared.fault.SendFault.TheVariants as sends
@@ -19,20 +19,21 @@ use Rattle.world.specs.declared.start.Start.{Start}
 use Rattle.world.specs.declared.start.Walsender.{Walsender}
 use Rattle.world.specs.declared.start.Walsender.TheVariants as walsenders
 use Rattle.world.specs.declared.machine.Machine.{Machine}
-use Rattle.world.specs.State.{StartState, SubscriberState, WorldState}
+use Rattle.world.specs.State.{StartState, SubscriberState, WorldState, running}
 use Rattle.world.specs.SessionLines.{Ask, SessionState, ask_of, if_new, if_known, IsCalled}
 use Rattle.world.specs.ConnectionLines.{Acts, subscribers_after}
 use Rattle.world.specs.Steps.{IsStep, is_bad, session_state}
-use Rattle.world.specs.Machine.{named_tx, sessions_state, IsCallOf, Grows, IsServed, ActsIn, IsOpenStartAt, is_open, open_places, without_place, start_state, state_with, shown}
+use Rattle.world.specs.Machine.{named_tx, sessions_state, IsCallOf, Grows, IsServed, ActsIn, IsMachine, IsOpenAt, IsOpenStartAt, is_open, open_places, without_place, start_state, state_with, shown}
 use Rattle.world.proofs.Sections.{grown_served}
 use Rattle.world.proofs.Openings.{places_kept, places_less, places_with_one}
+use Rattle.world.proofs.Readers.{one_runs, running_with}
 use Rattle.world.proofs.Asking.{one_there}
 
-served_on : (log more : List Record) (cs : List Start) → AllByRecursion (IsServed log) cs → AllByRecursion (IsServed (log ++ more)) cs
+served_on : {L : Type 0} (log more : List Record) (cs : List (Start L)) → AllByRecursion (IsServed log) cs → AllByRecursion (IsServed (log ++ more)) cs
 served_on log more [] all = tt
-served_on log more (c ∷ cs) all = (grown_served log more c.place c.produced.items c.walsender all.0, served_on log more cs all.1)
+served_on log more (c ∷ cs) all = (grown_served log more c.produced.items c.walsender all.0, served_on log more cs all.1)
 
-pub all_grown : (old new : List Record) (cs : List Start) → Grows old new → AllByRecursion (IsServed old) cs → AllByRecursion (IsServed new) cs
+pub all_grown : {L : Type 0} (old new : List Record) (cs : List (Start L)) → Grows old new → AllByRecursion (IsServed old) cs → AllByRecursion (IsServed new) cs
 all_grown old new cs grows all = let P : List Record → Type 0 = λ l. AllByRecursion (IsServed l) cs in subst P (sym grows.is) (served_on old grows.more cs all)
 
 -- ---- a session's line
@@ -120,6 +121,7 @@ stays_open log action old new (answers.Sender sends.Gap) goes acts = absurd acts
 stays_open log action old new (answers.Session fault) goes acts = absurd acts
 stays_open log action old new (answers.Slot fault) goes acts = absurd acts
 stays_open log action old new (answers.Publication fault) goes acts = absurd acts
+stays_open log action old new answers.NoReader goes acts = absurd acts
 stays_open log action old new (answers.Subscriber fault) goes acts = absurd acts
 
 is_closed : (log : List Record) (old new : StartState) (a : Answer) → Acts log actions.Cut old a new → new.is_open ≡ false
@@ -130,24 +132,25 @@ is_closed log old new (answers.Sender sends.Gap) acts = absurd acts
 is_closed log old new (answers.Session fault) acts = absurd acts
 is_closed log old new (answers.Slot fault) acts = absurd acts
 is_closed log old new (answers.Publication fault) acts = absurd acts
+is_closed log old new answers.NoReader acts = absurd acts
 is_closed log old new (answers.Subscriber fault) acts = absurd acts
 
-open_shown : (connection produced : List ℕ) (w : Walsender) → is_open w ≡ true → (state_with connection produced w).is_open ≡ true
-open_shown connection produced (walsenders.Open s) is = refl
+pub open_shown : {L : Type 0} (connection produced : List ℕ) (w : Walsender L) → is_open w ≡ true → (state_with connection produced w).is_open ≡ true
+open_shown connection produced (walsenders.Open s reader) is = refl
 open_shown connection produced (walsenders.Cut e) is = is
 
-pub found_on : (log : List Record) (place : ℕ) (action : Action) (cs new : List Start) (places : List ℕ) (a : Answer) → is_cut action ≡ false → ActsIn log place action cs a new → places ≡ open_places 0 (map start_state cs)
+pub found_on : {L : Type 0} (log : List Record) (place : ℕ) (action : Action) (cs new : List (Start L)) (places : List ℕ) (a : Answer) → is_cut action ≡ false → ActsIn log place action cs a new → places ≡ open_places 0 (map start_state cs)
     → places ≡ open_places 0 (map start_state new)
 found_on log place action cs new places a goes acts found =
     let there = slice_get-map start_state cs place ∙ ap (option_map start_state) acts.there in
     found ∙ sym (places_kept 0 (map start_state cs) place (start_state acts.before) acts.after there (stays_open log action (start_state acts.before) acts.after a goes acts.acts)) ∙ ap (open_places 0) (sym acts.is)
 
-pub found_less : (log : List Record) (name : List ℕ) (place : ℕ) (cs new : List Start) (places : List ℕ) (a : Answer) → IsOpenStartAt name place cs → ActsIn log place actions.Cut cs a new → places ≡ open_places 0 (map start_state cs)
+pub found_less : {L : Type 0} (log : List Record) (name : List ℕ) (place : ℕ) (cs new : List (Start L)) (places : List ℕ) (a : Answer) → IsOpenStartAt name place cs → ActsIn log place actions.Cut cs a new → places ≡ open_places 0 (map start_state cs)
     → without_place place places ≡ open_places 0 (map start_state new)
-found_less log name place cs new places a at acts found =
+found_less {L} log name place cs new places a at acts found =
     let there = slice_get-map start_state cs place ∙ ap (option_map start_state) acts.there in
     let same : at.start ≡ acts.before = one_there cs place at.start acts.before at.there acts.there in
-    let was : (start_state acts.before).is_open ≡ true = ap (λ (s : Start). (start_state s).is_open) (sym same) ∙ open_shown at.start.connection at.start.produced.items at.start.walsender at.opened in
+    let was : (start_state acts.before).is_open ≡ true = ap (λ (s : Start L). (start_state s).is_open) (sym same) ∙ open_shown at.start.connection at.start.produced.items at.start.walsender at.opened in
     ap (without_place place) found ∙ places_less 0 (map start_state cs) place place (start_state acts.before) acts.after (omega arith) there was (is_closed log (start_state acts.before) acts.after a acts.acts) ∙ ap (open_places 0) (sym acts.is)
 
 pub no_cut : (action : Action) → (action ≡ actions.Cut → ⊥) → is_cut action ≡ false
@@ -162,10 +165,39 @@ kept_subscribers name (actions.Keepalive clock) subscribers goes = refl
 kept_subscribers name (actions.Drain n) subscribers goes = refl
 kept_subscribers name actions.Cut subscribers goes = let never : true ≡ false = goes in cc
 
-pub found_more : (cs new : List Start) (places more : List ℕ) (s : Start) (n : ℕ) → new ≡ cs ++ s ∷ [] → more ≡ places ++ n ∷ [] → n ≡ length cs → (start_state s).is_open ≡ true → places ≡ open_places 0 (map start_state cs)
+pub found_more : {L : Type 0} (cs new : List (Start L)) (places more : List ℕ) (s : Start L) (n : ℕ) → new ≡ cs ++ s ∷ [] → more ≡ places ++ n ∷ [] → n ≡ length cs → (start_state s).is_open ≡ true → places ≡ open_places 0 (map start_state cs)
     → more ≡ open_places 0 (map start_state new)
 found_more cs new places more s n new_is more_is n_is opened found =
     let count : n ≡ 0 + length (map start_state cs) = omega (arith, n_is, length-map cs start_state) in
     more_is ∙ ap (λ l. l ++ n ∷ []) found ∙ ap (λ (m : ℕ). open_places 0 (map start_state cs) ++ m ∷ []) count
     ∙ sym (places_with_one 0 (map start_state cs) (start_state s) opened)
     ∙ ap (open_places 0) (sym (ap (map start_state) new_is ∙ map-append start_state cs (s ∷ [])))
+
+-- ---- readers
+
+closed_shown : {L : Type 0} (connection produced : List ℕ) (w : Walsender L) → is_open w ≡ false → (state_with connection produced w).is_open ≡ false
+closed_shown connection produced (walsenders.Open s reader) is = is
+closed_shown connection produced (walsenders.Cut e) is = refl
+
+-- an open start has a reader, and one that was cut has none
+pub one_running : {L : Type 0} (s : Start L) → is_open s.walsender ≡ true → running (start_state s ∷ []) ≡ 1
+one_running s is = rw (open_shown s.connection s.produced.items s.walsender is) refl
+
+pub none_running : {L : Type 0} (s : Start L) → is_open s.walsender ≡ false → running (start_state s ∷ []) ≡ 0
+none_running s is = rw (closed_shown s.connection s.produced.items s.walsender is) refl
+
+-- what one start gives the pool, all starts give it
+pub pool_kept : {L : Type 0} (cs : List (Start L)) (place : ℕ) (c new : Start L) (old_len new_len : ℕ) → IsOpenAt place cs → c ≡ slice_index_or cs place c
+    → new_len + running (start_state new ∷ []) ≡ old_len + running (start_state c ∷ []) → new_len + running (map start_state (slice_set cs place new)) ≡ old_len + running (map start_state cs)
+pool_kept cs place c new old_len new_len at value one =
+    let there : slice_get (map start_state cs) place ≡ Some (start_state c) = slice_get-map start_state cs place ∙ ap (option_map start_state) (slice_get_read cs (length cs) place c refl (slice_get_within cs place at.start at.there) value) in
+    let all = running_with (map start_state cs) place (start_state c) (start_state new) there in
+    let set = ap running (map-set start_state cs place new) in
+    omega (arith, one, all, set)
+
+-- where a start is open, the pool lacks a reader
+pub pool_has_room : {L : Type 0} (name : List ℕ) (place : ℕ) (m : Machine L) → IsOpenStartAt name place m.starts.items → IsMachine m → vec_len m.readers < vec_capacity m.readers
+pool_has_room name place m at is =
+    let there : slice_get (map start_state m.starts.items) place ≡ Some (start_state at.start) = slice_get-map start_state m.starts.items place ∙ ap (option_map start_state) at.there in
+    let runs = one_runs (map start_state m.starts.items) place (start_state at.start) there (open_shown at.start.connection at.start.produced.items at.start.walsender at.opened) in
+    omega (arith, runs, is.readers, is.room)

@@ -22,11 +22,11 @@ no_sooner name (s ∷ starts) at p e = by_test (is_open_for name s) e (no_sooner
     by_test true e later = omega (arith, same_inside at p e)
     by_test false e later = omega (arith, later e)
 
-opened : (name n produced : List ℕ) (w : Walsender) → is_open_for name (state_with n produced w) ≡ true → is_open w ≡ true
-opened name n produced (walsenders.Open s) e = refl
+opened : {L : Type 0} (name n produced : List ℕ) (w : Walsender L) → is_open_for name (state_with n produced w) ≡ true → is_open w ≡ true
+opened name n produced (walsenders.Open s reader) e = refl
 opened name n produced (walsenders.Cut s) e = let closed = (both_true (bytes_eq n name) false e).1 in absurd cc
 
-found : (name : List ℕ) (cs : List Start) (at k : ℕ) → start_place at name (map start_state cs) ≡ Some (at + k) → IsOpenStartAt name k cs
+found : {L : Type 0} (name : List ℕ) (cs : List (Start L)) (at k : ℕ) → start_place at name (map start_state cs) ≡ Some (at + k) → IsOpenStartAt name k cs
 found name [] at k e = absurd cc
 found name (c ∷ cs) at zero e = by_test (is_open_for name (start_state c)) refl e
   where
@@ -89,7 +89,7 @@ same_place name pre (s ∷ starts) = by_test (same_place name (pre ++ s ∷ []) 
 pub place_found : (name : List ℕ) (starts : List StartState) (places : List ℕ) → places ≡ open_places 0 starts → place_among name starts places ≡ start_place 0 name starts
 place_found name starts places is = ap (place_among name starts) is ∙ same_place name [] starts
 
-pub open_at : (name : List ℕ) (cs : List Start) (places : List ℕ) (k : ℕ) → places ≡ open_places 0 (map start_state cs) → place_among name (map start_state cs) places ≡ Some k → IsOpenStartAt name k cs
+pub open_at : {L : Type 0} (name : List ℕ) (cs : List (Start L)) (places : List ℕ) (k : ℕ) → places ≡ open_places 0 (map start_state cs) → place_among name (map start_state cs) places ≡ Some k → IsOpenStartAt name k cs
 open_at name cs places k is e = let plain : k ≡ 0 + k = omega arith in found name cs 0 k (sym (place_found name (map start_state cs) places is) ∙ e ∙ ap place_is plain)
 
 pub is_open_alike : (name : List ℕ) (starts : List StartState) (places : List ℕ) → places ≡ open_places 0 starts → is_some (place_among name starts places) ≡ is_some (open_start name starts)

@@ -30,8 +30,8 @@ use Rattle.world.proofs.Streams.{read_by_place}
 read_so_far : (log : List Record) (produced : List ℕ) (s : SenderState) → IsWellFormedLog log → (t : IsStreaming log produced s) → take t.place log ≡ read_by s.position log
 read_so_far log produced s good t = sym (read_by_place log t.place good) ∙ ap (λ (p : ℕ). read_by p log) (sym t.at)
 
-exact_by : (log : List Record) (connection produced : List ℕ) (place : ℕ) (w : Walsender) → IsWellFormedLog log → IsServedBy log place produced w → IsExact log (state_with connection produced w)
-exact_by log connection produced place (walsenders.Open s) good served =
+exact_by : {L : Type 0} (log : List Record) (connection produced : List ℕ) (w : Walsender L) → IsWellFormedLog log → IsServedBy log produced w → IsExact log (state_with connection produced w)
+exact_by log connection produced (walsenders.Open s reader) good served =
     let t = served.streaming in
     let read_is = read_so_far log produced s good t in
     let P : List Record → Type 0 = λ l. IsStream (relation s.selection) (produced ++ s.held) (published s.selection l s.start) s.position in
@@ -41,7 +41,7 @@ exact_by log connection produced place (walsenders.Open s) good served =
       begins = record { rest = s.held; whole = stream };
       whole = λ _. stream;
     }
-exact_by log connection produced place (walsenders.Cut e) good was =
+exact_by log connection produced (walsenders.Cut e) good was =
     let s = was.before in
     let t = was.streaming in
     let read_is = read_so_far log produced s good t in
@@ -54,9 +54,9 @@ exact_by log connection produced place (walsenders.Cut e) good was =
       whole = λ still. let never : false ≡ true = still in cc;
     }
 
-all_exact : (log : List Record) (cs : List Start) → IsWellFormedLog log → AllByRecursion (IsServed log) cs → AllByRecursion (IsExact log) (map start_state cs)
+all_exact : {L : Type 0} (log : List Record) (cs : List (Start L)) → IsWellFormedLog log → AllByRecursion (IsServed log) cs → AllByRecursion (IsExact log) (map start_state cs)
 all_exact log [] good all = tt
-all_exact log (c ∷ cs) good all = (exact_by log c.connection c.produced.items c.place c.walsender good all.0, all_exact log cs good all.1)
+all_exact log (c ∷ cs) good all = (exact_by log c.connection c.produced.items c.walsender good all.0, all_exact log cs good all.1)
 
 pub headline : {L : Type 0} (m : Machine L) → IsMachine m → Headline (shown m)
 headline m is = all_exact m.publisher.log m.starts.items is.good is.served

@@ -29,7 +29,7 @@ use Rattle.world.specs.declared.start.Walsender.TheVariants as walsenders
 use Rattle.world.specs.State.{StartState}
 use Rattle.world.specs.Law.{read_by}
 use Rattle.world.specs.ConnectionLines.{unread, after_action, after_reading, BreaksDown, Acts}
-use Rattle.world.specs.Machine.{IsStreaming, IsReading, IsServing, IsServedBy, state_with}
+use Rattle.world.specs.Machine.{IsStreaming, IsReading, IsServing, IsServedBy, open_state}
 use Rattle.sender.proofs.Sections.{all_front, all_back, followed, follows_parts, starts_below, section_may_follow}
 use Rattle.world.proofs.Ranges.{published_fit, published_late}
 use Rattle.world.proofs.Streams.{stream_read, stream_kept_alive, stream_moved, stream_new, read_by_place}
@@ -199,7 +199,7 @@ read_is : (tables : List Table) (log : List Record) (place max : ℕ) (clock : �
     → s.position ≡ end_of FIRST_POSITION (take place log)
     → new.selection ≡ s.selection → new.start ≡ s.start → new.position ≡ end_of s.position section → new.failed ≡ s.failed
     → new.held ≡ s.held ++ published_bytes s.selection clock (published s.selection (take place log) s.start) (published_from s.selection s.start (take place log) section)
-    → state_with name produced (walsenders.Open new) ≡ after_reading log clock section (state_with name produced (walsenders.Open s))
+    → open_state name produced new ≡ after_reading log clock section (open_state name produced s)
 read_is tables log place max clock name produced s new section le good at selection start position failed held =
     let pre_is : take place log ≡ read_by s.position log = sym (read_by_place log place good) ∙ ap (λ (p : ℕ). read_by p log) (sym at) in
     let held_is = held ∙ ap (λ l. s.held ++ published_bytes s.selection clock (published s.selection l s.start) (published_from s.selection s.start l section)) pre_is in
@@ -207,18 +207,18 @@ read_is tables log place max clock name produced s new section le good at select
 
 pub fed_acts : (tables : List Table) (log : List Record) (place max : ℕ) (clock : ℤ) (name produced : List ℕ) (s new : SenderState) → IsSection tables log place (take max (drop place log))
     → IsServing log place produced s → s.failed ≡ false → new.failed ≡ false → ReadAll clock s new (take max (drop place log))
-    → state_with name produced (walsenders.Open new) ≡ after_action log (actions.Read max clock) (state_with name produced (walsenders.Open s))
+    → open_state name produced new ≡ after_action log (actions.Read max clock) (open_state name produced s)
 fed_acts tables log place max clock name produced s new part serving running still fed =
     let reading = serving.running running in
     let section = take max (drop place log) in
     let next = next_part tables log place section part in
     let section_is : section ≡ take max (unread s.position log) = ap (take max) (sym (unread_place log place part.good)) ∙ ap (λ (p : ℕ). take max (unread p log)) (sym reading.at) in
     read_is tables log place max clock name produced s new section reading.within part.good reading.at fed.selection fed.start fed.position (still ∙ sym running) (fed.after (take place log) reading.reads next.may).1
-    ∙ ap (λ l. after_reading log clock l (state_with name produced (walsenders.Open s))) section_is
+    ∙ ap (λ l. after_reading log clock l (open_state name produced s)) section_is
 
 pub broken_acts : (tables : List Table) (log : List Record) (place max : ℕ) (clock : ℤ) (name produced : List ℕ) (s new : SenderState) → IsSection tables log place (take max (drop place log))
     → IsServing log place produced s → s.failed ≡ false → RanOutOfMemory clock s new (take max (drop place log))
-    → BreaksDown log max clock (state_with name produced (walsenders.Open s)) (state_with name produced (walsenders.Open new))
+    → BreaksDown log max clock (open_state name produced s) (open_state name produced new)
 broken_acts tables log place max clock name produced s new part serving running fed =
     let reading = serving.running running in
     let section = take max (drop place log) in
@@ -231,7 +231,7 @@ broken_acts tables log place max clock name produced s new part serving running 
     record {
       count = fed.count;
       fewer = subst N (ap length section_is) fed.fewer;
-      is = rw fed.failed (ap (λ (l : StartState). record l { failed = true }) (same ∙ ap (λ l. after_reading log clock (take fed.count l) (state_with name produced (walsenders.Open s))) section_is));
+      is = rw fed.failed (ap (λ (l : StartState). record l { failed = true }) (same ∙ ap (λ l. after_reading log clock (take fed.count l) (open_state name produced s)) section_is));
     }
 
 -- a sender that answered anything but Failed was running
@@ -254,9 +254,17 @@ pub record RefusesFeed (clock : ℤ) (s new : SenderState) (r : Result (Unit {0}
 not_both : {b : Bool} → b ≡ true → b ≡ false → ⊥
 not_both p q = let never : true ≡ false = sym p ∙ q in cc
 
+-- what was read follows, so no gap is answered
+no_gap : (tables : List Table) (log : List Record) (place max : ℕ) (clock : ℤ) (s new : SenderState) (r : Result (Unit {0}) SendFault) → IsWellFormedLog log → IsLogInRange tables log → IsReading log place s
+    → r ≡ Err sends.Gap → RefusesFeed clock s new r (take max (drop place log)) → ⊥
+no_gap tables log place max clock s new r good in_range reading is refuses =
+    let next = next_part tables log place (take max (drop place log)) (section_of tables log place max reading.within good in_range) in
+    let P : ℕ → Type 0 = λ p. follows p (take max (drop place log)) ≡ true in
+    not_both (subst P (sym reading.at) next.follows_on) (refuses.gap is)
+
 pub refused_acts : (tables : List Table) (log : List Record) (place max : ℕ) (clock : ℤ) (name produced : List ℕ) (s new : SenderState) (r : Result (Unit {0}) SendFault) (fault : SendFault)
     → IsWellFormedLog log → IsLogInRange tables log → IsServing log place produced s → r ≡ Err fault → RefusesFeed clock s new r (take max (drop place log))
-    → Acts log (actions.Read max clock) (state_with name produced (walsenders.Open s)) (answers.Sender fault) (state_with name produced (walsenders.Open new))
+    → Acts log (actions.Read max clock) (open_state name produced s) (answers.Sender fault) (open_state name produced new)
 refused_acts tables log place max clock name produced s new r sends.Memory good in_range serving is refuses =
     let running = was_running s r refuses.failed (λ other. differ (sym is ∙ other)) in
     (running, broken_acts tables log place max clock name produced s new (section_of tables log place max (serving.running running).within good in_range) serving running (refuses.memory is))
@@ -264,38 +272,42 @@ refused_acts tables log place max clock name produced s new r sends.Memory good 
     differ : failed_with sends.Memory ≡ failed_with sends.Failed → ⊥
     differ e = cc
 refused_acts tables log place max clock name produced s new r sends.Failed good in_range serving is refuses =
-    (refl, refuses.failed.0 is, ap (λ (t : SenderState). state_with name produced (walsenders.Open t)) (refuses.unchanged (refuses.failed.0 is)))
+    (refl, refuses.failed.0 is, ap (λ (t : SenderState). open_state name produced t) (refuses.unchanged (refuses.failed.0 is)))
 refused_acts tables log place max clock name produced s new r sends.Gap good in_range serving is refuses =
-    let running = was_running s r refuses.failed (λ other. differ (sym is ∙ other)) in
-    let reading = serving.running running in
-    let next = next_part tables log place (take max (drop place log)) (section_of tables log place max reading.within good in_range) in
-    let P : ℕ → Type 0 = λ p. follows p (take max (drop place log)) ≡ true in
-    absurd (not_both (subst P (sym reading.at) next.follows_on) (refuses.gap is))
+    absurd (no_gap tables log place max clock s new r good in_range (serving.running (was_running s r refuses.failed (λ other. differ (sym is ∙ other)))) is refuses)
   where
     differ : failed_with sends.Gap ≡ failed_with sends.Failed → ⊥
     differ e = cc
 
 -- a refused keepalive
 pub refused_keepalive : (log : List Record) (clock : ℤ) (name produced : List ℕ) (s new : SenderState) (r : Result (Unit {0}) SendFault) (fault : SendFault) → r ≡ Err fault → (r ≡ Err sends.Failed) ↔ (s.failed ≡ true)
-    → (r ≡ Err sends.Gap → ⊥) → new ≡ s → Acts log (actions.Keepalive clock) (state_with name produced (walsenders.Open s)) (answers.Sender fault) (state_with name produced (walsenders.Open new))
+    → (r ≡ Err sends.Gap → ⊥) → new ≡ s → Acts log (actions.Keepalive clock) (open_state name produced s) (answers.Sender fault) (open_state name produced new)
 refused_keepalive log clock name produced s new r sends.Memory is failed gap same =
-    (was_running s r failed (λ other. differ (sym is ∙ other)), ap (λ (t : SenderState). state_with name produced (walsenders.Open t)) same)
+    (was_running s r failed (λ other. differ (sym is ∙ other)), ap (λ (t : SenderState). open_state name produced t) same)
   where
     differ : failed_with sends.Memory ≡ failed_with sends.Failed → ⊥
     differ e = cc
-refused_keepalive log clock name produced s new r sends.Failed is failed gap same = (refl, failed.0 is, ap (λ (t : SenderState). state_with name produced (walsenders.Open t)) same)
+refused_keepalive log clock name produced s new r sends.Failed is failed gap same = (refl, failed.0 is, ap (λ (t : SenderState). open_state name produced t) same)
 refused_keepalive log clock name produced s new r sends.Gap is failed gap same = absurd (gap is)
 
-pub refused_alive : (tables : List Table) (log : List Record) (place max : ℕ) (clock : ℤ) (produced : List ℕ) (s new : SenderState) (r : Result (Unit {0}) SendFault) (fault : SendFault)
-    → IsWellFormedLog log → IsLogInRange tables log → FitsSigned w64 clock → IsServing log place produced s → r ≡ Err fault → RefusesFeed clock s new r (take max (drop place log)) → IsServing log place produced new
-refused_alive tables log place max clock produced s new r sends.Memory good in_range fits serving is refuses =
+-- after a refusal the place is of no use any more
+pub refused_alive : (tables : List Table) (log : List Record) (place any max : ℕ) (clock : ℤ) (produced : List ℕ) (s new : SenderState) (r : Result (Unit {0}) SendFault) (fault : SendFault)
+    → IsWellFormedLog log → IsLogInRange tables log → FitsSigned w64 clock → IsServing log place produced s → r ≡ Err fault → RefusesFeed clock s new r (take max (drop place log)) → IsServing log any produced new
+refused_alive tables log place any max clock produced s new r sends.Memory good in_range fits serving is refuses =
     let running = was_running s r refuses.failed (λ other. differ (sym is ∙ other)) in
-    broken_alive tables log place place (take max (drop place log)) clock produced s new (section_of tables log place max (serving.running running).within good in_range) fits serving running (refuses.memory is)
+    broken_alive tables log place any (take max (drop place log)) clock produced s new (section_of tables log place max (serving.running running).within good in_range) fits serving running (refuses.memory is)
   where
     differ : failed_with sends.Memory ≡ failed_with sends.Failed → ⊥
     differ e = cc
-refused_alive tables log place max clock produced s new r sends.Failed good in_range fits serving is refuses = let P : SenderState → Type 0 = λ t. IsServing log place produced t in subst P (sym (refuses.unchanged (refuses.failed.0 is))) serving
-refused_alive tables log place max clock produced s new r sends.Gap good in_range fits serving is refuses = let P : SenderState → Type 0 = λ t. IsServing log place produced t in subst P (sym (refuses.unread is)) serving
+refused_alive tables log place any max clock produced s new r sends.Failed good in_range fits serving is refuses =
+    let failed = refuses.failed.0 is in
+    let P : SenderState → Type 0 = λ t. IsServing log any produced t in
+    subst P (sym (refuses.unchanged failed)) (record { tables = serving.tables; running = λ still. absurd (not_both failed still); streaming = serving.streaming })
+refused_alive tables log place any max clock produced s new r sends.Gap good in_range fits serving is refuses =
+    absurd (no_gap tables log place max clock s new r good in_range (serving.running (was_running s r refuses.failed (λ other. differ (sym is ∙ other)))) is refuses)
+  where
+    differ : failed_with sends.Gap ≡ failed_with sends.Failed → ⊥
+    differ e = cc
 
 pub length_shared : {A : Type 0} (records : List (Arc Record A)) → length (shared records) ≡ length records
 length_shared [] = refl
@@ -341,18 +353,18 @@ grown_streaming log more produced s t =
       stream = (let P : List Record → Type 0 = λ l. IsStream (relation s.selection) (produced ++ s.held) (published s.selection l s.start) s.position in subst P (sym same) t.stream);
     }
 
-pub grown_served : (log more : List Record) (place : ℕ) (produced : List ℕ) (w : Walsender) → IsServedBy log place produced w → IsServedBy (log ++ more) place produced w
-grown_served log more place produced (walsenders.Open s) serving = record {
+pub grown_served : {L : Type 0} (log more : List Record) (produced : List ℕ) (w : Walsender L) → IsServedBy log produced w → IsServedBy (log ++ more) produced w
+grown_served log more produced (walsenders.Open s reader) serving = record {
   tables = serving.tables;
   running = λ still.
       let r = serving.running still in
-      let here = take_grown log more place r.within in
+      let here = take_grown log more reader.place r.within in
       let longer : length log ≤ length (log ++ more) = omega (arith, length-append log more) in
       let P : List Record → Type 0 = λ l. HasRead s l in
       record { within = omega (arith, r.within, longer); reads = subst P (sym here) r.reads; at = r.at ∙ ap (end_of FIRST_POSITION) (sym here) };
   streaming = grown_streaming log more produced s serving.streaming;
 }
-grown_served log more place produced (walsenders.Cut e) was = record {
+grown_served log more produced (walsenders.Cut e) was = record {
   before = was.before;
   streaming = grown_streaming log more produced was.before was.streaming;
   selection_is = was.selection_is;

@@ -201,17 +201,17 @@ joined_known name ss k known = by_subscriber (subscriber_of name ss) refl
     by_subscriber None is = let never : true ≡ false = sym (ap is_some known) ∙ is_found_alike name ss 0 ∙ ap is_some is in absurd cc
 
 -- what a subscriber got
-pub delivered : (name : List ℕ) (n at_start place : ℕ) {L : Type 0} (m : Machine L) (start : Start) (old new : Subscriber) (produced : List ℕ) (a : Answer) → IsOpenStartAt name at_start m.starts.items → start ≡ slice_index_or m.starts.items at_start start
+pub delivered : (name : List ℕ) (n at_start place : ℕ) {L : Type 0} (m : Machine L) (start : Start L) (old new : Subscriber) (produced : List ℕ) (a : Answer) → IsOpenStartAt name at_start m.starts.items → start ≡ slice_index_or m.starts.items at_start start
     → produced ≡ (start_state start).produced → IsSubscriberAt name place m.subscribers.items → old ≡ slice_index_or m.subscribers.items place old
     → Gets (take n (drop old.delivered produced)) (subscriber_state old) a (subscriber_state new)
     → Delivers name n (shown m) a (record (shown m) { subscribers = map subscriber_state (slice_set m.subscribers.items place new) })
-delivered name n at_start place m start old new produced a opened start_value is at value gets =
+delivered name n at_start place {L} m start old new produced a opened start_value is at value gets =
     let within : at_start < length m.starts.items = slice_get_within m.starts.items at_start opened.start opened.there in
     let found_start : opened.start ≡ start = same_inside opened.start start (sym opened.there ∙ slice_get_read m.starts.items (length m.starts.items) at_start start refl within start_value) in
     let here : at.subscriber ≡ old = the_one name place m.subscribers.items old at value in
     record {
       start = start_state start;
-      there = opened.of ∙ ap (λ (s : Start). Option.Some (start_state s)) found_start;
+      there = opened.of ∙ ap (λ (s : Start L). Option.Some (start_state s)) found_start;
       before = subscriber_state old;
       known = at.of ∙ ap (λ (s : Subscriber). Option.Some (subscriber_state s)) here;
       after = subscriber_state new;

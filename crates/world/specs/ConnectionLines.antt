@@ -17,8 +17,9 @@ use Rattle.schedule.specs.declared.answer.Answer.{Answer}
 use Rattle.schedule.specs.declared.answer.Answer.TheVariants as answers
 use Rattle.world.specs.declared.action.Action.{Action}
 use Rattle.world.specs.declared.action.Action.TheVariants as actions
-use Rattle.world.specs.State.{StartState, SubscriberState, WorldState, open_start, with_open_start, with_one_for, reconnected}
+use Rattle.world.specs.State.{StartState, SubscriberState, WorldState, open_start, with_open_start, running, with_one_for, reconnected}
 use Rattle.world.specs.Law.{read_by}
+use Rattle.world.specs.declared.reading.TheConstants.{MAX_SENDERS}
 
 -- the connection that a line names, and what the line asks of its sender; none for the other lines
 abbrev pub action_of : Event → Option (List ℕ × Action)
@@ -96,11 +97,14 @@ new_start connection selection start =
 abbrev pub is_slotless : List ℕ → Bool
 is_slotless slot = bytes_eq slot (codes "-")
 
--- L1 where a slot is named, since there are no slots; then P1, then P2, and P7 for memory
+-- L1 where a slot is named, since there are no slots; then P1, then P2, and P7 for memory; then L6 where as many senders are
+-- running as there may be
 abbrev pub IsStart : List ℕ → List ℕ → ℕ → List (List ℕ) → WorldState → Answer → WorldState → Type 0
 IsStart connection slot start names old answers.Done new =
-    (is_slotless slot ≡ true) × (is_unknown old.publications names ≡ false) × (conflicts (selected old.publications names).publications ≡ false) × (new ≡ record old { starts = old.starts ++ new_start connection (selected old.publications names) start ∷ []; subscribers = with_one_for connection old.subscribers })
+    (is_slotless slot ≡ true) × (is_unknown old.publications names ≡ false) × (conflicts (selected old.publications names).publications ≡ false) × (running old.starts < MAX_SENDERS) × (new ≡ record old { starts = old.starts ++ new_start connection (selected old.publications names) start ∷ []; subscribers = with_one_for connection old.subscribers })
 IsStart connection slot start names old (answers.Slot fault) new = (is_slotless slot ≡ false) × (new ≡ old)
+IsStart connection slot start names old answers.NoReader new =
+    (is_slotless slot ≡ true) × (is_unknown old.publications names ≡ false) × (conflicts (selected old.publications names).publications ≡ false) × (running old.starts ≡ MAX_SENDERS) × (new ≡ old)
 IsStart connection slot start names old (answers.Publication pubs.Unknown) new = (is_slotless slot ≡ true) × (is_unknown old.publications names ≡ true) × (new ≡ old)
 IsStart connection slot start names old (answers.Publication pubs.ListConflict) new =
     (is_slotless slot ≡ true) × (is_unknown old.publications names ≡ false) × (conflicts (selected old.publications names).publications ≡ true) × (new ≡ old)

@@ -23,7 +23,8 @@ use Rattle.world.specs.declared.subscriber.Subscriber.{Subscriber}
 use Rattle.world.specs.declared.start.Walsender.{Walsender}
 use Rattle.world.specs.declared.start.Walsender.TheVariants as walsenders
 use Rattle.world.specs.declared.machine.Machine.{Machine}
-use Rattle.world.specs.State.{NamedTx, StartState, SubscriberState, WorldState, xid_of, without_name, is_open_for, open_start, with_open_start, subscriber_of, with_subscriber}
+use Rattle.world.specs.declared.reading.TheConstants.{MAX_SENDERS}
+use Rattle.world.specs.State.{NamedTx, StartState, SubscriberState, WorldState, xid_of, without_name, is_open_for, open_start, with_open_start, running, subscriber_of, with_subscriber}
 use Rattle.world.specs.SessionLines.{SessionState, IsCalled, ask_of}
 use Rattle.world.specs.ConnectionLines.{Acts}
 
@@ -67,17 +68,20 @@ pub record Grows (old new : List Record) : Type 0 where
 -- ---- Starts.
 
 -- what a start shows while its sender is there, and once it was cut
-abbrev pub state_with : List ℕ → List ℕ → Walsender → StartState
-state_with connection produced (walsenders.Open s) =
+abbrev pub open_state : List ℕ → List ℕ → SenderState → StartState
+open_state connection produced s =
     record { connection = connection; is_open = true; selection = s.selection; start = s.start; position = s.position; failed = s.failed; produced = produced; held = s.held }
+
+abbrev pub state_with : {L : Type 0} → List ℕ → List ℕ → Walsender L → StartState
+state_with connection produced (walsenders.Open s reader) = open_state connection produced s
 state_with connection produced (walsenders.Cut e) =
     record { connection = connection; is_open = false; selection = e.selection; start = e.start; position = e.position; failed = false; produced = produced; held = [] }
 
-abbrev pub start_state : Start → StartState
+abbrev pub start_state : {L : Type 0} → Start L → StartState
 start_state s = state_with s.connection s.produced.items s.walsender
 
-abbrev pub is_open : Walsender → Bool
-is_open (walsenders.Open s) = true
+abbrev pub is_open : {L : Type 0} → Walsender L → Bool
+is_open (walsenders.Open s reader) = true
 is_open (walsenders.Cut e) = false
 
 -- what it produced and holds is the stream of the log up to some place, where its position is
@@ -107,12 +111,12 @@ pub record WasStreaming (log : List Record) (produced : List ℕ) (selection : P
   pub start_is : start ≡ before.start
   pub position_is : position ≡ before.position
 
-abbrev pub IsServedBy : List Record → ℕ → List ℕ → Walsender → Type 0
-IsServedBy log place produced (walsenders.Open s) = IsServing log place produced s
-IsServedBy log place produced (walsenders.Cut e) = WasStreaming log produced e.selection e.start e.position
+abbrev pub IsServedBy : {L : Type 0} → List Record → List ℕ → Walsender L → Type 0
+IsServedBy log produced (walsenders.Open s reader) = IsServing log reader.place produced s
+IsServedBy log produced (walsenders.Cut e) = WasStreaming log produced e.selection e.start e.position
 
-abbrev pub IsServed : List Record → Start → Type 0
-IsServed log s = IsServedBy log s.place s.produced.items s.walsender
+abbrev pub IsServed : {L : Type 0} → List Record → Start L → Type 0
+IsServed log s = IsServedBy log s.produced.items s.walsender
 
 -- ---- The open ones among them.
 
@@ -139,22 +143,22 @@ start_place at connection [] = None
 start_place at connection (s ∷ starts) = if is_open_for connection s then Some at else start_place (at + 1) connection starts
 
 -- the open start of the connection stands there
-pub record IsOpenStartAt (connection : List ℕ) (place : ℕ) (starts : List Start) : Type 0 where
-  pub start : Start
+pub record IsOpenStartAt {L : Type 0} (connection : List ℕ) (place : ℕ) (starts : List (Start L)) : Type 0 where
+  pub start : Start L
   pub there : slice_get starts place ≡ Some start
   pub opened : is_open start.walsender ≡ true
   pub of : open_start connection (map start_state starts) ≡ Some (start_state start)
   pub changed : (after : StartState) → with_open_start connection after (map start_state starts) ≡ slice_set (map start_state starts) place after
 
 -- an open start stands there
-pub record IsOpenAt (place : ℕ) (starts : List Start) : Type 0 where
-  pub start : Start
+pub record IsOpenAt {L : Type 0} (place : ℕ) (starts : List (Start L)) : Type 0 where
+  pub start : Start L
   pub there : slice_get starts place ≡ Some start
   pub opened : is_open start.walsender ≡ true
 
 -- what is asked of the start at a place, and of no other
-pub record ActsIn (log : List Record) (place : ℕ) (action : Action) (old : List Start) (answer : Answer) (new : List Start) : Type 0 where
-  pub before : Start
+pub record ActsIn {L : Type 0} (log : List Record) (place : ℕ) (action : Action) (old : List (Start L)) (answer : Answer) (new : List (Start L)) : Type 0 where
+  pub before : Start L
   pub after : StartState
   pub there : slice_get old place ≡ Some before
   pub acts : Acts log action (start_state before) answer after
@@ -192,9 +196,12 @@ pub record HasRoom {L : Type 0} (m : Machine L) : Type 0 where
   pub opened : vec_len m.opened < vec_capacity m.opened
   pub subscribers : vec_len m.subscribers < vec_capacity m.subscribers
 
--- the log is one, each start has read it up to its place, the open ones are found, and each has a subscriber
+-- The log is one, each start has read it up to its place, the open ones are found, and each has a subscriber. Each reader serves
+-- an open start or stands in the pool, which has room for them all.
 pub record IsMachine {L : Type 0} (m : Machine L) : Type 0 where
   pub good : IsWellFormedLog m.publisher.log
   pub served : AllByRecursion (IsServed m.publisher.log) m.starts.items
   pub found : m.opened.items ≡ open_places 0 (map start_state m.starts.items)
   pub subscribed : AllByRecursion (IsSubscribed (map subscriber_state m.subscribers.items)) (map start_state m.starts.items)
+  pub readers : vec_len m.readers + running (map start_state m.starts.items) ≡ MAX_SENDERS
+  pub room : MAX_SENDERS ≤ vec_capacity m.readers

@@ -1,6 +1,6 @@
 -- The world between two events: a publisher, its transactions in progress by name, every start of a sender with what came
 -- of it, and the subscribers.
-use Rattle.std.specs.Prelude.{ℕ, Bool, false, ◌&&◌, List, [], ◌∷◌, ◌++◌, drop, Option, Some, None, if◌then◌else◌}
+use Rattle.std.specs.Prelude.{ℕ, ◌+◌, Bool, false, ◌&&◌, List, [], ◌∷◌, ◌++◌, drop, Option, Some, None, if◌then◌else◌}
 use Rattle.std.specs.Str.{bytes_eq}
 use Rattle.tables.specs.declared.table.Table.{Table}
 use Rattle.txlog.specs.Publishing.{PublisherState, new_publisher}
@@ -80,6 +80,11 @@ open_start connection (s ∷ starts) = if is_open_for connection s then Some s e
 abbrev pub with_open_start : List ℕ → StartState → List StartState → List StartState
 with_open_start connection new [] = []
 with_open_start connection new (s ∷ starts) = if is_open_for connection s then new ∷ starts else s ∷ with_open_start connection new starts
+
+-- how many senders are running: one for each open start, whether it has failed or not
+abbrev pub running : List StartState → ℕ
+running [] = 0
+running (s ∷ starts) = if s.is_open then running starts + 1 else running starts
 
 -- what a start has produced and its subscriber hasn't got yet
 abbrev pub in_pipe : StartState → SubscriberState → List ℕ

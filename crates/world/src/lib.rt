@@ -11,6 +11,7 @@ mod config;
 mod config_fault;
 mod machine;
 mod opening;
+mod reading;
 mod rows;
 mod server;
 mod session;
@@ -21,6 +22,7 @@ mod world;
 
 pub use config::{Config, explained};
 pub use config_fault::{ConfigFault, ServerMisfit};
+pub use reading::MAX_SENDERS;
 pub use schedule::{Answer, BadEvent, Event, LineFault, Literal, Schedule, SlotFault, WorldFault};
 pub use server::{MAX_CHUNKS, Server};
 pub use simulation::{SimFault, simulate};

@@ -1,10 +1,11 @@
 //! The publisher with its sessions and the starts of its senders.
 
-ghost use Rattle.std.specs.Prelude.{◌≡◌, ◌≤◌, ◌↔◌, ◌++◌, ◌∷◌, [], map, is_some, true, false, IfErr, IfOk, IsSome, IsNone, OnErr, OnOk, None};
+ghost use Rattle.std.specs.Prelude.{◌≡◌, ◌≢◌, ◌≤◌, ◌<◌, ◌+◌, ◌++◌, ◌∷◌, [], map, is_some, true, Err, IfErr, IfOk, IsSome, IsNone, OnErr, OnOk, vec_capacity, vec_len};
 ghost use Rattle.std.specs.List.{AllByRecursion};
+ghost use Rattle.publication.specs.Selection.{FitTables};
 ghost use Rattle.txlog.specs.Publishing.{new_publisher};
-ghost use Rattle.world.specs.State.{new_subscriber, new_world, open_start, with_one_for, xid_of};
-ghost use Rattle.world.specs.ConnectionLines.{ActsAt, IsStart};
+ghost use Rattle.world.specs.State.{new_subscriber, new_world, open_start, running, with_one_for};
+ghost use Rattle.world.specs.ConnectionLines.{ActsAt, IsStart, new_start};
 ghost use Rattle.world.specs.Delivering.{Delivers};
 ghost use Rattle.world.specs.Steps.{IsStep, is_bad};
 ghost use Rattle.world.specs.Machine.{ActsIn, HasRoom, IsMachine, IsOpenAt, IsServed, shown, start_state, subscriber_state};
@@ -13,13 +14,14 @@ use crate::action::Action;
 use crate::calls::{call, is_known};
 use crate::config::Config;
 use crate::opening::{close, place_among};
+use crate::reading::MAX_SENDERS;
 use crate::session::{Session, leave_all};
 use crate::start::Start;
 use crate::subscriber::{Subscriber, place_of, reconnect, subscribe};
 use frames::Text;
-use publication::Publications;
+use publication::{Publications, Selection};
 use schedule::{Answer, Event, SlotFault, WorldFault};
-use shared_log::LogName;
+use shared_log::{LogName, LogReader};
 use std::alloc::{AllocError, Global};
 use std::sync::Wait;
 use tables::Catalog;
@@ -28,13 +30,15 @@ use txlog::{MAX_RECORDS, Opened, Publisher, SessionFault};
 /// What a start names instead of a slot.
 const NO_SLOT: &str = "-";
 
-/// A publisher, its sessions by name, every start of a sender, where the open ones stand, in order, and the subscribers.
+/// A publisher, its sessions by name, every start of a sender, where the open ones stand, in order, the readers that serve none
+/// of them, and the subscribers.
 pub(crate) struct Machine<L: LogName> {
     pub(crate) publications: Publications,
     pub(crate) publisher: Publisher<L>,
     pub(crate) sessions: Vec<Session>,
-    pub(crate) starts: Vec<Start>,
+    pub(crate) starts: Vec<Start<L>>,
     pub(crate) opened: Vec<usize>,
+    pub(crate) readers: Vec<LogReader<L>>,
     pub(crate) subscribers: Vec<Subscriber>,
 }
 
@@ -56,13 +60,14 @@ impl<L: LogName> Machine<L> {
             server,
         } = config;
         match publisher_of(rt, alloc, history, catalog, server.records) {
-            Ok(publisher) => {
+            Ok((publisher, readers)) => {
                 return Ok(Machine {
                     publications,
                     publisher,
                     sessions: Vec::new(alloc),
                     starts: Vec::new(alloc),
                     opened: Vec::new(alloc),
+                    readers,
                     subscribers: Vec::new(alloc),
                 });
             }
@@ -70,16 +75,19 @@ impl<L: LogName> Machine<L> {
         }
     }
 
-    /// Leaves every transaction as it is, and ends the log.
+    /// Ends the senders and their readers, leaves every transaction as it is, and ends the log.
     pub(crate) fn close<R: Wait>(self, rt: &R) {
         let Machine {
             publications: _,
             publisher,
             sessions,
-            starts: _,
+            starts,
             opened: _,
+            readers,
             subscribers: _,
         } = self;
+        drop(starts);
+        drop(readers);
         leave_all(&publisher, sessions);
         publisher.close(rt);
     }
@@ -131,7 +139,8 @@ impl<L: LogName> Machine<L> {
         }
     }
 
-    /// Starts a sender, which reads the log from its first record on. L1 where a slot is named, then P1, then P2.
+    /// Starts a sender, which reads the log from its first record on. L1 where a slot is named, then P1, then P2, then L6 where
+    /// no reader is left.
     fn start(
         &mut self,
         alloc: Global,
@@ -152,24 +161,25 @@ impl<L: LogName> Machine<L> {
         if slot.as_str() != NO_SLOT {
             return Ok(Answer::Slot(SlotFault::Missing));
         }
+        let selection = match self.publications.select(names) {
+            Ok(selection) => selection,
+            Err(fault) => return Ok(Answer::Publication(fault)),
+        };
+        if self.readers.is_empty() {
+            return Ok(Answer::NoReader);
+        }
         self.make_room()?;
         let subscriber = Subscriber::new(alloc, name.copy(alloc)?);
         let connection = name.copy(alloc)?;
-        match self.publications.select(names) {
-            Ok(selection) => {
-                let publisher = &self.publisher;
-                let start = Start::new(alloc, publisher, connection, selection, position);
-                self.add(start, subscriber);
-                Ok(Answer::Done)
-            }
-            Err(fault) => Ok(Answer::Publication(fault)),
-        }
+        self.add(alloc, subscriber, connection, selection, position);
+        Ok(Answer::Done)
     }
 
     /// Room for one more start.
     fn make_room(&mut self) -> Result<(), AllocError>
         ensures same { shown self.new ≡ shown self.old }
         ensures room { OnOk result (HasRoom self.new) }
+        ensures readers { vec_len self.new.readers ≡ vec_len self.old.readers }
         ensures machine { IsMachine self.old → IsMachine self.new }
     {
         self.starts.reserve(1)?;
@@ -177,19 +187,31 @@ impl<L: LogName> Machine<L> {
         self.subscribers.reserve(1)
     }
 
-    /// Adds an open start, and its subscriber where the connection has none yet.
-    fn add(&mut self, start: Start, subscriber: Subscriber)
+    /// Adds an open start with a reader, and its subscriber where the connection has none yet.
+    fn add(
+        &mut self,
+        alloc: Global,
+        subscriber: Subscriber,
+        connection: Text,
+        selection: Selection,
+        position: u64,
+    )
         requires machine { IsMachine self.old }
         requires room { HasRoom self.old }
-        requires opened { (start_state start).is_open ≡ true }
-        requires served { IsServed self.old.publisher.log start }
-        requires subscriber { subscriber_state subscriber ≡ new_subscriber (start_state start).connection }
+        requires reader { 0 < vec_len self.old.readers }
+        requires tables { FitTables selection }
+        requires subscriber { subscriber_state subscriber ≡ new_subscriber connection }
         ensures added { shown self.new ≡ record (shown self.old) {
-          starts = (shown self.old).starts ++ start_state start ∷ [];
-          subscribers = with_one_for (start_state start).connection (shown self.old).subscribers;
+          starts = (shown self.old).starts ++ new_start connection selection position ∷ [];
+          subscribers = with_one_for connection (shown self.old).subscribers;
         } }
         ensures machine { IsMachine self.new }
     {
+        let Some(reader) = self.readers.pop() else {
+            unreachable!();
+        };
+        let publisher = &self.publisher;
+        let start = Start::new(alloc, publisher, reader, connection, selection, position);
         let place = self.starts.as_slice().len();
         self.opened.push_reserved(place);
         self.starts.push_reserved(start);
@@ -208,7 +230,14 @@ impl<L: LogName> Machine<L> {
         let Some(place) = found else {
             return Err(WorldFault::BadEvent);
         };
-        let answer = act_at(&mut self.starts, place, alloc, &self.publisher, action)?;
+        let answer = act_at(
+            &mut self.starts,
+            place,
+            alloc,
+            &mut self.publisher,
+            &mut self.readers,
+            action,
+        )?;
         match action {
             Action::Cut => {
                 close(&mut self.opened, place);
@@ -246,37 +275,42 @@ impl<L: LogName> Machine<L> {
     }
 }
 
-/// A publisher for this many records. Its log is read by `tail`, so its one reader goes.
+/// A publisher for this many records, and the readers of its log.
 fn publisher_of<L: LogName, R: Wait>(
     rt: &R,
     alloc: Global,
     history: shared_log::Opened,
     catalog: Catalog,
     records: usize,
-) -> Result<Publisher<L>, SessionFault>
+) -> Result<(Publisher<L>, Vec<LogReader<L>>), SessionFault>
     requires name { history.seen.book ≡ L.book }
     requires some { 1 ≤ records }
     requires few { records ≤ MAX_RECORDS }
-    ensures ok { IfOk result (λ p. p ≡ new_publisher catalog records) }
+    ensures ok { IfOk result (λ made. made.0 ≡ new_publisher catalog records) }
+    ensures readers { IfOk result (λ made. vec_len made.1 ≡ MAX_SENDERS) }
 {
-    let opened = Opened::over(alloc, history, catalog, records, 1)?;
-    let (publisher, _) = Publisher::open(rt, opened)?;
-    Ok(publisher)
+    let opened = Opened::over(alloc, history, catalog, records, MAX_SENDERS)?;
+    Publisher::open(rt, opened)
 }
 
 fn act_at<L: LogName>(
-    starts: &mut Vec<Start>,
+    starts: &mut Vec<Start<L>>,
     place: usize,
     alloc: Global,
-    publisher: &Publisher<L>,
+    publisher: &mut Publisher<L>,
+    readers: &mut Vec<LogReader<L>>,
     action: Action,
 ) -> Result<Answer, WorldFault>
     requires opened { IsOpenAt place starts.old.items }
-    requires all { AllByRecursion (IsServed publisher.now.log) starts.old.items }
-    ensures acts { IfOk result (λ a. ActsIn publisher.now.log place action starts.old.items a starts.new.items) }
+    requires all { AllByRecursion (IsServed publisher.old.log) starts.old.items }
+    requires room { vec_len readers.old < vec_capacity readers.old }
+    ensures acts { IfOk result (λ a. ActsIn publisher.old.log place action starts.old.items a starts.new.items) }
     ensures err { OnErr result (map start_state starts.new.items ≡ map start_state starts.old.items) }
-    ensures memory { IfErr result (λ e. e ≡ WorldFault.Memory) }
-    ensures all { AllByRecursion (IsServed publisher.now.log) starts.new.items }
+    ensures happens { result ≢ Err WorldFault.BadEvent }
+    ensures all { AllByRecursion (IsServed publisher.old.log) starts.new.items }
+    ensures same { publisher.new ≡ publisher.old }
+    ensures readers { vec_len readers.new + running (map start_state starts.new.items) ≡ vec_len readers.old + running (map start_state starts.old.items) }
+    ensures capacity { vec_capacity readers.new ≡ vec_capacity readers.old }
 {
-    starts[place].act(alloc, publisher, action)
+    starts[place].act(alloc, publisher, readers, action)
 }

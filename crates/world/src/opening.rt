@@ -5,9 +5,14 @@ ghost use Rattle.world.specs.Machine.{is_for, place_among, start_state, without_
 
 use crate::start::Start;
 use frames::Text;
+use shared_log::LogName;
 
 /// The place of the open start of the connection, among the places of the open starts.
-pub(crate) fn place_among(starts: &[Start], opened: &[usize], connection: &Text) -> Option<usize>
+pub(crate) fn place_among<L: LogName>(
+    starts: &[Start<L>],
+    opened: &[usize],
+    connection: &Text,
+) -> Option<usize>
     ensures { result ≡ place_among connection.now (map start_state starts.now) opened.now }
 {
     for place in opened {
@@ -18,7 +23,7 @@ pub(crate) fn place_among(starts: &[Start], opened: &[usize], connection: &Text)
     None
 }
 
-fn is_at(starts: &[Start], place: usize, connection: &Text) -> bool
+fn is_at<L: LogName>(starts: &[Start<L>], place: usize, connection: &Text) -> bool
     ensures { result ≡ is_for connection.now (slice_get (map start_state starts.now) place) }
 {
     match starts.get(place) {

@@ -30,6 +30,8 @@ pub enum SimFault {
     Event(BadEvent),
     #[error("out of memory")]
     Memory,
+    #[error("the log lets no reader in")]
+    NoEntry,
     #[error("the report cannot be written: {0}")]
     Write(io::Error),
 }
@@ -43,7 +45,7 @@ impl SimFault {
             SimFault::NotUtf8 => true,
             SimFault::Line(line) => line.fault == WorldFault::BadEvent,
             SimFault::Event(_) => true,
-            SimFault::Read(_) | SimFault::Memory | SimFault::Write(_) => false,
+            SimFault::Read(_) | SimFault::Memory | SimFault::NoEntry | SimFault::Write(_) => false,
         }
     }
 }
@@ -93,7 +95,10 @@ fn stopped(schedule: Schedule, fault: RunFault) -> SimFault {
     {
         return SimFault::Event(event);
     }
-    SimFault::Memory
+    match fault {
+        RunFault::Step(_, WorldFault::NoEntry) => SimFault::NoEntry,
+        RunFault::New | RunFault::Step(_, _) => SimFault::Memory,
+    }
 }
 
 fn read_schedule<R: Read>(alloc: Global, input: &mut R) -> Result<String, SimFault> {

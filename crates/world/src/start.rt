@@ -1,45 +1,45 @@
 //! A start of a connection's sender, and what it has produced.
 
-ghost use Rattle.std.specs.Prelude.{◌≡◌, ◌++◌, [], true, IfErr, IfOk, OnErr};
+ghost use Rattle.std.specs.Prelude.{◌≡◌, ◌≢◌, ◌+◌, ◌<◌, ◌∷◌, [], true, false, Err, IfOk, OnErr, vec_capacity, vec_len};
 ghost use Rattle.publication.specs.Selection.{FitTables};
-ghost use Rattle.world.specs.State.{is_open_for};
+ghost use Rattle.world.specs.State.{is_open_for, running};
 ghost use Rattle.world.specs.ConnectionLines.{Acts, new_start};
 ghost use Rattle.world.specs.Machine.{IsServed, is_open, start_state};
 
 use crate::action::Action;
+use crate::reading::read_on;
 use bytes::BytesMut;
 use frames::Text;
 use publication::Selection;
 use schedule::{Answer, WorldFault};
 use sender::{Ended, Sender};
-use shared_log::LogName;
+use shared_log::{LogName, LogReader};
 use std::alloc::Global;
 use std::mem;
 use txlog::Publisher;
 use wal::FIRST_POSITION;
 
 /// A start of a connection's sender. It is open until the connection is cut, and stays with what it produced.
-#[derive(Debug, Drop)]
-pub struct Start {
+#[derive(Drop)]
+pub struct Start<L: LogName> {
     pub(crate) connection: Text,
-    /// The place in the log of the next record to read.
-    pub(crate) place: usize,
     pub(crate) produced: BytesMut,
-    pub(crate) walsender: Walsender,
+    pub(crate) walsender: Walsender<L>,
 }
 
-/// The sender, or what is left of it.
-#[derive(Debug, Drop)]
-pub(crate) enum Walsender {
-    Open(Sender),
+/// The sender with its reader of the log, or what is left of it.
+#[derive(Drop)]
+pub(crate) enum Walsender<L: LogName> {
+    Open(Sender, LogReader<L>),
     Cut(Ended),
 }
 
-impl Start {
+impl<L: LogName> Start<L> {
     /// A sender that reads the log from its first record on.
-    pub(crate) fn new<L: LogName>(
+    pub(crate) fn new(
         alloc: Global,
         publisher: &Publisher<L>,
+        mut reader: LogReader<L>,
         connection: Text,
         selection: Selection,
         position: u64,
@@ -51,11 +51,11 @@ impl Start {
         let Ok(sender) = Sender::start(alloc, selection, position, FIRST_POSITION) else {
             unreachable!();
         };
+        reader.seek(0);
         Start {
             connection,
-            place: 0,
             produced: BytesMut::new(alloc),
-            walsender: Walsender::Open(sender),
+            walsender: Walsender::Open(sender, reader),
         }
     }
 
@@ -83,65 +83,70 @@ impl Start {
     fn is_open(&self) -> bool
         ensures { result ≡ is_open self.now.walsender }
     {
-        matches!(&self.walsender, Walsender::Open(_))
+        matches!(&self.walsender, Walsender::Open(_, _))
     }
 
-    /// Does what a line asks of the sender. It is open.
-    pub(crate) fn act<L: LogName>(
+    /// Does what a line asks of the sender. It is open; where it is cut, its reader goes back to the others.
+    pub(crate) fn act(
         &mut self,
         alloc: Global,
-        publisher: &Publisher<L>,
+        publisher: &mut Publisher<L>,
+        readers: &mut Vec<LogReader<L>>,
         action: Action,
     ) -> Result<Answer, WorldFault>
-        requires served { IsServed publisher.now.log self.old }
+        requires served { IsServed publisher.old.log self.old }
         requires opened { is_open self.old.walsender ≡ true }
-        ensures acts { IfOk result (λ a. Acts publisher.now.log action (start_state self.old) a (start_state self.new)) }
+        requires room { vec_len readers.old < vec_capacity readers.old }
+        ensures acts { IfOk result (λ a. Acts publisher.old.log action (start_state self.old) a (start_state self.new)) }
         ensures err { OnErr result (start_state self.new ≡ start_state self.old) }
-        ensures memory { IfErr result (λ e. e ≡ WorldFault.Memory) }
-        ensures served { IsServed publisher.now.log self.new }
+        ensures happens { result ≢ Err WorldFault.BadEvent }
+        ensures served { IsServed publisher.old.log self.new }
+        ensures same { publisher.new ≡ publisher.old }
+        ensures readers { vec_len readers.new + running (start_state self.new ∷ []) ≡ vec_len readers.old + running (start_state self.old ∷ []) }
+        ensures capacity { vec_capacity readers.new ≡ vec_capacity readers.old }
     {
         match action {
-            Action::Read(max, clock) => return self.read(publisher, max, clock),
+            Action::Read(max, clock) => return self.read(alloc, publisher, max, clock),
             Action::Keepalive(clock) => return Ok(self.keepalive(publisher, clock)),
             Action::Drain(max) => return self.drain(publisher, max),
-            Action::Cut => return Ok(self.cut(alloc, publisher)),
+            Action::Cut => return Ok(self.cut(alloc, publisher, readers)),
         }
     }
 
-    fn read<L: LogName>(
+    fn read(
         &mut self,
-        publisher: &Publisher<L>,
+        alloc: Global,
+        publisher: &mut Publisher<L>,
         max: u32,
         clock: i64,
     ) -> Result<Answer, WorldFault>
-        requires served { IsServed publisher.now.log self.old }
+        requires served { IsServed publisher.old.log self.old }
         requires opened { is_open self.old.walsender ≡ true }
-        ensures acts { IfOk result (λ a. Acts publisher.now.log (Action.Read max clock) (start_state self.old) a (start_state self.new)) }
+        ensures acts { IfOk result (λ a. Acts publisher.old.log (Action.Read max clock) (start_state self.old) a (start_state self.new)) }
         ensures err { OnErr result (start_state self.new ≡ start_state self.old) }
-        ensures memory { IfErr result (λ e. e ≡ WorldFault.Memory) }
-        ensures served { IsServed publisher.now.log self.new }
+        ensures happens { result ≢ Err WorldFault.BadEvent }
+        ensures served { IsServed publisher.old.log self.new }
+        ensures same { publisher.new ≡ publisher.old }
+        ensures opened { is_open self.new.walsender ≡ true }
     {
-        let records = publisher.tail(self.place, max as usize)?;
-        let Walsender::Open(sender) = &mut self.walsender else {
+        let Walsender::Open(sender, reader) = &mut self.walsender else {
             unreachable!();
         };
-        let section = records.as_slice();
-        match sender.feed(section, clock) {
-            Ok(()) => {
-                self.place += section.len();
-                return Ok(Answer::Done);
-            }
+        let records = read_on(alloc, publisher, reader, max as usize)?;
+        match sender.feed(records.as_slice(), clock) {
+            Ok(()) => return Ok(Answer::Done),
             Err(fault) => return Ok(Answer::Sender(fault)),
         }
     }
 
-    fn keepalive<L: LogName>(&mut self, publisher: &Publisher<L>, clock: i64) -> Answer
+    fn keepalive(&mut self, publisher: &Publisher<L>, clock: i64) -> Answer
         requires served { IsServed publisher.now.log self.old }
         requires opened { is_open self.old.walsender ≡ true }
         ensures acts { Acts publisher.now.log (Action.Keepalive clock) (start_state self.old) result (start_state self.new) }
         ensures served { IsServed publisher.now.log self.new }
+        ensures opened { is_open self.new.walsender ≡ true }
     {
-        let Walsender::Open(sender) = &mut self.walsender else {
+        let Walsender::Open(sender, _) = &mut self.walsender else {
             unreachable!();
         };
         match sender.keepalive(clock, false) {
@@ -150,19 +155,16 @@ impl Start {
         }
     }
 
-    fn drain<L: LogName>(
-        &mut self,
-        publisher: &Publisher<L>,
-        max: u32,
-    ) -> Result<Answer, WorldFault>
+    fn drain(&mut self, publisher: &Publisher<L>, max: u32) -> Result<Answer, WorldFault>
         requires served { IsServed publisher.now.log self.old }
         requires opened { is_open self.old.walsender ≡ true }
         ensures acts { IfOk result (λ a. Acts publisher.now.log (Action.Drain max) (start_state self.old) a (start_state self.new)) }
         ensures err { OnErr result (start_state self.new ≡ start_state self.old) }
-        ensures memory { IfErr result (λ e. e ≡ WorldFault.Memory) }
+        ensures happens { result ≢ Err WorldFault.BadEvent }
         ensures served { IsServed publisher.now.log self.new }
+        ensures opened { is_open self.new.walsender ≡ true }
     {
-        let Walsender::Open(sender) = &mut self.walsender else {
+        let Walsender::Open(sender, _) = &mut self.walsender else {
             unreachable!();
         };
         sender.drain_into(max as usize, &mut self.produced)?;
@@ -170,22 +172,33 @@ impl Start {
     }
 
     /// What the sender still held is lost.
-    fn cut<L: LogName>(&mut self, alloc: Global, publisher: &Publisher<L>) -> Answer
+    fn cut(
+        &mut self,
+        alloc: Global,
+        publisher: &Publisher<L>,
+        readers: &mut Vec<LogReader<L>>,
+    ) -> Answer
         requires served { IsServed publisher.now.log self.old }
         requires opened { is_open self.old.walsender ≡ true }
+        requires room { vec_len readers.old < vec_capacity readers.old }
         ensures acts { Acts publisher.now.log Action.Cut (start_state self.old) result (start_state self.new) }
         ensures served { IsServed publisher.now.log self.new }
+        ensures closed { is_open self.new.walsender ≡ false }
+        ensures readers { vec_len readers.new ≡ vec_len readers.old + 1 }
+        ensures capacity { vec_capacity readers.new ≡ vec_capacity readers.old }
     {
-        let Walsender::Open(sender) = mem::replace(&mut self.walsender, nothing(alloc)) else {
+        let Walsender::Open(sender, reader) = mem::replace(&mut self.walsender, nothing(alloc))
+        else {
             unreachable!();
         };
+        readers.push_reserved(reader);
         self.walsender = Walsender::Cut(sender.end());
         Answer::Done
     }
 }
 
 /// What stands in the place of a sender while it ends.
-fn nothing(alloc: Global) -> Walsender {
+fn nothing<L: LogName>(alloc: Global) -> Walsender<L> {
     Walsender::Cut(Ended {
         selection: Selection::empty(alloc),
         start: 0,

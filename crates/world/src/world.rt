@@ -72,8 +72,8 @@ impl<L: LogName> World<L> {
         })
     }
 
-    /// Does one event, keeps what it answered, and answers it. V1 exactly where its name is unknown or wrongly repeated, and
-    /// V2 for memory; both change nothing.
+    /// Does one event, keeps what it answered, and answers it. V1 exactly where its name is unknown or wrongly repeated, V2 for
+    /// memory, and V3 where the log lets no reader in; each changes nothing.
     pub fn step<R: Wait>(&mut self, rt: &R, event: &Event) -> Result<Answer, WorldFault>
         ensures step { IfOk result (λ a. IsStep self.old.state event.now a self.new.state) }
         ensures kept { IfOk result (λ a. self.new.answers ≡ self.old.answers ++ a ∷ []) }
@@ -130,7 +130,7 @@ impl<L: LogName> World<L> {
     }
 
     /// Every start of a sender, in order, with what came of it.
-    pub fn starts(&self) -> &[Start]
+    pub fn starts(&self) -> &[Start<L>]
         ensures { map start_state result.now ≡ self.now.state.starts }
     {
         self.machine.starts.as_slice()

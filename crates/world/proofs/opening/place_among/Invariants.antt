@@ -3,4 +3,4 @@ use Rattle.world.specs.Machine.{place_among, start_state}
 use Rattle.world.proofs.opening.place_among.Given as goal
 
 abbrev pub invariant-loop-place : goal.invariant-loop-place
-invariant-loop-place l = place_among l.connection (map start_state l.starts) (drop l.place-index l.opened) ≡ place_among l.connection (map start_state l.starts) l.opened
+invariant-loop-place g l = place_among l.connection (map start_state l.starts) (drop l.place-index l.opened) ≡ place_among l.connection (map start_state l.starts) l.opened

@@ -7,7 +7,7 @@ use Rattle.world.specs.Machine.{ActsIn, IsSubscribed, shown, start_state, subscr
 use Rattle.world.proofs.Openings.{open_at, none_open}
 use Rattle.world.proofs.Asking.{acted_at, subscribed_on}
 use Rattle.world.proofs.Subscribing.{all_reconnected}
-use Rattle.world.proofs.Machines.{found_on, found_less, kept_subscribers, no_cut}
+use Rattle.world.proofs.Machines.{found_on, found_less, kept_subscribers, no_cut, pool_has_room}
 use Rattle.world.proofs.machine.Machine.act.Goals as goal
 
 pub returns-in_default-clause-bad : goal.returns-in_default-clause-bad
@@ -20,6 +20,12 @@ act_at-requires-clause-opened g c =
     (rw (c.as_slice.ensures.value, c.as_slice-2.ensures.value) at (sym c.place_among-found.ensures ∙ c.in-Some.is)) in
     record { start = at.start; there = at.there; opened = at.opened }
 
+pub act_at-requires-clause-room : goal.act_at-requires-clause-room
+act_at-requires-clause-room g c =
+    let at = open_at c.args.name.now c.args.self.now.starts.items c.args.self.now.opened.items c.in-Some.place c.requires.machine.found
+    (rw (c.as_slice.ensures.value, c.as_slice-2.ensures.value) at (sym c.place_among-found.ensures ∙ c.in-Some.is)) in
+    pool_has_room c.args.name.now c.in-Some.place c.args.self.now at c.requires.machine
+
 pub returns-in-Cut-clause-acts : goal.returns-in-Cut-clause-acts
 returns-in-Cut-clause-acts g c =
     let at = open_at c.args.name.now c.args.self.now.starts.items c.args.self.now.opened.items c.in-Some.place c.requires.machine.found
@@ -27,7 +33,7 @@ returns-in-Cut-clause-acts g c =
     let did = acted_at c.args.name.now c.in-Some.place c.args.action c.args.self.now c.act_at.new.starts.items c.in_ok-answer.answer at c.in_ok-answer.ensures.acts in
     let subscribers : subscribers_after c.args.name.now c.args.action (map subscriber_state c.args.self.now.subscribers.items) ≡ map subscriber_state c.reconnect.new.subscribers.items =
     ap (λ (action : Action). subscribers_after c.args.name.now action (map subscriber_state c.args.self.now.subscribers.items)) c.in-Cut.is ∙ sym c.reconnect.ensures in
-    subst (λ (l : List SubscriberState). ActsAt c.args.name.now c.args.action (shown c.args.self.now) c.in_ok-answer.answer (record (shown c.args.self.now) { starts = map start_state c.act_at.new.starts.items; subscribers = l })) subscribers did
+    rw c.act_at.ensures.same (subst (λ (l : List SubscriberState). ActsAt c.args.name.now c.args.action (shown c.args.self.now) c.in_ok-answer.answer (record (shown c.args.self.now) { starts = map start_state c.act_at.new.starts.items; subscribers = l })) subscribers did)
 
 pub returns-in-Cut-clause-machine : goal.returns-in-Cut-clause-machine
 returns-in-Cut-clause-machine g c =
@@ -36,14 +42,16 @@ returns-in-Cut-clause-machine g c =
     (rw (c.as_slice.ensures.value, c.as_slice-2.ensures.value) at (sym c.place_among-found.ensures ∙ c.in-Some.is)) in
     let P : Action → Type 0 = λ action. ActsIn log c.in-Some.place action c.args.self.now.starts.items c.in_ok-answer.answer c.act_at.new.starts.items in
     record {
-      good = c.requires.machine.good;
-      served = c.act_at.ensures.all;
+      good = rw c.act_at.ensures.same c.requires.machine.good;
+      served = rw c.act_at.ensures.same c.act_at.ensures.all;
       found = c.close.ensures
           ∙ found_less log c.args.name.now c.in-Some.place c.args.self.now.starts.items c.act_at.new.starts.items c.args.self.now.opened.items c.in_ok-answer.answer at (subst P c.in-Cut.is c.in_ok-answer.ensures.acts) c.requires.machine.found;
       subscribed =
           let kept = subscribed_on c.args.name.now c.in-Some.place c.args.action c.args.self.now c.act_at.new.starts.items c.in_ok-answer.answer at c.in_ok-answer.ensures.acts c.requires.machine.subscribed in
           let again = all_reconnected c.args.name.now (map subscriber_state c.args.self.now.subscribers.items) (map start_state c.act_at.new.starts.items) kept in
           subst (λ (l : List SubscriberState). AllByRecursion (IsSubscribed l) (map start_state c.act_at.new.starts.items)) (sym c.reconnect.ensures) again;
+      readers = c.act_at.ensures.readers ∙ c.requires.machine.readers;
+      room = rw c.act_at.ensures.capacity c.requires.machine.room;
     }
 
 pub returns-in_default-action : goal.returns-in_default-action
@@ -52,16 +60,18 @@ returns-in_default-action g c =
     let at = open_at c.args.name.now c.args.self.now.starts.items c.args.self.now.opened.items c.in-Some.place c.requires.machine.found
     (rw (c.as_slice.ensures.value, c.as_slice-2.ensures.value) at (sym c.place_among-found.ensures ∙ c.in-Some.is)) in
     record {
-      acts = subst (λ (l : List SubscriberState). ActsAt c.args.name.now c.args.action (shown c.args.self.now) c.in_ok-answer.answer (record (shown c.args.self.now) { starts = map start_state c.act_at.new.starts.items; subscribers = l }))
+      acts = rw c.act_at.ensures.same (subst (λ (l : List SubscriberState). ActsAt c.args.name.now c.args.action (shown c.args.self.now) c.in_ok-answer.answer (record (shown c.args.self.now) { starts = map start_state c.act_at.new.starts.items; subscribers = l }))
           (kept_subscribers c.args.name.now c.args.action (map subscriber_state c.args.self.now.subscribers.items) (no_cut c.args.action c.in_default-action.not-Cut))
-          (acted_at c.args.name.now c.in-Some.place c.args.action c.args.self.now c.act_at.new.starts.items c.in_ok-answer.answer at c.in_ok-answer.ensures.acts);
+          (acted_at c.args.name.now c.in-Some.place c.args.action c.args.self.now c.act_at.new.starts.items c.in_ok-answer.answer at c.in_ok-answer.ensures.acts));
       bad = λ never. cc;
       err = tt;
       machine = record {
-        good = c.requires.machine.good;
-        served = c.act_at.ensures.all;
+        good = rw c.act_at.ensures.same c.requires.machine.good;
+        served = rw c.act_at.ensures.same c.act_at.ensures.all;
         found = found_on log c.in-Some.place c.args.action c.args.self.now.starts.items c.act_at.new.starts.items c.args.self.now.opened.items c.in_ok-answer.answer (no_cut c.args.action c.in_default-action.not-Cut) c.in_ok-answer.ensures.acts
             c.requires.machine.found;
         subscribed = subscribed_on c.args.name.now c.in-Some.place c.args.action c.args.self.now c.act_at.new.starts.items c.in_ok-answer.answer at c.in_ok-answer.ensures.acts c.requires.machine.subscribed;
+        readers = c.act_at.ensures.readers ∙ c.requires.machine.readers;
+        room = rw c.act_at.ensures.capacity c.requires.machine.room;
       };
     }

@@ -1,11 +1,12 @@
-use Rattle.std.proofs.Common.{◌≡◌, ◌++◌, ◌∷◌, [], List, length, map, ap, sym, subst, ◌∙◌}
+use Rattle.std.proofs.Common.{◌≡◌, ◌++◌, ◌∷◌, [], List, length, map, ap, sym, subst, arith, true, ◌∙◌}
 use Rattle.std.proofs.lemmas.List.{map-append}
 use Rattle.std.specs.List.{AllByRecursion}
 use Rattle.world.specs.declared.start.Start.{Start}
-use Rattle.world.specs.State.{StartState, SubscriberState, with_one_for}
+use Rattle.world.specs.State.{StartState, SubscriberState, running, with_one_for}
 use Rattle.world.specs.Machine.{IsServed, IsSubscribed, start_state, subscriber_state}
 use Rattle.stream.proofs.Lists.{all_of_both}
 use Rattle.world.proofs.Machines.{found_more}
+use Rattle.world.proofs.Readers.{running_more}
 use Rattle.world.proofs.Subscribing.{all_joined}
 use Rattle.world.proofs.machine.Machine.add.Goals as goal
 
@@ -14,16 +15,20 @@ returns-clause-machine g c =
     let log = c.args.self.now.publisher.log in
     let cs = c.args.self.now.starts.items in
     let ss = map subscriber_state c.args.self.now.subscribers.items in
-    let start = c.args.start in
+    let start = c.new-start.result in
     let starts_is : c.push_reserved-2.new.self.items ≡ cs ++ start ∷ [] = c.push_reserved-2.ensures.items in
     let states_is = ap (map start_state) starts_is ∙ map-append start_state cs (start ∷ []) in
-    let named = ap (λ (s : SubscriberState). with_one_for s.connection ss) c.requires.subscriber in
+    let opened : (start_state start).is_open ≡ true = ap (λ (s : StartState). s.is_open) c.new-start.ensures.fresh in
+    let named = ap (λ (s : SubscriberState). with_one_for s.connection ss) c.requires.subscriber ∙ sym (ap (λ (s : StartState). with_one_for s.connection ss) c.new-start.ensures.fresh) in
+    let one_more = ap running states_is ∙ running_more (map start_state cs) (start_state start) opened in
     record {
       good = c.requires.machine.good;
-      served = subst (λ (l : List Start). AllByRecursion (IsServed log) l) (sym starts_is) (all_of_both (IsServed log) cs (start ∷ []) c.requires.machine.served (c.requires.served, tt));
+      served = subst (λ (l : List (Start _)). AllByRecursion (IsServed log) l) (sym starts_is) (all_of_both (IsServed log) cs (start ∷ []) c.requires.machine.served (c.new-start.ensures.served, tt));
       found = found_more cs c.push_reserved-2.new.self.items c.args.self.now.opened.items c.push_reserved.new.self.items start (length c.as_slice-place.result.now) starts_is c.push_reserved.ensures.items
-          (ap (λ (l : List Start). length l) c.as_slice-place.ensures.value) c.requires.opened c.requires.machine.found;
+          (ap (λ (l : List (Start _)). length l) c.as_slice-place.ensures.value) opened c.requires.machine.found;
       subscribed = subst (λ (l : List StartState). AllByRecursion (IsSubscribed (map subscriber_state c.subscribe.new.subscribers.items)) l) (sym states_is)
           (subst (λ (l : List SubscriberState). AllByRecursion (IsSubscribed l) (map start_state cs ++ start_state start ∷ [])) (sym (c.subscribe.ensures ∙ named))
           (all_joined ss (map start_state cs) (start_state start) c.requires.machine.subscribed));
+      readers = omega (arith, one_more, c.in-Some.ensures.cases, c.requires.machine.readers);
+      room = rw c.pop.ensures.capacity c.requires.machine.room;
     }

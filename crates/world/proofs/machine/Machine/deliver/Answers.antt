@@ -38,4 +38,6 @@ returns-clause-machine g c =
       served = c.requires.machine.served;
       found = c.requires.machine.found;
       subscribed = still_subscribed c.args.name.now c.in-Some-place_of.at c.args.self.now c.index_mut.result.now c.take.new.self _ c.take.result one c.index_mut.ensures.value c.take.ensures c.requires.machine.subscribed;
+      readers = c.requires.machine.readers;
+      room = c.requires.machine.room;
     }

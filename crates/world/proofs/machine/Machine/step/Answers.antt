@@ -18,4 +18,6 @@ returns-in_default-clause-machine g c = record {
   served = all_grown c.args.self.now.publisher.log c.call.new.publisher.log c.args.self.now.starts.items c.call.ensures.grows c.requires.machine.served;
   found = c.requires.machine.found;
   subscribed = c.requires.machine.subscribed;
+  readers = c.requires.machine.readers;
+  room = c.requires.machine.room;
 }

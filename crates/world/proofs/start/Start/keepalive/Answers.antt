@@ -5,19 +5,18 @@ use Rattle.sender.specs.Sending.{SenderState}
 use Rattle.world.specs.declared.action.Action.TheVariants as actions
 use Rattle.schedule.specs.declared.answer.Answer.TheVariants as answers
 use Rattle.world.specs.declared.start.Walsender.{Walsender}
-use Rattle.world.specs.declared.start.Walsender.TheVariants as walsenders
 use Rattle.world.specs.ConnectionLines.{after_action, Acts}
-use Rattle.world.specs.Machine.{IsServedBy, IsServing, state_with}
+use Rattle.world.specs.Machine.{IsServedBy, IsServing, open_state, state_with}
 use Rattle.world.proofs.Sections.{kept_alive, was_running, refused_keepalive}
 use Rattle.world.proofs.start.Start.keepalive.Goals as goal
 
 pub returns-in-Ok-clause-served : goal.returns-in-Ok-clause-served
 returns-in-Ok-clause-served g c =
     let log = c.args.publisher.now.log in
-    let place = c.args.self.now.place in
+    let place = c.in-Open.field-1.place in
     let produced = c.args.self.now.produced.items in
     let s : SenderState = c.in-Open.sender in
-    let P : Walsender → Type 0 = λ o. IsServedBy log place produced o in
+    let P : Walsender _ → Type 0 = λ o. IsServedBy log produced o in
     let serving : IsServing log place produced s = subst P c.in-Open.is c.requires.served in
     let told = rw (to_z-of_z w64 c.args.clock c.ranges.clock) at c.in-Ok.ensures.ok in
     rw told (kept_alive log place c.args.clock produced s serving c.ranges.clock)
@@ -30,9 +29,9 @@ returns-in-Ok-clause-acts g c =
     let s : SenderState = c.in-Open.sender in
     let running = was_running s c.keepalive.result c.keepalive.ensures.failed (λ other. cc) in
     let told = rw (to_z-of_z w64 c.args.clock c.ranges.clock) at c.in-Ok.ensures.ok in
-    let F : Walsender → Type 0 = λ o. (state_with name produced o).failed ≡ false in (
+    let F : Walsender _ → Type 0 = λ o. (state_with name produced o).failed ≡ false in (
       subst F (sym c.in-Open.is) running,
-      ap (λ (t : SenderState). state_with name produced (walsenders.Open t)) told ∙ ap (λ (o : Walsender). after_action log (actions.Keepalive c.args.clock) (state_with name produced o)) (sym c.in-Open.is),
+      ap (λ (t : SenderState). open_state name produced t) told ∙ ap (λ (o : Walsender _). after_action log (actions.Keepalive c.args.clock) (state_with name produced o)) (sym c.in-Open.is),
     )
 
 pub returns-in-Err-clause-acts : goal.returns-in-Err-clause-acts
@@ -41,5 +40,5 @@ returns-in-Err-clause-acts g c =
     let produced = c.args.self.now.produced.items in
     let name = c.args.self.now.connection in
     let s : SenderState = c.in-Open.sender in
-    let Q : Walsender → Type 0 = λ o. Acts log (actions.Keepalive c.args.clock) (state_with name produced o) (answers.Sender c.in-Err.fault) (state_with name produced (walsenders.Open c.keepalive.new.self)) in
+    let Q : Walsender _ → Type 0 = λ o. Acts log (actions.Keepalive c.args.clock) (state_with name produced o) (answers.Sender c.in-Err.fault) (open_state name produced c.keepalive.new.self) in
     subst Q (sym c.in-Open.is) (refused_keepalive log c.args.clock name produced s c.keepalive.new.self c.keepalive.result c.in-Err.fault c.in-Err.is c.keepalive.ensures.failed c.keepalive.ensures.gap c.in-Err.ensures.err)

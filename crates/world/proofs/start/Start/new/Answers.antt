@@ -12,4 +12,5 @@ returns-clause-served g c =
     let P : PublicationSet → Type 0 = λ s. FitTables s in
     let fresh = started log sender (subst P (sym c.in-Ok.ensures.selection) c.requires.tables) c.in-Ok.ensures.position c.in-Ok.ensures.empty c.in-Ok.ensures.unread in
     let Q : List ℕ → Type 0 = λ bytes. IsServing log 0 bytes sender in
-    subst Q (sym c.new.ensures.items) fresh
+    let R : ℕ → Type 0 = λ place. IsServing log place c.new.result.items sender in
+    subst R (sym c.seek.ensures.moved) (subst Q (sym c.new.ensures.items) fresh)

@@ -1,0 +1,68 @@
+-- What a reader gets is a part of the log as it is, and each reader serves an open start or none.
+use Rattle.std.proofs.Common.{◌≡◌, ◌+◌, ◌-◌, ◌≤◌, ℕ, zero, suc, Bool, true, false, cond, List, [], ◌∷◌, ◌++◌, length, take, drop, map, Option, Some, refl, sym, ap, ◌∙◌, arith}
+use Rattle.std.specs.Prelude.{min, slice_get, slice_set}
+use Rattle.std.proofs.Math.Nat.{min-le_right}
+use Rattle.std.proofs.lemmas.List.{take_min, take-append-le, length-drop}
+use mathlib.Core.List.{IsPrefix}
+use Rattle.world.specs.State.{StartState, running}
+use Rattle.world.proofs.Names.{same_inside}
+
+-- ---- what is read
+
+begins_later : {A : Type 0} (place : ℕ) (log more : List A) → IsPrefix (drop place log) (drop place (log ++ more))
+begins_later zero log more = (more, refl)
+begins_later (suc place) [] more = (drop (suc place) more, refl)
+begins_later (suc place) (r ∷ log) more = begins_later place log more
+
+-- of a longer log no more is read than was counted
+pub read_to : {A : Type 0} (log seen : List A) (place max : ℕ) → IsPrefix log seen → take (min max (length log - place)) (drop place seen) ≡ take max (drop place log)
+read_to log seen place max begins =
+    let left = drop place log in
+    let later = begins_later place log begins.0 in
+    ap (λ l. take (min max (length log - place)) (drop place l)) (sym begins.1)
+    ∙ ap (take (min max (length log - place))) (sym later.1)
+    ∙ ap (λ (n : ℕ). take (min max n) (left ++ later.0)) (sym (length-drop place log))
+    ∙ take-append-le (min max (length left)) left later.0 (min-le_right max (length left))
+    ∙ take_min max left
+
+-- ---- who reads
+
+-- one start in the place of another
+pub running_with : (starts : List StartState) (k : ℕ) (s new : StartState) → slice_get starts k ≡ Some s → running (slice_set starts k new) + running (s ∷ []) ≡ running starts + running (new ∷ [])
+running_with [] k s new there = absurd cc
+running_with (t ∷ starts) zero s new there =
+    let here : t ≡ s = same_inside t s there in
+    rw here (by_tests s.is_open new.is_open)
+  where
+    by_tests : (b c : Bool) → cond c (running starts + 1) (running starts) + cond b 1 0 ≡ cond b (running starts + 1) (running starts) + cond c 1 0
+    by_tests true true = refl
+    by_tests true false = omega arith
+    by_tests false true = omega arith
+    by_tests false false = refl
+running_with (t ∷ starts) (suc k) s new there = by_test t.is_open (running_with starts k s new there)
+  where
+    by_test : (b : Bool) → running (slice_set starts k new) + running (s ∷ []) ≡ running starts + running (new ∷ [])
+        → cond b (running (slice_set starts k new) + 1) (running (slice_set starts k new)) + running (s ∷ []) ≡ cond b (running starts + 1) (running starts) + running (new ∷ [])
+    by_test true later = omega (arith, later)
+    by_test false later = later
+
+-- one start more
+pub running_more : (starts : List StartState) (s : StartState) → s.is_open ≡ true → running (starts ++ s ∷ []) ≡ running starts + 1
+running_more [] s is = rw is refl
+running_more (t ∷ starts) s is = by_test t.is_open (running_more starts s is)
+  where
+    by_test : (b : Bool) → running (starts ++ s ∷ []) ≡ running starts + 1 → cond b (running (starts ++ s ∷ []) + 1) (running (starts ++ s ∷ [])) ≡ cond b (running starts + 1) (running starts) + 1
+    by_test true later = ap (λ (n : ℕ). n + 1) later
+    by_test false later = later
+
+-- an open start runs
+pub one_runs : (starts : List StartState) (k : ℕ) (s : StartState) → slice_get starts k ≡ Some s → s.is_open ≡ true → 1 ≤ running starts
+one_runs [] k s there is = absurd cc
+one_runs (t ∷ starts) zero s there is =
+    let here : t.is_open ≡ true = ap (λ (x : StartState). x.is_open) (same_inside t s there) ∙ is in
+    rw here (omega arith)
+one_runs (t ∷ starts) (suc k) s there is = by_test t.is_open (one_runs starts k s there is)
+  where
+    by_test : (b : Bool) → 1 ≤ running starts → 1 ≤ cond b (running starts + 1) (running starts)
+    by_test true later = omega arith
+    by_test false later = later
