@@ -2,4 +2,10 @@
 #![tactic(auto)]
 
 #[cfg(test)]
+mod log_calls;
+#[cfg(test)]
+mod log_fixture;
+#[cfg(test)]
 mod simulation_calls;
+#[cfg(test)]
+mod turn_calls;

@@ -101,7 +101,11 @@ fn is_printed<R: Wait>(rt: &R, alloc: Global, left: usize) -> Result<bool, Fail>
 #[test]
 fn a_report_that_cannot_be_printed(rt: HostRuntime) -> Result<(), Fail> {
     for left in 0..4 {
-        assert_eq!(rt; is_printed(&rt, rt.alloc(), left)?, left == 3, "{left} bytes");
+        assert_eq!(rt;
+            is_printed(&rt, rt.alloc(), left)?,
+            left == 3,
+            "{left} bytes"
+        );
     }
     Ok(())
 }

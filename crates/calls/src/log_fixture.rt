@@ -1,0 +1,89 @@
+//! A log and its sessions, for tests.
+
+use frames::Text;
+use publication::Publications;
+use sender::Sender;
+use shared_log::{LogName, LogReader};
+use std::alloc::{AllocError, Global};
+use std::sync::{Arc, Mutex, MutexGuard, Wait};
+use std::test::Fail;
+use tables::{Catalog, Row, Value};
+use txlog::{Opened, Publisher, Receipt, SessionFault};
+use wal::{FIRST_POSITION, Record};
+
+/// One table, and a publication of it.
+const CONFIGURATION: &str = "\
+[[table]]
+oid = 16384
+schema = 'public'
+name = 'item'
+key = ['id']
+columns = [['id', 'int4'], ['name', 'text'], ['qty', 'int8']]
+[[publication]]
+name = 'p'
+tables = [{ name = 'public.item' }]
+";
+
+const ITEM: u32 = 16384;
+
+/// What a publisher of the table, with room for 4,000 records, is opened with.
+pub fn opened(alloc: Global, readers: usize) -> Result<Opened, Fail> {
+    let catalog = Catalog::from_toml(alloc, CONFIGURATION)?;
+    Ok(Opened::new(alloc, catalog, 4_000, readers)?)
+}
+
+/// A sender of what the publication `p` publishes, from the beginning of the log on.
+pub fn sender_of_p(alloc: Global) -> Result<Sender, Fail> {
+    let catalog = Catalog::from_toml(alloc, CONFIGURATION)?;
+    let names = [Text::copy_of(alloc, "p")?];
+    let publications = Publications::from_toml(alloc, CONFIGURATION, &catalog)?;
+    let selection = publications.select(&names)?;
+    Ok(Sender::start(alloc, selection, 0, FIRST_POSITION)?)
+}
+
+/// A row of the table public.item.
+fn item(alloc: Global, id: i32, name: &str, qty: i64) -> Result<Row, AllocError> {
+    let name = Value::Text(Text::copy_of(alloc, name)?);
+    Ok(Row::new(vec![in alloc; Value::Int4(id), name, Value::Int8(qty)]?))
+}
+
+/// A transaction with one insert, that commits under the lock.
+pub fn commit_under_lock<L: LogName, R: Wait>(
+    rt: &R,
+    alloc: Global,
+    desk: &Mutex<Publisher<L>>,
+    id: i32,
+    name: &str,
+    qty: i64,
+) -> Result<Receipt<L>, SessionFault> {
+    let row = item(alloc, id, name, qty)?;
+    let mut guard = desk.lock(rt);
+    let done = commit_one(rt, &mut guard, row);
+    MutexGuard::unlock(guard);
+    done
+}
+
+fn commit_one<L: LogName, R: Wait>(
+    rt: &R,
+    publisher: &mut Publisher<L>,
+    row: Row,
+) -> Result<Receipt<L>, SessionFault> {
+    let mut tx = publisher.begin()?;
+    let inserted = publisher.insert(rt, &mut tx, ITEM, row);
+    match publisher.commit(rt, tx, 5) {
+        Ok(receipt) => inserted.map(|()| receipt),
+        Err((tx, fault)) => {
+            publisher.leave(tx);
+            Err(fault)
+        }
+    }
+}
+
+/// Where the records start and end.
+pub fn ends_of(alloc: Global, records: &[Arc<Record>]) -> Result<Vec<(u64, u64)>, AllocError> {
+    let mut ends = Vec::new(alloc);
+    for record in records {
+        ends.push((record.start, record.end))?;
+    }
+    Ok(ends)
+}
