@@ -1,0 +1,9 @@
+//! Replication slots by name, for a machine that makes all their steps by one seat.
+#![tactic(auto)]
+
+mod named;
+mod naming;
+mod slot;
+
+pub use named::NamedSlots;
+pub use slot::Slot;
