@@ -1,3 +1,4 @@
+pub mod Codes
 pub mod Directories
 pub mod Standings
 pub mod Facts

@@ -1,6 +1,7 @@
 //! The faults of slots, L1 to L5.
 
 ghost use Rattle.std.specs.Prelude.{◌≡◌};
+ghost use Rattle.slots.specs.Codes.{slot_code};
 ghost use Rattle.slots.specs.declared.fault.SlotFault.TheVariants.{Memory};
 
 use std::alloc::{AllocError, AllocFailed};
@@ -19,6 +20,21 @@ pub enum SlotFault {
     NoPlace,
     #[error("L5: out of memory")]
     Memory,
+}
+
+impl SlotFault {
+    /// The code by which it is told.
+    pub fn code(&self) -> &'static str
+        ensures { result.now ≡ slot_code self.now }
+    {
+        match self {
+            SlotFault::Missing => "L1",
+            SlotFault::InUse => "L2",
+            SlotFault::Exists => "L3",
+            SlotFault::NoPlace => "L4",
+            SlotFault::Memory => "L5",
+        }
+    }
 }
 
 impl From<AllocError> for SlotFault {
