@@ -12,10 +12,10 @@ use Rattle.slots.specs.Rule.{slot_step}
 use Rattle.slots.specs.Seats.{Did, Holds, IsRefusal}
 use Rattle.slots.specs.Standings.{held_by}
 use Rattle.named_slots.specs.declared.slot.Slot.{Slot}
-use Rattle.named_slots.specs.State.{NamedSlot, SlotsState, RefusedExactly, claim_refusal, claim_refusal_of, claimed, holding, holds_at, if_at, if_named, is_in_use, place_of, slot_of}
+use Rattle.named_slots.specs.State.{IsOnlyAt, NamedSlot, SlotsState, RefusedExactly, claim_refusal, claim_refusal_of, claimed, holding, holds_at, if_at, if_named, is_in_use, place_of, slot_of}
 use Rattle.named_slots.specs.Keeping.{IsNamed, StandsIn, shown, shown_slot}
 use Rattle.named_slots.proofs.Facts.{Alike, Changes, one_step}
-use Rattle.named_slots.proofs.Names.{NamedThere, all_named_there, at_as_named, slot_as_named, place_shown}
+use Rattle.named_slots.proofs.Names.{NamedThere, all_named_there, at_as_named, only_shown, slot_as_named, place_shown}
 use Rattle.named_slots.proofs.Standing.{SlotAt, slot_here, each_held, all_shown_held, still_stands, all_alike, stands_same, shown_same}
 
 -- what is refused was never made, was dropped, or is held
@@ -118,6 +118,10 @@ module _ {A : Type 0} (place : A → ℕ) (v w : View) (d : Directory) (ss : Lis
         ap (λ (q : ℕ). holds_at q (shown w ss places)) is.0
             ∙ ap is_in_use (sym (slot_as_named w name p ss after.all) ∙ after.of) ∙ after.at.is_held ∙ is.1,
       )
+
+  pub claim_only : (s : SlotsState) → shown v ss places ≡ s → (r : Result A SlotFault) → IsClaim r → IfOk r (λ lease. IsOnlyAt name (place lease) s.slots)
+  claim_only s old (Err e) is = tt
+  claim_only s old (Ok lease) is = subst (λ (t : SlotsState). IsOnlyAt name (place lease) t.slots) old (subst (λ (q : ℕ). IsOnlyAt name q (map (shown_slot v) ss)) (sym is.0) (only_shown v name p ss the.all))
 
   pub claim_refused : (r : Result A SlotFault) → IsClaim r → RefusedExactly (claim_refusal name (shown v ss places)) r
   claim_refused (Ok lease) is = ap claim_refusal_of the.of

@@ -6,3 +6,7 @@ pub mod Confirming
 pub mod Listing
 pub mod Creating
 pub mod Placing
+pub mod Leasing
+pub mod Finding
+pub mod Leases
+pub mod Claims

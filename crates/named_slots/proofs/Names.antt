@@ -9,7 +9,7 @@ use Rattle.slots.specs.declared.directory.Directory.{Directory}
 use Rattle.slots.specs.declared.step.View.{View}
 use Rattle.slots.specs.Directories as names
 use Rattle.named_slots.specs.declared.slot.Slot.{Slot}
-use Rattle.named_slots.specs.State.{NamedSlot, if_at, if_named, slot_at, slot_of}
+use Rattle.named_slots.specs.State.{IsOnlyAt, NamedSlot, if_at, if_named, slot_at, slot_of}
 use Rattle.named_slots.specs.Keeping.{IsNamed, place_in, shown_slot, confirmed_slot}
 
 pub lent : (v : View) (ss : List Slot) → map confirmed_slot (map (shown_slot v) ss) ≡ ss
@@ -57,6 +57,10 @@ pub at_as_named : (v : View) (name : List ℕ) (p : ℕ) (change : NamedSlot →
 at_as_named v name p change [] all = refl
 at_as_named v name p change (s ∷ ss) all = ap₂ (λ (t : NamedSlot) (ts : List NamedSlot). t ∷ ts)
     (ap (λ (b : Bool). cond b (change (shown_slot v s)) (shown_slot v s)) (sym all.0)) (at_as_named v name p change ss all.1)
+
+pub only_shown : (v : View) (name : List ℕ) (p : ℕ) (ss : List Slot) → AllByRecursion (NamedThere name p) ss → IsOnlyAt name p (map (shown_slot v) ss)
+only_shown v name p [] all = tt
+only_shown v name p (s ∷ ss) all = (all.0, only_shown v name p ss all.1)
 
 pub slot_as_named : (v : View) (name : List ℕ) (p : ℕ) (ss : List Slot) → AllByRecursion (NamedThere name p) ss → slot_of name (map (shown_slot v) ss) ≡ slot_at p (map (shown_slot v) ss)
 slot_as_named v name p [] all = refl

@@ -1,5 +1,6 @@
 -- Slots by name: which there are, how far each is confirmed, whether it is in use, and what each call does to them.
 use Rattle.std.specs.Prelude.{◌≡◌, ℕ, ◌+◌, ◌==◌, max, Bool, true, false, is_some, List, [], ◌∷◌, ◌++◌, map, Option, Some, None, option_map, Result, Ok, Err, if◌then◌else◌}
+use Rattle.std.specs.List.{AllByRecursion}
 use Rattle.std.specs.Str.{bytes_eq}
 use Rattle.slots.specs.declared.fault.SlotFault.{SlotFault}
 use Rattle.slots.specs.declared.fault.SlotFault.TheVariants as faults
@@ -44,6 +45,18 @@ is_in_use (Some s) = s.is_held
 -- the slot at this place is held
 abbrev pub holds_at : ℕ → SlotsState → Bool
 holds_at place s = is_in_use (slot_at place s.slots)
+
+-- the slot of this name stands at this place, and no other does
+abbrev pub IsOnlyAt : List ℕ → ℕ → List NamedSlot → Type 0
+IsOnlyAt name place slots = AllByRecursion (λ (s : NamedSlot). bytes_eq s.name name ≡ (s.place == place)) slots
+
+-- no slot has this name
+abbrev pub IsUnnamed : List ℕ → List NamedSlot → Type 0
+IsUnnamed name slots = AllByRecursion (λ (s : NamedSlot). bytes_eq s.name name ≡ false) slots
+
+-- what stands at this place is held, or isn't
+abbrev pub IsHeldAs : Bool → ℕ → List NamedSlot → Type 0
+IsHeldAs is_held place slots = AllByRecursion (λ (s : NamedSlot). s.place ≡ place → s.is_held ≡ is_held) slots
 
 -- ---- What the calls do.
 

@@ -1,8 +1,9 @@
 //! Slots by name.
 
-ghost use Rattle.std.specs.Prelude.{◌≡◌, ℕ, List, IfErr, IfOk, OnErr, OnOk, Some, false, map, true};
-ghost use Rattle.named_slots.specs.State.{RefusedExactly, RefusedOrMemory, claim_refusal, claimed, confirmed_of, create_refusal, created, holds_at, no_slots, place_of, raised, raised_for, refused, released, released_for, slot_at};
+ghost use Rattle.std.specs.Prelude.{◌≡◌, ℕ, List, ◌<◌, IfErr, IfOk, IfSome, IsNone, OnErr, OnOk, Some, false, is_some, map, true};
+ghost use Rattle.named_slots.specs.State.{IsHeldAs, IsOnlyAt, IsUnnamed, RefusedExactly, RefusedOrMemory, claim_refusal, claimed, confirmed_of, create_refusal, created, holds_at, no_slots, place_of, raised, raised_for, refused, released, released_for, slot_at, slot_of};
 ghost use Rattle.named_slots.specs.Keeping.{confirmed_slot};
+ghost use Rattle.slots.specs.declared.table.TheConstants.{PLACES};
 
 use crate::naming::{name_place, note};
 use crate::slot::Slot;
@@ -75,9 +76,28 @@ impl<L: SlotName> NamedSlots<L> {
         }
     }
 
+    /// Whether there is a slot of this name.
+    pub(crate) fn has(&self, name: &str) -> bool
+        ensures { result ≡ is_some (slot_of name.now self.now.slots) }
+    {
+        self.directory.find(name).is_some()
+    }
+
+    /// The place of the slot of this name.
+    pub(crate) fn place(&self, name: &str) -> Option<usize>
+        ensures within { IfSome result (λ place. place < PLACES) }
+        ensures only { IfSome result (λ place. IsOnlyAt name.now place self.now.slots) }
+        ensures alike { IfSome result (λ place. IsHeldAs (holds_at place self.now) place self.now.slots) }
+        ensures found { IfSome result (λ place. place_of name.now self.now ≡ Some place) }
+        ensures none { IsNone result → IsUnnamed name.now self.now.slots }
+    {
+        self.directory.find(name)
+    }
+
     /// Takes the slot of this name. It takes no memory. L1 where there is none, L2 where it is in use.
     pub fn claim(&mut self, name: &str) -> Result<Lease<L>, SlotFault>
         ensures ok { OnOk result (self.new ≡ claimed name.now self.old) }
+        ensures only { IfOk result (λ lease. IsOnlyAt name.now lease.place self.old.slots) }
         ensures lease { IfOk result (λ lease. (place_of name.now self.new ≡ Some lease.place) × (holds_at lease.place self.old ≡ false) × (holds_at lease.place self.new ≡ true)) }
         ensures err { OnErr result (self.new ≡ self.old) }
         ensures refused { RefusedExactly (claim_refusal name.now self.old) result }
