@@ -50,11 +50,17 @@ lines that begin with # are passed over. T is a transaction's name and C a conne
   release T N              it releases its Nth savepoint and those inside it
   commit T TIME            it commits, at TIME microseconds since 2000-01-01
   abort T                  it aborts
-  start C - POSITION P,..  a sender of publications starts, as in start c - 0/0 p
+  slot NAME                a slot is created at the end of the log
+  start C SLOT POSITION P,..
+                           a sender of publications starts, as in start c - 0/0 p, where - is
+                           no slot
   read C MAX CLOCK         the sender reads up to MAX records of the log
   keepalive C CLOCK        the sender puts a keepalive behind what it holds
   drain C N                up to N bytes go from the sender into the pipe
   deliver C N              up to N bytes go from the pipe to the connection's subscriber
+  status C CLOCK           the subscriber sends how far it is into the pipe back
+  flushed C NUMBER         the same with this number as what it has flushed
+  ack C                    the next status is taken from the pipe back, and confirms the slot
   cut C                    the connection is cut: its sender ends, its subscriber reconnects
 
 For example:
@@ -68,8 +74,9 @@ For example:
 
 It prints a line for each event that was refused, the number of its line and a code, as in
 7 S1; and then a line for each sender: the connection's name, a colon and the bytes that
-it produced, in hexadecimal. Then a line for each subscriber to which bytes were delivered, as
-in sub c 0/1000050 1: its position, and how many transactions it has applied.
+it produced, in hexadecimal. Then a line for each slot, as in slot s 0/1000050: how far it is
+confirmed; and for each subscriber to which bytes were delivered, as in sub c 0/1000050 1: its
+position, and how many transactions it has applied.
 
 It ends with 0 where that is done, with 2 where the arguments, the configuration or the
 schedule are refused, and with 1 where a file cannot be read, the report cannot be printed

@@ -23,4 +23,4 @@ pub use fault::CmdFault;
 pub use name::Name;
 pub use names::Names;
 pub use position::{parse_position, write_position};
-pub use words::MOST_SLOT_NAME_BYTES;
+pub use words::{MOST_SLOT_NAME_BYTES, is_slot_name};

@@ -34,7 +34,7 @@ fn are_later(bytes: &[u8]) -> bool
 }
 
 /// Whether the name is one of a slot: 1 to 63 lower-case letters, digits and underscores.
-pub(crate) fn is_slot_name(name: &str) -> bool
+pub fn is_slot_name(name: &str) -> bool
     ensures { result ≡ is_slot_name name.now }
 {
     !name.is_empty() && name.len() <= MOST_SLOT_NAME_BYTES && are_slot_bytes(name.as_bytes())

@@ -8,11 +8,7 @@ use Rattle.client.specs.declared.fault.ClientFault.{ClientFault}
 use Rattle.client.specs.declared.fault.ClientFault.TheVariants as clients
 use Rattle.schedule.specs.declared.answer.Answer.{Answer}
 use Rattle.schedule.specs.declared.answer.Answer.TheVariants as answers
-use Rattle.schedule.specs.declared.answer.SlotFault.{SlotFault}
-use Rattle.schedule.specs.declared.answer.SlotFault.TheVariants as slots
-
-abbrev pub slot_code : SlotFault → List ℕ
-slot_code slots.Missing = codes "L1"
+use Rattle.slots.specs.Codes.{slot_code}
 
 abbrev pub sender_code : SendFault → List ℕ
 sender_code sends.Memory = codes "G2"

@@ -3,6 +3,7 @@
 use client::ClientFault;
 use publication::PubFault;
 use sender::SendFault;
+use slots::SlotFault;
 use txlog::SessionFault;
 
 /// What an event that happened answered: it was done, or the part that it asked refused it.
@@ -16,11 +17,4 @@ pub enum Answer {
     Publication(PubFault),
     Sender(SendFault),
     Subscriber(ClientFault),
-}
-
-/// Why a slot was refused. There are no slots yet, so none has a name.
-#[derive(Clone, Copy, Debug, PartialEq, Eq)]
-pub enum SlotFault {
-    /// L1: no slot has this name.
-    Missing,
 }

@@ -3,7 +3,7 @@
 ghost use Rattle.std.specs.Prelude.{◌≡◌, option_map};
 ghost use Rattle.schedule.specs.Codes.{answer_code};
 
-use crate::answer::{Answer, SlotFault};
+use crate::answer::Answer;
 use client::ClientFault;
 use sender::SendFault;
 
@@ -15,7 +15,7 @@ impl Answer {
         match self {
             Answer::Done => None,
             Answer::Session(fault) => Some(fault.code()),
-            Answer::Slot(SlotFault::Missing) => Some("L1"),
+            Answer::Slot(fault) => Some(fault.code()),
             Answer::NoReader => Some("L6"),
             Answer::Publication(fault) => Some(fault.code()),
             Answer::Sender(SendFault::Memory) => Some("G2"),

@@ -25,7 +25,9 @@ pub enum Event {
     Commit(Text, i64),
     /// `abort T`
     Abort(Text),
-    /// `start C SLOT POSITION PUB,PUB`: a sender starts for the connection C.
+    /// `slot NAME`: a slot is created at the log's end.
+    Slot(Text),
+    /// `start C SLOT POSITION PUB,PUB`: a sender starts for the connection C. The slot `-` is none.
     Start(Text, Text, u64, Items<Text>),
     /// `read C MAX CLOCK`: up to MAX records are fetched and fed.
     Read(Text, u32, i64),
@@ -35,7 +37,13 @@ pub enum Event {
     Drain(Text, u32),
     /// `deliver C N`: up to N bytes go from the pipe to the connection's subscriber.
     Deliver(Text, u32),
-    /// `cut C`: the sender ends, the pipe loses what it holds, and the subscriber reconnects.
+    /// `status C CLOCK`: the connection's subscriber puts a status into the pipe back.
+    Status(Text, i64),
+    /// `flushed C NUMBER`: the same at clock 0, with this number as what it has flushed.
+    Flushed(Text, u64),
+    /// `ack C`: the publisher takes the next status from the pipe back.
+    Ack(Text),
+    /// `cut C`: the sender ends, both pipes lose what they hold, and the subscriber reconnects.
     Cut(Text),
 }
 

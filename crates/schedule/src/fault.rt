@@ -58,6 +58,7 @@ impl Display for BadEvent {
             | Event::Release(name, _)
             | Event::Commit(name, _)
             | Event::Abort(name) => write!(f, "no transaction {}", name.as_str()),
+            Event::Slot(name) => write!(f, "{} is no name of a slot", name.as_str()),
             Event::Start(name, _, _, _) => {
                 write!(f, "connection {} has a sender already", name.as_str())
             }
@@ -65,7 +66,16 @@ impl Display for BadEvent {
             | Event::Keepalive(name, _)
             | Event::Drain(name, _)
             | Event::Deliver(name, _)
+            | Event::Status(name, _)
+            | Event::Flushed(name, _)
             | Event::Cut(name) => write!(f, "connection {} has no sender", name.as_str()),
+            Event::Ack(name) => {
+                write!(
+                    f,
+                    "connection {} has no sender, or no status waits",
+                    name.as_str()
+                )
+            }
         }
     }
 }

@@ -4,7 +4,7 @@ use crate::event::Literal;
 use crate::fault::WorldFault;
 use crate::literals::row_in;
 use frames::{Items, Text};
-use replcmd::parse_position;
+use replcmd::{is_slot_name, parse_position};
 use std::alloc::Global;
 
 /// The longest name of a transaction or a connection, in letters and digits.
@@ -86,6 +86,15 @@ impl<'a> Fields<'a> {
         Ok(Text::copy_of(alloc, word)?)
     }
 
+    /// The name of a slot that is to be created.
+    pub(crate) fn slot(&mut self, alloc: Global) -> Result<Text, WorldFault> {
+        let word = self.word()?;
+        if !is_slot_name(word) {
+            return Err(WorldFault::BadEvent);
+        }
+        Ok(Text::copy_of(alloc, word)?)
+    }
+
     /// A number of records, of bytes or of a savepoint.
     pub(crate) fn count(&mut self) -> Result<u32, WorldFault> {
         u32::try_from(self.integer()?).map_err(|_| WorldFault::BadEvent)
@@ -98,6 +107,19 @@ impl<'a> Fields<'a> {
             return Err(WorldFault::BadEvent);
         }
         word.parse::<i64>().map_err(|_| WorldFault::BadEvent)
+    }
+
+    /// A number of 64 bits in decimal digits, as `integer` reads it: `-0` is 0.
+    pub(crate) fn number(&mut self) -> Result<u64, WorldFault> {
+        let word = self.word()?;
+        if word.starts_with('+') {
+            return Err(WorldFault::BadEvent);
+        }
+        let digits = word.strip_prefix('-').unwrap_or(word);
+        match digits.parse::<u64>() {
+            Ok(n) if n == 0 || !word.starts_with('-') => Ok(n),
+            _ => Err(WorldFault::BadEvent),
+        }
     }
 
     /// A position in the log, as in `16/B374D848`.

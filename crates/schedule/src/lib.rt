@@ -1,8 +1,8 @@
 //! Schedules: texts of one event a line that drive a publisher, and what is printed of their answers. Nothing here has a
 //! state of the publisher; crate `world` runs the events.
 //!
-//! `Schedule::parse` reads a text, `Answer` is what an event answered, and `write_refusals`, `write_stream` and
-//! `write_subscriber` print.
+//! `Schedule::parse` reads a text, `Answer` is what an event answered, and `write_refusals`, `write_stream`,
+//! `write_slot` and `write_subscriber` print.
 #![tactic(auto)]
 
 mod answer;
@@ -15,8 +15,8 @@ mod parse;
 mod report;
 mod schedule;
 
-pub use answer::{Answer, SlotFault};
+pub use answer::Answer;
 pub use event::{Event, Literal};
 pub use fault::{BadEvent, WorldFault};
-pub use report::{write_refusals, write_stream, write_subscriber};
+pub use report::{write_refusals, write_slot, write_stream, write_subscriber};
 pub use schedule::{LineFault, Schedule};

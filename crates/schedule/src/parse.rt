@@ -51,6 +51,7 @@ fn connection_event_of(
     fields: &mut Fields<'_>,
 ) -> Result<Event, WorldFault> {
     match word {
+        "slot" => Ok(Event::Slot(fields.slot(alloc)?)),
         "start" => start(alloc, fields),
         "read" => read(alloc, fields),
         "keepalive" => {
@@ -66,6 +67,23 @@ fn connection_event_of(
             Ok(Event::Deliver(name, bytes))
         }
         "cut" => Ok(Event::Cut(fields.name(alloc)?)),
+        _ => status_event_of(alloc, word, fields),
+    }
+}
+
+/// The same of the lines of statuses.
+fn status_event_of(
+    alloc: Global,
+    word: &str,
+    fields: &mut Fields<'_>,
+) -> Result<Event, WorldFault> {
+    match word {
+        "status" => {
+            let (name, clock) = name_and_time(alloc, fields)?;
+            Ok(Event::Status(name, clock))
+        }
+        "flushed" => flushed(alloc, fields),
+        "ack" => Ok(Event::Ack(fields.name(alloc)?)),
         _ => Err(WorldFault::BadEvent),
     }
 }
@@ -112,6 +130,12 @@ fn start(alloc: Global, fields: &mut Fields<'_>) -> Result<Event, WorldFault> {
     let position = fields.position()?;
     let publications = fields.publications(alloc)?;
     Ok(Event::Start(name, slot, position, publications))
+}
+
+fn flushed(alloc: Global, fields: &mut Fields<'_>) -> Result<Event, WorldFault> {
+    let name = fields.name(alloc)?;
+    let position = fields.number()?;
+    Ok(Event::Flushed(name, position))
 }
 
 fn read(alloc: Global, fields: &mut Fields<'_>) -> Result<Event, WorldFault> {

@@ -32,6 +32,17 @@ pub fn write_stream<W: Write>(
     writeln!(output, "{connection}:{digits}")
 }
 
+/// A slot, with the position that is confirmed of it.
+pub fn write_slot<W: Write>(
+    alloc: Global,
+    output: &mut W,
+    slot: &str,
+    confirmed: u64,
+) -> io::Result<()> {
+    let confirmed = write_position(alloc, confirmed)?;
+    writeln!(output, "slot {slot} {confirmed}")
+}
+
 /// A subscriber, by its connection's name, with its position and how many transactions it has applied.
 pub fn write_subscriber<W: Write>(
     alloc: Global,

@@ -87,6 +87,10 @@ fn connection_line<W: fmt::Write>(event: &Event, f: &mut fmt::Formatter<W>) -> f
         Event::Drain(name, most) => write!(f, "drain {} {most}", name.as_str()),
         Event::Deliver(name, most) => write!(f, "deliver {} {most}", name.as_str()),
         Event::Cut(name) => write!(f, "cut {}", name.as_str()),
+        Event::Slot(name) => write!(f, "slot {}", name.as_str()),
+        Event::Status(name, clock) => write!(f, "status {} {clock}", name.as_str()),
+        Event::Flushed(name, number) => write!(f, "flushed {} {number}", name.as_str()),
+        Event::Ack(name) => write!(f, "ack {}", name.as_str()),
         _ => Ok(()),
     }
 }

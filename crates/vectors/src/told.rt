@@ -51,6 +51,14 @@ const FILTER_FAULTS: [FilterFault; 6] = [
     FilterFault::Memory,
 ];
 
+const SLOT_FAULTS: [SlotFault; 5] = [
+    SlotFault::Missing,
+    SlotFault::InUse,
+    SlotFault::Exists,
+    SlotFault::NoPlace,
+    SlotFault::Memory,
+];
+
 const SESSION_FAULTS: [SessionFault; 13] = [
     SessionFault::UnknownTable,
     SessionFault::RowShape,
@@ -114,13 +122,12 @@ fn text_of<F: Debug + Display>(alloc: Global, faults: &[F], name: &str) -> Resul
 
 /// The code of an answer, which is given by the names of its variants, as in `Session(KeyHeld)`.
 pub fn code_answer(alloc: Global, given: &str) -> Result<Answer> {
-    let mut answers = vec![in alloc;
-        world::Answer::Done,
-        world::Answer::Slot(SlotFault::Missing),
-        world::Answer::NoReader,
-    ]?;
+    let mut answers = vec![in alloc; world::Answer::Done, world::Answer::NoReader]?;
     for fault in SESSION_FAULTS {
         answers.push(world::Answer::Session(fault))?;
+    }
+    for fault in SLOT_FAULTS {
+        answers.push(world::Answer::Slot(fault))?;
     }
     for fault in PUB_FAULTS {
         answers.push(world::Answer::Publication(fault))?;

@@ -24,7 +24,7 @@ use Rattle.world.specs.declared.machine.Machine.{Machine}
 use Rattle.world.specs.State.{StartState, SubscriberState, NamedTx, xid_of, without_name, open_start}
 use Rattle.world.specs.SessionLines.{IsCalled, IsAnswered, if_known, insert_refused, update_refused, delete_refused}
 use Rattle.world.specs.Rows.{row_in, key_columns}
-use Rattle.world.specs.ConnectionLines.{Acts, ActsAt, subscribers_after}
+use Rattle.world.specs.ConnectionLines.{Acts, ActsAt, slots_after, subscribers_after}
 use Rattle.world.specs.Machine.{named_tx, sessions_state, IsNamedAt, Called, start_state, shown, ActsIn, IsOpenAt, IsOpenStartAt, IsSubscribed, subscriber_state}
 use Rattle.std.specs.List.{AllByRecursion}
 use Rattle.world.proofs.Names.{same_inside}
@@ -105,7 +105,7 @@ kept_starts cs place c new (Ok a) value same = tt
 kept_starts cs place c new (Err e) value same = map-set_same start_state cs place new c (same ∙ ap start_state value)
 
 pub acted_at : (name : List ℕ) (place : ℕ) (action : Action) {L : Type 0} (m : Machine L) (new : List (Start L)) (a : Answer) → IsOpenStartAt name place m.starts.items
-    → ActsIn m.publisher.log place action m.starts.items a new → ActsAt name action (shown m) a (record (shown m) { starts = map start_state new; subscribers = subscribers_after name action (shown m).subscribers })
+    → ActsIn m.publisher.log place action m.starts.items a new → ActsAt name action (shown m) a (record (shown m) { slots = slots_after name action (shown m).subscribers (shown m).slots; starts = map start_state new; subscribers = subscribers_after name action (shown m).subscribers })
 acted_at name place action {L} m new a at acts =
     let here : at.start ≡ acts.before = one_there m.starts.items place at.start acts.before at.there acts.there in
     record {
@@ -113,7 +113,7 @@ acted_at name place action {L} m new a at acts =
       after = acts.after;
       there = at.of ∙ ap (λ (c : Start L). Option.Some (start_state c)) here;
       acts = acts.acts;
-      is = ap (λ (l : List StartState). record (shown m) { starts = l; subscribers = subscribers_after name action (shown m).subscribers }) (acts.is ∙ sym (at.changed acts.after));
+      is = ap (λ (l : List StartState). record (shown m) { slots = slots_after name action (shown m).subscribers (shown m).slots; starts = l; subscribers = subscribers_after name action (shown m).subscribers }) (acts.is ∙ sym (at.changed acts.after));
     }
 
 -- what an act leaves is of the same connection

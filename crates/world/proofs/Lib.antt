@@ -9,3 +9,5 @@ pub mod Asking
 pub mod Runs
 pub mod Machines
 pub mod Readers
+pub mod PipesBack
+pub mod Confirmed

@@ -21,7 +21,8 @@ use Rattle.world.specs.declared.start.Walsender.TheVariants as walsenders
 use Rattle.world.specs.declared.machine.Machine.{Machine}
 use Rattle.world.specs.State.{StartState, SubscriberState, WorldState, running}
 use Rattle.world.specs.SessionLines.{Ask, SessionState, ask_of, if_new, if_known, IsCalled}
-use Rattle.world.specs.ConnectionLines.{Acts, subscribers_after}
+use Rattle.named_slots.specs.State.{SlotsState}
+use Rattle.world.specs.ConnectionLines.{Acts, slots_after, subscribers_after}
 use Rattle.world.specs.Steps.{IsStep, is_bad, session_state}
 use Rattle.world.specs.Machine.{named_tx, sessions_state, IsCallOf, Grows, IsServed, ActsIn, IsMachine, IsOpenAt, IsOpenStartAt, is_open, open_places, without_place, start_state, state_with, shown}
 use Rattle.world.proofs.Sections.{grown_served}
@@ -56,6 +57,10 @@ stepped (events.Keepalive c clock) old p ss a calls = absurd calls
 stepped (events.Drain c n) old p ss a calls = absurd calls
 stepped (events.Deliver c n) old p ss a calls = absurd calls
 stepped (events.Cut c) old p ss a calls = absurd calls
+stepped (events.Slot name) old p ss a calls = absurd calls
+stepped (events.Status c clock) old p ss a calls = absurd calls
+stepped (events.Flushed c number) old p ss a calls = absurd calls
+stepped (events.Ack c) old p ss a calls = absurd calls
 
 pub all_stepped : (e : Event) {L : Type 0} (m : Machine L) (p : PublisherState) (ss : List Session) (r : Result Answer WorldFault) → IfOk r (λ a. IsCallOf e m.publisher m.sessions.items a p ss)
     → IfOk r (λ a. IsStep (shown m) e a (record (shown m) { publisher = p; transactions = map named_tx ss }))
@@ -75,23 +80,31 @@ pub bad_call : (e : Event) (w : WorldState)
     → ((c : List ℕ) (n : ℕ) → e ≡ events.Drain c n → ⊥)
     → ((c : List ℕ) (n : ℕ) → e ≡ events.Deliver c n → ⊥)
     → ((c : List ℕ) → e ≡ events.Cut c → ⊥)
+    → ((name : List ℕ) → e ≡ events.Slot name → ⊥)
+    → ((c : List ℕ) (clock : ℤ) → e ≡ events.Status c clock → ⊥)
+    → ((c : List ℕ) (number : ℕ) → e ≡ events.Flushed c number → ⊥)
+    → ((c : List ℕ) → e ≡ events.Ack c → ⊥)
     → is_some (ask_of e w.publisher w.transactions) ≡ false → is_bad e w ≡ true
-bad_call (events.Begin t) w start read keepalive drain deliver cut bad = ap not bad
-bad_call (events.Insert t table row) w start read keepalive drain deliver cut bad = ap not bad
-bad_call (events.Update t table key row) w start read keepalive drain deliver cut bad = ap not bad
-bad_call (events.Delete t table key) w start read keepalive drain deliver cut bad = ap not bad
-bad_call (events.Truncate t names) w start read keepalive drain deliver cut bad = ap not bad
-bad_call (events.Savepoint t) w start read keepalive drain deliver cut bad = ap not bad
-bad_call (events.Rollback t depth) w start read keepalive drain deliver cut bad = ap not bad
-bad_call (events.Release t depth) w start read keepalive drain deliver cut bad = ap not bad
-bad_call (events.Commit t time) w start read keepalive drain deliver cut bad = ap not bad
-bad_call (events.Abort t) w start read keepalive drain deliver cut bad = ap not bad
-bad_call (events.Start c slot position names) w start read keepalive drain deliver cut bad = absurd (start c slot position names refl)
-bad_call (events.Read c max clock) w start read keepalive drain deliver cut bad = absurd (read c max clock refl)
-bad_call (events.Keepalive c clock) w start read keepalive drain deliver cut bad = absurd (keepalive c clock refl)
-bad_call (events.Drain c n) w start read keepalive drain deliver cut bad = absurd (drain c n refl)
-bad_call (events.Deliver c n) w start read keepalive drain deliver cut bad = absurd (deliver c n refl)
-bad_call (events.Cut c) w start read keepalive drain deliver cut bad = absurd (cut c refl)
+bad_call (events.Begin t) w start read keepalive drain deliver cut slot_line status flushed ack bad = ap not bad
+bad_call (events.Insert t table row) w start read keepalive drain deliver cut slot_line status flushed ack bad = ap not bad
+bad_call (events.Update t table key row) w start read keepalive drain deliver cut slot_line status flushed ack bad = ap not bad
+bad_call (events.Delete t table key) w start read keepalive drain deliver cut slot_line status flushed ack bad = ap not bad
+bad_call (events.Truncate t names) w start read keepalive drain deliver cut slot_line status flushed ack bad = ap not bad
+bad_call (events.Savepoint t) w start read keepalive drain deliver cut slot_line status flushed ack bad = ap not bad
+bad_call (events.Rollback t depth) w start read keepalive drain deliver cut slot_line status flushed ack bad = ap not bad
+bad_call (events.Release t depth) w start read keepalive drain deliver cut slot_line status flushed ack bad = ap not bad
+bad_call (events.Commit t time) w start read keepalive drain deliver cut slot_line status flushed ack bad = ap not bad
+bad_call (events.Abort t) w start read keepalive drain deliver cut slot_line status flushed ack bad = ap not bad
+bad_call (events.Start c slot position names) w start read keepalive drain deliver cut slot_line status flushed ack bad = absurd (start c slot position names refl)
+bad_call (events.Read c max clock) w start read keepalive drain deliver cut slot_line status flushed ack bad = absurd (read c max clock refl)
+bad_call (events.Keepalive c clock) w start read keepalive drain deliver cut slot_line status flushed ack bad = absurd (keepalive c clock refl)
+bad_call (events.Drain c n) w start read keepalive drain deliver cut slot_line status flushed ack bad = absurd (drain c n refl)
+bad_call (events.Deliver c n) w start read keepalive drain deliver cut slot_line status flushed ack bad = absurd (deliver c n refl)
+bad_call (events.Cut c) w start read keepalive drain deliver cut slot_line status flushed ack bad = absurd (cut c refl)
+bad_call (events.Slot name) w start read keepalive drain deliver cut slot_line status flushed ack bad = absurd (slot_line name refl)
+bad_call (events.Status c clock) w start read keepalive drain deliver cut slot_line status flushed ack bad = absurd (status c clock refl)
+bad_call (events.Flushed c number) w start read keepalive drain deliver cut slot_line status flushed ack bad = absurd (flushed c number refl)
+bad_call (events.Ack c) w start read keepalive drain deliver cut slot_line status flushed ack bad = absurd (ack c refl)
 
 -- a name that is in use is bad where it is to be new, and one that is not where it is to be known
 pub bad_new : (o : Option ℕ) (ask : Ask) → is_some o ≡ not (is_some (if_new o ask))
@@ -158,6 +171,12 @@ no_cut (actions.Read max clock) other = refl
 no_cut (actions.Keepalive clock) other = refl
 no_cut (actions.Drain n) other = refl
 no_cut actions.Cut other = absurd (other refl)
+
+pub kept_slots : (name : List ℕ) (action : Action) (subscribers : List SubscriberState) (slots : SlotsState) → is_cut action ≡ false → slots_after name action subscribers slots ≡ slots
+kept_slots name (actions.Read max clock) subscribers slots goes = refl
+kept_slots name (actions.Keepalive clock) subscribers slots goes = refl
+kept_slots name (actions.Drain n) subscribers slots goes = refl
+kept_slots name actions.Cut subscribers slots goes = let never : true ≡ false = goes in cc
 
 pub kept_subscribers : (name : List ℕ) (action : Action) (subscribers : List SubscriberState) → is_cut action ≡ false → subscribers_after name action subscribers ≡ subscribers
 kept_subscribers name (actions.Read max clock) subscribers goes = refl

@@ -10,7 +10,7 @@ use Rattle.world.specs.declared.machine.Machine.{Machine}
 use Rattle.world.specs.declared.start.Start.{Start}
 use Rattle.world.specs.declared.subscriber.Subscriber.{Subscriber}
 use Rattle.world.specs.Delivering.{Gets, Delivers}
-use Rattle.world.specs.State.{StartState, SubscriberState, new_subscriber, subscriber_of, with_subscriber, if_there, with_one_for, again, if_known_again, reconnected, is_open_for, open_start, with_open_start}
+use Rattle.world.specs.State.{StartState, SubscriberState, new_subscriber, subscriber_of, with_subscriber, if_there, with_one_for, again, if_known_again, reconnected, slot_in, slot_of_connection, is_open_for, open_start, with_open_start}
 use Rattle.world.specs.Machine.{shown, start_state, subscriber_state, subscriber_place, IsOpenStartAt, IsSubscriberAt, IsSubscribed}
 use Rattle.std.proofs.lemmas.List.{append-nil}
 use Rattle.tables.proofs.Names.{bytes_eq-after}
@@ -133,15 +133,19 @@ last_found (t ∷ ss) s same = by_test (bytes_eq t.connection s.connection) (las
     by_test true later = refl
     by_test false later = later
 
-pub all_joined : (ss : List SubscriberState) (starts : List StartState) (new : StartState) → AllByRecursion (IsSubscribed ss) starts
-    → AllByRecursion (IsSubscribed (with_one_for new.connection ss)) (starts ++ new ∷ [])
-all_joined ss starts new all = by_found (subscriber_of new.connection ss) refl
+pub all_joined : (slot : Option (List ℕ)) (ss : List SubscriberState) (starts : List StartState) (new : StartState) → AllByRecursion (IsSubscribed ss) starts
+    → AllByRecursion (IsSubscribed (with_one_for new.connection slot ss)) (starts ++ new ∷ [])
+all_joined slot ss starts new all = by_found (subscriber_of new.connection ss) refl
   where
     by_found : (o : Option SubscriberState) → subscriber_of new.connection ss ≡ o
-        → AllByRecursion (IsSubscribed (if_there o ss (ss ++ new_subscriber new.connection ∷ []))) (starts ++ new ∷ [])
-    by_found (Some s) is = all_of_both (IsSubscribed ss) starts (new ∷ []) all (ap is_some is, tt)
-    by_found None is = all_of_both (IsSubscribed (ss ++ new_subscriber new.connection ∷ [])) starts (new ∷ []) (all_subscribed_behind ss (new_subscriber new.connection) starts all)
-        (last_found ss (new_subscriber new.connection) (bytes_eq_self new.connection), tt)
+        → AllByRecursion (IsSubscribed (if_there o new.connection slot ss)) (starts ++ new ∷ [])
+    by_found (Some s) is =
+        let after : SubscriberState = record s { slot = slot } in
+        let same : (t : SubscriberState) → subscriber_of new.connection ss ≡ Some t → after.connection ≡ t.connection = λ t found. ap (λ (x : SubscriberState). x.connection) (same_inside s t (sym is ∙ found)) in
+        all_of_both (IsSubscribed (with_subscriber new.connection after ss)) starts (new ∷ []) (all_subscribed_with new.connection ss after starts same all)
+        (has_one_with new.connection new.connection ss after same ∙ ap is_some is, tt)
+    by_found None is = all_of_both (IsSubscribed (ss ++ new_subscriber new.connection slot ∷ [])) starts (new ∷ []) (all_subscribed_behind ss (new_subscriber new.connection slot) starts all)
+        (last_found ss (new_subscriber new.connection slot) (bytes_eq_self new.connection), tt)
 
 -- what a start becomes has its connection
 pub all_subscribed_after : (name : List ℕ) (ss : List SubscriberState) (after : StartState) (starts : List StartState) → ((s : StartState) → open_start name starts ≡ Some s → after.connection ≡ s.connection)
@@ -173,7 +177,7 @@ has_place name ss has none = let never : false ≡ true = sym (ap is_some none) 
 
 -- ---- what is done to the subscriber in its place
 
-the_one : (name : List ℕ) (place : ℕ) (ss : List Subscriber) (s : Subscriber) (at : IsSubscriberAt name place ss) → s ≡ slice_index_or ss place s → at.subscriber ≡ s
+pub the_one : (name : List ℕ) (place : ℕ) (ss : List Subscriber) (s : Subscriber) (at : IsSubscriberAt name place ss) → s ≡ slice_index_or ss place s → at.subscriber ≡ s
 the_one name place ss s at value = same_inside at.subscriber s (sym at.there ∙ slice_get_read ss (length ss) place s refl (slice_get_within ss place at.subscriber at.there) value)
 
 pub placed : (name : List ℕ) (place : ℕ) (ss : List Subscriber) (new : Subscriber) → IsSubscriberAt name place ss → map subscriber_state (slice_set ss place new) ≡ with_subscriber name (subscriber_state new) (map subscriber_state ss)
@@ -190,15 +194,23 @@ placed_again name place ss old new at value is =
 pub none_again : (name : List ℕ) (ss : List SubscriberState) → subscriber_place 0 name ss ≡ None → ss ≡ reconnected name ss
 none_again name ss none = ap (λ (o : Option SubscriberState). if_known_again o name ss) (sym (no_subscriber name ss none))
 
-pub joined_new : (name : List ℕ) (ss : List SubscriberState) → subscriber_place 0 name ss ≡ None → ss ++ new_subscriber name ∷ [] ≡ with_one_for name ss
-joined_new name ss none = ap (λ (o : Option SubscriberState). if_there o ss (ss ++ new_subscriber name ∷ [])) (sym (no_subscriber name ss none))
+pub joined_new : (name : List ℕ) (slot : Option (List ℕ)) (ss : List SubscriberState) → subscriber_place 0 name ss ≡ None → ss ++ new_subscriber name slot ∷ [] ≡ with_one_for name slot ss
+joined_new name slot ss none = ap (λ (o : Option SubscriberState). if_there o name slot ss) (sym (no_subscriber name ss none))
 
-pub joined_known : (name : List ℕ) (ss : List SubscriberState) (k : ℕ) → subscriber_place 0 name ss ≡ Some k → ss ≡ with_one_for name ss
-joined_known name ss k known = by_subscriber (subscriber_of name ss) refl
-  where
-    by_subscriber : (o : Option SubscriberState) → subscriber_of name ss ≡ o → ss ≡ with_one_for name ss
-    by_subscriber (Some s) is = ap (λ (o : Option SubscriberState). if_there o ss (ss ++ new_subscriber name ∷ [])) (sym is)
-    by_subscriber None is = let never : true ≡ false = sym (ap is_some known) ∙ is_found_alike name ss 0 ∙ ap is_some is in absurd cc
+pub joined_known : (name : List ℕ) (place : ℕ) (slot : Option (List ℕ)) (ss : List Subscriber) (old new : Subscriber) → IsSubscriberAt name place ss → old ≡ slice_index_or ss place old
+    → subscriber_state new ≡ record (subscriber_state old) { slot = slot } → map subscriber_state (slice_set ss place new) ≡ with_one_for name slot (map subscriber_state ss)
+joined_known name place slot ss old new at value is =
+    let here : at.subscriber ≡ old = the_one name place ss old at value in
+    placed name place ss new at
+    ∙ ap (λ (s : SubscriberState). with_subscriber name s (map subscriber_state ss)) (is ∙ ap (λ (s : Subscriber). record (subscriber_state s) { slot = slot }) (sym here))
+    ∙ ap (λ (o : Option SubscriberState). if_there o name slot (map subscriber_state ss)) (sym at.of)
+
+-- the slot of a connection is that of its subscriber
+pub slot_there : (name : List ℕ) (place : ℕ) (ss : List Subscriber) (old : Subscriber) → IsSubscriberAt name place ss → old ≡ slice_index_or ss place old → old.slot ≡ slot_of_connection name (map subscriber_state ss)
+slot_there name place ss old at value = ap (λ (s : Subscriber). s.slot) (sym (the_one name place ss old at value)) ∙ ap slot_in (sym at.of)
+
+pub no_slot_there : (name : List ℕ) (ss : List SubscriberState) → subscriber_place 0 name ss ≡ None → None ≡ slot_of_connection name ss
+no_slot_there name ss none = ap slot_in (sym (no_subscriber name ss none))
 
 -- what a subscriber got
 pub delivered : (name : List ℕ) (n at_start place : ℕ) {L : Type 0} (m : Machine L) (start : Start L) (old new : Subscriber) (produced : List ℕ) (a : Answer) → IsOpenStartAt name at_start m.starts.items → start ≡ slice_index_or m.starts.items at_start start
@@ -219,13 +231,13 @@ delivered name n at_start place {L} m start old new produced a opened start_valu
       is = ap (λ (l : List SubscriberState). record (shown m) { subscribers = l }) (placed name place m.subscribers.items new at);
     }
 
-pub still_subscribed : (name : List ℕ) (place : ℕ) {L : Type 0} (m : Machine L) (old new : Subscriber) (bytes : List ℕ) (a : Answer) → IsSubscriberAt name place m.subscribers.items → old ≡ slice_index_or m.subscribers.items place old
-    → Gets bytes (subscriber_state old) a (subscriber_state new) → AllByRecursion (IsSubscribed (map subscriber_state m.subscribers.items)) (map start_state m.starts.items)
+-- the subscriber in its place has become another of the same connection
+pub still_subscribed : (name : List ℕ) (place : ℕ) {L : Type 0} (m : Machine L) (old new : Subscriber) → IsSubscriberAt name place m.subscribers.items → old ≡ slice_index_or m.subscribers.items place old
+    → new.connection ≡ old.connection → AllByRecursion (IsSubscribed (map subscriber_state m.subscribers.items)) (map start_state m.starts.items)
     → AllByRecursion (IsSubscribed (map subscriber_state (slice_set m.subscribers.items place new))) (map start_state m.starts.items)
-still_subscribed name place m old new bytes a at value gets all =
+still_subscribed name place m old new at value same all =
     let here : at.subscriber ≡ old = the_one name place m.subscribers.items old at value in
     let told : subscriber_of name (map subscriber_state m.subscribers.items) ≡ Some (subscriber_state old) = at.of ∙ ap (λ (s : Subscriber). Option.Some (subscriber_state s)) here in
-    let same : new.connection ≡ old.connection = ap (λ (s : SubscriberState). s.connection) gets.is in
     subst (λ (l : List SubscriberState). AllByRecursion (IsSubscribed l) (map start_state m.starts.items)) (sym (placed name place m.subscribers.items new at))
     (all_subscribed_with name (map subscriber_state m.subscribers.items) (subscriber_state new) (map start_state m.starts.items)
     (λ s found. same ∙ ap (λ (x : SubscriberState). x.connection) (same_inside (subscriber_state old) s (sym told ∙ found))) all)

@@ -1,5 +1,5 @@
 -- What a connection's line does to its sender.
-use Rattle.std.specs.Prelude.{◌≡◌, ◌<◌, ℕ, ℤ, codes, true, false, List, [], ◌∷◌, ◌++◌, length, take, drop, nat_le, Option, Some, None, if◌then◌else◌, Bool, ◌&&◌}
+use Rattle.std.specs.Prelude.{◌≡◌, ◌<◌, ◌==◌, ℕ, ℤ, max, not, is_some, codes, true, false, List, [], ◌∷◌, ◌++◌, length, take, drop, nat_le, Option, Some, None, if◌then◌else◌, Bool, ◌&&◌}
 use Rattle.std.specs.Str.{bytes_eq}
 use Rattle.wal.specs.declared.record.TheConstants.{FIRST_POSITION}
 use Rattle.wal.specs.declared.record.Record.{Record}
@@ -17,7 +17,10 @@ use Rattle.schedule.specs.declared.answer.Answer.{Answer}
 use Rattle.schedule.specs.declared.answer.Answer.TheVariants as answers
 use Rattle.world.specs.declared.action.Action.{Action}
 use Rattle.world.specs.declared.action.Action.TheVariants as actions
-use Rattle.world.specs.State.{StartState, SubscriberState, WorldState, open_start, with_open_start, running, with_one_for, reconnected}
+use Rattle.named_slots.specs.State.{SlotsState, claimed, confirmed_of, is_in_use, slot_of}
+use Rattle.slots.specs.declared.fault.SlotFault.TheVariants as slot_faults
+use Rattle.world.specs.State.{StartState, SubscriberState, WorldState, open_start, with_open_start, running, with_one_for, reconnected, slot_of_connection}
+use Rattle.world.specs.Slots.{let_go}
 use Rattle.world.specs.Law.{read_by}
 use Rattle.world.specs.declared.reading.TheConstants.{MAX_SENDERS}
 
@@ -78,13 +81,22 @@ abbrev pub subscribers_after : List ℕ → Action → List SubscriberState → 
 subscribers_after connection actions.Cut subscribers = reconnected connection subscribers
 subscribers_after connection action subscribers = subscribers
 
+-- and its slot is free again
+abbrev pub slots_after : List ℕ → Action → List SubscriberState → SlotsState → SlotsState
+slots_after connection actions.Cut subscribers slots = let_go (slot_of_connection connection subscribers) slots
+slots_after connection action subscribers slots = slots
+
 -- what is asked of the connection's sender, and of nothing else
 pub record ActsAt (connection : List ℕ) (action : Action) (old : WorldState) (answer : Answer) (new : WorldState) : Type 0 where
   pub before : StartState
   pub after : StartState
   pub there : open_start connection old.starts ≡ Some before
   pub acts : Acts old.publisher.log action before answer after
-  pub is : new ≡ record old { starts = with_open_start connection after old.starts; subscribers = subscribers_after connection action old.subscribers }
+  pub is : new ≡ record old {
+    slots = slots_after connection action old.subscribers old.slots;
+    starts = with_open_start connection after old.starts;
+    subscribers = subscribers_after connection action old.subscribers;
+  }
 
 -- ---- Starts.
 
@@ -93,20 +105,47 @@ abbrev pub new_start : List ℕ → PublicationSet → ℕ → StartState
 new_start connection selection start =
     record { connection = connection; is_open = true; selection = selection; start = start; position = FIRST_POSITION; failed = false; produced = []; held = [] }
 
--- a start that names no slot
-abbrev pub is_slotless : List ℕ → Bool
-is_slotless slot = bytes_eq slot (codes "-")
+-- the slot that a start names; `-` is none
+abbrev pub slot_named : List ℕ → Option (List ℕ)
+slot_named word = if bytes_eq word (codes "-") then None else Some word
 
--- L1 where a slot is named, since there are no slots; then P1, then P2, and P7 for memory; then L6 where as many senders are
--- running as there may be
-abbrev pub IsStart : List ℕ → List ℕ → ℕ → List (List ℕ) → WorldState → Answer → WorldState → Type 0
-IsStart connection slot start names old answers.Done new =
-    (is_slotless slot ≡ true) × (is_unknown old.publications names ≡ false) × (conflicts (selected old.publications names).publications ≡ false) × (running old.starts < MAX_SENDERS) × (new ≡ record old { starts = old.starts ++ new_start connection (selected old.publications names) start ∷ []; subscribers = with_one_for connection old.subscribers })
-IsStart connection slot start names old (answers.Slot fault) new = (is_slotless slot ≡ false) × (new ≡ old)
-IsStart connection slot start names old answers.NoReader new =
-    (is_slotless slot ≡ true) × (is_unknown old.publications names ≡ false) × (conflicts (selected old.publications names).publications ≡ false) × (running old.starts ≡ MAX_SENDERS) × (new ≡ old)
-IsStart connection slot start names old (answers.Publication pubs.Unknown) new = (is_slotless slot ≡ true) × (is_unknown old.publications names ≡ true) × (new ≡ old)
-IsStart connection slot start names old (answers.Publication pubs.ListConflict) new =
-    (is_slotless slot ≡ true) × (is_unknown old.publications names ≡ false) × (conflicts (selected old.publications names).publications ≡ true) × (new ≡ old)
-IsStart connection slot start names old (answers.Publication pubs.Memory) new = (is_slotless slot ≡ true) × (is_unknown old.publications names ≡ false) × (new ≡ old)
-IsStart connection slot start names old answer new = ⊥
+abbrev pub is_missing : Option (List ℕ) → SlotsState → Bool
+is_missing None slots = false
+is_missing (Some name) slots = not (is_some (slot_of name slots.slots))
+
+abbrev pub is_held : Option (List ℕ) → SlotsState → Bool
+is_held None slots = false
+is_held (Some name) slots = is_in_use (slot_of name slots.slots)
+
+-- a slot that is taken; the stream begins where it is confirmed, if that is further
+abbrev pub taken : Option (List ℕ) → SlotsState → SlotsState
+taken None slots = slots
+taken (Some name) slots = claimed name slots
+
+abbrev pub start_from : Option (List ℕ) → ℕ → SlotsState → ℕ
+start_from None position slots = position
+start_from (Some name) position slots = max position (confirmed_of (slot_of name slots.slots))
+
+-- why a start is refused, in this order: L1, P1, P2, L6 where as many senders are running as there may be, L2
+abbrev pub start_refusal : Option (List ℕ) → List (List ℕ) → WorldState → Option Answer
+start_refusal slot names w =
+    if is_missing slot w.slots then Some (answers.Slot slot_faults.Missing)
+    else if is_unknown w.publications names then Some (answers.Publication pubs.Unknown)
+    else if conflicts (selected w.publications names).publications then Some (answers.Publication pubs.ListConflict)
+    else if running w.starts == MAX_SENDERS then Some answers.NoReader
+    else if is_held slot w.slots then Some (answers.Slot slot_faults.InUse)
+    else None
+
+-- what a start leaves that isn't refused
+abbrev pub started : List ℕ → Option (List ℕ) → ℕ → List (List ℕ) → WorldState → WorldState
+started connection slot position names w = record w {
+  slots = taken slot w.slots;
+  starts = w.starts ++ new_start connection (selected w.publications names) (start_from slot position w.slots) ∷ [];
+  subscribers = with_one_for connection slot w.subscribers;
+}
+
+-- P7 where memory was refused for what the publications select
+abbrev pub IsStart : List ℕ → Option (List ℕ) → ℕ → List (List ℕ) → WorldState → Answer → WorldState → Type 0
+IsStart connection slot position names old answers.Done new = (start_refusal slot names old ≡ None) × (new ≡ started connection slot position names old)
+IsStart connection slot position names old (answers.Publication pubs.Memory) new = (is_missing slot old.slots ≡ false) × (is_unknown old.publications names ≡ false) × (new ≡ old)
+IsStart connection slot position names old answer new = (start_refusal slot names old ≡ Some answer) × (new ≡ old)

@@ -1,4 +1,5 @@
 pub mod State
+pub mod Slots
 pub mod Config
 pub mod Delivering
 pub mod Law
@@ -6,5 +7,6 @@ pub mod Rows
 pub mod SessionLines
 pub mod ConnectionLines
 pub mod Steps
+pub mod Confirming
 pub mod Machine
 pub mod Simulation

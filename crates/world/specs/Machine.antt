@@ -167,7 +167,7 @@ pub record ActsIn {L : Type 0} (log : List Record) (place : ℕ) (action : Actio
 -- ---- Subscribers.
 
 abbrev pub subscriber_state : Subscriber → SubscriberState
-subscriber_state s = record { connection = s.connection; applier = s.applier; delivered = s.delivered; has_taken = s.has_taken }
+subscriber_state s = record { connection = s.connection; slot = s.slot; applier = s.applier; delivered = s.delivered; has_taken = s.has_taken; back = s.back.items }
 
 -- where the subscriber of the connection stands, counted from a number on
 abbrev pub subscriber_place : ℕ → List ℕ → List SubscriberState → Option ℕ
@@ -188,7 +188,7 @@ IsSubscribed subscribers s = is_some (subscriber_of s.connection subscribers) �
 -- ---- The machine.
 
 abbrev pub shown : {L : Type 0} → Machine L → WorldState
-shown m = record { publications = m.publications; publisher = m.publisher; transactions = map named_tx m.sessions.items; starts = map start_state m.starts.items; subscribers = map subscriber_state m.subscribers.items }
+shown m = record { publications = m.publications; publisher = m.publisher; transactions = map named_tx m.sessions.items; slots = m.slots; starts = map start_state m.starts.items; subscribers = map subscriber_state m.subscribers.items }
 
 -- there is room for one more start
 pub record HasRoom {L : Type 0} (m : Machine L) : Type 0 where

@@ -1,10 +1,12 @@
--- The world between two events: a publisher, its transactions in progress by name, every start of a sender with what came
--- of it, and the subscribers.
+-- The world between two events: a publisher, its transactions in progress by name, the slots, every start of a sender with
+-- what came of it, and the subscribers.
 use Rattle.std.specs.Prelude.{ℕ, ◌+◌, Bool, false, ◌&&◌, List, [], ◌∷◌, ◌++◌, drop, Option, Some, None, if◌then◌else◌}
 use Rattle.std.specs.Str.{bytes_eq}
 use Rattle.tables.specs.declared.table.Table.{Table}
 use Rattle.txlog.specs.Publishing.{PublisherState, new_publisher}
 use Rattle.publication.specs.Publications.{PublicationSet}
+use Rattle.named_slots.specs.State.{SlotsState, no_slots}
+use Rattle.copyboth.specs.declared.status.Status.{Status}
 use Rattle.client.specs.Subscriber.{resting}
 use Rattle.client.specs.Taking.{ApplierState}
 use Rattle.schedule.specs.declared.answer.Answer.{Answer}
@@ -27,19 +29,23 @@ pub record StartState : Type 0 where
   pub produced : List ℕ
   pub held : List ℕ
 
--- The subscriber of a connection, which outlives the connection's starts: how many bytes of those that the open start has
--- produced were delivered to it, and whether ever a byte was.
+-- The subscriber of a connection, which outlives the connection's starts: the slot that its open start streams from, if any,
+-- how many bytes of those that the open start has produced were delivered to it, whether ever a byte was, and the statuses in
+-- the pipe back, the next one first.
 pub record SubscriberState : Type 0 where
   pub connection : List ℕ
+  pub slot : Option (List ℕ)
   pub applier : ApplierState
   pub delivered : ℕ
   pub has_taken : Bool
+  pub back : List Status
 
 -- the starts stand in the order in which they came, and so do the subscribers
 pub record WorldState : Type 0 where
   pub publications : PublicationSet
   pub publisher : PublisherState
   pub transactions : List NamedTx
+  pub slots : SlotsState
   pub starts : List StartState
   pub subscribers : List SubscriberState
 
@@ -51,7 +57,7 @@ pub record Setting : Type 0 where
 
 -- before the first event the log is empty, and nobody is there
 abbrev pub new_world : Setting → WorldState
-new_world setting = record { publications = setting.publications; publisher = new_publisher setting.tables setting.server.records; transactions = []; starts = []; subscribers = [] }
+new_world setting = record { publications = setting.publications; publisher = new_publisher setting.tables setting.server.records; transactions = []; slots = no_slots; starts = []; subscribers = [] }
 
 -- what a world tells of itself: its state, and what each event so far answered
 pub record WorldView : Type 0 where
@@ -101,21 +107,21 @@ with_subscriber connection new [] = []
 with_subscriber connection new (s ∷ subscribers) = if bytes_eq s.connection connection then new ∷ subscribers else s ∷ with_subscriber connection new subscribers
 
 -- a subscriber has applied nothing, at position 0
-abbrev pub new_subscriber : List ℕ → SubscriberState
-new_subscriber connection = record { connection = connection; applier = record { subscriber = resting 0 []; unread = []; fault = None }; delivered = 0; has_taken = false }
+abbrev pub new_subscriber : List ℕ → Option (List ℕ) → SubscriberState
+new_subscriber connection slot = record { connection = connection; slot = slot; applier = record { subscriber = resting 0 []; unread = []; fault = None }; delivered = 0; has_taken = false; back = [] }
 
--- a connection that starts has a subscriber, for good
-abbrev pub if_there : Option SubscriberState → List SubscriberState → List SubscriberState → List SubscriberState
-if_there None known new = new
-if_there (Some s) known new = known
+-- a connection that starts has a subscriber, for good, and this slot, if any
+abbrev pub if_there : Option SubscriberState → List ℕ → Option (List ℕ) → List SubscriberState → List SubscriberState
+if_there None connection slot subscribers = subscribers ++ new_subscriber connection slot ∷ []
+if_there (Some s) connection slot subscribers = with_subscriber connection (record s { slot = slot }) subscribers
 
-abbrev pub with_one_for : List ℕ → List SubscriberState → List SubscriberState
-with_one_for connection subscribers = if_there (subscriber_of connection subscribers) subscribers (subscribers ++ new_subscriber connection ∷ [])
+abbrev pub with_one_for : List ℕ → Option (List ℕ) → List SubscriberState → List SubscriberState
+with_one_for connection slot subscribers = if_there (subscriber_of connection subscribers) connection slot subscribers
 
--- The pipe is empty. The subscriber keeps its position and what it has applied, and forgets what it hasn't read, its tables,
--- a half transaction and its fault.
+-- Both pipes are empty, and there is no slot. The subscriber keeps its position and what it has applied, and forgets what it
+-- hasn't read, its tables, a half transaction and its fault.
 abbrev pub again : SubscriberState → SubscriberState
-again s = record s { applier = record { subscriber = resting s.applier.subscriber.position s.applier.subscriber.applied; unread = []; fault = None }; delivered = 0 }
+again s = record s { slot = None; applier = record { subscriber = resting s.applier.subscriber.position s.applier.subscriber.applied; unread = []; fault = None }; delivered = 0; back = [] }
 
 abbrev pub if_known_again : Option SubscriberState → List ℕ → List SubscriberState → List SubscriberState
 if_known_again None connection subscribers = subscribers
@@ -124,3 +130,11 @@ if_known_again (Some s) connection subscribers = with_subscriber connection (aga
 -- the connection's subscriber reconnects
 abbrev pub reconnected : List ℕ → List SubscriberState → List SubscriberState
 reconnected connection subscribers = if_known_again (subscriber_of connection subscribers) connection subscribers
+
+-- the slot that the connection streams from
+abbrev pub slot_in : Option SubscriberState → Option (List ℕ)
+slot_in None = None
+slot_in (Some s) = s.slot
+
+abbrev pub slot_of_connection : List ℕ → List SubscriberState → Option (List ℕ)
+slot_of_connection connection subscribers = slot_in (subscriber_of connection subscribers)

@@ -59,6 +59,10 @@ pub(crate) fn call<L: LogName, R: Wait>(
         | Event::Keepalive(_, _)
         | Event::Drain(_, _)
         | Event::Deliver(_, _)
+        | Event::Slot(_)
+        | Event::Status(_, _)
+        | Event::Flushed(_, _)
+        | Event::Ack(_)
         | Event::Cut(_) => Err(WorldFault::BadEvent),
     }
 }

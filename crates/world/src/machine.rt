@@ -5,7 +5,7 @@ ghost use Rattle.std.specs.List.{AllByRecursion};
 ghost use Rattle.publication.specs.Selection.{FitTables};
 ghost use Rattle.txlog.specs.Publishing.{new_publisher};
 ghost use Rattle.world.specs.State.{new_subscriber, new_world, open_start, running, with_one_for};
-ghost use Rattle.world.specs.ConnectionLines.{ActsAt, IsStart, new_start};
+ghost use Rattle.world.specs.ConnectionLines.{ActsAt, IsStart, new_start, slot_named};
 ghost use Rattle.world.specs.Delivering.{Delivers};
 ghost use Rattle.world.specs.Steps.{IsStep, is_bad};
 ghost use Rattle.world.specs.Machine.{ActsIn, HasRoom, IsMachine, IsOpenAt, IsServed, shown, start_state, subscriber_state};
@@ -16,25 +16,26 @@ use crate::config::Config;
 use crate::opening::{close, place_among};
 use crate::reading::MAX_SENDERS;
 use crate::session::{Session, leave_all};
+use crate::slot_word::{is_missing, let_go, slot_named, take};
 use crate::start::Start;
 use crate::subscriber::{Subscriber, place_of, reconnect, subscribe};
 use frames::Text;
+use named_slots::HeldSlots;
 use publication::{Publications, Selection};
-use schedule::{Answer, Event, SlotFault, WorldFault};
+use schedule::{Answer, Event, WorldFault};
 use shared_log::{LogName, LogReader};
+use slots::{OpenedSlots, SlotFault, SlotName};
 use std::alloc::{AllocError, Global};
 use std::sync::Wait;
 use tables::Catalog;
 use txlog::{MAX_RECORDS, Opened, Publisher, SessionFault};
 
-/// What a start names instead of a slot.
-const NO_SLOT: &str = "-";
-
-/// A publisher, its sessions by name, every start of a sender, where the open ones stand, in order, the readers that serve none
+/// A publisher, its slots, its sessions by name, every start of a sender, where the open ones stand, in order, the readers that serve none
 /// of them, and the subscribers.
-pub(crate) struct Machine<L: LogName> {
+pub(crate) struct Machine<L: LogName + SlotName> {
     pub(crate) publications: Publications,
     pub(crate) publisher: Publisher<L>,
+    pub(crate) slots: HeldSlots<L>,
     pub(crate) sessions: Vec<Session>,
     pub(crate) starts: Vec<Start<L>>,
     pub(crate) opened: Vec<usize>,
@@ -42,14 +43,16 @@ pub(crate) struct Machine<L: LogName> {
     pub(crate) subscribers: Vec<Subscriber>,
 }
 
-impl<L: LogName> Machine<L> {
+impl<L: LogName + SlotName> Machine<L> {
     pub(crate) fn new<R: Wait>(
         rt: &R,
         alloc: Global,
         history: shared_log::Opened,
+        table: OpenedSlots,
         config: Config,
     ) -> Result<Self, WorldFault>
-        requires name { history.seen.book ≡ L.book }
+        requires log { history.seen.book ≡ L.book }
+        requires slots { table.first.table_id ≡ L.table }
         ensures start { IfOk result (λ m. shown m ≡ new_world config) }
         ensures err { IfErr result (λ e. e ≡ WorldFault.Memory) }
         ensures machine { IfOk result IsMachine }
@@ -59,11 +62,13 @@ impl<L: LogName> Machine<L> {
             publications,
             server,
         } = config;
+        let slots = HeldSlots::open(alloc, table)?;
         match publisher_of(rt, alloc, history, catalog, server.records) {
             Ok((publisher, readers)) => {
                 return Ok(Machine {
                     publications,
                     publisher,
+                    slots,
                     sessions: Vec::new(alloc),
                     starts: Vec::new(alloc),
                     opened: Vec::new(alloc),
@@ -71,21 +76,26 @@ impl<L: LogName> Machine<L> {
                     subscribers: Vec::new(alloc),
                 });
             }
-            Err(_) => return Err(WorldFault::Memory),
+            Err(_) => {
+                slots.close();
+                return Err(WorldFault::Memory);
+            }
         }
     }
 
-    /// Ends the senders and their readers, leaves every transaction as it is, and ends the log.
+    /// Ends the senders and their readers, releases the slots, leaves every transaction as it is, and ends the log.
     pub(crate) fn close<R: Wait>(self, rt: &R) {
         let Machine {
             publications: _,
             publisher,
+            slots,
             sessions,
             starts,
             opened: _,
             readers,
             subscribers: _,
         } = self;
+        slots.close();
         drop(starts);
         drop(readers);
         leave_all(&publisher, sessions);
@@ -113,7 +123,11 @@ impl<L: LogName> Machine<L> {
             | Event::Keepalive(name, _)
             | Event::Drain(name, _)
             | Event::Deliver(name, _)
+            | Event::Status(name, _)
+            | Event::Flushed(name, _)
             | Event::Cut(name) => !self.is_connected(name),
+            Event::Ack(name) => !self.has_status(name),
+            Event::Slot(_) => false,
         }
     }
 
@@ -135,12 +149,16 @@ impl<L: LogName> Machine<L> {
             Event::Drain(name, max) => self.act(alloc, name, Action::Drain(*max)),
             Event::Deliver(name, max) => self.deliver(name, *max),
             Event::Cut(name) => self.act(alloc, name, Action::Cut),
+            Event::Slot(name) => Ok(self.create(name)),
+            Event::Status(name, clock) => self.put_back(name, None, *clock),
+            Event::Flushed(name, number) => self.put_back(name, Some(*number), 0),
+            Event::Ack(name) => self.acknowledge(name),
             _ => call(rt, &mut self.publisher, &mut self.sessions, alloc, event),
         }
     }
 
-    /// Starts a sender, which reads the log from its first record on. L1 where a slot is named, then P1, then P2, then L6 where
-    /// no reader is left.
+    /// Starts a sender, which reads the log from its first record on. L1 where no slot has the name, then P1, then P2, then L6
+    /// where no reader is left, then L2 where the slot is held.
     fn start(
         &mut self,
         alloc: Global,
@@ -150,7 +168,7 @@ impl<L: LogName> Machine<L> {
         names: &[Text],
     ) -> Result<Answer, WorldFault>
         requires machine { IsMachine self.old }
-        ensures start { IfOk result (λ a. IsNone (open_start name.now (shown self.old).starts) × IsStart name.now slot.now position names.now (shown self.old) a (shown self.new)) }
+        ensures start { IfOk result (λ a. IsNone (open_start name.now (shown self.old).starts) × IsStart name.now (slot_named slot.now) position names.now (shown self.old) a (shown self.new)) }
         ensures bad { result ≡ Err WorldFault.BadEvent → IsSome (open_start name.now (shown self.old).starts) }
         ensures err { OnErr result (shown self.new ≡ shown self.old) }
         ensures machine { IsMachine self.new }
@@ -158,7 +176,7 @@ impl<L: LogName> Machine<L> {
         if self.is_connected(name) {
             return Err(WorldFault::BadEvent);
         }
-        if slot.as_str() != NO_SLOT {
+        if is_missing(&self.slots, slot) {
             return Ok(Answer::Slot(SlotFault::Missing));
         }
         let selection = match self.publications.select(names) {
@@ -169,8 +187,12 @@ impl<L: LogName> Machine<L> {
             return Ok(Answer::NoReader);
         }
         self.make_room()?;
-        let subscriber = Subscriber::new(alloc, name.copy(alloc)?);
+        let subscriber = Subscriber::new(alloc, name.copy(alloc)?, slot_named(alloc, slot)?);
         let connection = name.copy(alloc)?;
+        let position = match take(&mut self.slots, slot, position) {
+            Ok(position) => position,
+            Err(fault) => return Ok(Answer::Slot(fault)),
+        };
         self.add(alloc, subscriber, connection, selection, position);
         Ok(Answer::Done)
     }
@@ -200,10 +222,10 @@ impl<L: LogName> Machine<L> {
         requires room { HasRoom self.old }
         requires reader { 0 < vec_len self.old.readers }
         requires tables { FitTables selection }
-        requires subscriber { subscriber_state subscriber ≡ new_subscriber connection }
+        requires subscriber { subscriber_state subscriber ≡ new_subscriber connection subscriber.slot }
         ensures added { shown self.new ≡ record (shown self.old) {
           starts = (shown self.old).starts ++ new_start connection selection position ∷ [];
-          subscribers = with_one_for connection (shown self.old).subscribers;
+          subscribers = with_one_for connection subscriber.slot (shown self.old).subscribers;
         } }
         ensures machine { IsMachine self.new }
     {
@@ -241,7 +263,8 @@ impl<L: LogName> Machine<L> {
         match action {
             Action::Cut => {
                 close(&mut self.opened, place);
-                reconnect(&mut self.subscribers, name);
+                let slot = reconnect(&mut self.subscribers, name);
+                let_go(&mut self.slots, slot);
             }
             _ => {}
         }
@@ -267,7 +290,7 @@ impl<L: LogName> Machine<L> {
         Ok(self.subscribers[at].take(start.produced(), max))
     }
 
-    fn is_connected(&self, name: &Text) -> bool
+    pub(crate) fn is_connected(&self, name: &Text) -> bool
         requires machine { IsMachine self.now }
         ensures { result ≡ is_some (open_start name.now (shown self.now).starts) }
     {

@@ -5,11 +5,14 @@ ghost use Rattle.world.specs.declared.simulation.SimFault.{SimFault};
 ghost use Rattle.world.specs.Simulation.{is_bad_schedule, is_writing};
 
 use crate::config::Config;
+use crate::subscriber::Subscriber;
 use crate::world::{RunFault, World};
 use schedule::{
-    BadEvent, LineFault, Schedule, WorldFault, write_refusals, write_stream, write_subscriber,
+    BadEvent, LineFault, Schedule, WorldFault, write_refusals, write_slot, write_stream,
+    write_subscriber,
 };
 use shared_log::{LogName, Opened};
+use slots::{OpenedSlots, SlotName};
 use std::alloc::Global;
 use std::io;
 use std::io::{Read, Write};
@@ -51,7 +54,7 @@ impl SimFault {
 }
 
 /// Reads the whole schedule, runs its events and writes the report: a line for each refused event, then one for each start
-/// of a sender. Where that fails, nothing was written, unless the writing itself failed.
+/// of a sender, each slot, and each subscriber that got a byte. Where that fails, nothing was written, unless the writing itself failed.
 pub fn simulate<R: Wait, I: Read, W: Write>(
     rt: &R,
     alloc: Global,
@@ -63,22 +66,25 @@ pub fn simulate<R: Wait, I: Read, W: Write>(
 {
     let text = read_schedule(alloc, input)?;
     let schedule = Schedule::parse(alloc, text.as_str()).map_err(SimFault::Line)?;
-    report_run::<Brand, R, W>(rt, alloc, Opened::new(), config, schedule, output)
+    let slots = OpenedSlots::new(alloc).map_err(|_| SimFault::Memory)?;
+    report_run::<Brand, R, W>(rt, alloc, Opened::new(), slots, config, schedule, output)
 }
 
 /// Runs the events over a log that the call names, and writes the report.
-fn report_run<L: LogName, R: Wait, W: Write>(
+fn report_run<L: LogName + SlotName, R: Wait, W: Write>(
     rt: &R,
     alloc: Global,
     history: Opened,
+    slots: OpenedSlots,
     config: Config,
     schedule: Schedule,
     output: &mut W,
 ) -> Result<(), SimFault>
-    requires name { history.seen.book ≡ L.book }
+    requires log { history.seen.book ≡ L.book }
+    requires slots { slots.first.table_id ≡ L.table }
     ensures silent { (fault : SimFault) → result ≡ Err fault → is_writing fault ≡ false → output.new ≡ output.old }
 {
-    match World::<L>::run(rt, alloc, history, config, schedule.events()) {
+    match World::<L>::run(rt, alloc, history, slots, config, schedule.events()) {
         Ok(world) => {
             let written = write_report(alloc, output, &schedule, &world);
             world.close(rt);
@@ -107,7 +113,7 @@ fn read_schedule<R: Read>(alloc: Global, input: &mut R) -> Result<String, SimFau
     String::from_utf8(bytes).map_err(|_| SimFault::NotUtf8)
 }
 
-fn write_report<L: LogName, W: Write>(
+fn write_report<L: LogName + SlotName, W: Write>(
     alloc: Global,
     output: &mut W,
     schedule: &Schedule,
@@ -117,7 +123,20 @@ fn write_report<L: LogName, W: Write>(
     for start in world.starts() {
         write_stream(alloc, output, start.connection(), start.produced())?;
     }
-    for subscriber in world.subscribers() {
+    for slot in world.slots() {
+        write_slot(alloc, output, slot.name(), slot.confirmed())?;
+    }
+    write_subscribers(alloc, output, world.subscribers())?;
+    output.flush()
+}
+
+/// Those of the subscribers to which ever a byte was delivered.
+fn write_subscribers<W: Write>(
+    alloc: Global,
+    output: &mut W,
+    subscribers: &[Subscriber],
+) -> io::Result<()> {
+    for subscriber in subscribers {
         if subscriber.has_taken() {
             let count = subscriber.applied().len();
             write_subscriber(
@@ -129,5 +148,5 @@ fn write_report<L: LogName, W: Write>(
             )?;
         }
     }
-    output.flush()
+    Ok(())
 }

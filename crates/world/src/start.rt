@@ -73,6 +73,16 @@ impl<L: LogName> Start<L> {
         self.produced.as_slice()
     }
 
+    /// The end of the last record that its sender has read.
+    pub(crate) fn position(&self) -> u64
+        ensures { result ≡ (start_state self.now).position }
+    {
+        match &self.walsender {
+            Walsender::Open(sender, _) => sender.position(),
+            Walsender::Cut(ended) => ended.position,
+        }
+    }
+
     /// Whether this is an open start of the connection.
     pub(crate) fn is_open_for(&self, connection: &Text) -> bool
         ensures { result ≡ is_open_for connection.now (start_state self.now) }

@@ -1,8 +1,10 @@
 //! A run of events over the whole publisher.
 
-ghost use Rattle.std.specs.Prelude.{◌≡◌, ◌↔◌, ◌++◌, ◌∷◌, [], ℕ, true, map, Err, IfOk, IfErr, OnErr};
+ghost use Rattle.std.specs.Prelude.{◌≡◌, ◌↔◌, ◌++◌, ◌∷◌, [], ℕ, List, None, true, map, Err, IfOk, IfErr, OnErr};
+ghost use Rattle.named_slots.specs.Keeping.{confirmed_slot};
 ghost use Rattle.world.specs.State.{new_world};
 ghost use Rattle.world.specs.Law.{Headline};
+ghost use Rattle.world.specs.Confirming.{confirmed_at, confirmed_through};
 ghost use Rattle.world.specs.Steps.{IsRun, IsStep, StopsAt, is_bad};
 ghost use Rattle.world.specs.Machine.{start_state, subscriber_state};
 ghost use Rattle.world.specs.declared.world.RunFault.{RunFault};
@@ -12,8 +14,10 @@ use crate::config::Config;
 use crate::machine::Machine;
 use crate::start::Start;
 use crate::subscriber::Subscriber;
+use named_slots::Slot;
 use schedule::{Answer, Event, WorldFault};
 use shared_log::{LogName, Opened};
+use slots::{OpenedSlots, SlotName};
 use std::alloc::Global;
 use std::marker::Model;
 use std::sync::Wait;
@@ -23,7 +27,7 @@ use thiserror::Error;
 ///
 /// `new` makes one and `step` does an event in it; `run` is both for a list of events. It isn't `Drop`: `close` ends it. An event that happens answers
 /// `Done`, or the refusal of the part that it asked. One that doesn't happen is a `WorldFault`, and changes nothing.
-pub struct World<L: LogName> {
+pub struct World<L: LogName + SlotName> {
     machine: Machine<L>,
     answers: Vec<Answer>,
 }
@@ -39,7 +43,7 @@ pub enum RunFault {
     Step(usize, WorldFault),
 }
 
-impl<L: LogName> Model for World<L> {
+impl<L: LogName + SlotName> Model for World<L> {
     ghost use Rattle.std.specs.Coded.{codes};
     ghost use Rattle.publication.specs.Publications.{condition_code};
     ghost use Rattle.world.specs.State.{WorldView};
@@ -54,20 +58,22 @@ impl<L: LogName> Model for World<L> {
     ghost invariant = { λ w. IsMachine w.machine };
 }
 
-impl<L: LogName> World<L> {
+impl<L: LogName + SlotName> World<L> {
     /// A world with an empty log. V2 where there was no memory for it.
     pub fn new<R: Wait>(
         rt: &R,
         alloc: Global,
         history: Opened,
+        slots: OpenedSlots,
         config: Config,
     ) -> Result<Self, WorldFault>
-        requires name { history.seen.book ≡ L.book }
+        requires log { history.seen.book ≡ L.book }
+        requires slots { slots.first.table_id ≡ L.table }
         ensures start { IfOk result (λ w. w ≡ record { state = new_world config; answers = [] }) }
         ensures err { IfErr result (λ e. e ≡ WorldFault.Memory) }
     {
         Ok(World {
-            machine: Machine::new(rt, alloc, history, config)?,
+            machine: Machine::new(rt, alloc, history, slots, config)?,
             answers: Vec::new(alloc),
         })
     }
@@ -95,15 +101,19 @@ impl<L: LogName> World<L> {
         rt: &R,
         alloc: Global,
         history: Opened,
+        slots: OpenedSlots,
         config: Config,
         events: &[Event],
     ) -> Result<Self, RunFault>
-        requires name { history.seen.book ≡ L.book }
+        requires log { history.seen.book ≡ L.book }
+        requires slots { slots.first.table_id ≡ L.table }
         ensures run { IfOk result (λ w. IsRun (new_world config) events.now w.answers w.state) }
         ensures headline { IfOk result (λ w. Headline w.state) }
+        ensures confirmed { IfOk result (λ w. (name : List ℕ) (run : IsRun (new_world config) events.now w.answers w.state)
+            → confirmed_at name w.state.slots ≡ confirmed_through name (new_world config) events.now w.answers w.state run None) }
         ensures stops { (done : ℕ) (fault : Fault) → result ≡ Err (RunFault.Step done fault) → StopsAt (new_world config) events.now done fault }
     {
-        let mut world = World::new(rt, alloc, history, config).map_err(|_| RunFault::New)?;
+        let mut world = World::new(rt, alloc, history, slots, config).map_err(|_| RunFault::New)?;
         for (done, event) in events.iter().enumerate() {
             if let Err(fault) = world.step(rt, event) {
                 world.close(rt);
@@ -134,6 +144,13 @@ impl<L: LogName> World<L> {
         ensures { map start_state result.now ≡ self.now.state.starts }
     {
         self.machine.starts.as_slice()
+    }
+
+    /// The slots, in the order of their creation.
+    pub fn slots(&self) -> &[Slot]
+        ensures { result.now ≡ map confirmed_slot self.now.state.slots.slots }
+    {
+        self.machine.slots.slots()
     }
 
     /// The subscribers, in the order of their connections' first starts.

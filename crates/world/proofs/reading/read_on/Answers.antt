@@ -1,4 +1,4 @@
-use Rattle.std.proofs.Common.{◌≡◌, ◌-◌, ℕ, List, drop, length, take, ap, sym, subst, ◌∙◌}
+use Rattle.std.proofs.Common.{◌-◌, ℕ, List, drop, length, take, ap, sym, subst, ◌∙◌}
 use Rattle.std.specs.Prelude.{min}
 use mathlib.Core.List.{IsPrefix}
 use Rattle.shared_log.specs.declared.entry.Entry.{Entry}

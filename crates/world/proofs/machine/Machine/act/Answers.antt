@@ -1,13 +1,15 @@
-use Rattle.std.proofs.Common.{◌≡◌, List, map, sym, ap, subst, ◌∙◌}
+use Rattle.std.proofs.Common.{◌≡◌, ℕ, List, Option, map, sym, ap, subst, ◌∙◌}
 use Rattle.std.specs.List.{AllByRecursion}
 use Rattle.world.specs.declared.action.Action.{Action}
-use Rattle.world.specs.State.{SubscriberState}
-use Rattle.world.specs.ConnectionLines.{ActsAt, subscribers_after}
+use Rattle.named_slots.specs.State.{SlotsState}
+use Rattle.world.specs.State.{SubscriberState, WorldState}
+use Rattle.world.specs.Slots.{let_go}
+use Rattle.world.specs.ConnectionLines.{ActsAt, slots_after, subscribers_after}
 use Rattle.world.specs.Machine.{ActsIn, IsSubscribed, shown, start_state, subscriber_state}
 use Rattle.world.proofs.Openings.{open_at, none_open}
 use Rattle.world.proofs.Asking.{acted_at, subscribed_on}
 use Rattle.world.proofs.Subscribing.{all_reconnected}
-use Rattle.world.proofs.Machines.{found_on, found_less, kept_subscribers, no_cut, pool_has_room}
+use Rattle.world.proofs.Machines.{found_on, found_less, kept_slots, kept_subscribers, no_cut, pool_has_room}
 use Rattle.world.proofs.machine.Machine.act.Goals as goal
 
 pub returns-in_default-clause-bad : goal.returns-in_default-clause-bad
@@ -31,9 +33,14 @@ returns-in-Cut-clause-acts g c =
     let at = open_at c.args.name.now c.args.self.now.starts.items c.args.self.now.opened.items c.in-Some.place c.requires.machine.found
     (rw (c.as_slice.ensures.value, c.as_slice-2.ensures.value) at (sym c.place_among-found.ensures ∙ c.in-Some.is)) in
     let did = acted_at c.args.name.now c.in-Some.place c.args.action c.args.self.now c.act_at.new.starts.items c.in_ok-answer.answer at c.in_ok-answer.ensures.acts in
-    let subscribers : subscribers_after c.args.name.now c.args.action (map subscriber_state c.args.self.now.subscribers.items) ≡ map subscriber_state c.reconnect.new.subscribers.items =
-    ap (λ (action : Action). subscribers_after c.args.name.now action (map subscriber_state c.args.self.now.subscribers.items)) c.in-Cut.is ∙ sym c.reconnect.ensures in
-    rw c.act_at.ensures.same (subst (λ (l : List SubscriberState). ActsAt c.args.name.now c.args.action (shown c.args.self.now) c.in_ok-answer.answer (record (shown c.args.self.now) { starts = map start_state c.act_at.new.starts.items; subscribers = l })) subscribers did)
+    let before = map subscriber_state c.args.self.now.subscribers.items in
+    let subscribers : subscribers_after c.args.name.now c.args.action before ≡ map subscriber_state c.reconnect-slot.new.subscribers.items =
+    ap (λ (action : Action). subscribers_after c.args.name.now action before) c.in-Cut.is ∙ sym c.reconnect-slot.ensures.again in
+    let slots : slots_after c.args.name.now c.args.action before c.args.self.now.slots ≡ c.let_go.new.slots =
+    ap (λ (action : Action). slots_after c.args.name.now action before c.args.self.now.slots) c.in-Cut.is ∙ ap (λ (slot : Option (List ℕ)). let_go slot c.args.self.now.slots) (sym c.reconnect-slot.ensures.slot) ∙ sym c.let_go.ensures in
+    let after : SlotsState → List SubscriberState → WorldState = λ s l. record (shown c.args.self.now) { slots = s; starts = map start_state c.act_at.new.starts.items; subscribers = l } in
+    rw c.act_at.ensures.same (subst (λ (l : List SubscriberState). ActsAt c.args.name.now c.args.action (shown c.args.self.now) c.in_ok-answer.answer (after c.let_go.new.slots l)) subscribers
+    (subst (λ (s : SlotsState). ActsAt c.args.name.now c.args.action (shown c.args.self.now) c.in_ok-answer.answer (after s (subscribers_after c.args.name.now c.args.action before))) slots did))
 
 pub returns-in-Cut-clause-machine : goal.returns-in-Cut-clause-machine
 returns-in-Cut-clause-machine g c =
@@ -49,7 +56,7 @@ returns-in-Cut-clause-machine g c =
       subscribed =
           let kept = subscribed_on c.args.name.now c.in-Some.place c.args.action c.args.self.now c.act_at.new.starts.items c.in_ok-answer.answer at c.in_ok-answer.ensures.acts c.requires.machine.subscribed in
           let again = all_reconnected c.args.name.now (map subscriber_state c.args.self.now.subscribers.items) (map start_state c.act_at.new.starts.items) kept in
-          subst (λ (l : List SubscriberState). AllByRecursion (IsSubscribed l) (map start_state c.act_at.new.starts.items)) (sym c.reconnect.ensures) again;
+          subst (λ (l : List SubscriberState). AllByRecursion (IsSubscribed l) (map start_state c.act_at.new.starts.items)) (sym c.reconnect-slot.ensures.again) again;
       readers = c.act_at.ensures.readers ∙ c.requires.machine.readers;
       room = rw c.act_at.ensures.capacity c.requires.machine.room;
     }
@@ -57,12 +64,16 @@ returns-in-Cut-clause-machine g c =
 pub returns-in_default-action : goal.returns-in_default-action
 returns-in_default-action g c =
     let log = c.args.self.now.publisher.log in
+    let before = map subscriber_state c.args.self.now.subscribers.items in
+    let after : SlotsState → List SubscriberState → WorldState = λ s l. record (shown c.args.self.now) { slots = s; starts = map start_state c.act_at.new.starts.items; subscribers = l } in
     let at = open_at c.args.name.now c.args.self.now.starts.items c.args.self.now.opened.items c.in-Some.place c.requires.machine.found
     (rw (c.as_slice.ensures.value, c.as_slice-2.ensures.value) at (sym c.place_among-found.ensures ∙ c.in-Some.is)) in
     record {
-      acts = rw c.act_at.ensures.same (subst (λ (l : List SubscriberState). ActsAt c.args.name.now c.args.action (shown c.args.self.now) c.in_ok-answer.answer (record (shown c.args.self.now) { starts = map start_state c.act_at.new.starts.items; subscribers = l }))
-          (kept_subscribers c.args.name.now c.args.action (map subscriber_state c.args.self.now.subscribers.items) (no_cut c.args.action c.in_default-action.not-Cut))
-          (acted_at c.args.name.now c.in-Some.place c.args.action c.args.self.now c.act_at.new.starts.items c.in_ok-answer.answer at c.in_ok-answer.ensures.acts));
+      acts = rw c.act_at.ensures.same (subst (λ (l : List SubscriberState). ActsAt c.args.name.now c.args.action (shown c.args.self.now) c.in_ok-answer.answer (after c.args.self.now.slots l))
+          (kept_subscribers c.args.name.now c.args.action before (no_cut c.args.action c.in_default-action.not-Cut))
+          (subst (λ (s : SlotsState). ActsAt c.args.name.now c.args.action (shown c.args.self.now) c.in_ok-answer.answer (after s (subscribers_after c.args.name.now c.args.action before)))
+          (kept_slots c.args.name.now c.args.action before c.args.self.now.slots (no_cut c.args.action c.in_default-action.not-Cut))
+          (acted_at c.args.name.now c.in-Some.place c.args.action c.args.self.now c.act_at.new.starts.items c.in_ok-answer.answer at c.in_ok-answer.ensures.acts)));
       bad = λ never. cc;
       err = tt;
       machine = record {

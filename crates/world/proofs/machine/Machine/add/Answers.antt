@@ -19,7 +19,7 @@ returns-clause-machine g c =
     let starts_is : c.push_reserved-2.new.self.items ≡ cs ++ start ∷ [] = c.push_reserved-2.ensures.items in
     let states_is = ap (map start_state) starts_is ∙ map-append start_state cs (start ∷ []) in
     let opened : (start_state start).is_open ≡ true = ap (λ (s : StartState). s.is_open) c.new-start.ensures.fresh in
-    let named = ap (λ (s : SubscriberState). with_one_for s.connection ss) c.requires.subscriber ∙ sym (ap (λ (s : StartState). with_one_for s.connection ss) c.new-start.ensures.fresh) in
+    let named = ap (λ (s : SubscriberState). with_one_for s.connection c.args.subscriber.slot ss) c.requires.subscriber ∙ sym (ap (λ (s : StartState). with_one_for s.connection c.args.subscriber.slot ss) c.new-start.ensures.fresh) in
     let one_more = ap running states_is ∙ running_more (map start_state cs) (start_state start) opened in
     record {
       good = c.requires.machine.good;
@@ -28,7 +28,7 @@ returns-clause-machine g c =
           (ap (λ (l : List (Start _)). length l) c.as_slice-place.ensures.value) opened c.requires.machine.found;
       subscribed = subst (λ (l : List StartState). AllByRecursion (IsSubscribed (map subscriber_state c.subscribe.new.subscribers.items)) l) (sym states_is)
           (subst (λ (l : List SubscriberState). AllByRecursion (IsSubscribed l) (map start_state cs ++ start_state start ∷ [])) (sym (c.subscribe.ensures ∙ named))
-          (all_joined ss (map start_state cs) (start_state start) c.requires.machine.subscribed));
+          (all_joined c.args.subscriber.slot ss (map start_state cs) (start_state start) c.requires.machine.subscribed));
       readers = omega (arith, one_more, c.in-Some.ensures.cases, c.requires.machine.readers);
       room = rw c.pop.ensures.capacity c.requires.machine.room;
     }

@@ -1,5 +1,6 @@
 use Rattle.std.proofs.Common.{arith, length, map, sym, ap, ◌∙◌}
 use Rattle.std.proofs.lemmas.Option.{slice_get_within}
+use Rattle.world.specs.State.{SubscriberState}
 use Rattle.world.specs.Machine.{start_state, subscriber_state}
 use Rattle.world.proofs.Openings.{none_open, open_at}
 use Rattle.world.proofs.Subscribing.{delivered, has_place, open_subscribed, still_subscribed, subscriber_at}
@@ -37,7 +38,7 @@ returns-clause-machine g c =
       good = c.requires.machine.good;
       served = c.requires.machine.served;
       found = c.requires.machine.found;
-      subscribed = still_subscribed c.args.name.now c.in-Some-place_of.at c.args.self.now c.index_mut.result.now c.take.new.self _ c.take.result one c.index_mut.ensures.value c.take.ensures c.requires.machine.subscribed;
+      subscribed = still_subscribed c.args.name.now c.in-Some-place_of.at c.args.self.now c.index_mut.result.now c.take.new.self one c.index_mut.ensures.value (ap (λ (s : SubscriberState). s.connection) c.take.ensures.is) c.requires.machine.subscribed;
       readers = c.requires.machine.readers;
       room = c.requires.machine.room;
     }

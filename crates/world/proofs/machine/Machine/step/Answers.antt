@@ -7,7 +7,7 @@ returns-in_default-clause-step g c = all_stepped c.args.event.now c.args.self.no
 
 pub returns-in_default-clause-bad : goal.returns-in_default-clause-bad
 returns-in_default-clause-bad g c = λ is.
-    bad_call c.args.event.now (shown c.args.self.now) c.in_default.not-Start c.in_default.not-Read c.in_default.not-Keepalive c.in_default.not-Drain c.in_default.not-Deliver c.in_default.not-Cut (c.call.ensures.bad is)
+    bad_call c.args.event.now (shown c.args.self.now) c.in_default.not-Start c.in_default.not-Read c.in_default.not-Keepalive c.in_default.not-Drain c.in_default.not-Deliver c.in_default.not-Cut c.in_default.not-Slot c.in_default.not-Status c.in_default.not-Flushed c.in_default.not-Ack (c.call.ensures.bad is)
 
 pub returns-in_default-clause-err : goal.returns-in_default-clause-err
 returns-in_default-clause-err g c = none_stepped c.args.self.now c.call.new.publisher c.call.new.sessions.items c.call.result c.call.ensures.err
