@@ -2,9 +2,15 @@
 #![tactic(auto)]
 
 #[cfg(test)]
+mod follower;
+#[cfg(test)]
 mod log_calls;
 #[cfg(test)]
 mod log_fixture;
+#[cfg(test)]
+mod seeded_calls;
+#[cfg(test)]
+mod session;
 #[cfg(test)]
 mod simulation_calls;
 #[cfg(test)]

@@ -2,13 +2,13 @@
 
 ghost use Rattle.std.specs.Prelude.{◌≡◌};
 
-use crate::log_fixture::{commit_under_lock, ends_of, opened};
+use crate::follower::{Follower, followers, see_all};
+use crate::log_fixture::{all_of, commit_under_lock, ends_of, log_of, opened};
 use shared_log::{LogName, LogReader, ReadFault};
-use std::alloc::{AllocError, Global};
-use std::fmt::Debug;
+use std::alloc::Global;
 use std::marker::Brand;
 use std::process::Abort;
-use std::sync::{Arc, Mutex, MutexGuard, Wait};
+use std::sync::{Arc, Mutex, Wait};
 use std::test::Fail;
 use std::thread;
 use std::thread::{Threads, join, map_indices, map_vec};
@@ -18,41 +18,20 @@ use wal::{Body, Record};
 /// The transactions of a session. Each writes two records.
 const TRANSACTIONS: i32 = 50;
 
-/// A reader, and what it fetched.
-#[derive(Drop)]
-struct Follower<L: LogName> {
-    reader: LogReader<L>,
-    records: Vec<Arc<Record>>,
-}
-
-impl<L: LogName> Follower<L> {
-    /// Fetches up to so many records more.
-    fn fetch(&mut self, alloc: Global, max: usize) -> Result<(), ReadFault> {
-        for record in self.reader.fetch(alloc, max)? {
-            self.records.push(record).map_err(|_| ReadFault::Memory)?;
+/// Fetches beside the sessions, until it has so many records or has tried long enough.
+fn follow<L: LogName>(
+    mut follower: Follower<L>,
+    alloc: Global,
+    enough: usize,
+) -> Result<Follower<L>, ReadFault> {
+    for _ in 0..100_000 {
+        if follower.records.len() >= enough {
+            return Ok(follower);
         }
-        Ok(())
+        follower.fetch(alloc, 7)?;
+        thread::yield_now();
     }
-
-    /// Fetches beside the sessions, until it has so many records or has tried long enough.
-    fn follow(mut self, alloc: Global, enough: usize) -> Result<Self, ReadFault> {
-        for _ in 0..100_000 {
-            if self.records.len() >= enough {
-                return Ok(self);
-            }
-            self.fetch(alloc, 7)?;
-            thread::yield_now();
-        }
-        Ok(self)
-    }
-
-    /// Learns of the records, and fetches the rest of the log.
-    fn finish(&mut self, alloc: Global, receipts: &[Receipt<L>]) -> Result<(), ReadFault> {
-        for receipt in receipts {
-            self.reader.learn(receipt.told());
-        }
-        self.fetch(alloc, usize::MAX)
-    }
+    Ok(follower)
 }
 
 #[test]
@@ -145,18 +124,6 @@ fn commit_and_follow<L: LogName + Send + Sync, R: Threads + Wait + Abort + Sync>
     done
 }
 
-fn followers<L: LogName>(
-    alloc: Global,
-    readers: Vec<LogReader<L>>,
-) -> Result<Vec<Follower<L>>, AllocError> {
-    let mut followers = Vec::new(alloc);
-    for reader in readers {
-        let records = Vec::new(alloc);
-        followers.push(Follower { reader, records })?;
-    }
-    Ok(followers)
-}
-
 /// Each session has a thread, and so has each reader but the last, which has the whole log in the end. Once a reader has learnt
 /// of each session's last commit, so has it.
 fn follow_sessions<L: LogName + Send + Sync, R: Threads + Wait + Abort + Sync>(
@@ -175,7 +142,7 @@ fn follow_sessions<L: LogName + Send + Sync, R: Threads + Wait + Abort + Sync>(
         || map_vec(
             rt,
             followers,
-            &|follower: Follower<L>| follower.follow(alloc, 150),
+            &|follower: Follower<L>| follow(follower, alloc, 150),
         ),
     );
     let receipts = all_of(alloc, receipts?)?;
@@ -184,44 +151,4 @@ fn follow_sessions<L: LogName + Send + Sync, R: Threads + Wait + Abort + Sync>(
     assert_eq!(rt; log.len(), sessions.saturating_mul(100));
     let ends = ends_of(alloc, log.as_slice())?;
     see_all(rt, alloc, followers, receipts.as_slice(), ends.as_slice())
-}
-
-fn see_all<L: LogName, R: Abort>(
-    rt: &R,
-    alloc: Global,
-    followers: Vec<Follower<L>>,
-    receipts: &[Receipt<L>],
-    ends: &[(u64, u64)],
-) -> Result<(), Fail> {
-    for mut follower in followers {
-        follower.finish(alloc, receipts)?;
-        let seen = ends_of(alloc, follower.records.as_slice())?;
-        assert_eq!(rt; seen.as_slice(), ends);
-    }
-    Ok(())
-}
-
-/// What the threads answered, if none was refused.
-fn all_of<T: Drop, E: Debug + Drop>(
-    alloc: Global,
-    answers: Vec<Result<T, E>>,
-) -> Result<Vec<T>, Fail> {
-    let mut all = Vec::new(alloc);
-    for answer in answers {
-        all.push(answer?)?;
-    }
-    Ok(all)
-}
-
-/// The whole log, by a reader that is told of it.
-fn log_of<L: LogName, R: Wait>(
-    rt: &R,
-    alloc: Global,
-    desk: &Mutex<Publisher<L>>,
-    reader: &mut LogReader<L>,
-) -> Result<Vec<Arc<Record>>, ReadFault> {
-    let mut guard = desk.lock(rt);
-    let count = guard.tell(reader);
-    MutexGuard::unlock(guard);
-    reader.fetch(alloc, count)
 }

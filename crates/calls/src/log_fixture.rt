@@ -3,8 +3,9 @@
 use frames::Text;
 use publication::Publications;
 use sender::Sender;
-use shared_log::{LogName, LogReader};
+use shared_log::{LogName, LogReader, ReadFault};
 use std::alloc::{AllocError, Global};
+use std::fmt::Debug;
 use std::sync::{Arc, Mutex, MutexGuard, Wait};
 use std::test::Fail;
 use tables::{Catalog, Row, Value};
@@ -24,7 +25,7 @@ name = 'p'
 tables = [{ name = 'public.item' }]
 ";
 
-const ITEM: u32 = 16384;
+pub const ITEM: u32 = 16384;
 
 /// What a publisher of the table, with room for 4,000 records, is opened with.
 pub fn opened(alloc: Global, readers: usize) -> Result<Opened, Fail> {
@@ -42,7 +43,7 @@ pub fn sender_of_p(alloc: Global) -> Result<Sender, Fail> {
 }
 
 /// A row of the table public.item.
-fn item(alloc: Global, id: i32, name: &str, qty: i64) -> Result<Row, AllocError> {
+pub fn item(alloc: Global, id: i32, name: &str, qty: i64) -> Result<Row, AllocError> {
     let name = Value::Text(Text::copy_of(alloc, name)?);
     Ok(Row::new(vec![in alloc; Value::Int4(id), name, Value::Int8(qty)]?))
 }
@@ -86,4 +87,29 @@ pub fn ends_of(alloc: Global, records: &[Arc<Record>]) -> Result<Vec<(u64, u64)>
         ends.push((record.start, record.end))?;
     }
     Ok(ends)
+}
+
+/// What the threads answered, if none was refused.
+pub fn all_of<T: Drop, E: Debug + Drop>(
+    alloc: Global,
+    answers: Vec<Result<T, E>>,
+) -> Result<Vec<T>, Fail> {
+    let mut all = Vec::new(alloc);
+    for answer in answers {
+        all.push(answer?)?;
+    }
+    Ok(all)
+}
+
+/// The whole log, by a reader that is told of it.
+pub fn log_of<L: LogName, R: Wait>(
+    rt: &R,
+    alloc: Global,
+    desk: &Mutex<Publisher<L>>,
+    reader: &mut LogReader<L>,
+) -> Result<Vec<Arc<Record>>, ReadFault> {
+    let mut guard = desk.lock(rt);
+    let count = guard.tell(reader);
+    MutexGuard::unlock(guard);
+    reader.fetch(alloc, count)
 }

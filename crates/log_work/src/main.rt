@@ -1,6 +1,7 @@
-//! Work for a log that threads share, so that it can be timed: `log_work RECORDS READERS COMMITS FETCHES` writes a log of about
-//! so many records, then commits so many transactions beside readers that fetch, each on a thread of its own, and last has one
-//! reader fetch the whole log so many times. `bench/time-log` runs it.
+//! Work for a log that threads share, so that it can be timed: `log_work RECORDS READERS PACE COMMITS FETCHES` writes a log of
+//! about so many records, then commits so many transactions beside readers that fetch, each on a thread of its own, and last has
+//! one reader fetch the whole log so many times. By the pace a reader fetches without a pause (`busy`), or lets other threads run
+//! when it got nothing (`yielding`). `bench/time-log` runs it.
 #![tactic(auto)]
 
 ghost use Rattle.std.specs.Prelude.{◌≡◌};
@@ -8,11 +9,11 @@ ghost use Rattle.std.specs.Prelude.{◌≡◌};
 use anyhow::{Result, bail};
 use shared_log::{LogName, LogReader, ReadFault};
 use std::alloc::{AllocError, Global};
-use std::env;
 use std::marker::Brand;
 use std::sync::Wait;
 use std::sync::atomic::{AtomicBool, Ordering};
 use std::thread::{Threads, join, map_vec};
+use std::{env, thread};
 use tables::{Catalog, Row, Value};
 use txlog::{MAX_RECORDS, Opened, Publisher, SessionFault, Tx};
 
@@ -26,6 +27,7 @@ const BATCH: usize = 1024;
 struct Work {
     records: usize,
     readers: usize,
+    is_yielding: bool,
     commits: usize,
     fetches: usize,
 }
@@ -33,12 +35,13 @@ struct Work {
 fn main(rt: HostRuntime) -> Result<()> {
     let alloc = rt.alloc();
     let words: Vec<String> = env::args(&rt)?.collect(alloc)?;
-    let [_, records, readers, commits, fetches] = words.as_slice() else {
-        bail!("usage: log_work RECORDS READERS COMMITS FETCHES");
+    let [_, records, readers, pace, commits, fetches] = words.as_slice() else {
+        bail!("usage: log_work RECORDS READERS PACE COMMITS FETCHES");
     };
     let work = Work {
         records: number(records)?,
         readers: number(readers)?,
+        is_yielding: is_yielding(pace)?,
         commits: number(commits)?,
         fetches: number(fetches)?,
     };
@@ -48,7 +51,15 @@ fn main(rt: HostRuntime) -> Result<()> {
 fn number(word: &String) -> Result<usize> {
     match word.as_str().parse::<u32>() {
         Ok(number) => Ok(number as usize),
-        Err(_) => bail!("each word is a number"),
+        Err(_) => bail!("each word but PACE is a number"),
+    }
+}
+
+fn is_yielding(word: &String) -> Result<bool> {
+    match word.as_str() {
+        "busy" => Ok(false),
+        "yielding" => Ok(true),
+        _ => bail!("PACE is busy or yielding"),
     }
 }
 
@@ -86,7 +97,7 @@ fn through<L: LogName + Send + Sync, R: Threads + Wait + Sync>(
     };
     insert(rt, alloc, publisher)?;
     commit(rt, alloc, publisher, work.records / 2)?;
-    commit_beside(rt, alloc, publisher, readers, work.commits)?;
+    commit_beside(rt, alloc, publisher, readers, work)?;
     for _ in 0..work.fetches {
         fetch_all(alloc, &mut reader)?;
     }
@@ -159,20 +170,20 @@ fn commit_beside<L: LogName + Send + Sync, R: Threads + Wait + Sync>(
     alloc: Global,
     publisher: &mut Publisher<L>,
     readers: Vec<LogReader<L>>,
-    commits: usize,
+    work: Work,
 ) -> Result<()> {
     let is_done = AtomicBool::new(false);
     let (committed, followed) = join(
         rt,
         || {
-            let committed = commit(rt, alloc, publisher, commits);
+            let committed = commit(rt, alloc, publisher, work.commits);
             is_done.store(true, Ordering::SeqCst);
             committed
         },
         || map_vec(
             rt,
             readers,
-            &|reader: LogReader<L>| follow(rt, alloc, reader, &is_done),
+            &|reader: LogReader<L>| follow(rt, alloc, reader, work.is_yielding, &is_done),
         ),
     );
     committed?;
@@ -187,6 +198,7 @@ fn follow<L: LogName, R: Wait>(
     rt: &R,
     alloc: Global,
     reader: LogReader<L>,
+    is_yielding: bool,
     is_done: &AtomicBool,
 ) -> Result<(), ReadFault> {
     let mut reader = reader;
@@ -194,7 +206,9 @@ fn follow<L: LogName, R: Wait>(
         if is_done.load(Ordering::SeqCst) {
             break;
         }
-        reader.fetch(alloc, BATCH)?;
+        if reader.fetch(alloc, BATCH)?.is_empty() && is_yielding {
+            thread::yield_now();
+        }
     }
     Ok(())
 }
