@@ -1,0 +1,129 @@
+-- What threads share of a hub, and what crosses between the threads of a connection. Filters are trees, so each type above them
+-- is a step of its own here.
+use mir.Syntax.{Sym}
+use mathlib.Core.List.{List, [], ◌∷◌}
+use denote.RattleType.{RattleType}
+use denote.Struct.Field.{row_field}
+use denote.Struct.Tuple.{TupleAt, type_at, parts}
+use denote.Param.Send.{IsSend, IsSync, AllSend, sendable}
+use denote.Param.SendFields.{FieldsHave, declared_send, declared_sync, as_row_send}
+use Rattle.std.proofs.Crossing as heap
+use Rattle.bytes.proofs.unique.BytesMut.TheSendSync as buffer
+use Rattle.frames.proofs.items.Items.TheSendSync as items
+use Rattle.frames.proofs.text.Text.TheSendSync as text
+use Rattle.tables.proofs.table.Table.TheSendSync as table
+use Rattle.rowfilter.proofs.expression.Expression.TheLaws.TheKnot as tree
+use Rattle.rowfilter.specs.contracts.filter.Filter as filter
+use Rattle.publication.specs.contracts.published_table.PublishedTable as published
+use Rattle.publication.specs.contracts.publication.Publication as publication
+use Rattle.publication.specs.contracts.selection.Selection as selection
+use Rattle.publication.specs.contracts.publications.Publications as publications
+use Rattle.server.proofs.connection.Phase.TheSendSync as phase
+use Rattle.shared_log.specs.declared.name.LogName as log_name
+use Rattle.shared_log.proofs.reader.LogReader.TheSendSync as reader
+use Rattle.slots.specs.declared.rule.SlotName as slot_name
+use Rattle.slots.proofs.lease.Lease.TheSendSync as lease
+use Rattle.slots.proofs.seat.SlotSeat.TheSendSync as seat
+use Rattle.slots.proofs.table.SlotTable.TheSendSync as slots
+use Rattle.txlog.proofs.publisher.Publisher.TheSendSync as publisher
+use Rattle.hub.specs.contracts.begun.Begun as begun
+use Rattle.hub.specs.contracts.hold.Hold as hold
+use Rattle.hub.specs.contracts.hub.Hub as hub
+use Rattle.hub.specs.contracts.inbox.Inbox as inbox
+use Rattle.hub.specs.contracts.line.Line as line
+use Rattle.hub.specs.contracts.system.SystemName as system
+use Rattle.hub.proofs.names.Names.TheSendSync as names
+use Rattle.hub.proofs.news.News.TheSendSync as news
+use Rattle.hub.proofs.pool.Pool.TheSendSync as pool
+
+-- ---- closures, by what they capture
+captured : (Ts : List RattleType) → AllSend Ts → FieldsHave IsSend (parts Ts)
+captured [] s = tt
+captured (T ∷ Ts) s = (as_row_send (row_field T) s.0, captured Ts s.1)
+
+pub closure_send : (name : Sym) (Ts : List RattleType) → AllSend Ts → IsSend (TupleAt name Ts)
+closure_send name Ts s = declared_send (type_at name Ts) (captured Ts s)
+
+pub both : {A B : Type 0} → A → B → A × B
+both a b = (a, b)
+
+-- ---- publications
+filter_send : IsSend filter.the_row
+filter_send = search (tree.crosses, heap.crosses, sendable) depth 40
+
+filter_sync : IsSync filter.the_row
+filter_sync = search (tree.crosses, heap.crosses, sendable) depth 40
+
+published_send : IsSend published.the_row
+published_send = search (filter_send, items.the_send, sendable) depth 40
+
+published_sync : IsSync published.the_row
+published_sync = search (filter_sync, items.the_sync, sendable) depth 40
+
+publication_send : IsSend publication.the_row
+publication_send = search (published_send, items.the_send, text.the_send, sendable) depth 40
+
+publication_sync : IsSync publication.the_row
+publication_sync = search (published_sync, items.the_sync, text.the_sync, sendable) depth 40
+
+pub selection_send : IsSend selection.the_row
+selection_send = search (publication_send, items.the_send, table.the_send, sendable) depth 40
+
+pub publications_sync : IsSync publications.the_row
+publications_sync = search (publication_sync, items.the_sync, table.the_sync, sendable) depth 40
+
+-- ---- the parts that have no name in their types
+inbox_send : IsSend inbox.the_row
+inbox_send = declared_send inbox.the_type (
+  search (buffer.the_send, heap.send, heap.sync, heap.frees, sendable) depth 10,
+  (search sendable depth 10, (search sendable, (phase.the_send, (search sendable, (search sendable, tt))))),
+)
+
+system_sync : IsSync system.the_row
+system_sync = declared_sync system.the_type (text.the_sync, tt)
+
+-- ---- at the names of a log and its slots
+module _ (L : RattleType) (s : slot_name.Ghosts L.Denot) (l : log_name.Ghosts L.Denot) where
+  hold_send : IsSend (hold.the_row L s)
+  hold_send = declared_send (hold.the_type L s) (seat.the_send L s, (lease.the_send L s, tt))
+
+  begun_send : IsSend (begun.the_row L s l)
+  begun_send = declared_send (begun.the_type L s l) (selection_send, (search sendable, (reader.the_send L l, (hold_send, tt))))
+
+  -- what the two threads of a connection have in common
+  pub line_sync : IsSync (line.the_row L s l)
+  line_sync = declared_sync (line.the_type L s l) (
+    heap.sync,
+    (
+      search (inbox_send, heap.crosses, sendable) depth 10,
+      (search (begun_send, heap.crosses, sendable) depth 10, (search (heap.crosses, sendable) depth 10, tt)),
+    ),
+  )
+
+  -- what all connections have in common
+  pub hub_sync : IsSync (hub.the_row L s l)
+  hub_sync = declared_sync (hub.the_type L s l) (
+    heap.sync,
+    (
+      publications_sync,
+      (
+        system_sync,
+        (
+          search (publisher.the_send, heap.crosses, sendable) depth 10,
+          (
+            slots.the_sync L s,
+            (
+              search (pool.the_send, heap.crosses, sendable) depth 10,
+              (
+                search (names.the_send, heap.crosses, sendable) depth 10,
+                (search (news.the_send, heap.crosses, sendable) depth 10, (search (heap.crosses, sendable) depth 10, tt)),
+              ),
+            ),
+          ),
+        ),
+      ),
+    ),
+  )
+
+-- what a closure needs that shares a hub, as a set for `search`
+pub ruleset crosses = (closure_send, both, hub_sync, line_sync, sendable)

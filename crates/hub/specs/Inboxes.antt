@@ -1,0 +1,12 @@
+-- What statuses leave in an inbox.
+use Rattle.std.specs.Prelude.{ℕ, Bool, true, false, Option, Some, None, max, min, ◌+◌, ◌-◌, ◌^◌}
+
+-- the greatest position of those that came
+abbrev pub flushed_after : Option ℕ → ℕ → Option ℕ
+flushed_after None position = Some position
+flushed_after (Some before) position = Some (max position before)
+
+-- one more, where it asked for an answer; the greatest number stays
+abbrev pub asked_after : ℕ → Bool → ℕ
+asked_after asked true = min (asked + 1) (2 ^ 32 - 1)
+asked_after asked false = asked

@@ -1,0 +1,4 @@
+pub mod Inboxes
+pub mod News
+pub mod Pieces
+pub mod Refusals

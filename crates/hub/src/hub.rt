@@ -1,0 +1,293 @@
+//! What the connections of a publisher share.
+
+ghost use Rattle.std.specs.Prelude.{◌≡◌, ◌≤◌, ◌<◌, IfOk, IfSome};
+ghost use Rattle.txlog.specs.declared.limits.TheConstants.{MAX_RECORDS};
+
+use crate::begun::Begun;
+use crate::fault::HubFault;
+use crate::line::Line;
+use crate::names::Names;
+use crate::news::News;
+use crate::pool::{Pair, Pool};
+use crate::refusals::{of_publications, of_slot};
+use crate::streaming::Stream;
+use crate::system::SystemName;
+use frames::Text;
+use publication::{Publications, Selection};
+use replcmd::Name;
+use server::DeskFault;
+use shared_log::LogName;
+use slots::{OpenedSlots, SlotName, SlotSeat, SlotTable};
+use std::alloc::{AllocError, Global};
+use std::sync::{Condvar, Mutex, MutexGuard, Wait};
+use tables::Catalog;
+use txlog::{Opened, Publisher, Receipt};
+
+/// How many streams may run at once.
+pub const MOST_STREAMS: usize = 16;
+
+/// What a hub is opened with: `Hub::open` names its log and its slots, and makes it.
+#[derive(Drop)]
+pub struct OpenedHub {
+    alloc: Global,
+    publications: Publications,
+    system: SystemName,
+    pub log: Opened,
+    pub slots: OpenedSlots,
+}
+
+impl OpenedHub {
+    /// For these tables, these publications over them, the text by which the system names itself to clients, and a log of so
+    /// many records.
+    pub fn new(
+        alloc: Global,
+        catalog: Catalog,
+        publications: Publications,
+        systemid: Text,
+        records: usize,
+    ) -> Result<Self, HubFault>
+        requires some { 1 ≤ records }
+        requires few { records ≤ MAX_RECORDS }
+    {
+        let system = SystemName::new(systemid).ok_or(HubFault::LongName)?;
+        let log = log_of(alloc, catalog, records)?;
+        let slots = OpenedSlots::new(alloc)?;
+        Ok(OpenedHub {
+            alloc,
+            publications,
+            system,
+            log,
+            slots,
+        })
+    }
+}
+
+fn log_of(alloc: Global, catalog: Catalog, records: usize) -> Result<Opened, HubFault>
+    requires some { 1 ≤ records }
+    requires few { records ≤ MAX_RECORDS }
+{
+    match Opened::new(alloc, catalog, records, MOST_STREAMS) {
+        Ok(log) => Ok(log),
+        Err(_) => Err(HubFault::Memory),
+    }
+}
+
+/// What the connections of a publisher share: its log and rows, its slots, its publications, and what commits tell.
+///
+/// `OpenedHub::new` and `Hub::open` make one, and `serve` serves connections from it. It isn't `Drop`: `close` ends it.
+pub struct Hub<L: LogName + SlotName> {
+    pub(crate) alloc: Global,
+    pub(crate) publications: Publications,
+    pub(crate) system: SystemName,
+    pub(crate) publisher: Mutex<Publisher<L>>,
+    pub(crate) slots: SlotTable<L>,
+    pool: Mutex<Pool<L>>,
+    names: Mutex<Names<L>>,
+    news: Mutex<News<L>>,
+    /// A commit has left its receipt, or an inbox holds more.
+    changed: Condvar,
+}
+
+impl<L: LogName + SlotName> Hub<L> {
+    /// A hub with an empty log and no slots. Where memory is refused, nothing is left of it.
+    pub fn open<R: Wait>(rt: &R, opened: OpenedHub) -> Result<Self, HubFault>
+        requires log { opened.log.history.seen.book ≡ L.book }
+        requires slots { opened.slots.first.table_id ≡ L.table }
+    {
+        let OpenedHub {
+            alloc,
+            publications,
+            system,
+            log,
+            slots,
+        } = opened;
+        let (table, mut seats) = slots.open::<L>(MOST_STREAMS + 1)?;
+        let Some(seat) = seats.pop() else {
+            return Err(HubFault::Memory);
+        };
+        let (publisher, pool) = published(rt, alloc, log, seats)?;
+        Ok(Hub {
+            alloc,
+            publications,
+            system,
+            publisher: Mutex::new(publisher),
+            slots: table,
+            pool: Mutex::new(pool),
+            names: Mutex::new(Names::new(alloc, seat)),
+            news: Mutex::new(News::new()),
+            changed: Condvar::new(),
+        })
+    }
+
+    /// Ends the log. Transactions in progress are left as they are.
+    pub fn close<R: Wait>(self, rt: &R) {
+        let Hub {
+            alloc: _,
+            publications: _,
+            system: _,
+            publisher,
+            slots: _,
+            pool: _,
+            names: _,
+            news: _,
+            changed: _,
+        } = self;
+        publisher.into_inner().close(rt);
+    }
+
+    /// What sessions call, one thread at a time. Each receipt of a commit goes to `tell`.
+    pub fn publisher(&self) -> &Mutex<Publisher<L>> {
+        &self.publisher
+    }
+
+    // ---- what commands ask
+
+    /// Where the log ends.
+    pub(crate) fn end_of_log<R: Wait>(&self, rt: &R) -> u64 {
+        let publisher = self.publisher.lock(rt);
+        let end = publisher.end();
+        let _ = MutexGuard::unlock(publisher);
+        end
+    }
+
+    /// Makes a slot at the log's end, and answers that position.
+    pub(crate) fn create_slot<R: Wait>(&self, rt: &R, name: &str) -> Result<u64, DeskFault> {
+        let end = self.end_of_log(rt);
+        let mut names = self.names.lock(rt);
+        match names.create(&self.slots, name, end) {
+            Ok(()) => Ok(end),
+            Err(fault) => Err(of_slot(fault)),
+        }
+    }
+
+    pub(crate) fn drop_slot<R: Wait>(&self, rt: &R, name: &str) -> Result<(), DeskFault> {
+        let mut names = self.names.lock(rt);
+        names.drop_slot(&self.slots, name).map_err(of_slot)
+    }
+
+    /// Begins a stream. L1, P1, P2, L6, L2 in this order.
+    pub(crate) fn begin<R: Wait>(
+        &self,
+        rt: &R,
+        slot: &str,
+        position: u64,
+        publications: &[Name],
+    ) -> Result<Begun<L>, DeskFault> {
+        let Some(place) = self.place_of(rt, slot) else {
+            return Err(DeskFault::SlotMissing);
+        };
+        let selection = self.select(publications)?;
+        let Some(pair) = self.take_pair(rt) else {
+            return Err(DeskFault::NoReader);
+        };
+        match Begun::claim(&self.slots, pair, place, selection, position) {
+            Ok(begun) => Ok(begun),
+            Err((pair, fault)) => {
+                self.give_back(rt, pair);
+                Err(fault)
+            }
+        }
+    }
+
+    /// Ends a stream: its slot is free, and its reader and seat go back to the pool.
+    pub(crate) fn end<R: Wait>(&self, rt: &R, stream: Stream<L>) {
+        let pair = stream.end(&self.slots);
+        self.give_back(rt, pair);
+    }
+
+    /// Ends what has begun, and never was written, in the same way.
+    pub(crate) fn end_unwritten<R: Wait>(&self, rt: &R, begun: Begun<L>) {
+        let pair = begun.end(&self.slots);
+        self.give_back(rt, pair);
+    }
+
+    fn place_of<R: Wait>(&self, rt: &R, slot: &str) -> Option<usize>
+        ensures { IfSome result (λ place. place < 16) }
+    {
+        self.names.lock(rt).place_of(slot)
+    }
+
+    fn select(&self, names: &[Name]) -> Result<Selection, DeskFault> {
+        let Ok(names) = texts_of(self.alloc, names) else {
+            return Err(DeskFault::Memory);
+        };
+        self.publications
+            .select(names.as_slice())
+            .map_err(of_publications)
+    }
+
+    fn take_pair<R: Wait>(&self, rt: &R) -> Option<Pair<L>> {
+        self.pool.lock(rt).take()
+    }
+
+    fn give_back<R: Wait>(&self, rt: &R, pair: Pair<L>) {
+        let _ = self.pool.lock(rt).give_back(pair);
+    }
+
+    // ---- what threads wait for
+
+    /// A commit leaves its receipt: streams read on up to it, at least.
+    pub fn tell<R: Wait>(&self, rt: &R, receipt: Receipt<L>) {
+        let mut news = self.news.lock(rt);
+        news.leave(receipt);
+        drop(news);
+        self.changed.notify_all();
+    }
+
+    /// Wakes those that wait. Whoever looked for something to do before waits by now, since it looks under the lock.
+    pub(crate) fn signal<R: Wait>(&self, rt: &R) {
+        drop(self.news.lock(rt));
+        self.changed.notify_all();
+    }
+
+    /// Waits until the inbox of a connection without a stream has something to do.
+    pub(crate) fn await_words<R: Wait>(&self, rt: &R, line: &Line<L>) {
+        drop(
+            self.changed
+                .wait_while(rt, self.news.lock(rt), |_| line.is_quiet(rt)),
+        );
+    }
+
+    /// Waits until a stream or its inbox has something to do, and tells the stream of the latest commit.
+    pub(crate) fn await_stream<R: Wait>(&self, rt: &R, line: &Line<L>, stream: &mut Stream<L>) {
+        let position = stream.position();
+        let news = self.changed.wait_while(rt, self.news.lock(rt), |news| {
+            news.end() <= position && line.lets_stream(rt)
+        });
+        stream.learn(&*news);
+    }
+
+    /// Tells the stream of the latest commit.
+    pub(crate) fn inform<R: Wait>(&self, rt: &R, stream: &mut Stream<L>) {
+        stream.learn(&*self.news.lock(rt));
+    }
+}
+
+/// The publisher, and its readers with a seat each.
+fn published<L: LogName + SlotName, R: Wait>(
+    rt: &R,
+    alloc: Global,
+    log: Opened,
+    seats: Vec<SlotSeat<L>>,
+) -> Result<(Publisher<L>, Pool<L>), HubFault>
+    requires { log.history.seen.book ≡ L.book }
+{
+    match Publisher::<L>::open(rt, log) {
+        Ok((publisher, readers)) => match Pool::of(alloc, readers, seats) {
+            Ok(pool) => Ok((publisher, pool)),
+            Err(_) => {
+                publisher.close(rt);
+                Err(HubFault::Memory)
+            }
+        },
+        Err(_) => Err(HubFault::Memory),
+    }
+}
+
+fn texts_of(alloc: Global, names: &[Name]) -> Result<Vec<Text>, AllocError> {
+    let mut texts = Vec::with_capacity(alloc, names.len())?;
+    for name in names {
+        texts.push(Text::copy_of(alloc, name.as_str())?)?;
+    }
+    Ok(texts)
+}

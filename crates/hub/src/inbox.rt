@@ -1,0 +1,141 @@
+//! What a connection's reading thread leaves for its writing thread.
+
+ghost use Rattle.std.specs.Prelude.{◌≡◌, ◌++◌, ◌==◌, ◌↔◌, ◌&&◌, [], Some, None, length, max, not, true, false};
+ghost use Rattle.hub.specs.Inboxes.{asked_after, flushed_after};
+
+use bytes::BytesMut;
+use server::Phase;
+use std::alloc::Global;
+use std::mem;
+
+/// What is to be said, how far the client has flushed, and how far the conversation is; and what the writing thread has to
+/// tell of itself.
+#[derive(Drop)]
+pub(crate) struct Inbox {
+    said: BytesMut,
+    /// The greatest position of the statuses that came.
+    flushed: Option<u64>,
+    /// How many of them asked for an answer.
+    asked: u32,
+    phase: Phase,
+    /// The stream has ended.
+    has_ended: bool,
+    /// Nothing is written any more.
+    is_broken: bool,
+}
+
+/// What the writing thread takes of it.
+#[derive(Drop)]
+pub(crate) struct Work {
+    pub said: BytesMut,
+    pub flushed: Option<u64>,
+    pub asked: u32,
+    pub phase: Phase,
+}
+
+impl Inbox {
+    pub fn new(alloc: Global) -> Self {
+        Inbox {
+            said: BytesMut::new(alloc),
+            flushed: None,
+            asked: 0,
+            phase: Phase::Startup,
+            has_ended: false,
+            is_broken: false,
+        }
+    }
+
+    /// The words that are to be said next, and the phase behind them.
+    pub fn say(&mut self, said: BytesMut, phase: Phase)
+        ensures { self.new ≡ record self.old { said = said; phase = phase } }
+    {
+        self.said = said;
+        self.phase = phase;
+    }
+
+    /// The conversation goes on without words.
+    pub fn pass(&mut self, phase: Phase)
+        ensures { self.new ≡ record self.old { phase = phase } }
+    {
+        self.phase = phase;
+    }
+
+    /// A status came.
+    pub fn flush(&mut self, position: u64, ask: bool)
+        ensures { self.new ≡ record self.old { flushed = flushed_after self.old.flushed position; asked = asked_after self.old.asked ask } }
+    {
+        let before = self.flushed.unwrap_or(0);
+        self.flushed = Some(position.max(before));
+        if ask {
+            self.asked = self.asked.saturating_add(1);
+        }
+    }
+
+    /// Takes all that is there for the writing thread.
+    pub fn take(&mut self, alloc: Global) -> Work
+        ensures work { result ≡ record { said = self.old.said; flushed = self.old.flushed; asked = self.old.asked; phase = self.old.phase } }
+        ensures empty { self.new.said.items ≡ [] }
+        ensures rest { (self.new.flushed ≡ None) × (self.new.asked ≡ 0) × (self.new.phase ≡ self.old.phase) }
+        ensures same { (self.new.has_ended ≡ self.old.has_ended) × (self.new.is_broken ≡ self.old.is_broken) }
+    {
+        let said = mem::replace(&mut self.said, BytesMut::new(alloc));
+        let flushed = mem::replace(&mut self.flushed, None);
+        let asked = mem::replace(&mut self.asked, 0);
+        Work {
+            said,
+            flushed,
+            asked,
+            phase: self.phase,
+        }
+    }
+
+    /// Whether a writing thread without a stream has nothing to do.
+    pub fn is_quiet(&self) -> bool {
+        self.said.is_empty() && self.phase != Phase::Closed
+    }
+
+    /// Whether a stream that has read all of the log has nothing to do.
+    pub fn lets_stream(&self) -> bool {
+        self.said.is_empty()
+            && self.phase == Phase::Streaming
+            && self.flushed.is_none()
+            && self.asked == 0
+    }
+
+    /// Whether the reading thread has to wait before it says more.
+    pub fn is_full(&self) -> bool {
+        !self.said.is_empty() && !self.is_broken
+    }
+
+    /// Whether the reading thread has to wait for the stream's end.
+    pub fn is_ending(&self) -> bool {
+        !self.has_ended && !self.is_broken
+    }
+
+    pub fn is_broken(&self) -> bool
+        ensures { result ≡ self.now.is_broken }
+    {
+        self.is_broken
+    }
+
+    /// The stream has ended.
+    pub fn end(&mut self)
+        ensures { self.new ≡ record self.old { has_ended = true } }
+    {
+        self.has_ended = true;
+    }
+
+    /// The reading thread has seen that it has ended.
+    pub fn go_on(&mut self)
+        ensures { self.new ≡ record self.old { has_ended = false } }
+    {
+        self.has_ended = false;
+    }
+
+    /// Nothing is written any more.
+    pub fn break_off(&mut self)
+        ensures { self.new ≡ record self.old { is_broken = true } }
+    {
+        self.is_broken = true;
+    }
+}

@@ -1,0 +1,68 @@
+//! What a stream says of its own trouble.
+
+ghost use Rattle.std.specs.Prelude.{◌≡◌, IfOk, length, ◌≤◌};
+
+use bytes::BytesMut;
+use frames::{Back, ErrorField, ErrorResponse, Items, Text, write_back};
+use std::alloc::{AllocError, Global};
+use std::io;
+use std::io::{ErrorKind, Write};
+
+/// Why a stream ends before its client asks for it.
+#[derive(Clone, Copy, Debug, PartialEq, Eq)]
+pub(crate) enum Trouble {
+    Memory,
+    /// The log lets no reader in.
+    NoEntry,
+}
+
+impl Trouble {
+    fn code(self) -> &'static str
+        ensures { length result.now ≤ 40 }
+    {
+        match self {
+            Trouble::Memory => "53200",
+            Trouble::NoEntry => "53400",
+        }
+    }
+
+    fn text(self) -> &'static str
+        ensures { length result.now ≤ 40 }
+    {
+        match self {
+            Trouble::Memory => "out of memory",
+            Trouble::NoEntry => "log cannot be entered",
+        }
+    }
+}
+
+/// Writes the ErrorResponse that tells it.
+pub(crate) fn write_trouble<W: Write>(
+    alloc: Global,
+    trouble: Trouble,
+    to: &mut W,
+) -> io::Result<()> {
+    let mut frame = BytesMut::new(alloc);
+    if say_trouble(alloc, trouble, &mut frame).is_err() {
+        return Err(io::Error::from(ErrorKind::OutOfMemory));
+    }
+    to.write_all(frame.as_slice())
+}
+
+fn say_trouble(alloc: Global, trouble: Trouble, out: &mut BytesMut) -> Result<(), AllocError> {
+    let severity = field(alloc, b'S', "ERROR")?;
+    let untranslated = field(alloc, b'V', "ERROR")?;
+    let code = field(alloc, b'C', trouble.code())?;
+    let text = field(alloc, b'M', trouble.text())?;
+    let fields = Items::new(Vec::from_array(alloc, [severity, untranslated, code, text])?);
+    write_back(&Back::ErrorResponse(ErrorResponse { fields }), out)
+}
+
+fn field(alloc: Global, code: u8, text: &str) -> Result<ErrorField, AllocError>
+    ensures { IfOk result (λ f. f ≡ record { code = code; text = text.now }) }
+{
+    Ok(ErrorField {
+        code,
+        text: Text::copy_of(alloc, text)?,
+    })
+}
