@@ -1,5 +1,5 @@
 -- Which steps keep a place held.
-use Rattle.std.proofs.Common.{◌≡◌, ℕ, ◌+◌, ◌-◌, List, sym, refl, ap, ◌∙◌, subst, arith}
+use Rattle.std.proofs.Common.{◌≡◌, ℕ, List, sym, refl, ap, ◌∙◌, subst}
 use Rattle.slots.specs.declared.step.SlotKind.TheVariants.{Create, Claim, Read, Raise}
 use Rattle.slots.specs.declared.step.View.{View}
 use Rattle.slots.specs.Facts.{Facts}
@@ -13,13 +13,10 @@ created_holds p y v w is = subst (Holds p) (sym is) (ap (λ (f : Facts). f.held)
 pub claimed_holds : (p y : ℕ) (v w : View) → w ≡ with_step v (slot_step Claim p 1 y) → Holds p w
 claimed_holds p y v w is = subst (Holds p) (sym is) (ap (λ (f : Facts). f.held) (facts_here p v.steps (slot_step Claim p 1 y) refl))
 
-back : (p : ℕ) → 16 + p - 16 ≡ p
-back p = omega arith
+pub raised_holds : (p q x y : ℕ) (v : View) (w : View × List (ℕ × Unit {0})) (c : List (ℕ × Unit {0})) → q ≡ p → w ≡ (with_step v (slot_step Raise q x y), c) → Holds p v → Holds p w.0
+raised_holds p q x y v w c here is old = subst (Holds p) (sym (ap (λ (m : View × List (ℕ × Unit {0})). m.0) is))
+    (ap (λ (f : Facts). f.held) (facts_here p v.steps (slot_step Raise q x y) here) ∙ old)
 
-pub raised_holds : (p x y : ℕ) (v : View) (w : View × List (ℕ × Unit {0})) (c : List (ℕ × Unit {0})) → w ≡ (with_step v (slot_step Raise (16 + p - 16) x y), c) → Holds p v → Holds p w.0
-raised_holds p x y v w c is old = subst (Holds p) (sym (ap (λ (m : View × List (ℕ × Unit {0})). m.0) is))
-    (ap (λ (f : Facts). f.held) (facts_here p v.steps (slot_step Raise (16 + p - 16) x y) (back p)) ∙ old)
-
-pub read_holds : (p x y : ℕ) (v : View) (w : View × List (ℕ × Unit {0})) (c : List (ℕ × Unit {0})) → w ≡ (with_step v (slot_step Read (16 + p - 16) x y), c) → Holds p v → Holds p w.0
-read_holds p x y v w c is old = subst (Holds p) (sym (ap (λ (m : View × List (ℕ × Unit {0})). m.0) is))
-    (ap (λ (f : Facts). f.held) (facts_here p v.steps (slot_step Read (16 + p - 16) x y) (back p)) ∙ old)
+pub read_holds : (p q x y : ℕ) (v : View) (w : View × List (ℕ × Unit {0})) (c : List (ℕ × Unit {0})) → q ≡ p → w ≡ (with_step v (slot_step Read q x y), c) → Holds p v → Holds p w.0
+read_holds p q x y v w c here is old = subst (Holds p) (sym (ap (λ (m : View × List (ℕ × Unit {0})). m.0) is))
+    (ap (λ (f : Facts). f.held) (facts_here p v.steps (slot_step Read q x y) here) ∙ old)

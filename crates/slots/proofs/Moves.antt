@@ -9,7 +9,7 @@ use Rattle.atomic_table.proofs.Lists.{at_set}
 use Rattle.slots.specs.declared.step.SlotStep.{SlotStep}
 use Rattle.slots.specs.declared.step.View.{View}
 use Rattle.slots.specs.Facts.{Facts, facts}
-use Rattle.slots.specs.Rule.{Agrees, Leaves, Kept, with_step}
+use Rattle.slots.specs.Rule.{Agrees, Leaves, Kept, with_step, state_word, position_word}
 use Rattle.slots.proofs.Facts.{facts_there}
 
 abbrev pub St : Type 0
@@ -29,28 +29,28 @@ module _ (s : St) (kept : Kept s) (id : ℕ) (v : View) (at : get_elem? s.views 
   abbrev after : List ℕ → St
   after ws = record { words = ws; homes = s.homes; views = set s.views id (with_step v st) }
 
-  module _ (ws : List ℕ) (wide : length ws ≡ 32) (state position : ℕ) (is_state : slice_index ws p ≡ state) (is_position : slice_index ws (16 + p) ≡ position)
-      (same : (q : ℕ) → q < 16 → q ≢ p → (slice_index ws q ≡ slice_index s.words q) × (slice_index ws (16 + q) ≡ slice_index s.words (16 + q)))
+  module _ (ws : List ℕ) (wide : length ws ≡ 128) (state position : ℕ) (is_state : slice_index ws (state_word p) ≡ state) (is_position : slice_index ws (position_word p) ≡ position)
+      (same : (q : ℕ) → q < 16 → q ≢ p → (slice_index ws (state_word q) ≡ slice_index s.words (state_word q)) × (slice_index ws (position_word q) ≡ slice_index s.words (position_word q)))
       (small : state < 3 + length s.views)
       (own : Agrees state position id (facts p (v.steps ++ st ∷ [])))
       (others : (k : ℕ) (u : View) → k ≢ id → get_elem? s.views k ≡ some u → Agrees state position k (facts p u.steps))
       (leaves : Leaves s.words p v → (state ≡ (facts p (v.steps ++ st ∷ [])).state) × (position ≡ (facts p (v.steps ++ st ∷ [])).position)) where
-    agrees_at : (k : ℕ) (g : Facts) → Agrees state position k g → Agrees (slice_index ws p) (slice_index ws (16 + p)) k g
+    agrees_at : (k : ℕ) (g : Facts) → Agrees state position k g → Agrees (slice_index ws (state_word p)) (slice_index ws (position_word p)) k g
     agrees_at k g a = subst (λ (z : ℕ × ℕ). Agrees z.0 z.1 k g) (λ i. (sym is_state i, sym is_position i)) a
 
-    agrees_else : (q : ℕ) → q < 16 → q ≢ p → (k : ℕ) (g : Facts) → Agrees (slice_index s.words q) (slice_index s.words (16 + q)) k g → Agrees (slice_index ws q) (slice_index ws (16 + q)) k g
+    agrees_else : (q : ℕ) → q < 16 → q ≢ p → (k : ℕ) (g : Facts) → Agrees (slice_index s.words (state_word q)) (slice_index s.words (position_word q)) k g → Agrees (slice_index ws (state_word q)) (slice_index ws (position_word q)) k g
     agrees_else q lower ne k g a = let e = same q lower ne in subst (λ (z : ℕ × ℕ). Agrees z.0 z.1 k g) (λ i. (sym e.0 i, sym e.1 i)) a
 
-    own_place : (q : ℕ) → q < 16 → Agrees (slice_index ws q) (slice_index ws (16 + q)) id (facts q (v.steps ++ st ∷ []))
+    own_place : (q : ℕ) → q < 16 → Agrees (slice_index ws (state_word q)) (slice_index ws (position_word q)) id (facts q (v.steps ++ st ∷ []))
     own_place q lower = ⊎_elim
-        (λ e. subst (λ (r : ℕ). Agrees (slice_index ws r) (slice_index ws (16 + r)) id (facts r (v.steps ++ st ∷ []))) (sym e) (agrees_at id _ own))
-        (λ ne. subst (λ (g : Facts). Agrees (slice_index ws q) (slice_index ws (16 + q)) id g) (sym (facts_there q v.steps st (λ h. ne (sym h ∙ here))))
+        (λ e. subst (λ (r : ℕ). Agrees (slice_index ws (state_word r)) (slice_index ws (position_word r)) id (facts r (v.steps ++ st ∷ []))) (sym e) (agrees_at id _ own))
+        (λ ne. subst (λ (g : Facts). Agrees (slice_index ws (state_word q)) (slice_index ws (position_word q)) id g) (sym (facts_there q v.steps st (λ h. ne (sym h ∙ here))))
         (agrees_else q lower ne id _ (kept.places q id v lower at)))
         (cases_eq q p)
 
-    other_place : (q k : ℕ) (u : View) → q < 16 → k ≢ id → get_elem? s.views k ≡ some u → Agrees (slice_index ws q) (slice_index ws (16 + q)) k (facts q u.steps)
+    other_place : (q k : ℕ) (u : View) → q < 16 → k ≢ id → get_elem? s.views k ≡ some u → Agrees (slice_index ws (state_word q)) (slice_index ws (position_word q)) k (facts q u.steps)
     other_place q k u lower ne found = ⊎_elim
-        (λ e. subst (λ (r : ℕ). Agrees (slice_index ws r) (slice_index ws (16 + r)) k (facts r u.steps)) (sym e) (agrees_at k _ (others k u ne found)))
+        (λ e. subst (λ (r : ℕ). Agrees (slice_index ws (state_word r)) (slice_index ws (position_word r)) k (facts r u.steps)) (sym e) (agrees_at k _ (others k u ne found)))
         (λ nq. agrees_else q lower nq k _ (kept.places q k u lower found))
         (cases_eq q p)
 
@@ -79,11 +79,11 @@ module _ (s : St) (kept : Kept s) (id : ℕ) (v : View) (at : get_elem? s.views 
           (λ t. kept.first k u t.1 more)
           (at_set s.views id k (with_step v st) u is);
       names = λ q lower. ⊎_elim
-          (λ e. subst (λ (r : ℕ). slice_index ws r < 3 + length (after ws).views) (sym e) (let l = long in let e' = is_state in omega (arith, small, l, e')))
+          (λ e. subst (λ (r : ℕ). slice_index ws (state_word r) < 3 + length (after ws).views) (sym e) (let l = long in let e' = is_state in omega (arith, small, l, e')))
           (λ ne. let e = (same q lower ne).0 in let l = long in let old = kept.names q lower in omega arith)
           (cases_eq q p);
       places = λ q k u lower is. ⊎_elim
-          (λ t. subst (λ (w : View). Agrees (slice_index ws q) (slice_index ws (16 + q)) k (facts q w.steps)) t.1 (subst (λ (j : ℕ). Agrees (slice_index ws q) (slice_index ws (16 + q)) j (facts q (v.steps ++ st ∷ []))) (sym t.0) (own_place q lower)))
+          (λ t. subst (λ (w : View). Agrees (slice_index ws (state_word q)) (slice_index ws (position_word q)) k (facts q w.steps)) t.1 (subst (λ (j : ℕ). Agrees (slice_index ws (state_word q)) (slice_index ws (position_word q)) j (facts q (v.steps ++ st ∷ []))) (sym t.0) (own_place q lower)))
           (λ t. other_place q k u lower t.0 t.1)
           (at_set s.views id k (with_step v st) u is);
       alone = λ one q k u lower is. let one' = sym long ∙ one in ⊎_elim

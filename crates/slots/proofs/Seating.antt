@@ -9,7 +9,7 @@ use Rattle.atomic_table.proofs.Lists.{at_set}
 use Rattle.slots.specs.declared.step.View.{View}
 use Rattle.slots.specs.Standings.{held_by}
 use Rattle.slots.specs.Facts.{facts, no_facts}
-use Rattle.slots.specs.Rule.{Agrees, Leaves, Kept, first_view, one_more, newest}
+use Rattle.slots.specs.Rule.{Agrees, Leaves, Kept, first_view, one_more, newest, state_word, position_word}
 use Rattle.slots.specs.Seats.{IsFresh}
 use Rattle.slots.proofs.Steps.{within}
 
@@ -38,15 +38,15 @@ zeros_are_zero zero i = refl
 zeros_are_zero (suc n) zero = refl
 zeros_are_zero (suc n) (suc i) = zeros_are_zero n i
 
-pub opens : Kept (opening (zeros 32) [] first_view)
+pub opens : Kept (opening (zeros 128) [] first_view)
 opens = record {
   wide = refl;
   numbered = λ k u is. let e = first_is k u is in (ap (λ (w : View). w.number) (sym e.1) ∙ sym e.0, λ _. ap (λ (w : View). w.seats) e.1);
   first = λ k u is _. (first_is k u is).0;
-  names = λ p low. let z = zeros_are_zero 32 p in omega arith;
-  places = λ p k u low is. subst (λ (w : View). Agrees (slice_index (zeros 32) p) (slice_index (zeros 32) (16 + p)) k (facts p w.steps)) (first_is k u is).1
-      (knows_nothing _ _ k (λ e. let z = zeros_are_zero 32 p in omega arith));
-  alone = λ _ p k u low is. subst (λ (w : View). Leaves (zeros 32) p w) (first_is k u is).1 (zeros_are_zero 32 p, zeros_are_zero 32 (16 + p));
+  names = λ p low. let z = zeros_are_zero 128 (state_word p) in omega arith;
+  places = λ p k u low is. subst (λ (w : View). Agrees (slice_index (zeros 128) (state_word p)) (slice_index (zeros 128) (position_word p)) k (facts p w.steps)) (first_is k u is).1
+      (knows_nothing _ _ k (λ e. let z = zeros_are_zero 128 (state_word p) in omega arith));
+  alone = λ _ p k u low is. subst (λ (w : View). Leaves (zeros 128) p w) (first_is k u is).1 (zeros_are_zero 128 (state_word p), zeros_are_zero 128 (position_word p));
 }
   where
     first_is : (k : ℕ) (u : View) → get_elem? (first_view ∷ []) k ≡ some u → (k ≡ 0) × (first_view ≡ u)
@@ -73,11 +73,11 @@ splits id v some_seat s kept at = record {
   names = λ p low. let n = kept.names p low in let l = longer in omega arith;
   places = λ p k u low is. ⊎_elim
       (λ old. ⊎_elim
-      (λ t. subst (λ (w : View). Agrees (slice_index s.words p) (slice_index s.words (16 + p)) k (facts p w.steps)) t.1
-      (subst (λ (j : ℕ). Agrees (slice_index s.words p) (slice_index s.words (16 + p)) j (facts p v.steps)) (sym t.0) (kept.places p id v low at)))
+      (λ t. subst (λ (w : View). Agrees (slice_index s.words (state_word p)) (slice_index s.words (position_word p)) k (facts p w.steps)) t.1
+      (subst (λ (j : ℕ). Agrees (slice_index s.words (state_word p)) (slice_index s.words (position_word p)) j (facts p v.steps)) (sym t.0) (kept.places p id v low at)))
       (λ t. kept.places p k u low t.1)
       (at_set s.views id k (one_more v) u old))
-      (λ t. subst (λ (w : View). Agrees (slice_index s.words p) (slice_index s.words (16 + p)) k (facts p w.steps)) t.1
+      (λ t. subst (λ (w : View). Agrees (slice_index s.words (state_word p)) (slice_index s.words (position_word p)) k (facts p w.steps)) t.1
       (knows_nothing _ _ k (λ e. let n = kept.names p low in let is_last = t.0 in let l = same in omega arith)))
       (at_end set_views (newest v) u k is);
   alone = λ one. let l = longer in let m = within s.views id v at in absurd (omega arith);

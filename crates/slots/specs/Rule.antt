@@ -1,6 +1,5 @@
 -- The rule of slots, which holds between any two steps of any seats, and what each kind of step tells its seat.
--- The word p of the table says how the place p stands, the word 16 + p is its position.
-use Rattle.std.specs.Prelude.{◌≡◌, ℕ, ◌+◌, ◌-◌, ◌<◌, ◌≤◌, ◌==◌, true, cond, List, [], ◌∷◌, ◌++◌, length, slice_index, Some, max}
+use Rattle.std.specs.Prelude.{◌≡◌, ℕ, ◌+◌, ◌*◌, ◌/◌, ◌<◌, ◌≤◌, ◌==◌, true, cond, List, [], ◌∷◌, ◌++◌, length, slice_index, Some, max}
 use mathlib.Core.Option.{some}
 use lib.ListN.{get_elem?}
 use Rattle.atomic_table.specs.Table.{State, Me, Step}
@@ -10,6 +9,16 @@ use Rattle.slots.specs.declared.step.SlotStep.{SlotStep}
 use Rattle.slots.specs.declared.step.View.{View}
 use Rattle.slots.specs.Standings.{held_by}
 use Rattle.slots.specs.Facts.{Facts, facts}
+
+-- A place has eight words of the table for its own: the first says how it stands, the second is its position, and the others are spare.
+abbrev pub state_word : ℕ → ℕ
+state_word p = p * 8
+
+abbrev pub position_word : ℕ → ℕ
+position_word p = p * 8 + 1
+
+abbrev pub place_of_word : ℕ → ℕ
+place_of_word w = w / 8
 
 -- the two words of a place agree with what one seat's steps say of it
 pub record Agrees (state position seat : ℕ) (f : Facts) : Type 0 where
@@ -22,7 +31,7 @@ pub record Agrees (state position seat : ℕ) (f : Facts) : Type 0 where
 
 -- the two words of a place are what the last steps of this seat left
 abbrev pub Leaves : List ℕ → ℕ → View → Type 0
-Leaves words p v = (slice_index words p ≡ (facts p v.steps).state) × (slice_index words (16 + p) ≡ (facts p v.steps).position)
+Leaves words p v = (slice_index words (state_word p) ≡ (facts p v.steps).state) × (slice_index words (position_word p) ≡ (facts p v.steps).position)
 
 abbrev pub Slots : Type 0
 Slots = State (Unit {0}) View
@@ -31,11 +40,11 @@ abbrev Seated : Type 0
 Seated = Me (Unit {0}) View
 
 pub record Kept (s : Slots) : Type 0 where
-  pub wide : length s.words ≡ 32
+  pub wide : length s.words ≡ 128
   pub numbered : (seat : ℕ) (v : View) → get_elem? s.views seat ≡ some v → (v.number ≡ seat) × (0 < v.seats → length s.views ≡ v.seats)
   pub first : (seat : ℕ) (v : View) → get_elem? s.views seat ≡ some v → 0 < v.seats → seat ≡ 0
-  pub names : (p : ℕ) → p < 16 → slice_index s.words p < 3 + length s.views
-  pub places : (p seat : ℕ) (v : View) → p < 16 → get_elem? s.views seat ≡ some v → Agrees (slice_index s.words p) (slice_index s.words (16 + p)) seat (facts p v.steps)
+  pub names : (p : ℕ) → p < 16 → slice_index s.words (state_word p) < 3 + length s.views
+  pub places : (p seat : ℕ) (v : View) → p < 16 → get_elem? s.views seat ≡ some v → Agrees (slice_index s.words (state_word p)) (slice_index s.words (position_word p)) seat (facts p v.steps)
   pub alone : length s.views ≡ 1 → (p seat : ℕ) (v : View) → p < 16 → get_elem? s.views seat ≡ some v → Leaves s.words p v
 
 abbrev pub slot_step : SlotKind → ℕ → ℕ → ℕ → SlotStep
@@ -63,22 +72,22 @@ steps_by m s m' = m' ≡ (with_step m.0 s, m.1)
 
 -- the six kinds of step: the word was found, and the step stands in the view with what it left
 abbrev pub creates : Step (Unit {0}) → Seated → ℕ → Seated → Type 0
-creates st m found m' = steps_by m (slot_step Create st.word found (cond (found == 0) st.second found)) m' × StandsAs m.0 st.word found
+creates st m found m' = steps_by m (slot_step Create (place_of_word st.word) found (cond (found == 0) st.second found)) m' × StandsAs m.0 (place_of_word st.word) found
 
 abbrev pub claims : Step (Unit {0}) → Seated → ℕ → Seated → Type 0
-claims st m found m' = steps_by m (slot_step Claim st.word found (cond (found == 1) st.second found)) m' × StandsAs m.0 st.word found
+claims st m found m' = steps_by m (slot_step Claim (place_of_word st.word) found (cond (found == 1) st.second found)) m' × StandsAs m.0 (place_of_word st.word) found
 
 abbrev pub retires : Step (Unit {0}) → Seated → ℕ → Seated → Type 0
-retires st m found m' = steps_by m (slot_step Retire st.word found (cond (found == 1) st.second found)) m' × StandsAs m.0 st.word found
+retires st m found m' = steps_by m (slot_step Retire (place_of_word st.word) found (cond (found == 1) st.second found)) m' × StandsAs m.0 (place_of_word st.word) found
 
 abbrev pub releases : Step (Unit {0}) → Seated → ℕ → Seated → Type 0
-releases st m found m' = steps_by m (slot_step Release st.word (held_by m.0.number) 1) m'
+releases st m found m' = steps_by m (slot_step Release (place_of_word st.word) (held_by m.0.number) 1) m'
 
 abbrev pub raises : Step (Unit {0}) → Seated → ℕ → Seated → Type 0
-raises st m found m' = steps_by m (slot_step Raise (st.word - 16) found (max found st.first)) m' × FollowsOn m.0 (st.word - 16) found
+raises st m found m' = steps_by m (slot_step Raise (place_of_word st.word) found (max found st.first)) m' × FollowsOn m.0 (place_of_word st.word) found
 
 abbrev pub reads : Step (Unit {0}) → Seated → ℕ → Seated → Type 0
-reads st m found m' = steps_by m (slot_step Read (st.word - 16) found found) m' × FollowsOn m.0 (st.word - 16) found
+reads st m found m' = steps_by m (slot_step Read (place_of_word st.word) found found) m' × FollowsOn m.0 (place_of_word st.word) found
 
 -- the view of the first seat, before another is made; then it knows of one more; and the view of that one
 abbrev pub first_view : View

@@ -10,6 +10,7 @@ mod seat;
 mod standing;
 mod step;
 mod table;
+mod words;
 
 pub use directory::Directory;
 pub use fault::SlotFault;

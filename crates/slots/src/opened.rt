@@ -9,6 +9,7 @@ use crate::rule::{Law, Seats, SlotName};
 use crate::seat::SlotSeat;
 use crate::step::View;
 use crate::table::SlotTable;
+use crate::words::WORDS;
 use atomic_table::{Seat, Table};
 use std::alloc::{AllocError, Global};
 use std::marker::PhantomData;
@@ -20,13 +21,13 @@ pub struct OpenedSlots {
     table: Table<(), View, (), Law, Global>,
     pub first: Seat<(), View>,
     ghost same: { first.table_id ≡ table.shared.table_id },
-    ghost wide: { table.shared.table_id.words ≡ 32 },
+    ghost wide: { table.shared.table_id.words ≡ 128 },
     ghost fresh: { first.me ≡ (first_view, []) },
 }
 
 impl OpenedSlots {
     pub fn new(alloc: Global) -> Result<Self, AllocError> {
-        let (table, first) = Table::of_words(alloc, &[0; 32], &())?;
+        let (table, first) = Table::of_words(alloc, &[0; WORDS], &())?;
         Ok(OpenedSlots {
             alloc,
             table,

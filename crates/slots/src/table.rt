@@ -13,6 +13,7 @@ use crate::rule::{Claims, Creates, Law, Raises, Reads, Releases, Retires, SlotNa
 use crate::seat::SlotSeat;
 use crate::standing::Standing;
 use crate::step::View;
+use crate::words::{position_word, state_word};
 use atomic_table::Table;
 use std::alloc::Global;
 use std::marker::PhantomData;
@@ -26,7 +27,7 @@ pub struct SlotTable<L: SlotName> {
     pub(crate) table: Table<(), View, (), Law, Global>,
     pub(crate) of: PhantomData<L>,
     ghost named: { table.shared.table_id ≡ L.table },
-    ghost wide: { table.shared.table_id.words ≡ 32 },
+    ghost wide: { table.shared.table_id.words ≡ 128 },
 }
 
 impl<L: SlotName> SlotTable<L> {
@@ -40,8 +41,9 @@ impl<L: SlotName> SlotTable<L> {
     {
         let never = Standing::Never.word();
         let mine = Standing::Held(seat.number).word();
+        let word = state_word(place);
         let shared = &self.table.shared;
-        let found = shared.compare_exchange::<Creates>(&mut seat.seat, place, never, mine);
+        let found = shared.compare_exchange::<Creates>(&mut seat.seat, word, never, mine);
         match Standing::of_word(found) {
             Standing::Never => Some(Lease {
                 place,
@@ -77,8 +79,9 @@ impl<L: SlotName> SlotTable<L> {
     {
         let free = Standing::Free.word();
         let mine = Standing::Held(seat.number).word();
+        let word = state_word(place);
         let shared = &self.table.shared;
-        let found = shared.compare_exchange::<Claims>(&mut seat.seat, place, free, mine);
+        let found = shared.compare_exchange::<Claims>(&mut seat.seat, word, free, mine);
         let standing = Standing::of_word(found);
         match standing {
             Standing::Free => Ok(Lease {
@@ -96,8 +99,8 @@ impl<L: SlotName> SlotTable<L> {
         ensures raised { (found : ℕ) × (result ≡ max found position) × DidAt Raise lease.old.place found result seat.old seat.new }
         ensures lease { (lease.new ≡ lease.old) × Holds lease.new.place seat.new }
     {
+        let word = position_word(lease.place);
         let shared = &self.table.shared;
-        let word = PLACES + lease.place;
         let found = shared.fetch_max::<Raises>(&mut seat.seat, word, position);
         found.max(position)
     }
@@ -108,8 +111,9 @@ impl<L: SlotName> SlotTable<L> {
         ensures read { DidAt Read lease.now.place result result seat.old seat.new }
         ensures lease { Holds lease.now.place seat.new }
     {
+        let word = position_word(lease.place);
         let shared = &self.table.shared;
-        shared.load::<Reads>(&mut seat.seat, PLACES + lease.place)
+        shared.load::<Reads>(&mut seat.seat, word)
     }
 
     /// Makes the place free.
@@ -119,8 +123,9 @@ impl<L: SlotName> SlotTable<L> {
     {
         let Lease { place, of: _ } = lease;
         let free = Standing::Free.word();
+        let word = state_word(place);
         let shared = &self.table.shared;
-        shared.store::<Releases>(&mut seat.seat, place, free)
+        shared.store::<Releases>(&mut seat.seat, word, free)
     }
 
     /// One compare and exchange, which drops a free place. A held one is L2, one that was never made or was dropped L1.
@@ -132,8 +137,9 @@ impl<L: SlotName> SlotTable<L> {
     {
         let free = Standing::Free.word();
         let dropped = Standing::Dropped.word();
+        let word = state_word(place);
         let shared = &self.table.shared;
-        let found = shared.compare_exchange::<Retires>(&mut seat.seat, place, free, dropped);
+        let found = shared.compare_exchange::<Retires>(&mut seat.seat, word, free, dropped);
         match Standing::of_word(found) {
             Standing::Free => Ok(()),
             Standing::Never | Standing::Dropped => Err(SlotFault::Missing),

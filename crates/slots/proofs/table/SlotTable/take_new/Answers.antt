@@ -8,4 +8,5 @@ compare_exchange-found-requires g c =
     let kept = c.seat.invariant in
     let table = c.args.self.now in
     let wide = table.wide in
-    (kept.0 ∙ sym table.named, omega (arith, wide, c.requires), may_create _ c.args.place s.seat.id s.number s.seat.me.0 s.seat.me.1 c.requires kept.1 _ _ c.word-never.ensures.word c.word-mine.ensures.word)
+    let word = c.state_word-word.ensures.word in
+    (kept.0 ∙ sym table.named, omega (arith, wide, word, c.requires), may_create _ c.args.place s.seat.id s.number s.seat.me.0 s.seat.me.1 c.requires kept.1 _ _ _ word c.word-never.ensures.word c.word-mine.ensures.word)
