@@ -2,7 +2,7 @@ pub mod Ranges
 pub mod Streams
 pub mod Sections
 pub mod Members
-pub mod Names
+pub mod Inside
 pub mod Openings
 pub mod Subscribing
 pub mod Asking

@@ -14,17 +14,17 @@ use Rattle.schedule.specs.declared.event.Event.{Event}
 use Rattle.schedule.specs.declared.event.Event.TheVariants as events
 use Rattle.world.specs.declared.action.Action.{Action}
 use Rattle.world.specs.declared.action.Action.TheVariants as actions
-use Rattle.world.specs.declared.session.Session.{Session}
 use Rattle.world.specs.declared.start.Start.{Start}
 use Rattle.world.specs.declared.start.Walsender.{Walsender}
 use Rattle.world.specs.declared.start.Walsender.TheVariants as walsenders
 use Rattle.world.specs.declared.machine.Machine.{Machine}
 use Rattle.world.specs.State.{StartState, SubscriberState, WorldState, running}
-use Rattle.world.specs.SessionLines.{Ask, SessionState, ask_of, if_new, if_known, IsCalled}
+use Rattle.sessions.specs.SessionLines.{Ask, IsLine, ask_of, if_new, if_known}
+use Rattle.sessions.specs.Sessions.{Grows}
 use Rattle.named_slots.specs.State.{SlotsState}
 use Rattle.world.specs.ConnectionLines.{Acts, slots_after, subscribers_after}
 use Rattle.world.specs.Steps.{IsStep, is_bad, session_state}
-use Rattle.world.specs.Machine.{named_tx, sessions_state, IsCallOf, Grows, IsServed, ActsIn, IsMachine, IsOpenAt, IsOpenStartAt, is_open, open_places, without_place, start_state, state_with, shown}
+use Rattle.world.specs.Machine.{IsServed, ActsIn, IsMachine, IsOpenAt, IsOpenStartAt, is_open, open_places, without_place, start_state, state_with, shown}
 use Rattle.world.proofs.Sections.{grown_served}
 use Rattle.world.proofs.Openings.{places_kept, places_less, places_with_one}
 use Rattle.world.proofs.Readers.{one_runs, running_with}
@@ -39,38 +39,33 @@ all_grown old new cs grows all = let P : List Record → Type 0 = λ l. AllByRec
 
 -- ---- a session's line
 
-stepped : (e : Event) (old : WorldState) (p : PublisherState) (ss : List Session) (a : Answer) → IsCalled (ask_of e old.publisher old.transactions) (session_state old) a (sessions_state p ss)
-    → IsStep old e a (record old { publisher = p; transactions = map named_tx ss })
-stepped (events.Begin t) old p ss a calls = record { called = calls; is = refl }
-stepped (events.Insert t table row) old p ss a calls = record { called = calls; is = refl }
-stepped (events.Update t table key row) old p ss a calls = record { called = calls; is = refl }
-stepped (events.Delete t table key) old p ss a calls = record { called = calls; is = refl }
-stepped (events.Truncate t names) old p ss a calls = record { called = calls; is = refl }
-stepped (events.Savepoint t) old p ss a calls = record { called = calls; is = refl }
-stepped (events.Rollback t depth) old p ss a calls = record { called = calls; is = refl }
-stepped (events.Release t depth) old p ss a calls = record { called = calls; is = refl }
-stepped (events.Commit t time) old p ss a calls = record { called = calls; is = refl }
-stepped (events.Abort t) old p ss a calls = record { called = calls; is = refl }
-stepped (events.Start c slot position names) old p ss a calls = absurd calls
-stepped (events.Read c max clock) old p ss a calls = absurd calls
-stepped (events.Keepalive c clock) old p ss a calls = absurd calls
-stepped (events.Drain c n) old p ss a calls = absurd calls
-stepped (events.Deliver c n) old p ss a calls = absurd calls
-stepped (events.Cut c) old p ss a calls = absurd calls
-stepped (events.Slot name) old p ss a calls = absurd calls
-stepped (events.Status c clock) old p ss a calls = absurd calls
-stepped (events.Flushed c number) old p ss a calls = absurd calls
-stepped (events.Ack c) old p ss a calls = absurd calls
+-- a line's call is its event, where nothing else has changed
+stepped : (e : Event) (old new : WorldState) (a : Answer) → IsLine e (session_state old) a (session_state new) → new ≡ record old { publisher = new.publisher; transactions = new.transactions } → IsStep old e a new
+stepped (events.Begin t) old new a calls is = record { called = calls; is = is }
+stepped (events.Insert t table row) old new a calls is = record { called = calls; is = is }
+stepped (events.Update t table key row) old new a calls is = record { called = calls; is = is }
+stepped (events.Delete t table key) old new a calls is = record { called = calls; is = is }
+stepped (events.Truncate t names) old new a calls is = record { called = calls; is = is }
+stepped (events.Savepoint t) old new a calls is = record { called = calls; is = is }
+stepped (events.Rollback t depth) old new a calls is = record { called = calls; is = is }
+stepped (events.Release t depth) old new a calls is = record { called = calls; is = is }
+stepped (events.Commit t time) old new a calls is = record { called = calls; is = is }
+stepped (events.Abort t) old new a calls is = record { called = calls; is = is }
+stepped (events.Start c slot position names) old new a calls is = absurd calls
+stepped (events.Read c max clock) old new a calls is = absurd calls
+stepped (events.Keepalive c clock) old new a calls is = absurd calls
+stepped (events.Drain c n) old new a calls is = absurd calls
+stepped (events.Deliver c n) old new a calls is = absurd calls
+stepped (events.Cut c) old new a calls is = absurd calls
+stepped (events.Slot name) old new a calls is = absurd calls
+stepped (events.Status c clock) old new a calls is = absurd calls
+stepped (events.Flushed c number) old new a calls is = absurd calls
+stepped (events.Ack c) old new a calls is = absurd calls
 
-pub all_stepped : (e : Event) {L : Type 0} (m : Machine L) (p : PublisherState) (ss : List Session) (r : Result Answer WorldFault) → IfOk r (λ a. IsCallOf e m.publisher m.sessions.items a p ss)
-    → IfOk r (λ a. IsStep (shown m) e a (record (shown m) { publisher = p; transactions = map named_tx ss }))
-all_stepped e m p ss (Ok a) calls = stepped e (shown m) p ss a calls
-all_stepped e m p ss (Err fault) calls = tt
-
-pub none_stepped : {L : Type 0} (m : Machine L) (p : PublisherState) (ss : List Session) (r : Result Answer WorldFault) → OnErr r (sessions_state p ss ≡ sessions_state m.publisher m.sessions.items)
-    → OnErr r (record (shown m) { publisher = p; transactions = map named_tx ss } ≡ shown m)
-none_stepped m p ss (Ok a) same = tt
-none_stepped m p ss (Err fault) same = ap (λ (s : SessionState). record (shown m) { publisher = s.publisher; transactions = s.transactions }) same
+pub all_stepped : (e : Event) (old new : WorldState) (r : Result Answer WorldFault) → IfOk r (λ a. IsLine e (session_state old) a (session_state new))
+    → new ≡ record old { publisher = new.publisher; transactions = new.transactions } → IfOk r (λ a. IsStep old e a new)
+all_stepped e old new (Ok a) calls is = stepped e old new a calls is
+all_stepped e old new (Err fault) calls is = tt
 
 -- a line that is no session line is told apart before
 pub bad_call : (e : Event) (w : WorldState)

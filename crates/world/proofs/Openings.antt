@@ -9,7 +9,7 @@ use Rattle.world.specs.declared.start.Walsender.{Walsender}
 use Rattle.world.specs.declared.start.Walsender.TheVariants as walsenders
 use Rattle.world.specs.State.{StartState, is_open_for, open_start}
 use Rattle.world.specs.Machine.{start_state, state_with, is_open, start_place, open_places, is_for, place_among, without_place, IsOpenStartAt}
-use Rattle.world.proofs.Names.{same_inside, place_is}
+use Rattle.world.proofs.Inside.{same_inside, place_is}
 use Rattle.publication.proofs.Rows.{both_true}
 
 -- ---- by walking over all starts

@@ -12,7 +12,7 @@ use Rattle.world.specs.declared.subscriber.Subscriber.{Subscriber}
 use Rattle.world.specs.State.{SubscriberState, subscriber_of, with_subscriber}
 use Rattle.world.specs.Slots.{Acknowledges, PutsBack, confirmed_by, has_status, is_waiting, status_with}
 use Rattle.world.specs.Machine.{IsOpenStartAt, IsSubscriberAt, shown, start_state, subscriber_state}
-use Rattle.world.proofs.Names.{same_inside}
+use Rattle.world.proofs.Inside.{same_inside}
 use Rattle.world.proofs.Subscribing.{no_subscriber, placed, subscriber_at, the_one}
 use Rattle.world.specs.Machine.{subscriber_place}
 

@@ -5,7 +5,7 @@ use Rattle.std.proofs.Math.Nat.{min-le_right}
 use Rattle.std.proofs.lemmas.List.{take_min, take-append-le, length-drop}
 use mathlib.Core.List.{IsPrefix}
 use Rattle.world.specs.State.{StartState, running}
-use Rattle.world.proofs.Names.{same_inside}
+use Rattle.world.proofs.Inside.{same_inside}
 
 -- ---- what is read
 

@@ -17,7 +17,7 @@ use Rattle.tables.proofs.Names.{bytes_eq-after}
 use Rattle.stream.proofs.Lists.{all_of_both}
 use Rattle.publication.proofs.Rows.{both_true}
 use Rattle.std.proofs.lemmas.Slice.Eq.{bytes_eq-Decides}
-use Rattle.world.proofs.Names.{same_inside, place_is}
+use Rattle.world.proofs.Inside.{same_inside, place_is}
 
 no_sooner : (name : List ℕ) (subscribers : List SubscriberState) (at p : ℕ) → subscriber_place at name subscribers ≡ Some p → at ≤ p
 no_sooner name [] at p e = absurd cc

@@ -3,8 +3,6 @@ pub mod Slots
 pub mod Config
 pub mod Delivering
 pub mod Law
-pub mod Rows
-pub mod SessionLines
 pub mod ConnectionLines
 pub mod Steps
 pub mod Confirming

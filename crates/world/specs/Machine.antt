@@ -17,53 +17,14 @@ use Rattle.schedule.specs.declared.event.Event.{Event}
 use Rattle.schedule.specs.declared.answer.Answer.{Answer}
 use Rattle.schedule.specs.declared.answer.Answer.TheVariants as answers
 use Rattle.world.specs.declared.action.Action.{Action}
-use Rattle.world.specs.declared.session.Session.{Session}
 use Rattle.world.specs.declared.start.Start.{Start}
 use Rattle.world.specs.declared.subscriber.Subscriber.{Subscriber}
 use Rattle.world.specs.declared.start.Walsender.{Walsender}
 use Rattle.world.specs.declared.start.Walsender.TheVariants as walsenders
 use Rattle.world.specs.declared.machine.Machine.{Machine}
 use Rattle.world.specs.declared.reading.TheConstants.{MAX_SENDERS}
-use Rattle.world.specs.State.{NamedTx, StartState, SubscriberState, WorldState, xid_of, without_name, is_open_for, open_start, with_open_start, running, subscriber_of, with_subscriber}
-use Rattle.world.specs.SessionLines.{SessionState, IsCalled, ask_of}
+use Rattle.world.specs.State.{StartState, SubscriberState, WorldState, is_open_for, open_start, with_open_start, running, subscriber_of, with_subscriber}
 use Rattle.world.specs.ConnectionLines.{Acts}
-
--- ---- Sessions.
-
-abbrev pub named_tx : Session → NamedTx
-named_tx s = record { name = s.name; xid = s.tx }
-
-abbrev pub sessions_state : PublisherState → List Session → SessionState
-sessions_state publisher sessions = record { publisher = publisher; transactions = map named_tx sessions }
-
--- where the transaction of this name stands, counted from a number on
-abbrev pub place_from : ℕ → List ℕ → List NamedTx → Option ℕ
-place_from at name [] = None
-place_from at name (t ∷ ts) = if bytes_eq t.name name then Some at else place_from (at + 1) name ts
-
--- the transaction of this name stands there, and is the first of it
-pub record IsNamedAt (name : List ℕ) (place : ℕ) (sessions : List Session) : Type 0 where
-  pub session : Session
-  pub there : slice_get sessions place ≡ Some session
-  pub xid : xid_of name (map named_tx sessions) ≡ Some session.tx
-  pub without : without_name name (map named_tx sessions) ≡ map named_tx (remove sessions place)
-
--- A call of the publisher: done, it left this state; refused, by this refusal or for memory, it left the state as it was.
-abbrev pub Called : Option SessionFault → PublisherState → PublisherState → Answer → PublisherState → Type 0
-Called refusal done old answers.Done new = (refusal ≡ None) × (new ≡ done)
-Called refusal done old (answers.Session fault) new = IsRefusalOrMemory refusal fault × (new ≡ old)
-Called refusal done old answer new = ⊥
-
--- a session's line, for the sessions by name
-abbrev pub IsCallOf : Event → PublisherState → List Session → Answer → PublisherState → List Session → Type 0
-IsCallOf event publisher sessions answer new_publisher new_sessions =
-    IsCalled (ask_of event publisher (map named_tx sessions)) (sessions_state publisher sessions) answer (sessions_state new_publisher new_sessions)
-
--- a log that has grown, or stayed as it was
-pub record Grows (old new : List Record) : Type 0 where
-  pub more : List Record
-  pub is : new ≡ old ++ more
-  pub good : IsWellFormedLog old → IsWellFormedLog new
 
 -- ---- Starts.
 
@@ -188,7 +149,7 @@ IsSubscribed subscribers s = is_some (subscriber_of s.connection subscribers) �
 -- ---- The machine.
 
 abbrev pub shown : {L : Type 0} → Machine L → WorldState
-shown m = record { publications = m.publications; publisher = m.publisher; transactions = map named_tx m.sessions.items; slots = m.slots; starts = map start_state m.starts.items; subscribers = map subscriber_state m.subscribers.items }
+shown m = record { publications = m.publications; publisher = m.publisher; transactions = m.sessions; slots = m.slots; starts = map start_state m.starts.items; subscribers = map subscriber_state m.subscribers.items }
 
 -- there is room for one more start
 pub record HasRoom {L : Type 0} (m : Machine L) : Type 0 where

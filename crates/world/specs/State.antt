@@ -4,6 +4,7 @@ use Rattle.std.specs.Prelude.{ℕ, ◌+◌, Bool, false, ◌&&◌, List, [], ◌
 use Rattle.std.specs.Str.{bytes_eq}
 use Rattle.tables.specs.declared.table.Table.{Table}
 use Rattle.txlog.specs.Publishing.{PublisherState, new_publisher}
+use Rattle.sessions.specs.Transactions.{NamedTx}
 use Rattle.publication.specs.Publications.{PublicationSet}
 use Rattle.named_slots.specs.State.{SlotsState, no_slots}
 use Rattle.copyboth.specs.declared.status.Status.{Status}
@@ -11,11 +12,6 @@ use Rattle.client.specs.Subscriber.{resting}
 use Rattle.client.specs.Taking.{ApplierState}
 use Rattle.schedule.specs.declared.answer.Answer.{Answer}
 use Rattle.world.specs.declared.server.Server.{Server}
-
--- a transaction in progress, by the name that the schedule gives it
-pub record NamedTx : Type 0 where
-  pub name : List ℕ
-  pub xid : ℕ
 
 -- A start of a connection's sender: what it selects, from which position on, how far it has read the log, whether it has
 -- failed, and which bytes it has produced and holds. It is open until it is cut; then it holds nothing any more.
@@ -63,15 +59,6 @@ new_world setting = record { publications = setting.publications; publisher = ne
 pub record WorldView : Type 0 where
   pub state : WorldState
   pub answers : List Answer
-
--- the xid of the transaction of this name
-abbrev pub xid_of : List ℕ → List NamedTx → Option ℕ
-xid_of name [] = None
-xid_of name (t ∷ ts) = if bytes_eq t.name name then Some t.xid else xid_of name ts
-
-abbrev pub without_name : List ℕ → List NamedTx → List NamedTx
-without_name name [] = []
-without_name name (t ∷ ts) = if bytes_eq t.name name then ts else t ∷ without_name name ts
 
 -- whether this is the open start of the connection
 abbrev pub is_open_for : List ℕ → StartState → Bool

@@ -2,7 +2,7 @@
 
 ghost use Rattle.std.specs.Prelude.{◌≡◌};
 ghost use Rattle.toml.specs.View.{view};
-ghost use Rattle.world.specs.Config.{Names, ReadsSetting, named_by, setting_in};
+ghost use Rattle.world.specs.Config.{IsServer, Names, ReadsSetting, named_by, setting_in};
 
 use crate::config_fault::ConfigFault;
 use crate::server::{Server, server_of};
@@ -81,5 +81,18 @@ impl Config {
         ensures { result.now ≡ self.now.server }
     {
         &self.server
+    }
+
+    /// The tables, the publications over them, and the server.
+    pub fn into_parts(self) -> (Catalog, Publications, Server)
+        ensures parts { (result.0 ≡ self.tables) × (result.1 ≡ self.publications) × (result.2 ≡ self.server) }
+        ensures server { IsServer result.2 }
+    {
+        let Config {
+            catalog,
+            publications,
+            server,
+        } = self;
+        (catalog, publications, server)
     }
 }

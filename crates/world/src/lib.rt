@@ -6,15 +6,12 @@
 #![tactic(auto)]
 
 mod action;
-mod calls;
 mod config;
 mod config_fault;
 mod machine;
 mod opening;
 mod reading;
-mod rows;
 mod server;
-mod session;
 mod simulation;
 mod slot_word;
 mod start;
@@ -28,6 +25,7 @@ pub use named_slots::Slot;
 pub use reading::MAX_SENDERS;
 pub use schedule::{Answer, BadEvent, Event, LineFault, Literal, Schedule, WorldFault};
 pub use server::{MAX_CHUNKS, Server};
+pub use sessions::Sessions;
 pub use simulation::{SimFault, simulate};
 pub use slots::SlotFault;
 pub use start::Start;

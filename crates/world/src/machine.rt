@@ -7,15 +7,14 @@ ghost use Rattle.txlog.specs.Publishing.{new_publisher};
 ghost use Rattle.world.specs.State.{new_subscriber, new_world, open_start, running, with_one_for};
 ghost use Rattle.world.specs.ConnectionLines.{ActsAt, IsStart, new_start, slot_named};
 ghost use Rattle.world.specs.Delivering.{Delivers};
-ghost use Rattle.world.specs.Steps.{IsStep, is_bad};
+ghost use Rattle.sessions.specs.SessionLines.{IsLine, ask_of};
+ghost use Rattle.world.specs.Steps.{IsStep, is_bad, session_state};
 ghost use Rattle.world.specs.Machine.{ActsIn, HasRoom, IsMachine, IsOpenAt, IsServed, shown, start_state, subscriber_state};
 
 use crate::action::Action;
-use crate::calls::{call, is_known};
 use crate::config::Config;
 use crate::opening::{close, place_among};
 use crate::reading::MAX_SENDERS;
-use crate::session::{Session, leave_all};
 use crate::slot_word::{is_missing, let_go, slot_named, take};
 use crate::start::Start;
 use crate::subscriber::{Subscriber, place_of, reconnect, subscribe};
@@ -23,6 +22,7 @@ use frames::Text;
 use named_slots::HeldSlots;
 use publication::{Publications, Selection};
 use schedule::{Answer, Event, WorldFault};
+use sessions::Sessions;
 use shared_log::{LogName, LogReader};
 use slots::{OpenedSlots, SlotFault, SlotName};
 use std::alloc::{AllocError, Global};
@@ -36,7 +36,7 @@ pub(crate) struct Machine<L: LogName + SlotName> {
     pub(crate) publications: Publications,
     pub(crate) publisher: Publisher<L>,
     pub(crate) slots: HeldSlots<L>,
-    pub(crate) sessions: Vec<Session>,
+    pub(crate) sessions: Sessions,
     pub(crate) starts: Vec<Start<L>>,
     pub(crate) opened: Vec<usize>,
     pub(crate) readers: Vec<LogReader<L>>,
@@ -69,7 +69,7 @@ impl<L: LogName + SlotName> Machine<L> {
                     publications,
                     publisher,
                     slots,
-                    sessions: Vec::new(alloc),
+                    sessions: Sessions::new(alloc),
                     starts: Vec::new(alloc),
                     opened: Vec::new(alloc),
                     readers,
@@ -98,7 +98,7 @@ impl<L: LogName + SlotName> Machine<L> {
         slots.close();
         drop(starts);
         drop(readers);
-        leave_all(&publisher, sessions);
+        sessions.leave_all(&publisher);
         publisher.close(rt);
     }
 
@@ -108,7 +108,7 @@ impl<L: LogName + SlotName> Machine<L> {
         ensures { result ≡ is_bad event.now (shown self.now) }
     {
         match event {
-            Event::Begin(name) => is_known(self.sessions.as_slice(), name),
+            Event::Begin(name) => self.sessions.has(name),
             Event::Insert(name, _, _)
             | Event::Update(name, _, _, _)
             | Event::Delete(name, _, _)
@@ -117,7 +117,7 @@ impl<L: LogName + SlotName> Machine<L> {
             | Event::Rollback(name, _)
             | Event::Release(name, _)
             | Event::Commit(name, _)
-            | Event::Abort(name) => !is_known(self.sessions.as_slice(), name),
+            | Event::Abort(name) => !self.sessions.has(name),
             Event::Start(name, _, _, _) => self.is_connected(name),
             Event::Read(name, _, _)
             | Event::Keepalive(name, _)
@@ -153,8 +153,21 @@ impl<L: LogName + SlotName> Machine<L> {
             Event::Status(name, clock) => self.put_back(name, None, *clock),
             Event::Flushed(name, number) => self.put_back(name, Some(*number), 0),
             Event::Ack(name) => self.acknowledge(name),
-            _ => call(rt, &mut self.publisher, &mut self.sessions, alloc, event),
+            _ => self.call(rt, event),
         }
+    }
+
+    /// Does a session's line. What a commit tells nobody waits for.
+    fn call<R: Wait>(&mut self, rt: &R, event: &Event) -> Result<Answer, WorldFault>
+        requires machine { IsMachine self.old }
+        ensures done { IfOk result (λ a. IsLine event.now (session_state (shown self.old)) a (session_state (shown self.new))) }
+        ensures rest { shown self.new ≡ record (shown self.old) { publisher = (shown self.new).publisher; transactions = (shown self.new).transactions } }
+        ensures bad { result ≡ Err WorldFault.BadEvent → IsNone (ask_of event.now (shown self.old).publisher (shown self.old).transactions) }
+        ensures err { OnErr result (shown self.new ≡ shown self.old) }
+        ensures machine { IsMachine self.new }
+    {
+        let (answer, _) = self.sessions.line(rt, &mut self.publisher, event)?;
+        Ok(answer)
     }
 
     /// Starts a sender, which reads the log from its first record on. L1 where no slot has the name, then P1, then P2, then L6

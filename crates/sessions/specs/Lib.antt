@@ -1,0 +1,4 @@
+pub mod Transactions
+pub mod Rows
+pub mod SessionLines
+pub mod Sessions

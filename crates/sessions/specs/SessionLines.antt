@@ -1,0 +1,135 @@
+-- What a session's line asks of the publisher: the one call that it names, with its refusal and what it leaves.
+use Rattle.std.specs.Prelude.{◌≡◌, ℕ, Bool, true, false, List, [], ◌∷◌, ◌++◌, Option, Some, None, option_map}
+use Rattle.tables.specs.declared.table.Table.{Table}
+use Rattle.tables.specs.declared.change.Change.TheVariants as changes
+use Rattle.tables.specs.Tables.{table_named}
+use Rattle.tables.specs.Rows.{Key}
+use Rattle.txlog.specs.declared.fault.SessionFault.{SessionFault}
+use Rattle.txlog.specs.declared.fault.SessionFault.TheVariants as faults
+use Rattle.txlog.specs.Publishing.{PublisherState, IsRefusalOrMemory, begun, changed, updated, deleted, saved, rolled_back, released, after_commit, after_abort, begin_refusal, insert_refusal, update_refusal, delete_refusal, truncate_refusal, receipt_of, savepoint_refusal, rollback_refusal, release_refusal, end_refusal}
+use Rattle.txlog.specs.Receipts.{Committed}
+use Rattle.schedule.specs.declared.event.Event.{Event}
+use Rattle.schedule.specs.declared.event.Event.TheVariants as events
+use Rattle.schedule.specs.declared.event.Literal.{Literal}
+use Rattle.schedule.specs.declared.answer.Answer.{Answer}
+use Rattle.schedule.specs.declared.answer.Answer.TheVariants as answers
+use Rattle.sessions.specs.Transactions.{NamedTx, xid_of, without_name}
+use Rattle.sessions.specs.Rows.{row_in, key_columns}
+
+-- a call: the refusal that it meets, if any, and the publisher and the names that it leaves where it is done
+pub record Ask : Type 0 where
+  pub refusal : Option SessionFault
+  pub done : PublisherState
+  pub transactions : List NamedTx
+
+-- a table that is not known has no columns to read the row by
+abbrev pub insert_refused : Option Table → ℕ → List Literal → PublisherState → Option SessionFault
+insert_refused None xid row p = Some faults.UnknownTable
+insert_refused (Some table) xid row p = insert_refusal xid table.oid (row_in table.columns row) p
+
+abbrev pub inserted_in : Option Table → ℕ → List Literal → PublisherState → PublisherState
+inserted_in None xid row p = p
+inserted_in (Some table) xid row p = changed xid (changes.Insert table.oid (row_in table.columns row)) p
+
+-- a key has a literal for each column of the primary key, in table order
+abbrev pub key_in : Table → List Literal → Key
+key_in table key = record { oid = table.oid; values = row_in (key_columns table.columns) key }
+
+abbrev pub update_refused : Option Table → ℕ → List Literal → List Literal → PublisherState → Option SessionFault
+update_refused None xid key row p = Some faults.UnknownTable
+update_refused (Some table) xid key row p = update_refusal xid (key_in table key) (row_in table.columns row) p
+
+abbrev pub updated_in : Option Table → ℕ → List Literal → List Literal → PublisherState → PublisherState
+updated_in None xid key row p = p
+updated_in (Some table) xid key row p = updated xid (key_in table key) (row_in table.columns row) p
+
+abbrev pub delete_refused : Option Table → ℕ → List Literal → PublisherState → Option SessionFault
+delete_refused None xid key p = Some faults.UnknownTable
+delete_refused (Some table) xid key p = delete_refusal xid (key_in table key) p
+
+abbrev pub deleted_in : Option Table → ℕ → List Literal → PublisherState → PublisherState
+deleted_in None xid key p = p
+deleted_in (Some table) xid key p = deleted xid (key_in table key) p
+
+-- the OIDs of the tables of these names, in order; none where one of them is not known
+abbrev pub with_oid : Option Table → Option (List ℕ) → Option (List ℕ)
+with_oid (Some table) (Some oids) = Some (table.oid ∷ oids)
+with_oid table oids = None
+
+abbrev pub oids_named : List Table → List (List ℕ) → Option (List ℕ)
+oids_named tables [] = Some []
+oids_named tables (name ∷ names) = with_oid (table_named name tables) (oids_named tables names)
+
+abbrev pub truncate_refused : Option (List ℕ) → ℕ → PublisherState → Option SessionFault
+truncate_refused None xid p = Some faults.UnknownTable
+truncate_refused (Some oids) xid p = truncate_refusal xid oids p
+
+abbrev pub truncated_in : Option (List ℕ) → ℕ → PublisherState → PublisherState
+truncated_in None xid p = p
+truncated_in (Some oids) xid p = changed xid (changes.Truncate oids) p
+
+-- a name that is in use
+abbrev pub if_known : Option ℕ → (ℕ → Ask) → Option Ask
+if_known None ask = None
+if_known (Some xid) ask = Some (ask xid)
+
+-- a name that is not in use
+abbrev pub if_new : Option ℕ → Ask → Option Ask
+if_new None ask = Some ask
+if_new (Some xid) ask = None
+
+-- The call of a session's line, for the transaction of its name; none where that name is unknown, or is for a second time,
+-- and none for other lines.
+abbrev pub ask_of : Event → PublisherState → List NamedTx → Option Ask
+ask_of (events.Begin t) p ts = if_new (xid_of t ts) (record { refusal = begin_refusal p; done = begun p; transactions = ts ++ record { name = t; xid = p.next_xid } ∷ [] })
+ask_of (events.Insert t table row) p ts = if_known (xid_of t ts) (λ xid. record { refusal = insert_refused (table_named table p.tables) xid row p; done = inserted_in (table_named table p.tables) xid row p; transactions = ts })
+ask_of (events.Update t table key row) p ts = if_known (xid_of t ts) (λ xid. record { refusal = update_refused (table_named table p.tables) xid key row p; done = updated_in (table_named table p.tables) xid key row p; transactions = ts })
+ask_of (events.Delete t table key) p ts = if_known (xid_of t ts) (λ xid. record { refusal = delete_refused (table_named table p.tables) xid key p; done = deleted_in (table_named table p.tables) xid key p; transactions = ts })
+ask_of (events.Truncate t names) p ts = if_known (xid_of t ts) (λ xid. record { refusal = truncate_refused (oids_named p.tables names) xid p; done = truncated_in (oids_named p.tables names) xid p; transactions = ts })
+ask_of (events.Savepoint t) p ts = if_known (xid_of t ts) (λ xid. record { refusal = savepoint_refusal xid p; done = saved xid p; transactions = ts })
+ask_of (events.Rollback t depth) p ts = if_known (xid_of t ts) (λ xid. record { refusal = rollback_refusal xid depth p; done = rolled_back xid depth p; transactions = ts })
+ask_of (events.Release t depth) p ts = if_known (xid_of t ts) (λ xid. record { refusal = release_refusal xid depth p; done = released xid depth p; transactions = ts })
+ask_of (events.Commit t time) p ts = if_known (xid_of t ts) (λ xid. record { refusal = end_refusal xid p; done = after_commit xid time p; transactions = without_name t ts })
+ask_of (events.Abort t) p ts = if_known (xid_of t ts) (λ xid. record { refusal = end_refusal xid p; done = after_abort xid p; transactions = without_name t ts })
+ask_of event p ts = None
+
+-- what session lines see and change
+pub record SessionState : Type 0 where
+  pub publisher : PublisherState
+  pub transactions : List NamedTx
+
+-- Done, the call left what it leaves; refused, by its refusal or for memory, it left everything as it was.
+abbrev pub IsAnswered : Ask → SessionState → Answer → SessionState → Type 0
+IsAnswered ask old answers.Done new = (ask.refusal ≡ None) × (new ≡ record { publisher = ask.done; transactions = ask.transactions })
+IsAnswered ask old (answers.Session fault) new = IsRefusalOrMemory ask.refusal fault × (new ≡ old)
+IsAnswered ask old answer new = ⊥
+
+abbrev pub IsCalled : Option Ask → SessionState → Answer → SessionState → Type 0
+IsCalled None old answer new = ⊥
+IsCalled (Some ask) old answer new = IsAnswered ask old answer new
+
+abbrev pub state_of : PublisherState → List NamedTx → SessionState
+state_of publisher transactions = record { publisher = publisher; transactions = transactions }
+
+-- the line's call, for the transaction of its name
+abbrev pub IsLine : Event → SessionState → Answer → SessionState → Type 0
+IsLine event old answer new = IsCalled (ask_of event old.publisher old.transactions) old answer new
+
+-- a commit that is done tells of its record; nothing else does
+abbrev pub receipt_due : Event → SessionState → Answer → Option Committed
+receipt_due (events.Commit t time) old answers.Done = option_map (λ xid. receipt_of xid time old.publisher) (xid_of t old.transactions)
+receipt_due event old answer = None
+
+-- the lines of sessions; all others are those of slots and connections
+abbrev pub is_session_line : Event → Bool
+is_session_line (events.Slot name) = false
+is_session_line (events.Start c slot position names) = false
+is_session_line (events.Read c max clock) = false
+is_session_line (events.Keepalive c clock) = false
+is_session_line (events.Drain c n) = false
+is_session_line (events.Deliver c n) = false
+is_session_line (events.Status c clock) = false
+is_session_line (events.Flushed c number) = false
+is_session_line (events.Ack c) = false
+is_session_line (events.Cut c) = false
+is_session_line event = true

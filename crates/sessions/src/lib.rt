@@ -1,0 +1,12 @@
+//! Sessions as the lines of a script name them: each line begins, changes or ends a transaction, or sets and leaves its
+//! savepoints, by one call of the publisher. `Sessions::line` does one.
+#![tactic(auto)]
+
+mod calls;
+mod lines;
+mod rows;
+mod session;
+mod sessions;
+
+pub use lines::is_session_line;
+pub use sessions::Sessions;
