@@ -116,7 +116,13 @@ module _ (L : RattleType) (s : slot_name.Ghosts L.Denot) (l : log_name.Ghosts L.
               search (pool.the_send, heap.crosses, sendable) depth 10,
               (
                 search (names.the_send, heap.crosses, sendable) depth 10,
-                (search (news.the_send, heap.crosses, sendable) depth 10, (search (heap.crosses, sendable) depth 10, tt)),
+                (
+                  search (news.the_send, heap.crosses, sendable) depth 10,
+                  (
+                    search (heap.crosses, sendable) depth 10,
+                    (search (heap.crosses, sendable) depth 10, (search (heap.crosses, sendable) depth 10, tt)),
+                  ),
+                ),
               ),
             ),
           ),

@@ -19,6 +19,7 @@ use server::DeskFault;
 use shared_log::LogName;
 use slots::{OpenedSlots, SlotName, SlotSeat, SlotTable};
 use std::alloc::{AllocError, Global};
+use std::sync::atomic::{AtomicBool, AtomicU64, Ordering};
 use std::sync::{Condvar, Mutex, MutexGuard, Wait};
 use tables::Catalog;
 use txlog::{Opened, Publisher, Receipt};
@@ -84,7 +85,9 @@ pub struct Hub<L: LogName + SlotName> {
     pool: Mutex<Pool<L>>,
     names: Mutex<Names<L>>,
     news: Mutex<News<L>>,
-    /// A commit has left its receipt, or an inbox holds more.
+    streams_begun: AtomicU64,
+    no_more_streams: AtomicBool,
+    /// A commit has left its receipt, an inbox holds more, or a stream has begun.
     changed: Condvar,
 }
 
@@ -115,6 +118,8 @@ impl<L: LogName + SlotName> Hub<L> {
             pool: Mutex::new(pool),
             names: Mutex::new(Names::new(alloc, seat)),
             news: Mutex::new(News::new()),
+            streams_begun: AtomicU64::new(0),
+            no_more_streams: AtomicBool::new(false),
             changed: Condvar::new(),
         })
     }
@@ -130,6 +135,8 @@ impl<L: LogName + SlotName> Hub<L> {
             pool: _,
             names: _,
             news: _,
+            streams_begun: _,
+            no_more_streams: _,
             changed: _,
         } = self;
         publisher.into_inner().close(rt);
@@ -181,7 +188,11 @@ impl<L: LogName + SlotName> Hub<L> {
             return Err(DeskFault::NoReader);
         };
         match Begun::claim(&self.slots, pair, place, selection, position) {
-            Ok(begun) => Ok(begun),
+            Ok(begun) => {
+                self.streams_begun.fetch_add(1, Ordering::SeqCst);
+                self.signal(rt);
+                Ok(begun)
+            }
             Err((pair, fault)) => {
                 self.give_back(rt, pair);
                 Err(fault)
@@ -255,6 +266,23 @@ impl<L: LogName + SlotName> Hub<L> {
             news.end() <= position && line.lets_stream(rt)
         });
         stream.learn(&*news);
+    }
+
+    /// Waits until so many streams have begun since the hub was opened, or `end_awaiting` was called. What is committed then
+    /// reaches those streams.
+    pub fn await_streams<R: Wait>(&self, rt: &R, count: u64) {
+        drop(
+            self.changed.wait_while(rt, self.news.lock(rt), |_| {
+                self.streams_begun.load(Ordering::SeqCst) < count
+                    && !self.no_more_streams.load(Ordering::SeqCst)
+            }),
+        );
+    }
+
+    /// Nobody awaits streams from now on, since no more connections come.
+    pub fn end_awaiting<R: Wait>(&self, rt: &R) {
+        self.no_more_streams.store(true, Ordering::SeqCst);
+        self.signal(rt);
     }
 
     /// Tells the stream of the latest commit.

@@ -1,0 +1,71 @@
+//! Scripts: session lines, run beside the connections.
+
+use crate::fault::ScriptFault;
+use crate::hub::Hub;
+use schedule::{Event, Schedule, WorldFault};
+use sessions::Sessions;
+use shared_log::LogName;
+use slots::SlotName;
+use std::io::Write;
+use std::sync::{MutexGuard, Wait};
+
+/// The code of a line whose transaction's name is unknown, or in use already.
+const BAD_LINE: &str = "V1";
+
+/// Does the lines of a script in order, each under the publisher's lock, and tells streams of each commit.
+///
+/// For a line that is refused, the script's name, the line's number and the code go to `refusals`, as in `load 7 S4`, and the
+/// script goes on. Transactions that are in progress at its end are left as they are, so that nothing of them commits.
+pub fn run_script<L: LogName + SlotName, R: Wait, W: Write>(
+    rt: &R,
+    hub: &Hub<L>,
+    name: &str,
+    script: &Schedule,
+    refusals: &mut W,
+) -> Result<(), ScriptFault> {
+    let mut sessions = Sessions::new(hub.alloc);
+    let done = do_lines(rt, hub, name, script, &mut sessions, refusals);
+    let publisher = hub.publisher.lock(rt);
+    sessions.leave_all(&publisher);
+    MutexGuard::unlock(publisher);
+    done
+}
+
+fn do_lines<L: LogName + SlotName, R: Wait, W: Write>(
+    rt: &R,
+    hub: &Hub<L>,
+    name: &str,
+    script: &Schedule,
+    sessions: &mut Sessions,
+    refusals: &mut W,
+) -> Result<(), ScriptFault> {
+    for (line, event) in script.lines().iter().zip(script.events()) {
+        if let Some(code) = do_line(rt, hub, sessions, event)? {
+            let refusal = format!(in hub.alloc; "{name} {line} {code}\n")?;
+            refusals.write_all(refusal.as_bytes())?;
+        }
+    }
+    Ok(())
+}
+
+/// The code of a refusal, if the line is refused.
+fn do_line<L: LogName + SlotName, R: Wait>(
+    rt: &R,
+    hub: &Hub<L>,
+    sessions: &mut Sessions,
+    event: &Event,
+) -> Result<Option<&'static str>, ScriptFault> {
+    let mut publisher = hub.publisher.lock(rt);
+    let done = sessions.line(rt, &mut publisher, event);
+    MutexGuard::unlock(publisher);
+    match done {
+        Ok((answer, receipt)) => {
+            if let Some(receipt) = receipt {
+                hub.tell(rt, receipt);
+            }
+            Ok(answer.code())
+        }
+        Err(WorldFault::BadEvent) => Ok(Some(BAD_LINE)),
+        Err(WorldFault::Memory | WorldFault::NoEntry) => Err(ScriptFault::Memory),
+    }
+}
