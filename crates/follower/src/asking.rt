@@ -1,0 +1,137 @@
+//! What a client says before its stream begins: a startup, and the commands that create a slot and start a stream.
+
+ghost use Rattle.frames.specs.Frame.{FitsLength};
+ghost use Rattle.frames.specs.Front.{front_body};
+
+use crate::fault::{FollowFault, told};
+use crate::incoming::Incoming;
+use crate::options::Options;
+use bytes::BytesMut;
+use client::ClientFault;
+use frames::{Back, Front, Query, Text, write_front};
+use replcmd::write_position;
+use std::alloc::{AllocError, Global};
+use std::io::{Read, Write};
+use std::sync::Wait;
+
+/// The startup of a session for logical replication (PostgreSQL 15, 55.2.1 and 55.4): user `subcat`, replication `database`.
+const STARTUP: &[u8] = b"\0\0\0\x2a\0\x03\0\0user\0subcat\0replication\0database\0\0";
+
+/// The most bytes of a command's text. PostgreSQL has no memory for longer ones either.
+const MOST_TEXT_BYTES: usize = 1_073_741_823;
+
+/// What a server's answer ends with.
+#[derive(Clone, Copy, PartialEq, Eq)]
+enum End {
+    ReadyForQuery,
+    CopyBothResponse,
+}
+
+/// Asks for the stream, up to its first frame.
+pub(crate) fn ask_for_stream<R: Wait, S: Read + Write>(
+    rt: &R,
+    alloc: Global,
+    incoming: &mut Incoming,
+    socket: &mut S,
+    options: &Options<'_>,
+) -> Result<(), FollowFault> {
+    socket.write_all(STARTUP).map_err(FollowFault::Connection)?;
+    wait_for(rt, incoming, socket, End::ReadyForQuery)?;
+    if options.create {
+        send_query(alloc, socket, creating(alloc, options.slot)?)?;
+        wait_for(rt, incoming, socket, End::ReadyForQuery)?;
+    }
+    send_query(alloc, socket, starting(alloc, options)?)?;
+    wait_for(rt, incoming, socket, End::CopyBothResponse)
+}
+
+fn creating(alloc: Global, slot: &str) -> Result<String, AllocError> {
+    let mut text = "CREATE_REPLICATION_SLOT ".to_string(alloc)?;
+    push_quoted(&mut text, slot, '"')?;
+    text.push_str(" LOGICAL pgoutput")?;
+    Ok(text)
+}
+
+fn starting(alloc: Global, options: &Options<'_>) -> Result<String, AllocError> {
+    let mut text = "START_REPLICATION SLOT ".to_string(alloc)?;
+    push_quoted(&mut text, options.slot, '"')?;
+    text.push_str(" LOGICAL ")?;
+    text.push_str(write_position(alloc, options.position)?.as_str())?;
+    text.push_str(" (proto_version '1', publication_names ")?;
+    push_quoted(&mut text, options.publications, '\'')?;
+    text.push_str(")")?;
+    Ok(text)
+}
+
+/// Adds the word between quotes, with each of its own doubled.
+fn push_quoted(text: &mut String, word: &str, quote: char) -> Result<(), AllocError> {
+    text.push(quote)?;
+    for letter in word.chars() {
+        if letter == quote {
+            text.push(quote)?;
+        }
+        text.push(letter)?;
+    }
+    text.push(quote)
+}
+
+fn send_query<S: Write>(alloc: Global, socket: &mut S, text: String) -> Result<(), FollowFault> {
+    if text.len() > MOST_TEXT_BYTES {
+        return Err(FollowFault::Client(ClientFault::Memory));
+    }
+    let query = Front::Query(Query {
+        text: Text::new(text),
+    });
+    send(alloc, socket, &query)
+}
+
+/// Sends a frame.
+pub(crate) fn send<S: Write>(
+    alloc: Global,
+    socket: &mut S,
+    frame: &Front,
+) -> Result<(), FollowFault>
+    requires { FitsLength (front_body frame.now) }
+{
+    let mut bytes = BytesMut::new(alloc);
+    write_front(frame, &mut bytes)?;
+    socket
+        .write_all(bytes.as_slice())
+        .map_err(FollowFault::Connection)
+}
+
+/// Passes over the frames of an answer, up to its last. What belongs to no answer is K2.
+fn wait_for<R: Wait, S: Read>(
+    rt: &R,
+    incoming: &mut Incoming,
+    socket: &mut S,
+    end: End,
+) -> Result<(), FollowFault> {
+    for _ in rt.forever() {
+        let (frame, length) = incoming.next(rt, socket)?;
+        incoming.pass(length);
+        if let Some(last) = end_of(frame)? {
+            return match last == end {
+                true => Ok(()),
+                false => Err(FollowFault::Client(ClientFault::Order)),
+            };
+        }
+    }
+    Err(FollowFault::Ended)
+}
+
+/// What the frame ends, if it ends an answer.
+fn end_of(frame: Back) -> Result<Option<End>, FollowFault> {
+    match frame {
+        Back::ErrorResponse(error) => Err(told(error)),
+        Back::ReadyForQuery(_) => Ok(Some(End::ReadyForQuery)),
+        Back::CopyBothResponse(_) => Ok(Some(End::CopyBothResponse)),
+        Back::CopyData(_) | Back::CopyDone => Err(FollowFault::Client(ClientFault::Order)),
+        Back::AuthenticationOk
+        | Back::ParameterStatus(_)
+        | Back::BackendKeyData(_)
+        | Back::CommandComplete(_)
+        | Back::RowDescription(_)
+        | Back::DataRow(_) => Ok(None),
+    }
+}

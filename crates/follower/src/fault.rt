@@ -1,0 +1,80 @@
+//! Why a stream was not followed to its end, K1 to K6.
+
+use client::ClientFault;
+use frames::{ErrorResponse, FrameFault, Text};
+use std::alloc::AllocError;
+use std::{fmt, io};
+use thiserror::Error;
+
+/// What the server said in an ErrorResponse (PostgreSQL 15, 55.8).
+#[derive(Debug, Drop)]
+pub struct ServerError {
+    /// The SQLSTATE, field C.
+    pub code: Text,
+    /// The message, field M.
+    pub text: Text,
+}
+
+impl fmt::Display for ServerError {
+    fn fmt<W: fmt::Write>(&self, f: &mut fmt::Formatter<W>) -> fmt::Result {
+        write!(f, "{} {}", self.code.as_str(), self.text.as_str())
+    }
+}
+
+/// Why a stream was not followed to its end.
+#[derive(Debug, Drop, Error)]
+pub enum FollowFault {
+    /// K1 to K3, and K5.
+    #[error("{0}")]
+    Client(ClientFault),
+    /// K4.
+    #[error("server: {0}")]
+    Server(ServerError),
+    /// K6 where reading from the server or writing to it failed.
+    #[error("K6: the connection failed: {0}")]
+    Connection(io::Error),
+    /// K6 where the server ended the connection.
+    #[error("K6: the server ended the connection early")]
+    Ended,
+    /// K6 where the output failed.
+    #[error("K6: the output cannot be written: {0}")]
+    Output(io::Error),
+}
+
+impl From<AllocError> for FollowFault {
+    fn from(_e: AllocError) -> FollowFault {
+        FollowFault::Client(ClientFault::Memory)
+    }
+}
+
+impl From<ClientFault> for FollowFault {
+    fn from(fault: ClientFault) -> FollowFault {
+        FollowFault::Client(fault)
+    }
+}
+
+impl From<FrameFault> for FollowFault {
+    fn from(fault: FrameFault) -> FollowFault {
+        match fault {
+            FrameFault::Memory => FollowFault::Client(ClientFault::Memory),
+            _ => FollowFault::Client(ClientFault::Frame),
+        }
+    }
+}
+
+/// The fault that an ErrorResponse tells. One without a code and a text is no frame of a server.
+pub(crate) fn told(error: ErrorResponse) -> FollowFault {
+    let mut code = None;
+    let mut text = None;
+    for field in error.fields.into_vec() {
+        match field.code {
+            b'C' => code = Some(field.text),
+            b'M' => text = Some(field.text),
+            _ => {}
+        }
+    }
+    match (code, text) {
+        (Some(code), Some(text)) => FollowFault::Server(ServerError { code, text }),
+        _ => FollowFault::Client(ClientFault::Frame),
+    }
+}

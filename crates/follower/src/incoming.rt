@@ -1,0 +1,63 @@
+//! The frames that a server sends, one after the other.
+
+use crate::fault::FollowFault;
+use bytes::BytesMut;
+use frames::{Back, read_back};
+use std::alloc::Global;
+use std::io::Read;
+use std::sync::Wait;
+
+/// How many bytes are read at once, at most.
+const MOST_READ: usize = 16_384;
+
+/// What has come of a server's bytes and was not taken yet.
+#[derive(Drop)]
+pub(crate) struct Incoming {
+    alloc: Global,
+    unread: BytesMut,
+}
+
+impl Incoming {
+    pub(crate) fn new(alloc: Global) -> Self {
+        Incoming {
+            alloc,
+            unread: BytesMut::new(alloc),
+        }
+    }
+
+    /// The next frame, and how many of the bytes at the front are its own.
+    pub(crate) fn next<R: Wait, S: Read>(
+        &mut self,
+        rt: &R,
+        socket: &mut S,
+    ) -> Result<(Back, usize), FollowFault> {
+        for _ in rt.forever() {
+            if let Some(found) = read_back(self.alloc, self.unread.as_slice())? {
+                return Ok(found);
+            }
+            self.read_more(socket)?;
+        }
+        Err(FollowFault::Ended)
+    }
+
+    fn read_more<S: Read>(&mut self, socket: &mut S) -> Result<(), FollowFault> {
+        self.unread.reserve(MOST_READ)?;
+        match self.unread.read_from(socket) {
+            Ok(0) => Err(FollowFault::Ended),
+            Ok(_) => Ok(()),
+            Err(fault) => Err(FollowFault::Connection(fault)),
+        }
+    }
+
+    /// Up to so many bytes at the front.
+    pub(crate) fn front(&self, count: usize) -> &[u8] {
+        let unread = self.unread.as_slice();
+        &unread[..count.min(unread.len())]
+    }
+
+    /// Takes up to so many bytes off the front.
+    pub(crate) fn pass(&mut self, count: usize) {
+        let count = count.min(self.unread.len());
+        self.unread.advance(count);
+    }
+}

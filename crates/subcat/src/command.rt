@@ -1,0 +1,88 @@
+//! The words of the command line.
+
+use clap::{Arg, ArgAction, Command, Error};
+use std::alloc::Global;
+
+const ABOUT: &str =
+    "Follows a slot of a publisher, prints each message of its stream on a line, and acknowledges each transaction";
+
+const AFTER_HELP: &str = "\
+For example, with a publisher on port 5433 of this machine:
+
+  subcat --create 127.0.0.1:5433 mine 0/0 p 1
+
+creates the slot mine, waits for one transaction of the publication p, and prints it:
+
+  BEGIN 700 0/1000030 5
+  RELATION 16384 public.item d id:23* name:25 qty:20
+  INSERT 16384 N('1','ab','7')
+  COMMIT 0/1000030 0/1000050 5
+
+A position is where the stream should begin; a slot that has confirmed more begins there. With
+a COUNT of 0 the stream is ended at once.
+
+It ends with 0 behind COUNT transactions, with 2 where the arguments are refused, and with 1
+where the connection, the server, the output or memory fails. What the server refused is printed
+as server: CODE text.";
+
+/// What the program is asked to follow.
+#[derive(Clone, Copy, Debug)]
+pub struct Words<'a> {
+    pub create: bool,
+    pub address: &'a str,
+    pub slot: &'a str,
+    pub position: &'a str,
+    pub publications: &'a str,
+    pub count: &'a str,
+}
+
+/// All words, or the text for a user who asks for help or gives other words.
+pub fn words_of<'a>(alloc: Global, words: &'a [String]) -> Result<Words<'a>, Error> {
+    let create = Arg::new(alloc, "create")
+        .long("create")
+        .action(ArgAction::SetTrue)
+        .help("Create the slot first");
+    let command = Command::new(alloc, "subcat")
+        .bin_name("subcat")?
+        .about(ABOUT)
+        .after_help(AFTER_HELP)
+        .arg(create)?
+        .arg(required(
+            alloc,
+            "ADDR",
+            "The publisher's address and port, as in 127.0.0.1:5433",
+        ))?
+        .arg(required(alloc, "SLOT", "The name of the slot"))?
+        .arg(required(
+            alloc,
+            "POSITION",
+            "Where the stream should begin, as in 0/0",
+        ))?
+        .arg(required(
+            alloc,
+            "PUBLICATIONS",
+            "Names of publications, joined by commas",
+        ))?
+        .arg(required(
+            alloc,
+            "COUNT",
+            "After how many transactions the stream is ended",
+        ))?;
+    let matches = command.try_get_matches_from(words)?;
+    // All but --create are required, so they are there.
+    Ok(Words {
+        create: matches.get_flag("create"),
+        address: matches.get_str("ADDR").unwrap_or(""),
+        slot: matches.get_str("SLOT").unwrap_or(""),
+        position: matches.get_str("POSITION").unwrap_or(""),
+        publications: matches.get_str("PUBLICATIONS").unwrap_or(""),
+        count: matches.get_str("COUNT").unwrap_or(""),
+    })
+}
+
+fn required<'a>(alloc: Global, name: &'a str, help: &'a str) -> Arg<'a> {
+    Arg::new(alloc, name)
+        .required(true)
+        .action(ArgAction::Set)
+        .help(help)
+}

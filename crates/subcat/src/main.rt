@@ -1,0 +1,53 @@
+//! `subcat [--create] ADDR SLOT POSITION PUBLICATIONS COUNT` follows a slot of a publisher, and prints each message of its stream.
+#![tactic(auto)]
+
+mod command;
+mod fault;
+
+use command::{Words, words_of};
+use fault::Fault;
+use follower::{Options, follow};
+use replcmd::parse_position;
+use std::io::BufWriter;
+use std::net::{Net, SocketAddr, TcpListener, TcpStream};
+use std::process::ExitCode;
+use std::sync::Wait;
+use std::{env, io};
+
+fn main(rt: HostRuntime) -> ExitCode {
+    match run(&rt, &rt) {
+        Ok(()) => ExitCode::SUCCESS,
+        Err(fault) => {
+            let _ = fault.print(&rt);
+            ExitCode::from(fault.status())
+        }
+    }
+}
+
+/// The runtime has the words and the output, and `net` the socket.
+fn run<N: Net<Listener = TcpListener, Stream = TcpStream> + Wait>(
+    rt: &HostRuntime,
+    net: &N,
+) -> Result<(), Fault> {
+    let alloc = rt.alloc();
+    let arguments: Vec<String> = env::args(rt).map_err(Fault::Arguments)?.collect(alloc)?;
+    let words = words_of(alloc, arguments.as_slice()).map_err(Fault::Usage)?;
+    let address = words
+        .address
+        .parse::<SocketAddr>()
+        .map_err(|_| Fault::Address)?;
+    let options = options_of(&words)?;
+    let mut output = BufWriter::new(alloc, io::writer(rt)).map_err(Fault::Output)?;
+    let mut socket = TcpStream::connect(net, address).map_err(Fault::Connect)?;
+    follow(net, alloc, &mut socket, &options, &mut output).map_err(Fault::Follow)
+}
+
+fn options_of<'a>(words: &Words<'a>) -> Result<Options<'a>, Fault> {
+    Ok(Options {
+        create: words.create,
+        slot: words.slot,
+        position: parse_position(words.position).map_err(|_| Fault::Position)?,
+        publications: words.publications,
+        count: words.count.parse::<u32>().map_err(|_| Fault::Count)?,
+    })
+}
