@@ -1,0 +1,163 @@
+//! The words of the command line.
+
+use crate::fault::Fault;
+use clap::{Arg, ArgAction, Command, Error};
+use std::alloc::Global;
+use std::net::SocketAddr;
+
+/// The most connections that one run serves.
+const MOST_CONNECTIONS: u32 = 1000;
+
+const ABOUT: &str =
+    "Serves logical replication of tables in memory to clients of PostgreSQL's streaming replication protocol";
+
+const AFTER_HELP: &str = "\
+A configuration names the server, the tables and their publications, as in
+
+  [server]
+  systemid = '42'
+  records = 65536
+  chunks = 64
+
+  [[table]]
+  oid = 16384
+  schema = 'public'
+  name = 'item'
+  identity = 'default'
+  key = ['id']
+  columns = [['id', 'int4'], ['name', 'text'], ['qty', 'int8']]
+
+  [[publication]]
+  name = 'p'
+  tables = [{ name = 'public.item' }]
+
+A script has one line for each step of a session. T is a name for a transaction.
+
+  begin T                  a transaction begins
+  insert T TABLE (ROW)     it inserts a row, as in (1,'ab',7)
+  update T TABLE (KEY) (ROW)
+                           the row of this key becomes this one, as in (1) (2,'ab',7)
+  delete T TABLE (KEY)     it deletes the row of this key
+  truncate T TABLE ..      it empties tables
+  savepoint T              it sets a savepoint
+  rollback T N             it rolls back to its Nth savepoint, counted from the outermost
+  release T N              it releases its Nth savepoint and those inside it
+  commit T TIME            it commits, at TIME microseconds since 2000-01-01
+  abort T                  it aborts
+
+For example
+
+  pubd --await-streams 1 pubd.toml 127.0.0.1:5433 1 load.script
+
+prints listening 127.0.0.1:5433, serves one connection, runs the script on a thread of its own
+once that connection's stream has begun, and ends once both have ended. Without --await-streams
+scripts begin at once, and a slot that is created later begins behind what they have committed
+by then. A client connects to it as to a walsender of PostgreSQL, with
+replication=database. A line of a script that is refused is printed on the standard error: the
+script's name, the line's number and a code, as in load.script 7 S4. The script then goes on.
+
+It ends with 0 where that is done, with 2 where the arguments, the configuration or a script are
+refused, and with 1 where a file, the socket or memory fails.";
+
+/// What the program is asked to serve.
+#[derive(Drop)]
+pub struct Words<'a> {
+    pub config: &'a str,
+    address: &'a str,
+    connections: &'a str,
+    awaited: Option<&'a str>,
+    pub scripts: Vec<&'a str>,
+}
+
+/// Where it listens, how many connections it serves, and how many streams the scripts await.
+#[derive(Clone, Copy)]
+pub struct Numbers {
+    pub address: SocketAddr,
+    pub connections: u32,
+    pub awaited: u64,
+}
+
+impl<'a> Words<'a> {
+    /// The words that are numbers.
+    pub fn numbers(&self) -> Result<Numbers, Fault> {
+        let address = self.address.parse::<SocketAddr>();
+        Ok(Numbers {
+            address: address.map_err(|_| Fault::Address)?,
+            connections: self.connections()?,
+            awaited: self.awaited()?,
+        })
+    }
+
+    fn connections(&self) -> Result<u32, Fault> {
+        match self.connections.parse::<u32>() {
+            Ok(count) if count <= MOST_CONNECTIONS => Ok(count),
+            _ => Err(Fault::Connections),
+        }
+    }
+
+    fn awaited(&self) -> Result<u64, Fault> {
+        let Some(count) = self.awaited else {
+            return Ok(0);
+        };
+        match count.parse::<u32>() {
+            Ok(count) => Ok(u64::from(count)),
+            Err(_) => Err(Fault::Awaited),
+        }
+    }
+}
+
+/// All words, or the text for a user who asks for help or gives other words.
+pub fn words_of<'a>(alloc: Global, words: &'a [String]) -> Result<Words<'a>, Error> {
+    let awaited = Arg::new(alloc, "await-streams")
+        .long("await-streams")
+        .value_name("N")
+        .action(ArgAction::Set)
+        .help("Run the scripts once N streams have begun, or no more connections come");
+    let scripts = Arg::new(alloc, "SCRIPT")
+        .num_args(0..)
+        .action(ArgAction::Append)
+        .help("Text files with one session line each line");
+    let command = Command::new(alloc, "pubd")
+        .bin_name("pubd")?
+        .about(ABOUT)
+        .after_help(AFTER_HELP)
+        .arg(awaited)?
+        .arg(required(
+            alloc,
+            "CONFIG",
+            "A TOML file with the server, the tables and their publications",
+        ))?
+        .arg(required(
+            alloc,
+            "ADDR",
+            "The address and port to listen at, as in 127.0.0.1:5433",
+        ))?
+        .arg(required(
+            alloc,
+            "CONNECTIONS",
+            "After how many connections it ends: 0 to 1000",
+        ))?
+        .arg(scripts)?;
+    let matches = command.try_get_matches_from(words)?;
+    let mut scripts = Vec::new(alloc);
+    if let Some(paths) = matches.get_strs("SCRIPT") {
+        for path in paths {
+            scripts.push(*path)?;
+        }
+    }
+    // The first three are required, so they are there.
+    Ok(Words {
+        config: matches.get_str("CONFIG").unwrap_or(""),
+        address: matches.get_str("ADDR").unwrap_or(""),
+        connections: matches.get_str("CONNECTIONS").unwrap_or(""),
+        awaited: matches.get_str("await-streams"),
+        scripts,
+    })
+}
+
+fn required<'a>(alloc: Global, name: &'static str, help: &'static str) -> Arg<'a> {
+    Arg::new(alloc, name)
+        .required(true)
+        .action(ArgAction::Set)
+        .help(help)
+}

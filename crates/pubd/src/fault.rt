@@ -1,0 +1,96 @@
+//! Why the program served nothing, or not to its end, and with which status it then ends.
+
+use clap::error::ErrorKind;
+use hub::{HubFault, ServeFault};
+use std::alloc::{AllocError, AllocFailed};
+use std::io;
+use thiserror::Error;
+use world::ConfigFault;
+
+#[derive(Debug, Drop, Error)]
+pub enum Fault {
+    #[error("the arguments cannot be read: {0}")]
+    Arguments(io::Error),
+    #[error("{0}")]
+    Usage(clap::Error),
+    #[error("ADDR is an address and a port, as in 127.0.0.1:5433")]
+    Address,
+    #[error("CONNECTIONS is a number from 0 to 1000")]
+    Connections,
+    #[error("N of --await-streams is a number from 0 to 4294967295")]
+    Awaited,
+    #[error("the configuration cannot be read: {0}")]
+    ReadConfig(io::Error),
+    #[error("in the configuration: {1}")]
+    Config(ConfigFault, String),
+    #[error("{0}")]
+    Hub(HubFault),
+    #[error("{0} cannot be read: {1}")]
+    ReadScript(String, io::Error),
+    #[error("{0}: line {1} is no line of a session")]
+    Script(String, usize),
+    #[error("the address cannot be listened at: {0}")]
+    Listen(io::Error),
+    #[error("standard output cannot be used: {0}")]
+    Output(io::Error),
+    #[error("{0}")]
+    Serve(ServeFault),
+    #[error("a script ended before its last line")]
+    EndedEarly,
+    #[error("out of memory")]
+    Memory,
+}
+
+impl Fault {
+    /// 2 where the arguments, the configuration or a script are refused, and 0 where help was asked for. 1 where a file, a
+    /// socket or memory failed.
+    pub fn status(&self) -> u8 {
+        match self {
+            Fault::Arguments(error) => match error.kind() {
+                io::ErrorKind::OutOfMemory => 1,
+                _ => 2,
+            },
+            Fault::Usage(error) => match error.kind() {
+                ErrorKind::DisplayHelp | ErrorKind::DisplayVersion => 0,
+                ErrorKind::OutOfMemory => 1,
+                _ => 2,
+            },
+            Fault::Address | Fault::Connections | Fault::Awaited => 2,
+            // A file that is no text is a bad one, and no file that can't be read.
+            Fault::ReadConfig(error) | Fault::ReadScript(_, error) => match error.kind() {
+                io::ErrorKind::InvalidData => 2,
+                _ => 1,
+            },
+            Fault::Config(fault, _) if !fault.is_memory() => 2,
+            Fault::Hub(HubFault::LongName) => 2,
+            Fault::Script(_, _) => 2,
+            Fault::Config(_, _)
+            | Fault::Hub(HubFault::Memory)
+            | Fault::Listen(_)
+            | Fault::Output(_)
+            | Fault::Serve(_)
+            | Fault::EndedEarly
+            | Fault::Memory => 1,
+        }
+    }
+
+    /// Prints the fault on the standard error, and a text that was asked for on the standard output.
+    pub fn print<R: Print + Eprint>(&self, rt: &R) -> io::Result<()> {
+        match self {
+            Fault::Usage(error) => error.print(rt),
+            fault => eprintln!(rt; "pubd: {fault}"),
+        }
+    }
+}
+
+impl From<AllocError> for Fault {
+    fn from(_e: AllocError) -> Fault {
+        Fault::Memory
+    }
+}
+
+impl<T: Drop> From<AllocFailed<T>> for Fault {
+    fn from(_e: AllocFailed<T>) -> Fault {
+        Fault::Memory
+    }
+}

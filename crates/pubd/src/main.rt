@@ -1,0 +1,174 @@
+//! `pubd CONFIG ADDR CONNECTIONS [SCRIPT]...` serves replication connections, and runs scripts of session lines beside them.
+#![tactic(auto)]
+
+mod command;
+mod fault;
+mod scripts;
+
+ghost use Rattle.std.specs.Prelude.{◌≡◌};
+
+use command::{Numbers, Words, words_of};
+use fault::Fault;
+use hub::{Hub, OpenGate, OpenedHub, ServeFault, serve};
+use scripts::{Script, run_all, scripts_of};
+use shared_log::LogName;
+use slots::SlotName;
+use std::io::Print;
+use std::marker::Brand;
+use std::net::{Net, SocketAddr, TcpListener, TcpStream};
+use std::process::ExitCode;
+use std::sync::Wait;
+use std::thread::Threads;
+use std::{env, fs, thread};
+use world::{Config, explained};
+
+fn main(rt: HostRuntime) -> ExitCode {
+    match run(&rt, &rt) {
+        Ok(()) => ExitCode::SUCCESS,
+        Err(fault) => {
+            let _ = fault.print(&rt);
+            ExitCode::from(fault.status())
+        }
+    }
+}
+
+/// The runtime has the words and the files, and `host` the threads and the sockets.
+fn run<R>(rt: &HostRuntime, host: &R) -> Result<(), Fault>
+where
+    R: Net<Listener = TcpListener, Stream = TcpStream> + Threads + Wait + Sync,
+{
+    let alloc = rt.alloc();
+    let arguments: Vec<String> = env::args(rt).map_err(Fault::Arguments)?.collect(alloc)?;
+    let words = words_of(alloc, arguments.as_slice()).map_err(Fault::Usage)?;
+    run_words(rt, host, &words)
+}
+
+/// All that can be refused is judged before the first connection is taken.
+fn run_words<R>(rt: &HostRuntime, host: &R, words: &Words) -> Result<(), Fault>
+where
+    R: Net<Listener = TcpListener, Stream = TcpStream> + Threads + Wait + Sync,
+{
+    let numbers = words.numbers()?;
+    let scripts = scripts_of(rt, words.scripts.as_slice())?;
+    listen(rt, host, words.config, &numbers, scripts.as_slice())
+}
+
+fn listen<R>(
+    rt: &HostRuntime,
+    host: &R,
+    config: &str,
+    numbers: &Numbers,
+    scripts: &[Script],
+) -> Result<(), Fault>
+where
+    R: Net<Listener = TcpListener, Stream = TcpStream> + Threads + Wait + Sync,
+{
+    let listener = TcpListener::bind(host, numbers.address).map_err(Fault::Listen)?;
+    let service = Service {
+        address: listener.local_addr().map_err(Fault::Listen)?,
+        listener: &listener,
+        connections: numbers.connections,
+        awaited: numbers.awaited,
+        scripts,
+    };
+    let opened = opened(rt, config)?;
+    served::<Brand, R, _, _>(host, opened, &service, &rt.stdout(), &rt.stderr())
+}
+
+/// A hub for the configuration at this path.
+fn opened(rt: &HostRuntime, path: &str) -> Result<OpenedHub, Fault> {
+    let alloc = rt.alloc();
+    let text = fs::read_to_string(rt, path).map_err(Fault::ReadConfig)?;
+    let config = match Config::from_toml(alloc, text.as_str()) {
+        Ok(config) => config,
+        Err(fault) => {
+            let lines = explained(alloc, text.as_str(), &fault)?;
+            return Err(Fault::Config(fault, lines));
+        }
+    };
+    let (catalog, publications, server) = config.into_parts();
+    OpenedHub::new(
+        alloc,
+        catalog,
+        publications,
+        server.systemid,
+        server.records,
+    )
+    .map_err(Fault::Hub)
+}
+
+/// What is served, and what runs beside it.
+#[derive(Clone, Copy)]
+struct Service<'a> {
+    address: SocketAddr,
+    listener: &'a TcpListener,
+    connections: u32,
+    awaited: u64,
+    scripts: &'a [Script],
+}
+
+/// The log and the slots are named by the call. A hub must be closed, so whatever may fail stands in a call that borrows it.
+fn served<L, R, O, E>(
+    rt: &R,
+    opened: OpenedHub,
+    service: &Service,
+    output: &O,
+    errors: &E,
+) -> Result<(), Fault>
+where
+    L: LogName + SlotName + Send + Sync,
+    R: Threads + Wait + Sync,
+    O: Print,
+    E: Print + Sync,
+    requires log { opened.log.history.seen.book ≡ L.book }
+    requires slots { opened.slots.first.table_id ≡ L.table }
+{
+    let hub = Hub::<L>::open(rt, opened).map_err(Fault::Hub)?;
+    let done = serve_beside_scripts(rt, &hub, service, output, errors);
+    hub.close(rt);
+    done
+}
+
+fn serve_beside_scripts<L, R, O, E>(
+    rt: &R,
+    hub: &Hub<L>,
+    service: &Service,
+    output: &O,
+    errors: &E,
+) -> Result<(), Fault>
+where
+    L: LogName + SlotName + Send + Sync,
+    R: Threads + Wait + Sync,
+    O: Print,
+    E: Print + Sync,
+{
+    println!(output; "listening {}", service.address).map_err(Fault::Output)?;
+    let (scripted, served) = thread::join(
+        rt,
+        || run_awaited(rt, hub, service, errors),
+        || serve_all(rt, hub, service),
+    );
+    served.map_err(Fault::Serve)?;
+    scripted
+}
+
+/// The scripts begin once the streams that they await have begun.
+fn run_awaited<L, R, E>(rt: &R, hub: &Hub<L>, service: &Service, errors: &E) -> Result<(), Fault>
+where
+    L: LogName + SlotName + Send + Sync,
+    R: Threads + Wait + Sync,
+    E: Print + Sync,
+{
+    hub.await_streams(rt, service.awaited);
+    run_all(rt, hub, service.scripts, errors)
+}
+
+fn serve_all<L, R>(rt: &R, hub: &Hub<L>, service: &Service) -> Result<(), ServeFault>
+where
+    L: LogName + SlotName + Send + Sync,
+    R: Threads + Wait + Sync,
+{
+    let served = serve(rt, service.listener, hub, service.connections, &OpenGate);
+    hub.end_awaiting(rt);
+    served
+}
