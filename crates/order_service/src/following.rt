@@ -1,0 +1,68 @@
+//! Two followers, each with a slot of its own.
+
+use follower::{FollowFault, Options, follow};
+use std::alloc::Global;
+use std::net::{Net, SocketAddr, TcpListener, TcpStream};
+use std::sync::Wait;
+use std::thread;
+use std::thread::Threads;
+
+/// Follows all tables, through as many transactions as the service commits.
+const ALL: Options<'static> = Options {
+    create: true,
+    slot: "warehouse",
+    position: 0,
+    publications: "all",
+    count: 4,
+};
+
+/// Follows the large orders, of which there are two.
+const LARGE: Options<'static> = Options {
+    create: true,
+    slot: "sales",
+    position: 0,
+    publications: "large",
+    count: 2,
+};
+
+/// What the followers got, a line each message.
+#[derive(Drop)]
+pub(crate) struct Followed {
+    pub(crate) all: Vec<u8>,
+    pub(crate) large: Vec<u8>,
+}
+
+/// Both followers, side by side.
+pub(crate) fn follow_both<R>(
+    rt: &R,
+    alloc: Global,
+    address: SocketAddr,
+) -> Result<Followed, FollowFault>
+where
+    R: Net<Listener = TcpListener, Stream = TcpStream> + Threads + Wait + Sync,
+{
+    let (all, large) = thread::join(
+        rt,
+        || follow_one(rt, alloc, address, &ALL),
+        || follow_one(rt, alloc, address, &LARGE),
+    );
+    Ok(Followed {
+        all: all?,
+        large: large?,
+    })
+}
+
+fn follow_one<R>(
+    rt: &R,
+    alloc: Global,
+    address: SocketAddr,
+    options: &Options<'_>,
+) -> Result<Vec<u8>, FollowFault>
+where
+    R: Net<Listener = TcpListener, Stream = TcpStream> + Wait,
+{
+    let mut socket = TcpStream::connect(rt, address).map_err(FollowFault::Connection)?;
+    let mut lines = Vec::new(alloc);
+    follow(rt, alloc, &mut socket, options, &mut lines)?;
+    Ok(lines)
+}

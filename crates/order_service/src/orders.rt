@@ -1,0 +1,56 @@
+//! What is in stock, and what is ordered.
+
+/// An article, how many pieces of it there are, and what one costs.
+pub(crate) struct Article {
+    pub(crate) name: &'static str,
+    pub(crate) pieces: i32,
+    pub(crate) price: i64,
+}
+
+pub(crate) struct Order {
+    pub(crate) id: i32,
+    pub(crate) customer: &'static str,
+    pub(crate) articles: &'static [&'static str],
+}
+
+pub(crate) const STOCK: [Article; 3] = [
+    Article {
+        name: "desk",
+        pieces: 2,
+        price: 220,
+    },
+    Article {
+        name: "kettle",
+        pieces: 5,
+        price: 40,
+    },
+    Article {
+        name: "lamp",
+        pieces: 1,
+        price: 35,
+    },
+];
+
+/// The first takes the last lamp: of the second order only the desk is left, and of the third nothing.
+pub(crate) const ORDERS: [Order; 4] = [
+    Order {
+        id: 1,
+        customer: "Ada",
+        articles: &["kettle", "lamp"],
+    },
+    Order {
+        id: 2,
+        customer: "Ben",
+        articles: &["lamp", "desk"],
+    },
+    Order {
+        id: 3,
+        customer: "Cleo",
+        articles: &["lamp"],
+    },
+    Order {
+        id: 4,
+        customer: "Dan",
+        articles: &["desk", "kettle"],
+    },
+];
