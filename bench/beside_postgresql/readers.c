@@ -1,0 +1,238 @@
+/* Subscribers over bare sockets, for beside-postgresql.
+
+   readers streams PORT NAP COMMITS SLOT..   Takes the stream of each slot up to so many Commits, on a thread of its own, and
+                                             naps so many microseconds between two reads. It prints a line for each: when its
+                                             START was sent and when the last Commit came, in seconds, the rows, and the bytes
+                                             of all frames that carry a message.
+   readers commits PORT COUNT SLOT PIPE      Lets a server that waits for a reader of its pipe commit COUNT times, or, where
+                                             PIPE is -, commits by SQL. It prints a line for each: how many microseconds passed
+                                             until the subscriber of the slot had the Commit. */
+#include <arpa/inet.h>
+#include <netinet/tcp.h>
+#include <pthread.h>
+#include <stdio.h>
+#include <stdlib.h>
+#include <string.h>
+#include <sys/socket.h>
+#include <time.h>
+#include <unistd.h>
+
+struct stream {
+    int socket;
+    size_t held;
+    long rows, wire, commits;
+    unsigned char bytes[1 << 16];
+};
+
+static int port;
+static long nap, last_commit;
+static pthread_barrier_t all_ready;
+
+static void fail(const char *why)
+{
+    fprintf(stderr, "readers: %s\n", why);
+    exit(1);
+}
+
+static double now(void)
+{
+    struct timespec time;
+    clock_gettime(CLOCK_MONOTONIC, &time);
+    return (double)time.tv_sec + (double)time.tv_nsec / 1e9;
+}
+
+static void sleep_for(long microseconds)
+{
+    struct timespec time = {0, microseconds * 1000};
+    nanosleep(&time, NULL);
+}
+
+static size_t length_at(const unsigned char *bytes)
+{
+    return (size_t)bytes[0] << 24 | (size_t)bytes[1] << 16 | (size_t)bytes[2] << 8 | bytes[3];
+}
+
+static void send_all(struct stream *stream, const void *bytes, size_t count)
+{
+    if (send(stream->socket, bytes, count, 0) != (ssize_t)count)
+        fail("a write failed");
+}
+
+static void send_query(struct stream *stream, const char *text)
+{
+    unsigned char frame[300] = "Q";
+    size_t length = strlen(text) + 5;
+    frame[3] = (unsigned char)(length >> 8);
+    frame[4] = (unsigned char)length;
+    memcpy(frame + 5, text, length - 4);
+    send_all(stream, frame, length + 1);
+}
+
+static void read_more(struct stream *stream)
+{
+    ssize_t count = recv(stream->socket, stream->bytes + stream->held, sizeof stream->bytes - stream->held, 0);
+    if (count <= 0)
+        fail("the server ended the connection");
+    stream->held += (size_t)count;
+}
+
+/* Takes the frames that are whole, and counts what they carry. It answers the last one that ends an answer: Z, W or E. */
+static int take_frames(struct stream *stream)
+{
+    size_t at = 0, length;
+    int ended = 0;
+    while (stream->held - at >= 5 && stream->held - at >= 1 + (length = length_at(stream->bytes + at + 1))) {
+        const unsigned char *frame = stream->bytes + at;
+        if (frame[0] == 'd' && frame[5] == 'w') {
+            stream->wire += 1 + (long)length;
+            stream->rows += frame[30] == 'I';
+            stream->commits += frame[30] == 'C';
+        }
+        if (frame[0] == 'W' || frame[0] == 'E' || (frame[0] == 'Z' && ended != 'E'))
+            ended = frame[0];
+        at += 1 + length;
+    }
+    stream->held -= at;
+    memmove(stream->bytes, stream->bytes + at, stream->held);
+    return ended;
+}
+
+static int wait_for_answer(struct stream *stream)
+{
+    int ended;
+    while ((ended = take_frames(stream)) == 0)
+        read_more(stream);
+    return ended;
+}
+
+static struct stream *connected(const char *startup, size_t length)
+{
+    struct stream *stream = calloc(1, sizeof *stream);
+    struct sockaddr_in address = {.sin_family = AF_INET, .sin_port = htons((unsigned short)port)};
+    int one = 1;
+    address.sin_addr.s_addr = htonl(INADDR_LOOPBACK);
+    stream->socket = socket(AF_INET, SOCK_STREAM, 0);
+    if (connect(stream->socket, (struct sockaddr *)&address, sizeof address) != 0)
+        fail("no connection");
+    setsockopt(stream->socket, IPPROTO_TCP, TCP_NODELAY, &one, sizeof one);
+    send_all(stream, startup, length);
+    if (wait_for_answer(stream) != 'Z')
+        fail("the startup was refused");
+    return stream;
+}
+
+static struct stream *subscriber(void)
+{
+    static const char startup[] = "\0\0\0\x32\0\x03\0\0user\0u\0database\0app\0replication\0database\0";
+    return connected(startup, sizeof startup);
+}
+
+static struct stream *session(void)
+{
+    static const char startup[] = "\0\0\0\x1d\0\x03\0\0user\0u\0database\0app\0";
+    return connected(startup, sizeof startup);
+}
+
+/* Starts the stream of a slot, which may be in use for a moment after its last stream, and answers when it did. */
+static double start(struct stream *stream, const char *slot)
+{
+    char command[200];
+    snprintf(command, sizeof command,
+        "START_REPLICATION SLOT %s LOGICAL 0/0 (proto_version '1', publication_names 'p')", slot);
+    for (int tries = 0; tries < 1000; tries++) {
+        double begun = now();
+        send_query(stream, command);
+        if (wait_for_answer(stream) == 'W')
+            return begun;
+        sleep_for(10000);
+    }
+    fail("the start was refused");
+    return 0;
+}
+
+static void *take_stream(void *slot)
+{
+    struct stream *stream = subscriber();
+    pthread_barrier_wait(&all_ready);
+    double begun = start(stream, slot);
+    take_frames(stream);
+    while (stream->commits < last_commit) {
+        if (nap > 0)
+            sleep_for(nap);
+        read_more(stream);
+        take_frames(stream);
+    }
+    double ended = now();
+    close(stream->socket);
+    printf("%.6f %.6f %ld %ld\n", begun, ended, stream->rows, stream->wire);
+    free(stream);
+    return NULL;
+}
+
+static void take_streams(int count, char **slots)
+{
+    pthread_t threads[count];
+    pthread_barrier_init(&all_ready, NULL, (unsigned)count);
+    for (int i = 0; i < count; i++)
+        if (pthread_create(&threads[i], NULL, take_stream, slots[i]) != 0)
+            fail("no thread");
+    for (int i = 0; i < count; i++)
+        pthread_join(threads[i], NULL);
+}
+
+static void ask(struct stream *stream, const char *query)
+{
+    send_query(stream, query);
+    if (wait_for_answer(stream) != 'Z')
+        fail("a query was refused");
+}
+
+/* Microseconds from the moment that lets the server commit until the subscriber has the Commit. */
+static double commit_once(struct stream *subscriber, struct stream *session, int pipe)
+{
+    char line[8192];
+    long before = subscriber->commits;
+    double begun = now();
+    if (session != NULL)
+        send_query(session, "COMMIT");
+    else if (read(pipe, line, sizeof line) <= 0)
+        fail("the pipe ended");
+    while (subscriber->commits == before) {
+        read_more(subscriber);
+        take_frames(subscriber);
+    }
+    double ended = now();
+    if (session != NULL && wait_for_answer(session) != 'Z')
+        fail("a commit was refused");
+    return (ended - begun) * 1e6;
+}
+
+static void time_commits(int count, const char *slot, const char *pipe)
+{
+    char insert[200];
+    struct stream *stream = subscriber();
+    struct stream *writer = strcmp(pipe, "-") == 0 ? session() : NULL;
+    start(stream, slot);
+    for (int n = 1; n <= count; n++) {
+        snprintf(insert, sizeof insert, "BEGIN; INSERT INTO item VALUES (%d, 'n%06d', %d)", n, n, 10 * n);
+        if (writer != NULL)
+            ask(writer, insert);
+        else
+            sleep_for(200);
+        printf("%.1f\n", commit_once(stream, writer, atoi(pipe)));
+    }
+}
+
+int main(int count, char **words)
+{
+    if (count < 6)
+        fail("readers streams PORT NAP COMMITS SLOT.. | readers commits PORT COUNT SLOT PIPE");
+    port = atoi(words[2]);
+    nap = atol(words[3]);
+    last_commit = atol(words[4]);
+    if (strcmp(words[1], "streams") == 0)
+        take_streams(count - 5, words + 5);
+    else
+        time_commits(atoi(words[3]), words[4], words[5]);
+    return 0;
+}

@@ -1,0 +1,177 @@
+"""The two servers, each with the table public.item, the publication p of it, and slots from which all is taken."""
+import fcntl
+import os
+import pathlib
+import shutil
+import socket
+import struct
+import subprocess
+import time
+
+TICKS = os.sysconf("SC_CLK_TCK")
+STARTUP = b"\0\0\0\x32\0\x03\0\0user\0u\0database\0app\0replication\0database\0\0"
+
+
+class Failed(Exception):
+    pass
+
+
+def children(pid):
+    for status in pathlib.Path("/proc").glob("[0-9]*/stat"):
+        try:
+            if int(status.read_text().rpartition(")")[2].split()[1]) == pid:
+                yield int(status.parent.name)
+        except (FileNotFoundError, ProcessLookupError):
+            continue
+
+
+def processor_seconds(pid):
+    """Of a process, its children, and those that have ended."""
+    times = pathlib.Path(f"/proc/{pid}/stat").read_text().rpartition(")")[2].split()[11:15]
+    own = sum(map(int, times)) / TICKS
+    for child in children(pid):
+        try:
+            own += processor_seconds(child)
+        except (FileNotFoundError, ProcessLookupError):
+            continue
+    return own
+
+
+def wait_until_ready(answers):
+    while head := answers.read(5):
+        body = answers.read(struct.unpack(">I", head[1:])[0] - 4)
+        if head[:1] == b"E":
+            raise Failed(body.decode(errors="replace"))
+        if head[:1] == b"Z":
+            return
+    raise Failed("the server ended the connection")
+
+
+def create_slots(port, names):
+    with socket.create_connection(("127.0.0.1", port)) as connection, connection.makefile("rb") as answers:
+        connection.sendall(STARTUP)
+        wait_until_ready(answers)
+        for name in names:
+            text = f"CREATE_REPLICATION_SLOT {name} LOGICAL pgoutput".encode() + b"\0"
+            connection.sendall(b"Q" + struct.pack(">I", len(text) + 4) + text)
+            wait_until_ready(answers)
+
+
+class Pubd:
+    """A pubd whose script begins with the streams that it awaits.
+
+    It tells each line that it refuses on its standard error, with the script's path. A page is all that the pipe there holds,
+    and the path is so long that a page holds one such line: at the second one the script waits until the first was read."""
+
+    CONFIGURATION = """
+[server]
+systemid = '42'
+records = 300000
+chunks = 64
+[[table]]
+oid = 16384
+schema = 'public'
+name = 'item'
+key = ['id']
+columns = [['id', 'int4'], ['name', 'text'], ['qty', 'int8']]
+[[publication]]
+name = 'p'
+tables = [{ name = 'public.item' }]
+"""
+    REFUSED = "abort nobody"
+    PAGE = 4096
+
+    def __init__(self, program, folder, connections, awaited, lines):
+        folder = pathlib.Path(folder)
+        (folder / "pubd.toml").write_text(self.CONFIGURATION)
+        script = pathlib.Path(*["directory" * 20] * 12, "script")
+        (folder / script).parent.mkdir(parents=True)
+        (folder / script).write_text("\n".join(lines) + "\n")
+        self.told, end = os.pipe()
+        fcntl.fcntl(end, fcntl.F_SETPIPE_SZ, self.PAGE)
+        words = [program, "--await-streams", str(awaited), "pubd.toml", "127.0.0.1:0", str(connections), str(script)]
+        self.process = subprocess.Popen(words, cwd=folder, stdout=subprocess.PIPE, stderr=end, text=True)
+        os.close(end)
+        listening = self.process.stdout.readline()
+        if not listening.startswith("listening "):
+            raise Failed(f"pubd does not listen: {os.read(self.told, self.PAGE)!r}")
+        self.port = int(listening.rpartition(":")[2])
+
+    def processor_seconds(self):
+        return processor_seconds(self.process.pid)
+
+    def settle(self):
+        pass
+
+    def stop(self):
+        os.close(self.told)
+        self.process.kill()
+        self.process.wait()
+
+
+class Postgres:
+    """A PostgreSQL that waits for no disk, and keeps what it decodes in memory."""
+
+    CONFIGURATION = """
+listen_addresses = '127.0.0.1'
+unix_socket_directories = ''
+wal_level = logical
+max_wal_senders = 20
+max_replication_slots = 20
+wal_sender_timeout = 0
+logical_decoding_work_mem = '1GB'
+shared_buffers = '512MB'
+max_wal_size = '10GB'
+checkpoint_timeout = '1h'
+autovacuum = off
+fsync = off
+full_page_writes = off
+"""
+
+    ALWAYS = (b"checkpointer", b"background writer", b"walwriter", b"logical replication launcher")
+
+    def __init__(self, programs, folder):
+        self.programs = pathlib.Path(programs)
+        self.data = pathlib.Path(folder) / "postgresql"
+        # PostgreSQL is not run by root.
+        self.as_user = ["runuser", "-u", "postgres", "--"] if os.geteuid() == 0 else []
+        if self.as_user:
+            os.chmod(folder, 0o755)
+            self.data.mkdir()
+            shutil.chown(self.data, "postgres")
+        self.call("initdb", "-D", self.data, "-A", "trust", "-E", "UTF8", "--locale=C", "-U", "u")
+        with socket.socket() as free:
+            free.bind(("127.0.0.1", 0))
+            self.port = free.getsockname()[1]
+        with open(self.data / "postgresql.conf", "a", encoding="utf8") as configuration:
+            configuration.write(f"{self.CONFIGURATION}port = {self.port}\n")
+        self.call("pg_ctl", "-D", self.data, "-l", self.data / "log", "-w", "start")
+        self.pid = int((self.data / "postmaster.pid").read_text().split()[0])
+        self.ask("postgres", "CREATE DATABASE app")
+        self.ask("app", "CREATE TABLE public.item (id int4 PRIMARY KEY, name text, qty int8)")
+        self.ask("app", "CREATE PUBLICATION p FOR TABLE public.item")
+
+    def call(self, program, *words):
+        done = subprocess.run(
+            [*self.as_user, self.programs / program, *words], stdout=subprocess.DEVNULL, stderr=subprocess.PIPE, cwd="/"
+        )
+        if done.returncode:
+            raise Failed(f"{program}: {done.stderr[:300]!r}")
+
+    def ask(self, database, query):
+        self.call("psql", "-Xq", "-h", "127.0.0.1", "-p", str(self.port), "-U", "u", "-d", database, "-c", query)
+
+    def processor_seconds(self):
+        return processor_seconds(self.pid)
+
+    def settle(self):
+        """Waits until the processes of ended connections are gone, and their times counted among those that have ended."""
+        for _ in range(1000):
+            names = [pathlib.Path(f"/proc/{child}/cmdline") for child in children(self.pid)]
+            if all(any(word in name.read_bytes() for word in self.ALWAYS) for name in names if name.exists()):
+                return
+            time.sleep(0.01)
+        raise Failed("a connection of PostgreSQL goes on")
+
+    def stop(self):
+        self.call("pg_ctl", "-D", self.data, "-m", "immediate", "stop")
