@@ -1,0 +1,153 @@
+"""What connections of one pubd do to one another. Each case answers what is wrong, a line each."""
+import random
+import subprocess
+import time
+
+from connection import Connection, Refused, position
+from server import Server, inserts
+
+STREAMS = 16
+CONNECTIONS = 1000
+# Of each connection.
+THREADS = 2
+
+
+def nothing_is_lost_with_connections(pubd, subcat):
+    """1,000 connections, half of them broken off in a stream; then 16 streams at once, a 17th that is refused, and 16 again.
+
+    The threads are counted while the sixteen stream.
+    """
+    wrong = []
+    slots = [f"s{n}" for n in range(STREAMS)]
+    with Server(pubd, CONNECTIONS) as server:
+        first = Connection(server.port)
+        for slot in slots:
+            first.create(slot)
+        threads = server.threads() + THREADS * (STREAMS - 1)
+        first.close()
+        for n in range(CONNECTIONS - 2 * STREAMS - 2):
+            one = Connection(server.port)
+            if n % 2:
+                one.start_when_free(slots[n // 2 % STREAMS])
+                one.break_off()
+            else:
+                one.ask("IDENTIFY_SYSTEM")
+                one.close()
+        for turn in range(2):
+            streams = [Connection(server.port) for _ in slots]
+            for slot, stream in zip(slots, streams):
+                stream.start_when_free(slot)
+            if turn == 0:
+                wrong += refusal_of_one_more(server.port)
+            wrong += [f"there are {server.threads()} threads, and not {threads}"] * (not server.comes_to(threads))
+            for stream in streams:
+                stream.break_off()
+        return wrong + server.end()
+
+
+def refusal_of_one_more(port):
+    more = Connection(port)
+    try:
+        more.start("s0")
+        return ["a seventeenth stream began"]
+    except Refused as refused:
+        return [f"a seventeenth stream was refused by {refused}"] * (refused.args[0] != "53400")
+    finally:
+        more.close()
+
+
+def a_broken_connection_leaves_the_others(pubd, subcat):
+    """One of two is broken off within a transaction: the other gets it whole, and so does the broken one's slot, again."""
+    with Server(pubd, 3, inserts(5000, 5000), awaited=2) as server:
+        broken, whole = Connection(server.port), Connection(server.port)
+        for slot, connection in (("a", broken), ("b", whole)):
+            connection.create(slot)
+            connection.start(slot)
+        messages = broken.messages(1)
+        for _ in range(100):
+            next(messages)
+        broken.break_off()
+        due = list(whole.messages(1))
+        whole.close()
+        again = Connection(server.port)
+        again.start_when_free("a")
+        got = list(again.messages(1))
+        again.close()
+        wrong = ["the transaction isn't whole"] * (len(due) != 5003) + ["it isn't sent whole again"] * (got != due)
+        return wrong + server.end()
+
+
+def a_slow_reader_holds_up_nobody(pubd, subcat):
+    """One that reads nothing for seconds, and whose socket is full, holds up no commit and no other reader, and gets it all."""
+    rows = 6000
+    with Server(pubd, 2, inserts(rows, name="n" * 2000), awaited=2) as server:
+        slow, eager = Connection(server.port, receives=4096), Connection(server.port)
+        for slot, connection in (("slow", slow), ("eager", eager)):
+            connection.create(slot)
+            connection.start(slot)
+        due = list(eager.messages(rows))
+        eager.close()
+        time.sleep(2)
+        got = list(slow.messages(rows))
+        slow.close()
+        return ["the slow reader got something else"] * (got != due) + server.end()
+
+
+def two_followers_print_the_same(pubd, subcat):
+    """100 transactions on a script's thread, followed from two slots."""
+    count = 100
+    with Server(pubd, 2, inserts(count), awaited=2) as server:
+        words = [[subcat, "--create", f"127.0.0.1:{server.port}", slot, "0/0", "p", str(count)] for slot in ("s", "t")]
+        followers = [subprocess.Popen(each, stdout=subprocess.PIPE, text=True) for each in words]
+        first, second = (follower.communicate()[0].splitlines() for follower in followers)
+        due = [f"INSERT 16384 N('{k}','ab','7')" for k in range(1, count + 1)]
+        rows = [line for line in first if line.startswith("INSERT")]
+        wrong = ["they differ"] * (first != second) + ["not what the script inserts, in its order"] * (rows != due)
+        return wrong + server.end()
+
+
+def restarts_lose_and_repeat_nothing(pubd, subcat):
+    """subcat follows 1,000 transactions; it is ended or killed at random points, and begins again where it was or at 0/0."""
+    count, draw = 1000, random.Random(5)
+    with Server(pubd, CONNECTIONS, inserts(count), awaited=1) as server:
+        rows, at, runs = [], 0, 0
+        while len(rows) < count:
+            runs += 1
+            take = min(draw.randrange(1, 60), count - len(rows))
+            kills = len(rows) + take < count and draw.random() < 0.5
+            start = draw.choice(["0/0", f"{at >> 32:X}/{at & 0xFFFFFFFF:X}"])
+            words = [subcat] + ["--create"] * (runs == 1) + [f"127.0.0.1:{server.port}", "s", start, "p", str(take + 60 * kills)]
+            at = follow(words, rows, at, take if kills else None)
+        wrong = ["rows are lost, or come twice"] * (rows != [f"INSERT 16384 N('{k}','ab','7')" for k in range(1, count + 1)])
+        server.process.kill()
+        return wrong
+
+
+def follow(words, rows, at, kill_behind):
+    """Keeps the rows of each transaction that comes whole and was not there; answers where the last one ends."""
+    follower = subprocess.Popen(words, stdout=subprocess.PIPE, stderr=subprocess.DEVNULL, text=True)
+    of_this, commits = [], 0
+    for line in follower.stdout:
+        word, *rest = line.split()
+        if word == "BEGIN":
+            of_this = []
+        elif word == "INSERT":
+            of_this.append(line.rstrip("\n"))
+        elif word == "COMMIT" and len(rest) == 3:
+            commits += 1
+            if position(rest[1]) > at:
+                rows += of_this
+                at = position(rest[1])
+            if commits == kill_behind:
+                follower.kill()
+    follower.wait()
+    return at
+
+
+ALL = [
+    nothing_is_lost_with_connections,
+    a_broken_connection_leaves_the_others,
+    a_slow_reader_holds_up_nobody,
+    two_followers_print_the_same,
+    restarts_lose_and_repeat_nothing,
+]

@@ -1,0 +1,87 @@
+"""A client by bare frames, which can be broken off anywhere."""
+import socket
+import struct
+import time
+
+STARTUP = b"\0\x03\0\0user\0me\0database\0app\0replication\0database\0\0"
+
+
+class Refused(Exception):
+    """What an ErrorResponse said: its code."""
+
+
+def position(text):
+    high, low = text.split("/")
+    return int(high, 16) << 32 | int(low, 16)
+
+
+class Connection:
+    def __init__(self, port, receives=None):
+        self.socket = socket.socket()
+        if receives:
+            self.socket.setsockopt(socket.SOL_SOCKET, socket.SO_RCVBUF, receives)
+        self.socket.settimeout(60)
+        self.socket.connect(("127.0.0.1", port))
+        self.bytes = self.socket.makefile("rb")
+        self.socket.sendall(struct.pack(">I", len(STARTUP) + 4) + STARTUP)
+        self.answers()
+
+    def frame(self):
+        """The next frame: its type, and its body."""
+        head = self.bytes.read(5)
+        if len(head) < 5:
+            raise EOFError
+        return head[:1], self.bytes.read(struct.unpack(">I", head[1:])[0] - 4)
+
+    def answers(self, last=b"Z"):
+        """The frames up to one of this type. What the server refuses is raised, behind its ReadyForQuery."""
+        frames, refused = [], None
+        while not frames or frames[-1][0] != last:
+            frames.append(self.frame())
+            kind, body = frames[-1]
+            if kind == b"E":
+                fields = dict((field[:1], field[1:].decode()) for field in body.split(b"\0") if field)
+                refused, last = fields[b"C"], b"Z"
+        if refused:
+            raise Refused(refused)
+        return frames
+
+    def ask(self, command, last=b"Z"):
+        text = command.encode() + b"\0"
+        self.socket.sendall(b"Q" + struct.pack(">I", len(text) + 4) + text)
+        return self.answers(last)
+
+    def create(self, slot):
+        self.ask(f"CREATE_REPLICATION_SLOT {slot} LOGICAL pgoutput")
+
+    def start(self, slot):
+        self.ask(f"START_REPLICATION SLOT {slot} LOGICAL 0/0 (proto_version '1', publication_names 'p')", b"W")
+
+    def start_when_free(self, slot):
+        """A server takes a moment to see that another connection was broken off."""
+        for _ in range(1000):
+            try:
+                return self.start(slot)
+            except Refused as refused:
+                if refused.args[0] not in ("55006", "53400"):
+                    raise
+                time.sleep(0.01)
+        raise TimeoutError(f"{slot} is never free")
+
+    def messages(self, commits):
+        """The messages of a stream, up to so many Commits."""
+        while commits:
+            kind, body = self.frame()
+            if kind == b"d" and body[:1] == b"w":
+                yield body[25:]
+                commits -= body[25:26] == b"C"
+
+    def break_off(self):
+        """Without a word, and with what wasn't read."""
+        self.socket.setsockopt(socket.SOL_SOCKET, socket.SO_LINGER, struct.pack("ii", 1, 0))
+        self.bytes.close()
+        self.socket.close()
+
+    def close(self):
+        self.bytes.close()
+        self.socket.close()
