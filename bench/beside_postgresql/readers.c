@@ -18,7 +18,7 @@
 #include <unistd.h>
 
 struct stream {
-    int socket;
+    int socket, refused;
     size_t held;
     long rows, wire, commits;
     unsigned char bytes[1 << 16];
@@ -76,7 +76,7 @@ static void read_more(struct stream *stream)
     stream->held += (size_t)count;
 }
 
-/* Takes the frames that are whole, and counts what they carry. It answers the last one that ends an answer: Z, W or E. */
+/* Takes the frames that are whole, and counts what they carry. It answers the last one that ends an answer: Z or W. */
 static int take_frames(struct stream *stream)
 {
     size_t at = 0, length;
@@ -88,7 +88,9 @@ static int take_frames(struct stream *stream)
             stream->rows += frame[30] == 'I';
             stream->commits += frame[30] == 'C';
         }
-        if (frame[0] == 'W' || frame[0] == 'E' || (frame[0] == 'Z' && ended != 'E'))
+        if (frame[0] == 'E')
+            stream->refused = 1;
+        if (frame[0] == 'W' || frame[0] == 'Z')
             ended = frame[0];
         at += 1 + length;
     }
@@ -97,12 +99,14 @@ static int take_frames(struct stream *stream)
     return ended;
 }
 
+/* Waits for the end of an answer. It is E where the answer is an error, whose end may come behind it. */
 static int wait_for_answer(struct stream *stream)
 {
     int ended;
+    stream->refused = 0;
     while ((ended = take_frames(stream)) == 0)
         read_more(stream);
-    return ended;
+    return stream->refused ? 'E' : ended;
 }
 
 static struct stream *connected(const char *startup, size_t length)
