@@ -1,4 +1,5 @@
-"""What connections of one pubd do to one another. Each case answers what is wrong, a line each."""
+"""What connections of one pubd do, and what they do to one another. Each case answers what is wrong, a line each."""
+import pathlib
 import random
 import subprocess
 import time
@@ -6,10 +7,27 @@ import time
 from connection import Connection, Refused, position
 from server import Server, inserts
 
+CONVERSATION = pathlib.Path(__file__).resolve().parent / "conversation.frames"
 STREAMS = 16
 CONNECTIONS = 1000
 # Of each connection.
 THREADS = 2
+
+
+def a_conversation_goes_frame_by_frame(pubd, subcat):
+    """A session, a slot, a stream of one transaction, a status, and the end of stream and slot."""
+    wrong = []
+    with Server(pubd, 1, ["begin A", "insert A public.item (1,'ab',7)", "commit A 5"], awaited=1) as server:
+        client = Connection(server.port, says_nothing=True)
+        for line in CONVERSATION.read_text().splitlines():
+            mark, _, digits = line.partition(" ")
+            if mark == ">":
+                client.socket.sendall(bytes.fromhex(digits))
+            elif mark == "<":
+                got = b"".join(client.frame()).hex()
+                wrong += [f"a frame is {got}, and not {digits}"] * (got != digits)
+        client.close()
+        return wrong + server.end()
 
 
 def nothing_is_lost_with_connections(pubd, subcat):
@@ -145,6 +163,7 @@ def follow(words, rows, at, kill_behind):
 
 
 ALL = [
+    a_conversation_goes_frame_by_frame,
     nothing_is_lost_with_connections,
     a_broken_connection_leaves_the_others,
     a_slow_reader_holds_up_nobody,

@@ -16,15 +16,16 @@ def position(text):
 
 
 class Connection:
-    def __init__(self, port, receives=None):
+    def __init__(self, port, receives=None, says_nothing=False):
         self.socket = socket.socket()
         if receives:
             self.socket.setsockopt(socket.SOL_SOCKET, socket.SO_RCVBUF, receives)
         self.socket.settimeout(60)
         self.socket.connect(("127.0.0.1", port))
         self.bytes = self.socket.makefile("rb")
-        self.socket.sendall(struct.pack(">I", len(STARTUP) + 4) + STARTUP)
-        self.answers()
+        if not says_nothing:
+            self.socket.sendall(struct.pack(">I", len(STARTUP) + 4) + STARTUP)
+            self.answers()
 
     def frame(self):
         """The next frame: its type, and its body."""

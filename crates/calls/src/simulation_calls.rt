@@ -1,11 +1,12 @@
 //! Simulations whose input or output fails.
 
+use configuration::{Config, ConfigFault};
 use std::alloc::Global;
 use std::io;
 use std::io::{ErrorKind, Read, Write};
 use std::sync::Wait;
 use std::test::Fail;
-use world::{Config, ConfigFault, SimFault, simulate};
+use world::{SimFault, simulate};
 
 /// A server, one table and its publication.
 const TEXT: &str = "\

@@ -93,14 +93,21 @@ impl Following {
 
     /// Prints a message, and answers whether it is a Commit. Behind a Commit nothing of the output waits.
     fn print<W: Write>(&self, payload: &[u8], output: &mut W) -> Result<bool, FollowFault> {
-        let message = match read_logical(self.alloc, payload) {
-            Ok(message) => message,
-            Err(OutFault::Memory) => return Err(FollowFault::Client(ClientFault::Memory)),
-            Err(_) => return Err(FollowFault::Client(ClientFault::Frame)),
-        };
-        let line = render(self.alloc, &message)?;
+        match read_logical(self.alloc, payload) {
+            Ok(message) => self.print_message(&message, output),
+            Err(OutFault::Memory) => Err(FollowFault::Client(ClientFault::Memory)),
+            Err(_) => Err(FollowFault::Client(ClientFault::Frame)),
+        }
+    }
+
+    fn print_message<W: Write>(
+        &self,
+        message: &Logical,
+        output: &mut W,
+    ) -> Result<bool, FollowFault> {
+        let line = render(self.alloc, message)?;
         writeln!(output, "{line}").map_err(FollowFault::Output)?;
-        let is_commit = matches!(&message, Logical::Commit(_));
+        let is_commit = matches!(message, Logical::Commit(_));
         if is_commit {
             output.flush().map_err(FollowFault::Output)?;
         }

@@ -1,8 +1,8 @@
 //! The words of the command line.
 
 use crate::fault::Fault;
-use clap::{Arg, ArgAction, Command, Error};
-use std::alloc::Global;
+use clap::{Arg, ArgAction, ArgMatches, Command, Error};
+use std::alloc::{AllocError, Global};
 use std::net::SocketAddr;
 
 /// The most connections that one run serves.
@@ -106,58 +106,80 @@ impl<'a> Words<'a> {
     }
 }
 
+/// The words that have to be there, and what is said of each.
+const REQUIRED: [(&str, &str); 3] = [
+    (
+        "CONFIG",
+        "A TOML file with the server, the tables and their publications",
+    ),
+    (
+        "ADDR",
+        "The address and port to listen at, as in 127.0.0.1:5433",
+    ),
+    (
+        "CONNECTIONS",
+        "After how many connections it ends: 0 to 1000",
+    ),
+];
+
 /// All words, or the text for a user who asks for help or gives other words.
 pub fn words_of<'a>(alloc: Global, words: &'a [String]) -> Result<Words<'a>, Error> {
-    let awaited = Arg::new(alloc, "await-streams")
+    let matches = command_of(alloc)?.try_get_matches_from(words)?;
+    let scripts = scripts_in(alloc, &matches)?;
+    Ok(words_in(&matches, scripts))
+}
+
+fn command_of<'a>(alloc: Global) -> Result<Command<'a>, AllocError> {
+    let mut command = Command::new(alloc, "pubd")
+        .about(ABOUT)
+        .after_help(AFTER_HELP)
+        .bin_name("pubd")?
+        .arg(awaited(alloc))?;
+    for (name, help) in &REQUIRED {
+        command = command.arg(required(alloc, *name, *help))?;
+    }
+    command.arg(scripts(alloc))
+}
+
+fn awaited(alloc: Global) -> Arg<'static> {
+    Arg::new(alloc, "await-streams")
         .long("await-streams")
         .value_name("N")
         .action(ArgAction::Set)
-        .help("Run the scripts once N streams have begun, or no more connections come");
-    let scripts = Arg::new(alloc, "SCRIPT")
+        .help("Run the scripts once N streams have begun, or no more connections come")
+}
+
+fn required<'a>(alloc: Global, name: &'a str, help: &'a str) -> Arg<'a> {
+    Arg::new(alloc, name)
+        .required(true)
+        .action(ArgAction::Set)
+        .help(help)
+}
+
+fn scripts(alloc: Global) -> Arg<'static> {
+    Arg::new(alloc, "SCRIPT")
         .num_args(0..)
         .action(ArgAction::Append)
-        .help("Text files with one session line each line");
-    let command = Command::new(alloc, "pubd")
-        .bin_name("pubd")?
-        .about(ABOUT)
-        .after_help(AFTER_HELP)
-        .arg(awaited)?
-        .arg(required(
-            alloc,
-            "CONFIG",
-            "A TOML file with the server, the tables and their publications",
-        ))?
-        .arg(required(
-            alloc,
-            "ADDR",
-            "The address and port to listen at, as in 127.0.0.1:5433",
-        ))?
-        .arg(required(
-            alloc,
-            "CONNECTIONS",
-            "After how many connections it ends: 0 to 1000",
-        ))?
-        .arg(scripts)?;
-    let matches = command.try_get_matches_from(words)?;
+        .help("Text files with one session line each line")
+}
+
+fn scripts_in<'a>(alloc: Global, matches: &ArgMatches<'a>) -> Result<Vec<&'a str>, AllocError> {
     let mut scripts = Vec::new(alloc);
     if let Some(paths) = matches.get_strs("SCRIPT") {
         for path in paths {
             scripts.push(*path)?;
         }
     }
-    // The first three are required, so they are there.
-    Ok(Words {
+    Ok(scripts)
+}
+
+/// The first three are required, so they are there.
+fn words_in<'a>(matches: &ArgMatches<'a>, scripts: Vec<&'a str>) -> Words<'a> {
+    Words {
         config: matches.get_str("CONFIG").unwrap_or(""),
         address: matches.get_str("ADDR").unwrap_or(""),
         connections: matches.get_str("CONNECTIONS").unwrap_or(""),
         awaited: matches.get_str("await-streams"),
         scripts,
-    })
-}
-
-fn required<'a>(alloc: Global, name: &'static str, help: &'static str) -> Arg<'a> {
-    Arg::new(alloc, name)
-        .required(true)
-        .action(ArgAction::Set)
-        .help(help)
+    }
 }

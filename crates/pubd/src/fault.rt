@@ -1,11 +1,11 @@
 //! Why the program served nothing, or not to its end, and with which status it then ends.
 
 use clap::error::ErrorKind;
+use configuration::ConfigFault;
 use hub::{HubFault, ServeFault};
 use std::alloc::{AllocError, AllocFailed};
 use std::io;
 use thiserror::Error;
-use world::ConfigFault;
 
 #[derive(Debug, Drop, Error)]
 pub enum Fault {

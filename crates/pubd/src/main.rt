@@ -8,6 +8,7 @@ mod scripts;
 ghost use Rattle.std.specs.Prelude.{◌≡◌};
 
 use command::{Numbers, Words, words_of};
+use configuration::{Config, explained};
 use fault::Fault;
 use hub::{Hub, OpenGate, OpenedHub, ServeFault, serve};
 use scripts::{Script, run_all, scripts_of};
@@ -20,7 +21,6 @@ use std::process::ExitCode;
 use std::sync::Wait;
 use std::thread::Threads;
 use std::{env, fs, thread};
-use world::{Config, explained};
 
 fn main(rt: HostRuntime) -> ExitCode {
     match run(&rt, &rt) {

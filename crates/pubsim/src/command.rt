@@ -1,14 +1,19 @@
 //! The words of the command line.
 
-use clap::{Arg, ArgAction, Command, Error};
-use std::alloc::Global;
+use clap::{Arg, ArgAction, ArgMatches, Command, Error};
+use std::alloc::{AllocError, Global};
 
 const ABOUT: &str =
     "Runs a schedule of sessions and replication senders over a publisher in memory, and prints what the senders produced";
 
-const CONFIG_HELP: &str = "A TOML file with the tables, their publications and the server";
-
-const SCHEDULE_HELP: &str = "A text file with one event a line";
+/// The words, both of which have to be there, and what is said of each.
+const REQUIRED: [(&str, &str); 2] = [
+    (
+        "CONFIG",
+        "A TOML file with the tables, their publications and the server",
+    ),
+    ("SCHEDULE", "A text file with one event a line"),
+];
 
 const AFTER_HELP: &str = "\
 A configuration names the server, the tables and their publications, as in
@@ -91,24 +96,32 @@ pub struct Words<'a> {
 
 /// Both words, or the text for a user who asks for help or gives other words.
 pub fn words_of<'a>(alloc: Global, words: &'a [String]) -> Result<Words<'a>, Error> {
-    let config = Arg::new(alloc, "CONFIG")
-        .required(true)
-        .action(ArgAction::Set)
-        .help(CONFIG_HELP);
-    let schedule = Arg::new(alloc, "SCHEDULE")
-        .required(true)
-        .action(ArgAction::Set)
-        .help(SCHEDULE_HELP);
-    let command = Command::new(alloc, "pubsim")
-        .bin_name("pubsim")?
+    let matches = command_of(alloc)?.try_get_matches_from(words)?;
+    Ok(words_in(&matches))
+}
+
+fn command_of<'a>(alloc: Global) -> Result<Command<'a>, AllocError> {
+    let mut command = Command::new(alloc, "pubsim")
         .about(ABOUT)
         .after_help(AFTER_HELP)
-        .arg(config)?
-        .arg(schedule)?;
-    let matches = command.try_get_matches_from(words)?;
-    // Both are required, so both are there.
-    Ok(Words {
+        .bin_name("pubsim")?;
+    for (name, help) in &REQUIRED {
+        command = command.arg(required(alloc, *name, *help))?;
+    }
+    Ok(command)
+}
+
+fn required<'a>(alloc: Global, name: &'a str, help: &'a str) -> Arg<'a> {
+    Arg::new(alloc, name)
+        .required(true)
+        .action(ArgAction::Set)
+        .help(help)
+}
+
+/// Both are required, so both are there.
+fn words_in<'a>(matches: &ArgMatches<'a>) -> Words<'a> {
+    Words {
         config: matches.get_str("CONFIG").unwrap_or(""),
         schedule: matches.get_str("SCHEDULE").unwrap_or(""),
-    })
+    }
 }

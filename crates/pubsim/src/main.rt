@@ -6,12 +6,13 @@ mod command;
 mod fault;
 
 use command::words_of;
+use configuration::{Config, explained};
 use fault::Fault;
 use std::io::BufWriter;
 use std::process::ExitCode;
 use std::sync::Wait;
 use std::{env, fs, io};
-use world::{Config, explained, simulate};
+use world::simulate;
 
 fn main(rt: HostRuntime) -> ExitCode {
     match run(&rt, &rt) {

@@ -9,8 +9,10 @@ use crate::part::{MOST_LEVELS, Part};
 use crate::pending::Pending;
 use crate::place::Place;
 use crate::reading::{MOST_BYTES, condition_of};
+use crate::token::Token;
 use crate::word::Word;
 use std::alloc::{AllocError, Global};
+use std::mem;
 use tables::{Column, Table};
 
 /// What is looked for among the words of a text.
@@ -68,28 +70,55 @@ fn word_at(
 ) -> Result<usize, AllocError>
     ensures { IfOk result (λ at. at ≤ length text.now) }
 {
-    let mut sought = sought;
-    let mut pending = Vec::new(alloc);
-    let mut place = Place::Wanting;
+    let mut search = Search {
+        sought,
+        pending: Vec::new(alloc),
+        place: Place::Wanting,
+    };
     let mut rest = text;
     while let Some((token, tail)) = token_of(alloc, rest)? {
-        let at = text.len().saturating_sub(behind_blanks(rest).len());
-        let word = Word::of(alloc, &token, columns)?;
-        if is_met(sought, &place, &word, columns.len()) {
-            return Ok(at);
-        }
-        sought = behind(sought, &place, &word);
-        place = match place.next(alloc, &mut pending, word) {
-            Ok(next) => next,
-            Err(FilterFault::Memory) => return Err(AllocError),
-            Err(_) => return Ok(at),
-        };
-        if matches!(sought, Sought::Depth) && is_deep(pending.as_slice(), &place) {
-            return Ok(at);
+        if search.ends_at(alloc, &token, columns)? {
+            return Ok(text.len().saturating_sub(behind_blanks(rest).len()));
         }
         rest = tail;
     }
     Ok(text.len())
+}
+
+/// A text that is read once more, word by word.
+#[derive(Drop)]
+struct Search {
+    sought: Sought,
+    pending: Vec<Pending>,
+    place: Place,
+}
+
+impl Search {
+    /// Whether the word of this token is the one, or can't be read on.
+    fn ends_at(
+        &mut self,
+        alloc: Global,
+        token: &Token,
+        columns: &[Column],
+    ) -> Result<bool, AllocError> {
+        let word = Word::of(alloc, token, columns)?;
+        if is_met(self.sought, &self.place, &word, columns.len()) {
+            return Ok(true);
+        }
+        self.sought = behind(self.sought, &self.place, &word);
+        self.ends_behind(alloc, word)
+    }
+
+    fn ends_behind(&mut self, alloc: Global, word: Word) -> Result<bool, AllocError> {
+        let place = mem::replace(&mut self.place, Place::Wanting);
+        match place.next(alloc, &mut self.pending, word) {
+            Ok(next) => self.place = next,
+            Err(FilterFault::Memory) => return Err(AllocError),
+            Err(_) => return Ok(true),
+        }
+        let is_depth = matches!(self.sought, Sought::Depth);
+        Ok(is_depth && is_deep(self.pending.as_slice(), &self.place))
+    }
 }
 
 /// Whether the word is the one that is looked for.

@@ -1,7 +1,7 @@
 //! The words of the command line.
 
-use clap::{Arg, ArgAction, Command, Error};
-use std::alloc::Global;
+use clap::{Arg, ArgAction, ArgMatches, Command, Error};
+use std::alloc::{AllocError, Global};
 
 const ABOUT: &str =
     "Follows a slot of a publisher, prints each message of its stream on a line, and acknowledges each transaction";
@@ -36,48 +36,38 @@ pub struct Words<'a> {
     pub count: &'a str,
 }
 
+/// The words that have to be there, and what is said of each.
+const REQUIRED: [(&str, &str); 5] = [
+    (
+        "ADDR",
+        "The publisher's address and port, as in 127.0.0.1:5433",
+    ),
+    ("SLOT", "The name of the slot"),
+    ("POSITION", "Where the stream should begin, as in 0/0"),
+    ("PUBLICATIONS", "Names of publications, joined by commas"),
+    ("COUNT", "After how many transactions the stream is ended"),
+];
+
 /// All words, or the text for a user who asks for help or gives other words.
 pub fn words_of<'a>(alloc: Global, words: &'a [String]) -> Result<Words<'a>, Error> {
+    let matches = command_of(alloc)?.try_get_matches_from(words)?;
+    Ok(words_in(&matches))
+}
+
+fn command_of<'a>(alloc: Global) -> Result<Command<'a>, AllocError> {
     let create = Arg::new(alloc, "create")
         .long("create")
         .action(ArgAction::SetTrue)
         .help("Create the slot first");
-    let command = Command::new(alloc, "subcat")
-        .bin_name("subcat")?
+    let mut command = Command::new(alloc, "subcat")
         .about(ABOUT)
         .after_help(AFTER_HELP)
-        .arg(create)?
-        .arg(required(
-            alloc,
-            "ADDR",
-            "The publisher's address and port, as in 127.0.0.1:5433",
-        ))?
-        .arg(required(alloc, "SLOT", "The name of the slot"))?
-        .arg(required(
-            alloc,
-            "POSITION",
-            "Where the stream should begin, as in 0/0",
-        ))?
-        .arg(required(
-            alloc,
-            "PUBLICATIONS",
-            "Names of publications, joined by commas",
-        ))?
-        .arg(required(
-            alloc,
-            "COUNT",
-            "After how many transactions the stream is ended",
-        ))?;
-    let matches = command.try_get_matches_from(words)?;
-    // All but --create are required, so they are there.
-    Ok(Words {
-        create: matches.get_flag("create"),
-        address: matches.get_str("ADDR").unwrap_or(""),
-        slot: matches.get_str("SLOT").unwrap_or(""),
-        position: matches.get_str("POSITION").unwrap_or(""),
-        publications: matches.get_str("PUBLICATIONS").unwrap_or(""),
-        count: matches.get_str("COUNT").unwrap_or(""),
-    })
+        .bin_name("subcat")?
+        .arg(create)?;
+    for (name, help) in &REQUIRED {
+        command = command.arg(required(alloc, *name, *help))?;
+    }
+    Ok(command)
 }
 
 fn required<'a>(alloc: Global, name: &'a str, help: &'a str) -> Arg<'a> {
@@ -85,4 +75,16 @@ fn required<'a>(alloc: Global, name: &'a str, help: &'a str) -> Arg<'a> {
         .required(true)
         .action(ArgAction::Set)
         .help(help)
+}
+
+/// All but --create are required, so they are there.
+fn words_in<'a>(matches: &ArgMatches<'a>) -> Words<'a> {
+    Words {
+        create: matches.get_flag("create"),
+        address: matches.get_str("ADDR").unwrap_or(""),
+        slot: matches.get_str("SLOT").unwrap_or(""),
+        position: matches.get_str("POSITION").unwrap_or(""),
+        publications: matches.get_str("PUBLICATIONS").unwrap_or(""),
+        count: matches.get_str("COUNT").unwrap_or(""),
+    }
 }

@@ -30,8 +30,9 @@ item_table = record {
       ∷ record { name = codes "qty"; kind = kinds.Int8; is_key = false } ∷ [];
 }
 
-abbrev pub builtin_tables : List Table
-builtin_tables = item_table ∷ []
+-- a catalogue of that table alone
+abbrev pub item_tables : List Table
+item_tables = item_table ∷ []
 
 -- the table of this OID
 abbrev pub table_of : ℕ → List Table → Option Table

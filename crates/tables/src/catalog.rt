@@ -1,16 +1,12 @@
 //! The tables that a publisher knows, found by OID or by name.
 
-ghost use Rattle.std.specs.Prelude.{◌≡◌, IfOk, IfSome};
+ghost use Rattle.std.specs.Prelude.{◌≡◌, IfSome};
 ghost use Rattle.std.specs.List.{AllByRecursion};
 ghost use Rattle.std.specs.Option.{option_copied};
-ghost use Rattle.tables.specs.Tables.{IsTable, builtin_tables, item_table, table_named, table_of};
+ghost use Rattle.tables.specs.Tables.{IsTable, table_named, table_of};
 
-use crate::column::Column;
-use crate::identity::Identity;
-use crate::kind::Kind;
 use crate::table::Table;
-use frames::{Items, Text};
-use std::alloc::{AllocError, Global};
+use frames::Items;
 use std::marker::Model;
 
 /// The tables of a publisher. Contracts see the list of them. Each is named, and has at most 64 columns.
@@ -64,39 +60,4 @@ impl Catalog {
     {
         Catalog { tables }
     }
-
-    /// The catalogue of the one table public.item.
-    pub fn builtin(alloc: Global) -> Result<Self, AllocError>
-        ensures { IfOk result (λ c. c ≡ builtin_tables) }
-    {
-        let tables = vec![in alloc; item_table(alloc)?]?;
-        Ok(Catalog::of_tables(Items::new(tables)))
-    }
-}
-
-fn item_table(alloc: Global) -> Result<Table, AllocError>
-    ensures { IfOk result (λ table. table ≡ item_table) }
-{
-    let columns = vec![in alloc;
-        column(alloc, "id", Kind::Int4, true)?,
-        column(alloc, "name", Kind::Text, false)?,
-        column(alloc, "qty", Kind::Int8, false)?,
-    ]?;
-    Ok(Table {
-        oid: 16384,
-        schema: Text::copy_of(alloc, "public")?,
-        name: Text::copy_of(alloc, "item")?,
-        identity: Identity::Default,
-        columns: Items::new(columns),
-    })
-}
-
-fn column(alloc: Global, name: &str, kind: Kind, is_key: bool) -> Result<Column, AllocError>
-    ensures { IfOk result (λ c. c ≡ record { name = name.now; kind = kind; is_key = is_key }) }
-{
-    Ok(Column {
-        name: Text::copy_of(alloc, name)?,
-        kind,
-        is_key,
-    })
 }

@@ -6,7 +6,7 @@ use Rattle.tables.specs.declared.value.Value.TheVariants as values
 use Rattle.tables.specs.declared.change.Change.{Change}
 use Rattle.tables.specs.declared.change.Change.TheVariants as changes
 use Rattle.tables.specs.Rows.{Key}
-use Rattle.tables.specs.Tables.{builtin_tables}
+use Rattle.tables.specs.Tables.{item_tables}
 use Rattle.wal.specs.declared.record.Record.{Record}
 use Rattle.wal.specs.declared.record.Body.{Body}
 use Rattle.wal.specs.declared.record.Body.TheVariants.{Assign, Change as Changed, AbortSub, Commit}
@@ -138,28 +138,28 @@ abbrev item_key : ℕ → Key
 item_key id = record { oid = 16384; values = values.Int4 (pos id) ∷ [] }
 
 -- what was rolled back leaves no row
-rolled_back-first : rows_of builtin_tables rolled_back (item_key 1) ≡ None
+rolled_back-first : rows_of item_tables rolled_back (item_key 1) ≡ None
 unfolding int16 int32 int64
 rolled_back-first = refl
 
-rolled_back-third : rows_of builtin_tables rolled_back (item_key 3) ≡ Some (values.Int4 (pos 3) ∷ values.Text (codes "c") ∷ values.Int8 (pos 3) ∷ [])
+rolled_back-third : rows_of item_tables rolled_back (item_key 3) ≡ Some (values.Int4 (pos 3) ∷ values.Text (codes "c") ∷ values.Int8 (pos 3) ∷ [])
 unfolding int16 int32 int64
 rolled_back-third = refl
 
 -- a transaction holds the keys of its changes until they are rolled back, and not against itself
-rolled_back-held : is_key_held builtin_tables 703 (history_of (take 4 rolled_back)) (item_key 1) ≡ true
+rolled_back-held : is_key_held item_tables 703 (history_of (take 4 rolled_back)) (item_key 1) ≡ true
 unfolding int16 int32 int64
 rolled_back-held = refl
 
-rolled_back-own : is_key_held builtin_tables 700 (history_of (take 4 rolled_back)) (item_key 1) ≡ false
+rolled_back-own : is_key_held item_tables 700 (history_of (take 4 rolled_back)) (item_key 1) ≡ false
 unfolding int16 int32 int64
 rolled_back-own = refl
 
-rolled_back-let_go : is_key_held builtin_tables 703 (history_of (take 5 rolled_back)) (item_key 1) ≡ false
+rolled_back-let_go : is_key_held item_tables 703 (history_of (take 5 rolled_back)) (item_key 1) ≡ false
 unfolding int16 int32 int64
 rolled_back-let_go = refl
 
 -- what is committed is held by nobody
-released-let_go : is_key_held builtin_tables 703 (history_of released) (item_key 1) ≡ false
+released-let_go : is_key_held item_tables 703 (history_of released) (item_key 1) ≡ false
 unfolding int16 int32 int64
 released-let_go = refl

@@ -3,8 +3,8 @@
 use crate::sample::Answer;
 use crate::toml_text::toml_text;
 use anyhow::Result;
+use configuration::Config;
 use std::alloc::{AllocError, Global};
-use world::Config;
 
 /// The sample is a TOML text on one line.
 pub fn config_answer(alloc: Global, given: &str) -> Result<Answer> {

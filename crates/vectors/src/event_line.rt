@@ -4,9 +4,9 @@ use crate::sample::Answer;
 use crate::shown::{Position, Quoted};
 use anyhow::{Context, Result};
 use frames::{Items, Text};
+use schedule::{Event, Literal};
 use std::alloc::Global;
 use std::fmt;
-use world::{Event, Literal};
 
 /// The sample is a line between double quotes, in which `\r` stands for a carriage return.
 pub fn event_answer(alloc: Global, given: &str) -> Result<Answer> {

@@ -1,8 +1,7 @@
 //! Holds the crates against samples: each line of a file in data/ has a sample and says what it means, or which fault it is.
 //!
 //! `vectors FILE..` prints for each file how many of its samples held, and each that didn't. A file of samples has one on
-//! each line; a file of filters tells what each is of some rows, and one of schedules or of conversations what comes of each
-//! of them. The head of each file tells its form.
+//! each line; a file of filters tells what each is of some rows, and one of conversations what comes of each of them. The head of each file tells its form.
 #![tactic(auto)]
 
 mod catalog_text;
@@ -22,14 +21,12 @@ mod given;
 mod message;
 mod noise;
 mod numbers;
-mod play;
 mod projection;
 mod publication_text;
 mod random;
 mod report;
 mod sample;
 mod samples;
-mod schedules;
 mod scripted_desk;
 mod shown;
 mod spoken;
@@ -46,9 +43,7 @@ use conversations::judge_conversations;
 use filters::judge_filters;
 use report::Report;
 use samples::judge_samples;
-use schedules::judge_schedules;
 use std::alloc::Global;
-use std::sync::Wait;
 use std::{env, fs};
 use streams::judge_streams;
 
@@ -57,7 +52,7 @@ fn main(rt: HostRuntime) -> Result<()> {
     let mut held = true;
     for path in env::args(&rt)?.skip(1) {
         let text = fs::read_to_string(&rt, path.as_str())?;
-        let report = judged(&rt, alloc, path.as_str(), text.as_str())?;
+        let report = judged(alloc, path.as_str(), text.as_str())?;
         report.print(&rt, name_of(path.as_str()))?;
         held = held && report.has_held();
     }
@@ -66,12 +61,9 @@ fn main(rt: HostRuntime) -> Result<()> {
 }
 
 /// The file is of the kind that its name ends with.
-fn judged<R: Wait>(rt: &R, alloc: Global, path: &str, text: &str) -> Result<Report> {
+fn judged(alloc: Global, path: &str, text: &str) -> Result<Report> {
     if path.ends_with(".samples") {
         return judge_samples(alloc, text);
-    }
-    if path.ends_with(".schedules") {
-        return judge_schedules(rt, alloc, text);
     }
     if path.ends_with(".streams") {
         return judge_streams(alloc, text);

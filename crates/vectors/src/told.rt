@@ -2,17 +2,19 @@
 
 use crate::sample::Answer;
 use anyhow::{Result, bail};
+use configuration::ConfigFault;
 use frames::FrameFault;
 use pgoutput::OutFault;
 use publication::PubFault;
 use reorder::ReorderFault;
 use rowfilter::FilterFault;
+use schedule::WorldFault;
 use sender::SendFault;
+use slots::SlotFault;
 use std::alloc::Global;
 use std::fmt::{Debug, Display};
 use tables::BodyFault;
 use txlog::SessionFault;
-use world::{ConfigFault, SlotFault, WorldFault};
 
 const FRAME_FAULTS: [FrameFault; 7] = [
     FrameFault::BadLength,
@@ -122,18 +124,18 @@ fn text_of<F: Debug + Display>(alloc: Global, faults: &[F], name: &str) -> Resul
 
 /// The code of an answer, which is given by the names of its variants, as in `Session(KeyHeld)`.
 pub fn code_answer(alloc: Global, given: &str) -> Result<Answer> {
-    let mut answers = vec![in alloc; world::Answer::Done, world::Answer::NoReader]?;
+    let mut answers = vec![in alloc; schedule::Answer::Done, schedule::Answer::NoReader]?;
     for fault in SESSION_FAULTS {
-        answers.push(world::Answer::Session(fault))?;
+        answers.push(schedule::Answer::Session(fault))?;
     }
     for fault in SLOT_FAULTS {
-        answers.push(world::Answer::Slot(fault))?;
+        answers.push(schedule::Answer::Slot(fault))?;
     }
     for fault in PUB_FAULTS {
-        answers.push(world::Answer::Publication(fault))?;
+        answers.push(schedule::Answer::Publication(fault))?;
     }
     for fault in SEND_FAULTS {
-        answers.push(world::Answer::Sender(fault))?;
+        answers.push(schedule::Answer::Sender(fault))?;
     }
     for answer in answers.as_slice() {
         if format!(in alloc; "{answer:?}")?.as_str() == given {

@@ -1,7 +1,6 @@
 pub mod Ranges
 pub mod Streams
 pub mod Sections
-pub mod Members
 pub mod Inside
 pub mod Openings
 pub mod Subscribing

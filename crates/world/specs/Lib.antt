@@ -1,9 +1,9 @@
 pub mod State
 pub mod Slots
-pub mod Config
 pub mod Delivering
 pub mod Law
 pub mod ConnectionLines
+pub mod Starting
 pub mod Steps
 pub mod Confirming
 pub mod Machine

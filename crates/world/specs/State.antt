@@ -2,7 +2,6 @@
 -- what came of it, and the subscribers.
 use Rattle.std.specs.Prelude.{ℕ, ◌+◌, Bool, false, ◌&&◌, List, [], ◌∷◌, ◌++◌, drop, Option, Some, None, if◌then◌else◌}
 use Rattle.std.specs.Str.{bytes_eq}
-use Rattle.tables.specs.declared.table.Table.{Table}
 use Rattle.txlog.specs.Publishing.{PublisherState, new_publisher}
 use Rattle.sessions.specs.Transactions.{NamedTx}
 use Rattle.publication.specs.Publications.{PublicationSet}
@@ -11,7 +10,7 @@ use Rattle.copyboth.specs.declared.status.Status.{Status}
 use Rattle.client.specs.Subscriber.{resting}
 use Rattle.client.specs.Taking.{ApplierState}
 use Rattle.schedule.specs.declared.answer.Answer.{Answer}
-use Rattle.world.specs.declared.server.Server.{Server}
+use Rattle.configuration.specs.Setting.{Setting}
 
 -- A start of a connection's sender: what it selects, from which position on, how far it has read the log, whether it has
 -- failed, and which bytes it has produced and holds. It is open until it is cut; then it holds nothing any more.
@@ -44,12 +43,6 @@ pub record WorldState : Type 0 where
   pub slots : SlotsState
   pub starts : List StartState
   pub subscribers : List SubscriberState
-
--- what a publisher is configured with
-pub record Setting : Type 0 where
-  pub tables : List Table
-  pub publications : PublicationSet
-  pub server : Server
 
 -- before the first event the log is empty, and nobody is there
 abbrev pub new_world : Setting → WorldState

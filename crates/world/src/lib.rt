@@ -6,12 +6,9 @@
 #![tactic(auto)]
 
 mod action;
-mod config;
-mod config_fault;
 mod machine;
 mod opening;
 mod reading;
-mod server;
 mod simulation;
 mod slot_word;
 mod start;
@@ -19,12 +16,9 @@ mod statuses;
 mod subscriber;
 mod world;
 
-pub use config::{Config, explained};
-pub use config_fault::{ConfigFault, ServerMisfit};
 pub use named_slots::Slot;
 pub use reading::MAX_SENDERS;
 pub use schedule::{Answer, BadEvent, Event, LineFault, Literal, Schedule, WorldFault};
-pub use server::{MAX_CHUNKS, Server};
 pub use sessions::Sessions;
 pub use simulation::{SimFault, simulate};
 pub use slots::SlotFault;

@@ -1,23 +1,24 @@
 //! The publisher with its sessions and the starts of its senders.
 
-ghost use Rattle.std.specs.Prelude.{◌≡◌, ◌≢◌, ◌≤◌, ◌<◌, ◌+◌, ◌++◌, ◌∷◌, [], map, is_some, true, Err, IfErr, IfOk, IsSome, IsNone, OnErr, OnOk, vec_capacity, vec_len};
+ghost use Rattle.std.specs.Prelude.{◌≡◌, ◌≢◌, ◌≤◌, ◌<◌, ◌+◌, ◌++◌, ◌∷◌, [], map, is_some, false, true, Err, IfErr, IfOk, IsSome, IsNone, OnErr, OnOk, vec_capacity, vec_len};
 ghost use Rattle.std.specs.List.{AllByRecursion};
 ghost use Rattle.publication.specs.Selection.{FitTables};
 ghost use Rattle.txlog.specs.Publishing.{new_publisher};
 ghost use Rattle.world.specs.State.{new_subscriber, new_world, open_start, running, with_one_for};
-ghost use Rattle.world.specs.ConnectionLines.{ActsAt, IsStart, new_start, slot_named};
+ghost use Rattle.world.specs.ConnectionLines.{ActsAt, IsStart, is_missing, new_start, slot_named};
 ghost use Rattle.world.specs.Delivering.{Delivers};
+ghost use Rattle.world.specs.Starting.{StartsWith};
 ghost use Rattle.sessions.specs.SessionLines.{IsLine, ask_of};
 ghost use Rattle.world.specs.Steps.{IsStep, is_bad, session_state};
 ghost use Rattle.world.specs.Machine.{ActsIn, HasRoom, IsMachine, IsOpenAt, IsServed, shown, start_state, subscriber_state};
 
 use crate::action::Action;
-use crate::config::Config;
 use crate::opening::{close, place_among};
 use crate::reading::MAX_SENDERS;
 use crate::slot_word::{is_missing, let_go, slot_named, take};
 use crate::start::Start;
 use crate::subscriber::{Subscriber, place_of, reconnect, subscribe};
+use configuration::Config;
 use frames::Text;
 use named_slots::HeldSlots;
 use publication::{Publications, Selection};
@@ -57,11 +58,7 @@ impl<L: LogName + SlotName> Machine<L> {
         ensures err { IfErr result (λ e. e ≡ WorldFault.Memory) }
         ensures machine { IfOk result IsMachine }
     {
-        let Config {
-            catalog,
-            publications,
-            server,
-        } = config;
+        let (catalog, publications, server) = config.into_parts();
         let slots = HeldSlots::open(alloc, table)?;
         match publisher_of(rt, alloc, history, catalog, server.records) {
             Ok((publisher, readers)) => {
@@ -192,22 +189,59 @@ impl<L: LogName + SlotName> Machine<L> {
         if is_missing(&self.slots, slot) {
             return Ok(Answer::Slot(SlotFault::Missing));
         }
-        let selection = match self.publications.select(names) {
-            Ok(selection) => selection,
-            Err(fault) => return Ok(Answer::Publication(fault)),
-        };
+        match self.publications.select(names) {
+            Ok(selection) => self.start_with(alloc, name, slot, position, selection),
+            Err(fault) => Ok(Answer::Publication(fault)),
+        }
+    }
+
+    /// Starts a sender of this selection. L6 where no reader is left, then L2 where the slot is held.
+    fn start_with(
+        &mut self,
+        alloc: Global,
+        name: &Text,
+        slot: &Text,
+        position: u64,
+        selection: Selection,
+    ) -> Result<Answer, WorldFault>
+        requires machine { IsMachine self.old }
+        requires slot { is_missing (slot_named slot.now) (shown self.old).slots ≡ false }
+        ensures start { IfOk result (λ a. StartsWith name.now (slot_named slot.now) position selection (shown self.old) a (shown self.new)) }
+        ensures happens { result ≢ Err WorldFault.BadEvent }
+        ensures err { OnErr result (shown self.new ≡ shown self.old) }
+        ensures machine { IsMachine self.new }
+    {
         if self.readers.is_empty() {
             return Ok(Answer::NoReader);
         }
+        let (subscriber, connection) = self.reserve(alloc, name, slot)?;
+        match take(&mut self.slots, slot, position) {
+            Ok(position) => {
+                self.add(alloc, subscriber, connection, selection, position);
+                Ok(Answer::Done)
+            }
+            Err(fault) => Ok(Answer::Slot(fault)),
+        }
+    }
+
+    /// Room for one more start, the connection's subscriber where it has none yet, and its name.
+    fn reserve(
+        &mut self,
+        alloc: Global,
+        name: &Text,
+        slot: &Text,
+    ) -> Result<(Subscriber, Text), AllocError>
+        ensures same { shown self.new ≡ shown self.old }
+        ensures room { OnOk result (HasRoom self.new) }
+        ensures readers { vec_len self.new.readers ≡ vec_len self.old.readers }
+        ensures machine { IsMachine self.old → IsMachine self.new }
+        ensures subscriber { IfOk result (λ made. subscriber_state made.0 ≡ new_subscriber name.now (slot_named slot.now)) }
+        ensures slot { IfOk result (λ made. made.0.slot ≡ slot_named slot.now) }
+        ensures connection { IfOk result (λ made. made.1 ≡ name.now) }
+    {
         self.make_room()?;
         let subscriber = Subscriber::new(alloc, name.copy(alloc)?, slot_named(alloc, slot)?);
-        let connection = name.copy(alloc)?;
-        let position = match take(&mut self.slots, slot, position) {
-            Ok(position) => position,
-            Err(fault) => return Ok(Answer::Slot(fault)),
-        };
-        self.add(alloc, subscriber, connection, selection, position);
-        Ok(Answer::Done)
+        Ok((subscriber, name.copy(alloc)?))
     }
 
     /// Room for one more start.

@@ -4,9 +4,9 @@ ghost use Rattle.std.specs.Prelude.{◌≡◌, Err, false};
 ghost use Rattle.world.specs.declared.simulation.SimFault.{SimFault};
 ghost use Rattle.world.specs.Simulation.{is_bad_schedule, is_writing};
 
-use crate::config::Config;
 use crate::subscriber::Subscriber;
 use crate::world::{RunFault, World};
+use configuration::Config;
 use schedule::{
     BadEvent, LineFault, Schedule, WorldFault, write_refusals, write_slot, write_stream,
     write_subscriber,
@@ -64,8 +64,7 @@ pub fn simulate<R: Wait, I: Read, W: Write>(
 ) -> Result<(), SimFault>
     ensures silent { (fault : SimFault) → result ≡ Err fault → is_writing fault ≡ false → output.new ≡ output.old }
 {
-    let text = read_schedule(alloc, input)?;
-    let schedule = Schedule::parse(alloc, text.as_str()).map_err(SimFault::Line)?;
+    let schedule = read_schedule(alloc, input)?;
     let slots = OpenedSlots::new(alloc).map_err(|_| SimFault::Memory)?;
     report_run::<Brand, R, W>(rt, alloc, Opened::new(), slots, config, schedule, output)
 }
@@ -107,7 +106,12 @@ fn stopped(schedule: Schedule, fault: RunFault) -> SimFault {
     }
 }
 
-fn read_schedule<R: Read>(alloc: Global, input: &mut R) -> Result<String, SimFault> {
+fn read_schedule<R: Read>(alloc: Global, input: &mut R) -> Result<Schedule, SimFault> {
+    let text = read_text(alloc, input)?;
+    Schedule::parse(alloc, text.as_str()).map_err(SimFault::Line)
+}
+
+fn read_text<R: Read>(alloc: Global, input: &mut R) -> Result<String, SimFault> {
     let mut bytes = Vec::new(alloc);
     input.read_to_end(&mut bytes).map_err(SimFault::Read)?;
     String::from_utf8(bytes).map_err(|_| SimFault::NotUtf8)

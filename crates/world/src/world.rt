@@ -10,10 +10,10 @@ ghost use Rattle.world.specs.Machine.{start_state, subscriber_state};
 ghost use Rattle.world.specs.declared.world.RunFault.{RunFault};
 ghost use Rattle.schedule.specs.declared.fault.WorldFault.{WorldFault as Fault};
 
-use crate::config::Config;
 use crate::machine::Machine;
 use crate::start::Start;
 use crate::subscriber::Subscriber;
+use configuration::Config;
 use named_slots::Slot;
 use schedule::{Answer, Event, WorldFault};
 use shared_log::{LogName, Opened};

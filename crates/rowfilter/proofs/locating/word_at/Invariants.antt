@@ -1,5 +1,5 @@
 use Rattle.std.proofs.Common.{length}
 use Rattle.rowfilter.proofs.locating.word_at.Given as goal
 
-abbrev pub decreases-loop-place : goal.decreases-loop-place
-decreases-loop-place l = length l.rest
+abbrev pub decreases-loop-search : goal.decreases-loop-search
+decreases-loop-search l = length l.rest

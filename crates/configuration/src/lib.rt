@@ -1,0 +1,13 @@
+//! What a publisher is configured with, read from a TOML text: its tables, its publications, and its server.
+//!
+//! `Config::from_toml` reads a text, or answers what is wrong with it, and `explained` says that in lines for whoever wrote it.
+//! The form of a configuration is told in docs/CONFIGURATION.md.
+#![tactic(auto)]
+
+mod config;
+mod config_fault;
+mod server;
+
+pub use config::{Config, explained};
+pub use config_fault::{ConfigFault, ServerMisfit};
+pub use server::{MAX_CHUNKS, Server};
