@@ -4,14 +4,14 @@
 #[cfg(test)]
 mod follower;
 #[cfg(test)]
-mod log_calls;
+mod load_calls;
 #[cfg(test)]
 mod log_fixture;
 #[cfg(test)]
-mod seeded_calls;
+mod receipt_calls;
 #[cfg(test)]
 mod session;
 #[cfg(test)]
-mod simulation_calls;
-#[cfg(test)]
 mod turn_calls;
+#[cfg(test)]
+mod work;

@@ -8,16 +8,26 @@ use std::sync::{Mutex, MutexGuard, Wait};
 use std::thread;
 use txlog::{Publisher, Receipt, SessionFault, Tx};
 
-/// The transactions of a session.
-const TRANSACTIONS: u32 = 40;
-
 /// When each of them commits.
 pub const TIME: i64 = 5;
+
+/// What sessions and readers of a log do beside one another.
+#[derive(Clone, Copy, Drop)]
+pub struct Load {
+    pub sessions: usize,
+    pub readers: usize,
+    /// The transactions of a session.
+    pub transactions: u32,
+    /// Whether each of them is one insert that commits, and not what follows from the seed.
+    pub is_plain: bool,
+    pub seed: u64,
+}
 
 /// What a session goes by, and what it did: its receipts, its other transactions, and how many records it wrote.
 #[derive(Drop)]
 pub struct Session<L: LogName> {
     alloc: Global,
+    load: Load,
     numbers: Numbers,
     next_id: i32,
     pub receipts: Vec<Receipt<L>>,
@@ -27,10 +37,12 @@ pub struct Session<L: LogName> {
 
 impl<L: LogName> Session<L> {
     /// A session that inserts rows with ids of its own.
-    pub fn new(alloc: Global, seed: u64, number: usize) -> Self {
+    pub fn new(alloc: Global, load: Load, number: usize) -> Self {
+        let seed = load.seed.wrapping_mul(1000).wrapping_add(number as u64);
         Session {
             alloc,
-            numbers: Numbers::new(seed.wrapping_mul(1000).wrapping_add(number as u64)),
+            load,
+            numbers: Numbers::new(seed),
             next_id: (number % 16) as i32 * 1000,
             receipts: Vec::new(alloc),
             aborts: 0,
@@ -44,13 +56,14 @@ impl<L: LogName> Session<L> {
         rt: &R,
         desk: &Mutex<Publisher<L>>,
     ) -> Result<Self, SessionFault> {
-        for number in 1..=TRANSACTIONS {
-            self.make_one(rt, desk, number == TRANSACTIONS)?;
+        let count = self.load.transactions;
+        for number in 1..=count {
+            self.make_one(rt, desk, number == count)?;
         }
         Ok(self)
     }
 
-    /// One transaction: the last one commits, of the others three of four.
+    /// One transaction: the last one and each of a plain load commits, of the others three of four.
     fn make_one<R: Wait>(
         &mut self,
         rt: &R,
@@ -59,7 +72,7 @@ impl<L: LogName> Session<L> {
     ) -> Result<(), SessionFault> {
         let mut tx = begin(rt, desk)?;
         let changed = self.change(rt, desk, &mut tx);
-        let commits = is_last || self.numbers.below(4) != 0;
+        let commits = is_last || self.load.is_plain || self.numbers.below(4) != 0;
         let mut guard = desk.lock(rt);
         let ended = end(rt, &mut guard, tx, commits);
         MutexGuard::unlock(guard);
@@ -75,20 +88,23 @@ impl<L: LogName> Session<L> {
         self.records = self.records.saturating_add(1);
     }
 
-    /// Inserts one to four rows, and now and then as many behind a savepoint, to which it mostly rolls back.
+    /// Inserts one to four rows, and now and then as many behind a savepoint, to which it mostly rolls back. A plain load
+    /// inserts one.
     fn change<R: Wait>(
         &mut self,
         rt: &R,
         desk: &Mutex<Publisher<L>>,
         tx: &mut Tx,
     ) -> Result<(), SessionFault> {
-        self.insert(rt, desk, tx)?;
-        if self.numbers.below(3) != 0 {
+        let count = if self.load.is_plain { 1 } else { self.numbers.below(4) + 1 };
+        self.insert(rt, desk, tx, count)?;
+        if self.load.is_plain || self.numbers.below(3) != 0 {
             return Ok(());
         }
         let depth = save(rt, desk, tx)?;
         self.note_record();
-        self.insert(rt, desk, tx)?;
+        let count = self.numbers.below(4) + 1;
+        self.insert(rt, desk, tx, count)?;
         if self.numbers.below(4) == 0 {
             return release(rt, desk, tx, depth);
         }
@@ -97,14 +113,15 @@ impl<L: LogName> Session<L> {
         Ok(())
     }
 
-    /// Inserts one to four rows. Other sessions may come between any two of them.
+    /// Inserts so many rows. Other sessions may come between any two of them.
     fn insert<R: Wait>(
         &mut self,
         rt: &R,
         desk: &Mutex<Publisher<L>>,
         tx: &mut Tx,
+        count: u32,
     ) -> Result<(), SessionFault> {
-        for _ in 0..=self.numbers.below(4) {
+        for _ in 0..count {
             self.next_id = self.next_id.wrapping_add(1);
             let row = item(self.alloc, self.next_id, "a", 1)?;
             let mut guard = desk.lock(rt);
@@ -140,6 +157,7 @@ impl<L: LogName> Told<L> {
     pub fn add(&mut self, session: Session<L>) -> Result<(), AllocError> {
         let Session {
             alloc: _,
+            load: _,
             numbers: _,
             next_id: _,
             receipts,

@@ -1,19 +1,19 @@
 //! Turns from a log to a writer.
 
-ghost use Rattle.std.specs.Prelude.{◌≡◌, Some};
+ghost use Rattle.std.specs.Prelude.{Some};
 
-use crate::log_fixture::{commit_under_lock, ends_of, opened, sender_of_p};
+use crate::log_fixture::{commit_under_lock, ends_of, sender_of_p};
+use crate::work::{Work, do_work};
 use sender::{Sender, TurnFault, turn};
 use shared_log::{LogName, LogReader};
 use std::alloc::Global;
 use std::io;
 use std::io::{ErrorKind, Write};
-use std::marker::Brand;
 use std::process::Abort;
 use std::sync::{Arc, Mutex, Wait};
 use std::test::Fail;
 use std::thread::{Threads, join};
-use txlog::{Opened, Publisher};
+use txlog::Publisher;
 use wal::{Body, Record};
 
 /// What is sent of a transaction that inserts (1,'ab',7), commits with time 5 and is read with clock 9: the sample of
@@ -67,22 +67,7 @@ impl<L: LogName> Subscriber<L> {
 
 #[test]
 fn readers_that_were_told_nothing(rt: HostRuntime) -> Result<(), Fail> {
-    let opened = opened(rt.alloc(), 2)?;
-    read_untold::<Brand, _>(&rt, rt.alloc(), opened)
-}
-
-fn read_untold<L: LogName + Send + Sync, R: Threads + Wait + Abort + Sync>(
-    rt: &R,
-    alloc: Global,
-    opened: Opened,
-) -> Result<(), Fail>
-    requires name { opened.history.seen.book ≡ L.book }
-{
-    let (publisher, readers) = Publisher::<L>::open(rt, opened)?;
-    let desk = Mutex::new(publisher);
-    let done = look_twice(rt, alloc, &desk, readers);
-    desk.into_inner().close(rt);
-    done
+    do_work(&rt, rt.alloc(), Work::LookTwice)
 }
 
 /// A subscriber of the two readers.
@@ -98,7 +83,7 @@ fn subscriber_of<L: LogName>(
 }
 
 /// A transaction on one thread, and what this one gets once the other is joined; and the same once more.
-fn look_twice<L: LogName + Send + Sync, R: Threads + Wait + Abort + Sync>(
+pub fn look_twice<L: LogName + Send + Sync, R: Threads + Wait + Abort + Sync>(
     rt: &R,
     alloc: Global,
     desk: &Mutex<Publisher<L>>,
@@ -166,26 +151,11 @@ impl Write for Narrow {
 
 #[test]
 fn writers_that_fail(rt: HostRuntime) -> Result<(), Fail> {
-    let opened = opened(rt.alloc(), 1)?;
-    write_narrowly::<Brand, _>(&rt, rt.alloc(), opened)
-}
-
-fn write_narrowly<L: LogName, R: Wait + Abort>(
-    rt: &R,
-    alloc: Global,
-    opened: Opened,
-) -> Result<(), Fail>
-    requires name { opened.history.seen.book ≡ L.book }
-{
-    let (publisher, readers) = Publisher::<L>::open(rt, opened)?;
-    let desk = Mutex::new(publisher);
-    let done = turn_narrowly(rt, alloc, &desk, readers);
-    desk.into_inner().close(rt);
-    done
+    do_work(&rt, rt.alloc(), Work::TurnNarrowly)
 }
 
 /// Turns to writers that take no byte of the first block, one, and so on.
-fn turn_narrowly<L: LogName, R: Wait + Abort>(
+pub fn turn_narrowly<L: LogName, R: Wait + Abort>(
     rt: &R,
     alloc: Global,
     desk: &Mutex<Publisher<L>>,

@@ -1,11 +1,11 @@
 //! Why the program did not run a schedule, and with which status it then ends.
 
+use crate::simulation::SimFault;
 use clap::error::ErrorKind;
 use configuration::ConfigFault;
 use std::alloc::AllocError;
 use std::io;
 use thiserror::Error;
-use world::SimFault;
 
 #[derive(Debug, Drop, Error)]
 pub enum Fault {

@@ -4,15 +4,16 @@
 
 mod command;
 mod fault;
+mod simulation;
 
 use command::words_of;
 use configuration::{Config, explained};
 use fault::Fault;
+use simulation::simulate;
 use std::io::BufWriter;
 use std::process::ExitCode;
 use std::sync::Wait;
 use std::{env, fs, io};
-use world::simulate;
 
 fn main(rt: HostRuntime) -> ExitCode {
     match run(&rt, &rt) {

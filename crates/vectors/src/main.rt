@@ -1,89 +1,45 @@
-//! Holds the crates against samples: each line of a file in data/ has a sample and says what it means, or which fault it is.
+//! Makes the calls that standard input asks for, and prints what came of each.
 //!
-//! `vectors FILE..` prints for each file how many of its samples held, and each that didn't. A file of samples has one on
-//! each line; a file of filters tells what each is of some rows, and one of conversations what comes of each of them. The head of each file tells its form.
+//! A line is a call's name, a space and what the call is given; `␤` stands for a line end. Its answer is one line:
+//! `= VALUE` as the product's own type is debugged, or `! FAULT`. Behind a value stands ` ? ..` where it isn't written again
+//! as it was read. An answer that begins with `?` says that there was no such call.
 #![tactic(auto)]
 
-mod catalog_text;
-mod change_body;
-mod command_text;
-mod config_text;
-mod conversations;
-mod copy_body;
-mod event_line;
-mod expanded;
-mod field;
-mod filter_table;
+mod answer;
+mod bodies;
+mod calls;
+mod fault_texts;
+mod fields;
 mod filters;
-mod frame_text;
 mod framing;
-mod given;
-mod message;
-mod noise;
-mod numbers;
-mod projection;
-mod publication_text;
-mod random;
-mod report;
-mod sample;
-mod samples;
+mod publishing;
 mod scripted_desk;
-mod shown;
-mod spoken;
-mod streams;
 mod subscriber;
-mod subscriber_text;
 mod talk;
-mod told;
-mod toml_text;
-mod wording;
+mod texts;
 
-use anyhow::{Result, bail, ensure};
-use conversations::judge_conversations;
-use filters::judge_filters;
-use report::Report;
-use samples::judge_samples;
+use anyhow::Result;
+use calls::answer_call;
 use std::alloc::Global;
-use std::{env, fs};
-use streams::judge_streams;
+use std::io;
 
 fn main(rt: HostRuntime) -> Result<()> {
     let alloc = rt.alloc();
-    let mut held = true;
-    for path in env::args(&rt)?.skip(1) {
-        let text = fs::read_to_string(&rt, path.as_str())?;
-        let report = judged(alloc, path.as_str(), text.as_str())?;
-        report.print(&rt, name_of(path.as_str()))?;
-        held = held && report.has_held();
+    let asked = io::read_to_string(alloc, rt.reader())?;
+    let mut answers = String::new(alloc);
+    for line in asked.as_str().split_terminator('\n') {
+        answer_line(alloc, line, &mut answers)?;
     }
-    ensure!(held, "not every sample holds");
+    print!(rt; "{answers}")?;
     Ok(())
 }
 
-/// The file is of the kind that its name ends with.
-fn judged(alloc: Global, path: &str, text: &str) -> Result<Report> {
-    if path.ends_with(".samples") {
-        return judge_samples(alloc, text);
+fn answer_line(alloc: Global, line: &str, answers: &mut String) -> Result<()> {
+    let line = line.replace(alloc, "␤", "\n")?;
+    let (call, given) = line.as_str().split_once(' ').unwrap_or((line.as_str(), ""));
+    if let Err(error) = answer_call(alloc, call, given, answers) {
+        write!(answers, "? {error}")?;
     }
-    if path.ends_with(".streams") {
-        return judge_streams(alloc, text);
-    }
-    if path.ends_with(".filters") {
-        return judge_filters(alloc, text);
-    }
-    if path.ends_with(".conversations") {
-        return judge_conversations(alloc, text);
-    }
-    bail!("{path} is a file of no kind");
-}
-
-/// The name of a file without the folders before it.
-fn name_of(path: &str) -> &str {
-    match path.rfind('/') {
-        Some(at) => path
-            .get(at..)
-            .and_then(|rest| rest.strip_prefix('/'))
-            .unwrap_or(path),
-        None => path,
-    }
+    answers.push('\n')?;
+    Ok(())
 }

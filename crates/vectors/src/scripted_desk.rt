@@ -1,6 +1,6 @@
 //! A desk that does as the names of slots say, and writes down what it is asked.
 
-use replcmd::{Name, write_position};
+use replcmd::Name;
 use server::{Desk, DeskFault};
 use std::alloc::{AllocError, Global};
 
@@ -22,7 +22,6 @@ const END: u64 = 0x100_0000;
 /// The desk of a system called 42.
 #[derive(Drop)]
 pub struct ScriptedDesk {
-    alloc: Global,
     asked: String,
     /// Whether there was memory for all that was to be written down.
     is_whole: bool,
@@ -31,7 +30,6 @@ pub struct ScriptedDesk {
 impl ScriptedDesk {
     pub fn new(alloc: Global) -> Self {
         ScriptedDesk {
-            alloc,
             asked: String::new(alloc),
             is_whole: true,
         }
@@ -46,22 +44,8 @@ impl ScriptedDesk {
         }
     }
 
-    fn note(&mut self, call: &str, slot: &str) {
-        if write!(self.asked, "{call} {slot}\n").is_err() {
-            self.is_whole = false;
-        }
-    }
-
-    fn note_status(&mut self, position: u64, ask: bool) {
-        if add_status(self.alloc, &mut self.asked, position, ask).is_err() {
-            self.is_whole = false;
-        }
-    }
-
-    fn note_start(&mut self, slot: &str, position: u64, publications: &[Name]) {
-        if add_start(self.alloc, &mut self.asked, slot, position, publications).is_err() {
-            self.is_whole = false;
-        }
+    fn note(&mut self, noted: Result<(), AllocError>) {
+        self.is_whole = self.is_whole && noted.is_ok();
     }
 }
 
@@ -77,23 +61,27 @@ impl Desk for ScriptedDesk {
     }
 
     fn create(&mut self, slot: &str) -> Result<u64, DeskFault> {
-        self.note("create", slot);
+        let noted = write!(self.asked, "create {slot}\n");
+        self.note(noted);
         answer_of(slot)?;
         Ok(END)
     }
 
     fn drop_slot(&mut self, slot: &str) -> Result<(), DeskFault> {
-        self.note("drop", slot);
+        let noted = write!(self.asked, "drop {slot}\n");
+        self.note(noted);
         answer_of(slot)
     }
 
     fn start(&mut self, slot: &str, position: u64, publications: &[Name]) -> Result<(), DeskFault> {
-        self.note_start(slot, position, publications);
+        let noted = write!(self.asked, "start {slot} {position} {publications:?}\n");
+        self.note(noted);
         answer_of(slot)
     }
 
     fn flushed(&mut self, position: u64, ask: bool) {
-        self.note_status(position, ask);
+        let noted = write!(self.asked, "flushed {position} {ask}\n");
+        self.note(noted);
     }
 }
 
@@ -104,30 +92,4 @@ fn answer_of(slot: &str) -> Result<(), DeskFault> {
         }
     }
     Ok(())
-}
-
-fn add_status(
-    alloc: Global,
-    asked: &mut String,
-    position: u64,
-    ask: bool,
-) -> Result<(), AllocError> {
-    let position = write_position(alloc, position)?;
-    let asks = if ask { " and asks" } else { "" };
-    write!(asked, "flushed {position}{asks}\n")
-}
-
-fn add_start(
-    alloc: Global,
-    asked: &mut String,
-    slot: &str,
-    position: u64,
-    publications: &[Name],
-) -> Result<(), AllocError> {
-    let position = write_position(alloc, position)?;
-    write!(asked, "start {slot} {position}")?;
-    for publication in publications {
-        write!(asked, " [{}]", publication.as_str())?;
-    }
-    asked.push('\n')
 }

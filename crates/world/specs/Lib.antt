@@ -7,4 +7,3 @@ pub mod Starting
 pub mod Steps
 pub mod Confirming
 pub mod Machine
-pub mod Simulation

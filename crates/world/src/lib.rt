@@ -2,14 +2,13 @@
 //! and without threads.
 //!
 //! `World::run` does a list of events, and `World::step` one; `World::answers` lends what each answered, and
-//! `World::starts` what each start of a sender produced. `simulate` runs a schedule from its text to its report.
+//! `World::starts` what each start of a sender produced.
 #![tactic(auto)]
 
 mod action;
 mod machine;
 mod opening;
 mod reading;
-mod simulation;
 mod slot_word;
 mod start;
 mod statuses;
@@ -20,7 +19,6 @@ pub use named_slots::Slot;
 pub use reading::MAX_SENDERS;
 pub use schedule::{Answer, BadEvent, Event, LineFault, Literal, Schedule, WorldFault};
 pub use sessions::Sessions;
-pub use simulation::{SimFault, simulate};
 pub use slots::SlotFault;
 pub use start::Start;
 pub use subscriber::Subscriber;

@@ -1,0 +1,76 @@
+//! What a test does with a log of its own.
+
+ghost use Rattle.std.specs.Prelude.{◌≡◌};
+
+use crate::load_calls::run_load;
+use crate::log_fixture::opened;
+use crate::receipt_calls::learn_elsewhere;
+use crate::session::Load;
+use crate::turn_calls::{look_twice, turn_narrowly};
+use shared_log::{LogName, LogReader};
+use std::alloc::Global;
+use std::marker::Brand;
+use std::process::Abort;
+use std::sync::{Mutex, Wait};
+use std::test::Fail;
+use std::thread::Threads;
+use txlog::{Opened, Publisher};
+
+/// What is done. One function opens and closes the log for all.
+#[derive(Clone, Copy, Drop)]
+pub enum Work {
+    LearnElsewhere,
+    LookTwice,
+    TurnNarrowly,
+    Load(Load),
+}
+
+impl Work {
+    fn readers(self) -> usize {
+        match self {
+            Work::LearnElsewhere | Work::TurnNarrowly => 1,
+            Work::LookTwice => 2,
+            Work::Load(load) => load.readers.saturating_add(1),
+        }
+    }
+}
+
+pub fn do_work<R: Threads + Wait + Abort + Sync>(
+    rt: &R,
+    alloc: Global,
+    work: Work,
+) -> Result<(), Fail> {
+    let opened = opened(alloc, work.readers())?;
+    with_opened::<Brand, R>(rt, alloc, opened, work)
+}
+
+/// A publisher must be closed, so whatever may fail stands in the work, which borrows it.
+fn with_opened<L: LogName + Send + Sync, R: Threads + Wait + Abort + Sync>(
+    rt: &R,
+    alloc: Global,
+    opened: Opened,
+    work: Work,
+) -> Result<(), Fail>
+    requires name { opened.history.seen.book ≡ L.book }
+{
+    let (publisher, readers) = Publisher::<L>::open(rt, opened)?;
+    let desk = Mutex::new(publisher);
+    let done = with_log(rt, alloc, &desk, readers, work);
+    desk.into_inner().close(rt);
+    done
+}
+
+fn with_log<L: LogName + Send + Sync, R: Threads + Wait + Abort + Sync>(
+    rt: &R,
+    alloc: Global,
+    desk: &Mutex<Publisher<L>>,
+    readers: Vec<LogReader<L>>,
+    work: Work,
+) -> Result<(), Fail> {
+    match work {
+        Work::LearnElsewhere => learn_elsewhere(rt, alloc, desk, readers),
+        Work::LookTwice => look_twice(rt, alloc, desk, readers),
+        Work::TurnNarrowly => turn_narrowly(rt, alloc, desk, readers),
+        Work::Load(load) => run_load(rt, alloc, desk, readers, load),
+    }
+}

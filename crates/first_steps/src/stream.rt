@@ -1,0 +1,132 @@
+//! The shortest use of the crates: a session writes the log, and a sender makes the bytes that a subscriber gets of it.
+
+ghost use Rattle.std.specs.Prelude.{◌≡◌};
+
+use anyhow::Result;
+use bytes::BytesMut;
+use frames::Text;
+use publication::Publications;
+use sender::Sender;
+use shared_log::{LogName, LogReader};
+use std::alloc::Global;
+use std::marker::Brand;
+use std::sync::Wait;
+use tables::{Catalog, Row, Value};
+use txlog::{Opened, Publisher, SessionFault, Tx};
+use wal::FIRST_POSITION;
+
+/// One table, and a publication of it.
+const CONFIGURATION: &str = "\
+[[table]]
+oid = 16384
+schema = 'public'
+name = 'item'
+key = ['id']
+columns = [['id', 'int4'], ['name', 'text'], ['qty', 'int8']]
+[[publication]]
+name = 'p'
+tables = [{ name = 'public.item' }]
+";
+
+/// What a subscriber gets, in hexadecimal digits, of a publisher of the configured table, whose log has room for 1,000 records.
+pub fn stream<R: Wait>(rt: &R, alloc: Global) -> Result<String> {
+    let catalog = Catalog::from_toml(alloc, CONFIGURATION)?;
+    let opened = Opened::new(alloc, catalog, 1000, 1)?;
+    let bytes = written::<Brand, R>(rt, alloc, opened)?;
+    Ok(hex::encode(alloc, bytes.as_slice())?)
+}
+
+/// The log is named by the call. A publisher must be closed, so whatever may fail stands in calls that borrow it.
+fn written<L: LogName, R: Wait>(rt: &R, alloc: Global, opened: Opened) -> Result<BytesMut>
+    requires { opened.history.seen.book ≡ L.book }
+{
+    let (mut publisher, readers) = Publisher::<L>::open(rt, opened)?;
+    let bytes = session_sent(rt, alloc, &mut publisher, readers);
+    publisher.close(rt);
+    bytes
+}
+
+fn session_sent<L: LogName, R: Wait>(
+    rt: &R,
+    alloc: Global,
+    publisher: &mut Publisher<L>,
+    mut readers: Vec<LogReader<L>>,
+) -> Result<BytesMut> {
+    run_session(rt, alloc, publisher)?;
+    let mut reader = readers.pop().ok_or(SessionFault::NoReader)?;
+    sent(alloc, publisher, &mut reader)
+}
+
+/// A sender of what the publication `p` publishes, from the beginning of the log on.
+fn sender_of_p(alloc: Global, catalog: &Catalog) -> Result<Sender> {
+    let names = [Text::copy_of(alloc, "p")?];
+    let publications = Publications::from_toml(alloc, CONFIGURATION, catalog)?;
+    let selection = publications.select(&names)?;
+    Ok(Sender::start(alloc, selection, 0, FIRST_POSITION)?)
+}
+
+/// The bytes that a sender makes of the log.
+fn sent<L: LogName>(
+    alloc: Global,
+    publisher: &mut Publisher<L>,
+    reader: &mut LogReader<L>,
+) -> Result<BytesMut> {
+    let mut sender = sender_of_p(alloc, publisher.catalog())?;
+    let mut bytes = BytesMut::new(alloc);
+    publisher.tell(reader);
+    send(alloc, reader, &mut sender, &mut bytes)?;
+    Ok(bytes)
+}
+
+/// The sender reads the log under clock 9, and tells how far it has read. The reader was told of the whole log.
+fn send<L: LogName>(
+    alloc: Global,
+    reader: &mut LogReader<L>,
+    sender: &mut Sender,
+    bytes: &mut BytesMut,
+) -> Result<()> {
+    let records = reader.fetch(alloc, 100)?;
+    sender.feed(records.as_slice(), 9)?;
+    sender.keepalive(9, false)?;
+    // All that is held; for a socket, `drain` takes as much as a buffer has room for.
+    sender.drain_into(usize::MAX, bytes)?;
+    Ok(())
+}
+
+/// One transaction. What it did behind its savepoint is rolled back, and no subscriber gets it.
+fn run_session<L: LogName, R: Wait>(
+    rt: &R,
+    alloc: Global,
+    publisher: &mut Publisher<L>,
+) -> Result<(), SessionFault> {
+    let mut tx = publisher.begin()?;
+    let written = write(rt, alloc, publisher, &mut tx);
+    // A transaction ends by commit or abort. Either gives it back where it is refused for memory, and it may stay live.
+    let ended = match written {
+        Ok(()) => publisher.commit(rt, tx, 5).map(|_| ()),
+        Err(_) => publisher.abort(rt, tx),
+    };
+    if let Err((tx, fault)) = ended {
+        publisher.leave(tx);
+        return Err(fault);
+    }
+    written
+}
+
+fn write<L: LogName, R: Wait>(
+    rt: &R,
+    alloc: Global,
+    publisher: &mut Publisher<L>,
+    tx: &mut Tx,
+) -> Result<(), SessionFault> {
+    publisher.insert(rt, tx, 16384, item(alloc, 1, "ab", 7)?)?;
+    let depth = publisher.savepoint(rt, tx)?;
+    publisher.insert(rt, tx, 16384, item(alloc, 2, "cd", 8)?)?;
+    publisher.rollback_to(rt, tx, depth)
+}
+
+/// A row of the table public.item.
+fn item(alloc: Global, id: i32, name: &str, qty: i64) -> Result<Row, SessionFault> {
+    let name = Value::Text(Text::copy_of(alloc, name)?);
+    Ok(Row::new(vec![in alloc; Value::Int4(id), name, Value::Int8(qty)]?))
+}

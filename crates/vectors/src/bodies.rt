@@ -1,0 +1,94 @@
+//! Logical messages, bodies inside CopyData and bodies of changes: what is read of all bytes is written again.
+
+ghost use Rattle.std.specs.Prelude.{◌≡◌, true};
+ghost use Rattle.pgoutput.specs.Logical.{FitsLogical, IsShort};
+ghost use Rattle.tables.specs.Spelling.{IsShort as IsShortBody};
+
+use crate::answer::{bytes_of, tell, tell_written};
+use anyhow::{Result, ensure};
+use bytes::BytesMut;
+use copyboth::{
+    ServerBody, read_client, read_server, write_keepalive, write_status, write_xlogdata,
+};
+use pgoutput::{Logical, read_logical, write_logical, written_and_read};
+use std::alloc::Global;
+use tables::{Change, MAX_TRUNCATED, body_len, read_body, write_body};
+
+pub fn answer_logical(alloc: Global, given: &str, answer: &mut String) -> Result<()> {
+    let bytes = bytes_of(alloc, given)?;
+    let came = read_logical(alloc, bytes.as_slice());
+    tell(answer, &came)?;
+    if let Ok(message) = &came {
+        tell_logical(alloc, message, bytes.as_slice(), answer)?;
+    }
+    Ok(())
+}
+
+fn tell_logical(alloc: Global, message: &Logical, read: &[u8], answer: &mut String) -> Result<()>
+    requires range { FitsLogical message.now }
+    requires short { IsShort message.now }
+{
+    let mut written = BytesMut::new(alloc);
+    write_logical(message, &mut written)?;
+    tell_written(answer, written.as_slice(), read)?;
+    let again = written_and_read(alloc, message)?;
+    ensure!(again == *message, "is another message when it is read again");
+    Ok(())
+}
+
+pub fn answer_server(alloc: Global, given: &str, answer: &mut String) -> Result<()> {
+    let bytes = bytes_of(alloc, given)?;
+    let mut written = BytesMut::new(alloc);
+    let came = read_server(bytes.as_slice());
+    tell(answer, &came)?;
+    match &came {
+        Ok(ServerBody::XLogData(data)) => {
+            write_xlogdata(data.start, data.end, data.clock, data.payload, &mut written)?;
+        }
+        Ok(ServerBody::Keepalive(body)) => {
+            write_keepalive(body.end, body.clock, body.ask, &mut written)?;
+        }
+        Err(_) => return Ok(()),
+    }
+    tell_written(answer, written.as_slice(), bytes.as_slice())?;
+    Ok(())
+}
+
+pub fn answer_client(alloc: Global, given: &str, answer: &mut String) -> Result<()> {
+    let bytes = bytes_of(alloc, given)?;
+    let came = read_client(bytes.as_slice());
+    tell(answer, &came)?;
+    if let Ok(status) = &came {
+        let mut written = BytesMut::new(alloc);
+        write_status(status, &mut written)?;
+        tell_written(answer, written.as_slice(), bytes.as_slice())?;
+    }
+    Ok(())
+}
+
+/// A change is written again where it is short enough.
+pub fn answer_body(alloc: Global, given: &str, answer: &mut String) -> Result<()> {
+    let bytes = bytes_of(alloc, given)?;
+    let came = read_body(alloc, bytes.as_slice());
+    tell(answer, &came)?;
+    if let Ok(change) = &came {
+        if is_short(change) {
+            let mut written = BytesMut::new(alloc);
+            write_body(change, &mut written)?;
+            tell_written(answer, written.as_slice(), bytes.as_slice())?;
+            ensure!(body_len(change) == written.len(), "has another length");
+        }
+    }
+    Ok(())
+}
+
+fn is_short(change: &Change) -> bool
+    ensures { result ≡ true → IsShortBody change.now }
+{
+    match change {
+        Change::Insert(_, row) => row.coded_len().is_some(),
+        Change::Update(_, old, row) => old.coded_len().is_some() && row.coded_len().is_some(),
+        Change::Delete(_, old) => old.coded_len().is_some(),
+        Change::Truncate(oids) => oids.len() <= MAX_TRUNCATED,
+    }
+}
