@@ -12,6 +12,8 @@ mod receipt_calls;
 #[cfg(test)]
 mod session;
 #[cfg(test)]
+mod slot_calls;
+#[cfg(test)]
 mod turn_calls;
 #[cfg(test)]
 mod work;

@@ -32,7 +32,10 @@ fn tell_logical(alloc: Global, message: &Logical, read: &[u8], answer: &mut Stri
     write_logical(message, &mut written)?;
     tell_written(answer, written.as_slice(), read)?;
     let again = written_and_read(alloc, message)?;
-    ensure!(again == *message, "is another message when it is read again");
+    ensure!(
+        again == *message,
+        "is another message when it is read again"
+    );
     Ok(())
 }
 

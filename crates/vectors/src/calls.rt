@@ -8,9 +8,7 @@ use crate::framing::{answer_back, answer_front, answer_startup};
 use crate::publishing::{answer_explained, answer_published};
 use crate::subscriber::{answer_applied, answer_render, answer_status};
 use crate::talk::answer_talk;
-use crate::texts::{
-    answer_catalog, answer_command, answer_config, answer_event, answer_position,
-};
+use crate::texts::{answer_catalog, answer_command, answer_config, answer_event, answer_position};
 use anyhow::Result;
 use std::alloc::Global;
 

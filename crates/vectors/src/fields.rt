@@ -16,7 +16,7 @@ pub fn answer_field(alloc: Global, call: &str, given: &str, answer: &mut String)
         _ => add_number(call, &mut cursor, &mut written, answer)?,
     }
     let rest = cursor.rest();
-    write!(answer, " rest {rest:?}")?;
+    write!(answer, " {rest:?}")?;
     let read = bytes.as_slice().strip_suffix(rest).unwrap_or(&[]);
     tell_written(answer, written.as_slice(), read)?;
     Ok(())

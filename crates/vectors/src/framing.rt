@@ -22,7 +22,10 @@ pub fn answer_front(alloc: Global, given: &str, answer: &mut String) -> Result<(
     let came = read_front(alloc, bytes.as_slice());
     tell(answer, &came)?;
     if let Ok(Some((frame, size))) = &came {
-        let (read, _) = bytes.as_slice().split_at_checked(*size).unwrap_or((&[], &[]));
+        let (read, _) = bytes
+            .as_slice()
+            .split_at_checked(*size)
+            .unwrap_or((&[], &[]));
         tell_front(alloc, frame, read, answer)?;
     }
     Ok(())
@@ -33,7 +36,10 @@ pub fn answer_back(alloc: Global, given: &str, answer: &mut String) -> Result<()
     let came = read_back(alloc, bytes.as_slice());
     tell(answer, &came)?;
     if let Ok(Some((frame, size))) = &came {
-        let (read, _) = bytes.as_slice().split_at_checked(*size).unwrap_or((&[], &[]));
+        let (read, _) = bytes
+            .as_slice()
+            .split_at_checked(*size)
+            .unwrap_or((&[], &[]));
         tell_back(alloc, frame, read, answer)?;
     }
     Ok(())

@@ -1,8 +1,8 @@
 //! Makes the calls that standard input asks for, and prints what came of each.
 //!
-//! A line is a call's name, a space and what the call is given; `␤` stands for a line end. Its answer is one line:
-//! `= VALUE` as the product's own type is debugged, or `! FAULT`. Behind a value stands ` ? ..` where it isn't written again
-//! as it was read. An answer that begins with `?` says that there was no such call.
+//! A line is a call's name, a space and what the call is given, in which `␤` stands for a line end. Its answer is one line:
+//! `= VALUE`, as the value's type is debugged, or `! FAULT`. Behind it stands ` ? ` and what went wrong, if anything did: a
+//! value isn't written as it was read, or there is no such call.
 #![tactic(auto)]
 
 mod answer;
@@ -38,7 +38,7 @@ fn answer_line(alloc: Global, line: &str, answers: &mut String) -> Result<()> {
     let line = line.replace(alloc, "␤", "\n")?;
     let (call, given) = line.as_str().split_once(' ').unwrap_or((line.as_str(), ""));
     if let Err(error) = answer_call(alloc, call, given, answers) {
-        write!(answers, "? {error}")?;
+        write!(answers, " ? {error}")?;
     }
     answers.push('\n')?;
     Ok(())

@@ -74,7 +74,7 @@ pub fn answer_explained(alloc: Global, given: &str, answer: &mut String) -> Resu
         Ok(_) => bail!("is no refusal"),
         Err(fault) => {
             let lines = explained(alloc, &document, &catalog, fault)?;
-            write!(answer, "! {lines:?}")?;
+            write!(answer, "= {lines:?}")?;
         }
     }
     Ok(())

@@ -35,7 +35,7 @@ impl ScriptedDesk {
         }
     }
 
-    /// What it was asked, a line for each call.
+    /// What it was asked, each call with a comma behind it.
     pub fn asked(&self) -> Option<&str> {
         if self.is_whole {
             Some(self.asked.as_str())
@@ -61,26 +61,29 @@ impl Desk for ScriptedDesk {
     }
 
     fn create(&mut self, slot: &str) -> Result<u64, DeskFault> {
-        let noted = write!(self.asked, "create {slot}\n");
+        let noted = write!(self.asked, "(create, {slot:?}), ");
         self.note(noted);
         answer_of(slot)?;
         Ok(END)
     }
 
     fn drop_slot(&mut self, slot: &str) -> Result<(), DeskFault> {
-        let noted = write!(self.asked, "drop {slot}\n");
+        let noted = write!(self.asked, "(drop, {slot:?}), ");
         self.note(noted);
         answer_of(slot)
     }
 
     fn start(&mut self, slot: &str, position: u64, publications: &[Name]) -> Result<(), DeskFault> {
-        let noted = write!(self.asked, "start {slot} {position} {publications:?}\n");
+        let noted = write!(
+            self.asked,
+            "(start, {slot:?}, {position}, {publications:?}), "
+        );
         self.note(noted);
         answer_of(slot)
     }
 
     fn flushed(&mut self, position: u64, ask: bool) {
-        let noted = write!(self.asked, "flushed {position} {ask}\n");
+        let noted = write!(self.asked, "(flushed, {position}, {ask}), ");
         self.note(noted);
     }
 }

@@ -6,18 +6,20 @@ use client::{Applied, Applier, render};
 use pgoutput::{Begin, Commit, Logical, read_logical};
 use std::alloc::{AllocError, Global};
 
-/// Pieces of a stream in digits, between commas; a dot among them begins another connection. Adds what each piece was answered,
+/// Pieces of a stream in digits, a comma behind each; a dot among them begins another connection. Adds what each piece was answered,
 /// and then the position and the lines of what was applied.
 pub fn answer_applied(alloc: Global, given: &str, answer: &mut String) -> Result<()> {
     let mut applier = Applier::new(alloc);
     write!(answer, "=")?;
-    for piece in given.split(',') {
+    for piece in given.split_terminator(',') {
         if piece == "." {
             applier.reconnect();
-            write!(answer, " .")?;
-        } else {
-            let taken = applier.take(bytes_of(alloc, piece)?.as_slice());
-            write!(answer, " {taken:?}")?;
+            write!(answer, " reconnect")?;
+            continue;
+        }
+        match applier.take(bytes_of(alloc, piece)?.as_slice()) {
+            Ok(()) => write!(answer, " taken")?,
+            Err(fault) => write!(answer, " {:?}", fault.to_string(alloc)?)?,
         }
     }
     write!(answer, " {}", applier.position())?;

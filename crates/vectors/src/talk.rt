@@ -7,7 +7,7 @@ use bytes::BytesMut;
 use server::{ConnFault, Connection, Phase};
 use std::alloc::Global;
 
-/// Pieces of what a client sends to the first connection of a server, in digits between commas; a dot among them ends the
+/// Pieces of what a client sends to the first connection of a server, in digits, a comma behind each; a dot among them ends the
 /// stream, if one stops. Adds what each was answered and the phase behind it, then what the desk was asked and what was said.
 pub fn answer_talk(alloc: Global, given: &str, answer: &mut String) -> Result<()> {
     let mut desk = ScriptedDesk::new(alloc);
@@ -23,7 +23,12 @@ pub fn answer_talk(alloc: Global, given: &str, answer: &mut String) -> Result<()
         write!(answer, " {came:?} {:?}", connection.phase())?;
     }
     let asked = desk.asked().context("is not told whole")?;
-    write!(answer, " {:?} {asked:?} {:?}", connection.phase(), said.as_slice())?;
+    write!(
+        answer,
+        " {:?} [{asked}] {:?}",
+        connection.phase(),
+        said.as_slice()
+    )?;
     Ok(())
 }
 

@@ -1,4 +1,4 @@
-use Rattle.slot_calls.proofs.many_slots.run_seed.Given as goal
+use Rattle.calls.proofs.slot_calls.many_slots.run_seed.Given as goal
 
 abbrev pub ghosts-work_all : goal.ghosts-work_all
 ghosts-work_all g a = record { table = a.opened.first.table_id }

@@ -3,8 +3,8 @@
 ghost use Rattle.std.specs.Prelude.{◌≡◌, ◌<◌};
 ghost use Rattle.slots.specs.Seats.{Holds};
 
-use crate::mark::Mark;
-use crate::wrong::Wrong;
+use crate::slot_calls::mark::Mark;
+use crate::slot_calls::wrong::Wrong;
 use seeds::Numbers;
 use slots::{Lease, PLACES, SlotFault, SlotName, SlotSeat, SlotTable};
 use std::sync::atomic::Ordering;

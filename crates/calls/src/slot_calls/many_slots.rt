@@ -2,10 +2,10 @@
 
 ghost use Rattle.std.specs.Prelude.{◌≡◌, ◌<◌};
 
-use crate::gate::Gate;
-use crate::mark::{Mark, marks};
-use crate::worker::Worker;
-use crate::wrong::Wrong;
+use crate::slot_calls::gate::Gate;
+use crate::slot_calls::mark::{Mark, marks};
+use crate::slot_calls::worker::Worker;
+use crate::slot_calls::wrong::Wrong;
 use slots::{OpenedSlots, PLACES, SlotFault, SlotName, SlotSeat, SlotTable};
 use std::alloc::{AllocError, Global};
 use std::marker::Brand;

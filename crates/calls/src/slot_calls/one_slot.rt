@@ -2,8 +2,8 @@
 
 ghost use Rattle.std.specs.Prelude.{◌≡◌};
 
-use crate::gate::Gate;
-use crate::wrong::Wrong;
+use crate::slot_calls::gate::Gate;
+use crate::slot_calls::wrong::Wrong;
 use slots::{OpenedSlots, SlotFault, SlotName, SlotSeat, SlotTable};
 use std::alloc::{AllocError, Global};
 use std::marker::Brand;

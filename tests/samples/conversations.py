@@ -1,0 +1,119 @@
+"""Files of conversations, each with what the server asks and says."""
+import re
+
+from case import Case, Wrong, values
+from meanings import position
+
+ENDS, ASKED = "-- ", "asked "
+STOPPED = "stopped"
+READY = "5a 00000005 49"
+# AuthenticationOk, the version 15.0, the encoding UTF8, and the key of the first connection.
+GREETING = """52 00000008 00000000
+    53 00000018 7365727665725f76657273696f6e00 31352e3000
+    53 00000019 636c69656e745f656e636f64696e6700 5554463800
+    4b 0000000c 00000001 00000000"""
+
+
+def framed(kind, body):
+    return kind + (len(body) + 4).to_bytes(4, "big") + body
+
+
+def string(text):
+    return text.encode() + b"\0"
+
+
+def heard(line):
+    """The bytes of a line of the client: `startup NAME VALUE ..`, each between quotes, `query TEXT`, or digits."""
+    if line.startswith("startup"):
+        return framed(b"", b"\0\3\0\0" + b"".join(map(string, line.split("'")[1::2])) + b"\0")
+    if line.startswith("query "):
+        return framed(b"Q", string(line.removeprefix("query ")))
+    return bytes.fromhex(line.replace(" ", ""))
+
+
+def said(line):
+    """The bytes of a line of the server: `greeting`, `error CODE TEXT`, `ready`, or digits."""
+    if line.startswith("error "):
+        _, code, text = line.split(" ", 2)
+        fields = b"".join(kind + string(value) for kind, value in ((b"S", "ERROR"), (b"V", "ERROR"), (b"C", code), (b"M", text)))
+        return framed(b"E", fields + b"\0")
+    digits = {"greeting": GREETING + READY, "ready": READY}.get(line, line)
+    return bytes.fromhex("".join(digits.split()))
+
+
+def expanded(line):
+    """`a{N}` stands for N letters a, and `\\0` for a zero byte."""
+    return re.sub(r"a\{(\d+)\}", lambda found: "a" * int(found[1]), line.replace("\\0", "\0"), count=1)
+
+
+def talk(events):
+    """The line that gives a server what a client sends, and has its streams end where they stop."""
+    return "talk " + "".join(f"{event if event == '.' else event.hex()}," for event in events)
+
+
+def asked_of(call):
+    """A call of the desk as its file tells it."""
+    kind, *given = call
+    if kind.word == "start":
+        slot, place, names = given
+        return " ".join(["start", slot, position(place), *(f"[{name}]" for name in names)])
+    if kind.word == "flushed":
+        return f"flushed {position(given[0])}{' and asks' * given[1]}"
+    return f"{kind.word} {given[0]}"
+
+
+def outcome(answer):
+    """What came of a conversation: its phase, what the desk was asked, and what was said."""
+    *answers, phase, asked, bytes_said = values(answer)
+    before = "Startup"
+    for came, behind in zip(answers[::2], answers[1::2], strict=True):
+        if came.word == "Ok" and came.inside[0] != behind:
+            raise Wrong("answers another phase")
+        if came.word == "Err" and (came.inside[0].word != "Closed" or before != "Closed"):
+            raise Wrong(f"answers {came.inside[0].word}")
+        before = behind.word
+    return "\n".join([phase.word, *map(asked_of, asked), bytes(bytes_said).hex()])
+
+
+def come_by_one(events):
+    for event in events:
+        yield from ["."] if event == "." else (event[at : at + 1] for at in range(len(event)))
+
+
+def cases(lines):
+    """Of each conversation the line where it begins, what is heard, and what is told of it."""
+    found = []
+    for number, line in enumerate(lines, 1):
+        if line.startswith("== "):
+            found.append((number, [], [], bytearray()))
+        elif line and not line.startswith("#") and found:
+            add_line(*found[-1][1:], line)
+    return found
+
+
+def add_line(events, told, bytes_said, line):
+    """A line before the phase is the client's, one behind it is the server's. Bytes that follow one another come at once."""
+    if line.startswith((ENDS, ASKED)):
+        told.append(line.removeprefix(ENDS).removeprefix(ASKED))
+    elif told:
+        bytes_said += said(expanded(line))
+    elif line == STOPPED:
+        events.append(".")
+    elif events and events[-1] != ".":
+        events[-1] += heard(expanded(line))
+    else:
+        events.append(heard(expanded(line)))
+
+
+def alike(whole, pieces):
+    whole, pieces = outcome(whole), outcome(pieces)
+    if whole != pieces:
+        raise Wrong(f"comes to something else in pieces:\n{pieces}\nand at once\n{whole}")
+    return whole
+
+
+def read(file):
+    for number, events, told, bytes_said in cases(file.read_text().split("\n")):
+        due = "\n".join([*told, bytes_said.hex()])
+        asked = [talk(events), talk(come_by_one(events))]
+        yield Case(number, asked, alike, lambda came, due=due: came == due)
