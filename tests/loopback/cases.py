@@ -12,6 +12,8 @@ STREAMS = 16
 CONNECTIONS = 1000
 # Of each connection.
 THREADS = 2
+# Where the log begins.
+FIRST = 0x1000000
 
 
 def a_conversation_goes_frame_by_frame(pubd, subcat):
@@ -111,17 +113,27 @@ def a_slow_reader_holds_up_nobody(pubd, subcat):
         return ["the slow reader got something else"] * (got != due) + server.end()
 
 
-def two_followers_print_the_same(pubd, subcat):
-    """100 transactions on a script's thread, followed from two slots."""
+def two_followers_print_what_a_script_commits(pubd, subcat):
+    """100 transactions on a script's thread, followed from two slots, and a line behind them that is refused."""
     count = 100
-    with Server(pubd, 2, inserts(count), awaited=2) as server:
+    with Server(pubd, 2, [*inserts(count), "commit T 101"], awaited=2) as server:
         words = [[subcat, "--create", f"127.0.0.1:{server.port}", slot, "0/0", "p", str(count)] for slot in ("s", "t")]
         followers = [subprocess.Popen(each, stdout=subprocess.PIPE, text=True) for each in words]
-        first, second = (follower.communicate()[0].splitlines() for follower in followers)
-        due = [f"INSERT 16384 N('{k}','ab','7')" for k in range(1, count + 1)]
-        rows = [line for line in first if line.startswith("INSERT")]
-        wrong = ["they differ"] * (first != second) + ["not what the script inserts, in its order"] * (rows != due)
-        return wrong + server.end()
+        printed = [follower.communicate()[0] for follower in followers]
+        wrong = [f"follower {at} prints something else" for at, text in enumerate(printed, 1) if text != printed_of_inserts(count)]
+        return wrong + server.end(refused=[f"{server.script} {3 * count + 1} V1"])
+
+
+def printed_of_inserts(count):
+    """What subcat prints of so many transactions, each of one insert, which takes 48 bytes of the log, and its Commit 32."""
+    lines = []
+    for k in range(1, count + 1):
+        start = FIRST + 80 * k - 32
+        commit, end = (f"{at >> 32:X}/{at & 0xFFFFFFFF:X}" for at in (start, start + 32))
+        lines.append(f"BEGIN {699 + k} {commit} {k}")
+        lines += ["RELATION 16384 public.item d id:23* name:25 qty:20"] * (k == 1)
+        lines += [f"INSERT 16384 N('{k}','ab','7')", f"COMMIT {commit} {end} {k}"]
+    return "".join(f"{line}\n" for line in lines)
 
 
 def restarts_lose_and_repeat_nothing(pubd, subcat):
@@ -167,6 +179,6 @@ ALL = [
     nothing_is_lost_with_connections,
     a_broken_connection_leaves_the_others,
     a_slow_reader_holds_up_nobody,
-    two_followers_print_the_same,
+    two_followers_print_what_a_script_commits,
     restarts_lose_and_repeat_nothing,
 ]

@@ -23,9 +23,9 @@ class Server:
 
     def __init__(self, pubd, connections, lines=(), awaited=0):
         self.folder = tempfile.TemporaryDirectory()
-        script = pathlib.Path(self.folder.name) / "script"
-        script.write_text("".join(line + "\n" for line in lines))
-        words = ["--await-streams", str(awaited), CONFIGURATION, "127.0.0.1:0", str(connections), script]
+        self.script = pathlib.Path(self.folder.name) / "script"
+        self.script.write_text("".join(line + "\n" for line in lines))
+        words = ["--await-streams", str(awaited), CONFIGURATION, "127.0.0.1:0", str(connections), self.script]
         self.process = subprocess.Popen([pubd, *words], stdout=subprocess.PIPE, stderr=subprocess.PIPE, text=True)
         self.watch = threading.Timer(SECONDS, self.process.kill)
         self.watch.start()
@@ -52,8 +52,9 @@ class Server:
             time.sleep(0.01)
         return False
 
-    def end(self):
-        """Waits until it ends, and answers what is wrong with that."""
+    def end(self, refused=()):
+        """Waits until it ends, and answers what is wrong with that; these lines of its script are due to be refused."""
         status = self.process.wait()
-        said = self.process.stderr.read()
-        return [f"pubd ended with status {status}"] * bool(status) + [f"pubd said {line}" for line in said.splitlines()]
+        said = self.process.stderr.read().splitlines()
+        wrong = [f"pubd ended with status {status}"] * bool(status)
+        return wrong + [f"pubd said {said}, and not {list(refused)}"] * (said != list(refused))

@@ -1,4 +1,4 @@
-//! Why no hub was made, and why serving or a script ended.
+//! Why no hub was made, and why serving ended.
 
 ghost use Rattle.std.specs.Prelude.{◌≡◌};
 ghost use Rattle.hub.specs.declared.fault.HubFault.TheVariants.{Memory};
@@ -39,25 +39,4 @@ pub enum ServeFault {
     Listener(io::Error),
     #[error("out of memory")]
     Memory,
-}
-
-/// Why a script ended before its last line.
-#[derive(Debug, Drop, Error)]
-pub enum ScriptFault {
-    #[error("V2: out of memory")]
-    Memory,
-    #[error("refusals cannot be written: {0}")]
-    Refusals(io::Error),
-}
-
-impl From<AllocError> for ScriptFault {
-    fn from(_e: AllocError) -> ScriptFault {
-        ScriptFault::Memory
-    }
-}
-
-impl From<io::Error> for ScriptFault {
-    fn from(fault: io::Error) -> ScriptFault {
-        ScriptFault::Refusals(fault)
-    }
 }

@@ -142,6 +142,11 @@ impl<L: LogName + SlotName> Hub<L> {
         publisher.into_inner().close(rt);
     }
 
+    /// Where its memory comes from.
+    pub fn alloc(&self) -> Global {
+        self.alloc
+    }
+
     /// What sessions call, one thread at a time. Each receipt of a commit goes to `tell`.
     pub fn publisher(&self) -> &Mutex<Publisher<L>> {
         &self.publisher

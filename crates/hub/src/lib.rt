@@ -16,15 +16,13 @@ mod piece;
 mod pool;
 mod reading;
 mod refusals;
-mod scripts;
 mod serving;
 mod streaming;
 mod system;
 mod words;
 mod writing;
 
-pub use fault::{HubFault, ScriptFault, ServeFault};
+pub use fault::{HubFault, ServeFault};
 pub use gate::{Gate, OpenGate};
 pub use hub::{Hub, OpenedHub};
-pub use scripts::run_script;
 pub use serving::serve;

@@ -1,8 +1,9 @@
 //! The scripts that run beside the connections, each on a thread of its own.
 
 use crate::fault::Fault;
-use hub::{Hub, run_script};
+use hub::Hub;
 use schedule::{LineFault, Schedule, WorldFault};
+use scripting::run_script;
 use sessions::is_session_line;
 use shared_log::LogName;
 use slots::SlotName;

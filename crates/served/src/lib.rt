@@ -2,12 +2,8 @@
 #![tactic(auto)]
 
 #[cfg(test)]
-mod beside;
-#[cfg(test)]
 mod fixture;
 #[cfg(test)]
 mod gated;
 #[cfg(test)]
 mod peer;
-#[cfg(test)]
-mod scripted;

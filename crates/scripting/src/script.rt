@@ -1,7 +1,7 @@
 //! Scripts: session lines, run beside the connections.
 
 use crate::fault::ScriptFault;
-use crate::hub::Hub;
+use hub::Hub;
 use schedule::{Event, Schedule, WorldFault};
 use sessions::Sessions;
 use shared_log::LogName;
@@ -23,9 +23,9 @@ pub fn run_script<L: LogName + SlotName, R: Wait, W: Write>(
     script: &Schedule,
     refusals: &mut W,
 ) -> Result<(), ScriptFault> {
-    let mut sessions = Sessions::new(hub.alloc);
+    let mut sessions = Sessions::new(hub.alloc());
     let done = do_lines(rt, hub, name, script, &mut sessions, refusals);
-    let publisher = hub.publisher.lock(rt);
+    let publisher = hub.publisher().lock(rt);
     sessions.leave_all(&publisher);
     MutexGuard::unlock(publisher);
     done
@@ -41,7 +41,7 @@ fn do_lines<L: LogName + SlotName, R: Wait, W: Write>(
 ) -> Result<(), ScriptFault> {
     for (line, event) in script.lines().iter().zip(script.events()) {
         if let Some(code) = do_line(rt, hub, sessions, event)? {
-            let refusal = format!(in hub.alloc; "{name} {line} {code}\n")?;
+            let refusal = format!(in hub.alloc(); "{name} {line} {code}\n")?;
             refusals.write_all(refusal.as_bytes())?;
         }
     }
@@ -55,7 +55,7 @@ fn do_line<L: LogName + SlotName, R: Wait>(
     sessions: &mut Sessions,
     event: &Event,
 ) -> Result<Option<&'static str>, ScriptFault> {
-    let mut publisher = hub.publisher.lock(rt);
+    let mut publisher = hub.publisher().lock(rt);
     let done = sessions.line(rt, &mut publisher, event);
     MutexGuard::unlock(publisher);
     match done {
