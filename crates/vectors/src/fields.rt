@@ -75,18 +75,19 @@ fn add_text(
         put_bytes(written, two.unwrap_or(&[]))?;
         return Ok(());
     }
-    let before = cursor.cstr();
-    match before.and_then(utf8_of) {
+    let Some(before) = cursor.cstr() else {
+        write!(answer, "= None")?;
+        return Ok(());
+    };
+    match utf8_of(before) {
         Some(text) => {
             write!(answer, "= Some({text:?})")?;
             put_string(written, text)?;
         }
         None => {
-            write!(answer, "= {before:?}")?;
-            if let Some(bytes) = before {
-                put_bytes(written, bytes)?;
-                put_byte(written, 0)?;
-            }
+            write!(answer, "= Some({before:?})")?;
+            put_bytes(written, before)?;
+            put_byte(written, 0)?;
         }
     }
     Ok(())

@@ -23,8 +23,8 @@ pub fn hold_conversations<R: Print>(rt: &R, alloc: Global, words: &[String]) -> 
     let [times, length, piece] = words else {
         bail!("wants TIMES LENGTH PIECE");
     };
-    let sent = sent_by_client(alloc, number(length)?)?;
-    let piece = number(piece)?;
+    let sent = sent_by_client(alloc, number(length)? as usize)?;
+    let piece = number(piece)? as usize;
     ensure!(1 <= piece, "a piece has a byte at least");
     let mut said = BytesMut::new(alloc);
     for _ in 0..number(times)? {

@@ -1,15 +1,20 @@
-//! Work for the parts that `bench/` times, each without the others: `bench_work WORK [then WORK]..` does one work behind the
-//! other. `bench_work` alone says which there are, and each file tells its own words.
+//! Short uses of the crates, each in a file of its own, to read and to time: `short_uses USE [then USE]..`. The first three are first
+//! steps; what a use prints is small, so that many turns of it measure its speed. `short_uses` alone says which there are.
 #![tactic(auto)]
 
 mod claims;
+mod connection;
+mod desk;
 mod filters;
 mod item;
 mod log;
 mod store;
+mod stream;
+mod subscriber;
 
 use anyhow::{Context, Result, bail};
 use claims::work_on_slots;
+use connection::hold_conversations;
 use filters::work_on_filters;
 use log::work_on_log;
 use std::alloc::Global;
@@ -18,30 +23,42 @@ use std::io::Print;
 use std::sync::Wait;
 use std::thread::Threads;
 use store::work_on_store;
+use stream::stream;
+use subscriber::follow_stream;
 
-const USAGE: &str = "usage: bench_work WORK [then WORK].., where a WORK is one of
+const USAGE: &str = "usage: short_uses USE [then USE].., where a USE is one of
+  stream
+  connection TIMES LENGTH PIECE
+  subscriber TIMES INSERTS PIECE
   store ROWS insert|update|delete|undo..
   filter TURNS filter|hand|one|sixteen
   slots slots|words|apart THREADS TURNS
   log RECORDS READERS busy|yielding COMMITS FETCHES";
 
-/// The word between two works.
+/// The word between two uses.
 const THEN: &str = "then";
 
 fn main(rt: HostRuntime) -> Result<()> {
     let alloc = rt.alloc();
     let words: Vec<String> = env::args(&rt)?.skip(1).collect(alloc)?;
-    for work in words.as_slice().split(|word| word.as_str() == THEN) {
-        do_work(&rt, alloc, work)?;
+    for one in words.as_slice().split(|word| word.as_str() == THEN) {
+        use_one(&rt, alloc, one)?;
     }
     Ok(())
 }
 
-fn do_work<R: Threads + Wait + Sync + Print>(rt: &R, alloc: Global, work: &[String]) -> Result<()> {
-    let [part, words @ ..] = work else {
+fn use_one<R: Threads + Wait + Sync + Print>(
+    rt: &R,
+    alloc: Global,
+    words: &[String],
+) -> Result<()> {
+    let [name, words @ ..] = words else {
         bail!("{USAGE}");
     };
-    match part.as_str() {
+    match name.as_str() {
+        "stream" => println!(rt; "{}", stream(rt, alloc)?).map_err(Into::into),
+        "connection" => hold_conversations(rt, alloc, words),
+        "subscriber" => follow_stream(rt, alloc, words),
         "store" => work_on_store(alloc, words),
         "filter" => work_on_filters(rt, alloc, words),
         "slots" => work_on_slots(rt, alloc, words),

@@ -1,4 +1,4 @@
-use Rattle.bench_work.proofs.log.do_work.Given as goal
+use Rattle.short_uses.proofs.log.do_work.Given as goal
 
 abbrev pub ghosts-over_log : goal.ghosts-over_log
 ghosts-over_log g a = record { book = a.opened.history.seen.book }

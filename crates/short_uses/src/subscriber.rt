@@ -33,8 +33,8 @@ pub fn follow_stream<R: Print>(rt: &R, alloc: Global, words: &[String]) -> Resul
     let [times, inserts, piece] = words else {
         bail!("wants TIMES INSERTS PIECE");
     };
-    let stream = stream_of(alloc, number(inserts)?)?;
-    let piece = number(piece)?;
+    let stream = stream_of(alloc, number(inserts)? as usize)?;
+    let piece = number(piece)? as usize;
     ensure!(1 <= piece, "a piece has a byte at least");
     let mut applier = Applier::new(alloc);
     for _ in 0..number(times)? {
