@@ -6,11 +6,11 @@ mod command;
 mod fault;
 mod simulation;
 
-use command::words_of;
+use command::{Words, words_of};
 use configuration::{Config, explained};
 use fault::Fault;
 use simulation::simulate;
-use std::io::BufWriter;
+use std::io::{BufWriter, Read};
 use std::process::ExitCode;
 use std::sync::Wait;
 use std::{env, fs, io};
@@ -30,10 +30,24 @@ fn run<R: Wait>(rt: &HostRuntime, waits: &R) -> Result<(), Fault> {
     let alloc = rt.alloc();
     let arguments: Vec<String> = env::args(rt).map_err(Fault::Arguments)?.collect(alloc)?;
     let words = words_of(alloc, arguments.as_slice()).map_err(Fault::Usage)?;
+    run_words(rt, waits, words)
+}
+
+fn run_words<R: Wait>(rt: &HostRuntime, waits: &R, words: Words) -> Result<(), Fault> {
     let config = config_of(rt, words.config)?;
     let mut schedule = fs::open(rt, words.schedule).map_err(Fault::Open)?;
+    run_schedule(rt, waits, config, &mut schedule)
+}
+
+fn run_schedule<R: Wait, I: Read>(
+    rt: &HostRuntime,
+    waits: &R,
+    config: Config,
+    schedule: &mut I,
+) -> Result<(), Fault> {
+    let alloc = rt.alloc();
     let mut output = BufWriter::new(alloc, io::writer(rt)).map_err(Fault::Output)?;
-    simulate(waits, alloc, config, &mut schedule, &mut output).map_err(Fault::Run)
+    simulate(waits, alloc, config, schedule, &mut output).map_err(Fault::Run)
 }
 
 fn config_of(rt: &HostRuntime, path: &str) -> Result<Config, Fault> {

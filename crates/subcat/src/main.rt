@@ -32,14 +32,21 @@ fn run<N: Net<Listener = TcpListener, Stream = TcpStream> + Wait>(
     let alloc = rt.alloc();
     let arguments: Vec<String> = env::args(rt).map_err(Fault::Arguments)?.collect(alloc)?;
     let words = words_of(alloc, arguments.as_slice()).map_err(Fault::Usage)?;
-    let address = words
-        .address
-        .parse::<SocketAddr>()
-        .map_err(|_| Fault::Address)?;
-    let options = options_of(&words)?;
+    let address = words.address.parse::<SocketAddr>();
+    let address = address.map_err(|_| Fault::Address)?;
+    follow_at(rt, net, address, &options_of(&words)?)
+}
+
+fn follow_at<N: Net<Listener = TcpListener, Stream = TcpStream> + Wait>(
+    rt: &HostRuntime,
+    net: &N,
+    address: SocketAddr,
+    options: &Options,
+) -> Result<(), Fault> {
+    let alloc = rt.alloc();
     let mut output = BufWriter::new(alloc, io::writer(rt)).map_err(Fault::Output)?;
     let mut socket = TcpStream::connect(net, address).map_err(Fault::Connect)?;
-    follow(net, alloc, &mut socket, &options, &mut output).map_err(Fault::Follow)
+    follow(net, alloc, &mut socket, options, &mut output).map_err(Fault::Follow)
 }
 
 fn options_of<'a>(words: &Words<'a>) -> Result<Options<'a>, Fault> {
