@@ -96,7 +96,11 @@ impl<L: LogName> Session<L> {
         desk: &Mutex<Publisher<L>>,
         tx: &mut Tx,
     ) -> Result<(), SessionFault> {
-        let count = if self.load.is_plain { 1 } else { self.numbers.below(4) + 1 };
+        let count = if self.load.is_plain {
+            1
+        } else {
+            self.numbers.below(4) + 1
+        };
         self.insert(rt, desk, tx, count)?;
         if self.load.is_plain || self.numbers.below(3) != 0 {
             return Ok(());

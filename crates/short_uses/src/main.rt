@@ -8,8 +8,8 @@ mod desk;
 mod filters;
 mod item;
 mod log;
+mod sending;
 mod store;
-mod stream;
 mod subscriber;
 
 use anyhow::{Context, Result, bail};
@@ -17,13 +17,13 @@ use claims::work_on_slots;
 use connection::hold_conversations;
 use filters::work_on_filters;
 use log::work_on_log;
+use sending::bytes_sent;
 use std::alloc::Global;
 use std::env;
 use std::io::Print;
 use std::sync::Wait;
 use std::thread::Threads;
 use store::work_on_store;
-use stream::stream;
 use subscriber::follow_stream;
 
 const USAGE: &str = "usage: short_uses USE [then USE].., where a USE is one of
@@ -56,7 +56,7 @@ fn use_one<R: Threads + Wait + Sync + Print>(
         bail!("{USAGE}");
     };
     match name.as_str() {
-        "stream" => println!(rt; "{}", stream(rt, alloc)?).map_err(Into::into),
+        "stream" => println!(rt; "{}", bytes_sent(rt, alloc)?).map_err(Into::into),
         "connection" => hold_conversations(rt, alloc, words),
         "subscriber" => follow_stream(rt, alloc, words),
         "store" => work_on_store(alloc, words),

@@ -29,7 +29,7 @@ tables = [{ name = 'public.item' }]
 ";
 
 /// What a subscriber gets, in hexadecimal digits, of a publisher of the configured table, whose log has room for 1,000 records.
-pub fn stream<R: Wait>(rt: &R, alloc: Global) -> Result<String> {
+pub fn bytes_sent<R: Wait>(rt: &R, alloc: Global) -> Result<String> {
     let catalog = Catalog::from_toml(alloc, CONFIGURATION)?;
     let opened = Opened::new(alloc, catalog, 1000, 1)?;
     let bytes = written::<Brand, R>(rt, alloc, opened)?;
