@@ -2,9 +2,10 @@
 
 ghost use Rattle.std.specs.Prelude.{◌≡◌};
 
+use crate::beside::serve_beside;
 use crate::fixture::opened;
 use crate::peer::{connect, read_until, send_query};
-use hub::{Gate, Hub, OpenedHub, serve};
+use hub::{Gate, Hub, OpenedHub};
 use shared_log::LogName;
 use slots::SlotName;
 use std::alloc::Global;
@@ -80,24 +81,6 @@ where
     Ok(gate.late.load(Ordering::SeqCst) == 0)
 }
 
-/// Serves both clients, and is both beside it.
-fn serve_held<L, R>(rt: &R, alloc: Global, hub: &Hub<L>, gate: &Held<'_, R>) -> Result<bool, Fail>
-where
-    L: LogName + SlotName + Send + Sync,
-    R: Net<Listener = TcpListener, Stream = TcpStream> + Threads + Wait + Clock + Sync,
-{
-    let listener = TcpListener::bind(rt, "127.0.0.1:0")?;
-    let address = listener.local_addr()?;
-    let bound = &listener;
-    let (served, asked) = thread::join(
-        rt,
-        || serve(rt, bound, hub, 2, gate),
-        || ask_both(rt, alloc, gate, address),
-    );
-    served?;
-    Ok(asked?)
-}
-
 fn serve_both<L, R>(rt: &R, alloc: Global, opened: OpenedHub) -> Result<bool, Fail>
 where
     L: LogName + SlotName + Send + Sync,
@@ -106,8 +89,15 @@ where
     requires slots { opened.slots.first.table_id ≡ L.table }
 {
     let gate = Held::new(rt);
+    let held = &gate;
     let hub = Hub::<L>::open(rt, opened)?;
-    let asked = serve_held(rt, alloc, &hub, &gate);
+    let asked = serve_beside(
+        rt,
+        &hub,
+        2,
+        held,
+        |address| ask_both(rt, alloc, held, address),
+    );
     hub.close(rt);
     asked
 }
