@@ -3,9 +3,10 @@
 ghost use Rattle.std.specs.Prelude.{◌≡◌, ◌++◌, OnOk, OnErr};
 ghost use Rattle.frames.specs.Putting.{Puts};
 ghost use Rattle.copyboth.specs.Keepalive.{keepalive, ask_byte};
-ghost use Rattle.copyboth.specs.Reading.{Gives, ask_at, ended, keepalive_at};
+ghost use Rattle.copyboth.specs.Reading.{keepalive_at};
 
 use crate::fault::CopyFault;
+use crate::fields::{ask_of, end_of, int64_of, signed64_of};
 use bytes::BytesMut;
 use frames::{Cursor, put_byte, put_int64};
 use std::alloc::AllocError;
@@ -60,8 +61,7 @@ fn put_keepalive(end: u64, clock: i64, ask: bool, out: &mut BytesMut) -> Result<
     put_byte(out, KEEPALIVE)?;
     put_int64(out, end)?;
     put_int64(out, clock.cast_unsigned())?;
-    put_byte(out, byte_of(ask))?;
-    Ok(())
+    put_byte(out, byte_of(ask))
 }
 
 pub(crate) fn byte_of(ask: bool) -> u8
@@ -74,32 +74,9 @@ pub(crate) fn byte_of(ask: bool) -> u8
 pub(crate) fn keepalive_of(cursor: &mut Cursor<'_>) -> Result<Keepalive, CopyFault>
     ensures { result ≡ keepalive_at cursor.old }
 {
-    let end = cursor.u64().ok_or(CopyFault::Short)?;
-    let clock = cursor.u64().ok_or(CopyFault::Short)?;
+    let end = int64_of(cursor)?;
+    let clock = signed64_of(cursor)?;
     let ask = ask_of(cursor)?;
-    ended_at(cursor)?;
-    Ok(Keepalive {
-        end,
-        clock: clock.cast_signed(),
-        ask,
-    })
-}
-
-/// Whether an answer is asked for: by 1, and by no other byte.
-pub(crate) fn ask_of(cursor: &mut Cursor<'_>) -> Result<bool, CopyFault>
-    ensures { Gives result cursor.new (ask_at cursor.old) }
-{
-    let byte = cursor.u8().ok_or(CopyFault::Short)?;
-    Ok(byte == ASKS)
-}
-
-/// Nothing may stand behind a body.
-pub(crate) fn ended_at(cursor: &Cursor<'_>) -> Result<(), CopyFault>
-    ensures { result ≡ ended cursor.now }
-{
-    if cursor.rest().is_empty() {
-        Ok(())
-    } else {
-        Err(CopyFault::Trailing)
-    }
+    end_of(cursor)?;
+    Ok(Keepalive { end, clock, ask })
 }

@@ -3,6 +3,7 @@
 #![tactic(auto, using(frames::proofs::Putting::in_place))]
 
 mod fault;
+mod fields;
 mod keepalive;
 mod server_body;
 mod status;

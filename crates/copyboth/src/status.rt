@@ -6,7 +6,8 @@ ghost use Rattle.copyboth.specs.Reading.{FaultIs, client_at, status_at};
 ghost use Rattle.copyboth.specs.Status.{SpellsStatus, client_fault, status};
 
 use crate::fault::CopyFault;
-use crate::keepalive::{ask_of, byte_of, ended_at};
+use crate::fields::{ask_of, end_of, int64_of, signed64_of};
+use crate::keepalive::byte_of;
 use bytes::BytesMut;
 use frames::{Cursor, put_byte, put_int64};
 use std::alloc::AllocError;
@@ -54,8 +55,7 @@ fn put_status(message: &Status, out: &mut BytesMut) -> Result<(), AllocError>
     put_int64(out, message.flushed)?;
     put_int64(out, message.applied)?;
     put_int64(out, message.clock.cast_unsigned())?;
-    put_byte(out, byte_of(message.ask))?;
-    Ok(())
+    put_byte(out, byte_of(message.ask))
 }
 
 /// The status that the bytes of a client spell, all of them.
@@ -86,17 +86,17 @@ fn client_of(bytes: &[u8]) -> Result<Status, CopyFault>
 fn status_of(cursor: &mut Cursor<'_>) -> Result<Status, CopyFault>
     ensures { result ≡ status_at cursor.old }
 {
-    let written = cursor.u64().ok_or(CopyFault::Short)?;
-    let flushed = cursor.u64().ok_or(CopyFault::Short)?;
-    let applied = cursor.u64().ok_or(CopyFault::Short)?;
-    let clock = cursor.u64().ok_or(CopyFault::Short)?;
+    let written = int64_of(cursor)?;
+    let flushed = int64_of(cursor)?;
+    let applied = int64_of(cursor)?;
+    let clock = signed64_of(cursor)?;
     let ask = ask_of(cursor)?;
-    ended_at(cursor)?;
+    end_of(cursor)?;
     Ok(Status {
         written,
         flushed,
         applied,
-        clock: clock.cast_signed(),
+        clock,
         ask,
     })
 }

@@ -6,6 +6,7 @@ ghost use Rattle.copyboth.specs.XLogData.{xlogdata};
 ghost use Rattle.copyboth.specs.Reading.{xlogdata_at};
 
 use crate::fault::CopyFault;
+use crate::fields::{int64_of, signed64_of};
 use bytes::BytesMut;
 use frames::{Cursor, put_byte, put_bytes, put_int64};
 use std::alloc::AllocError;
@@ -73,21 +74,20 @@ fn put_xlogdata(
     put_int64(out, start)?;
     put_int64(out, end)?;
     put_int64(out, clock.cast_unsigned())?;
-    put_bytes(out, payload)?;
-    Ok(())
+    put_bytes(out, payload)
 }
 
 /// What stands behind the kind byte.
 pub(crate) fn xlogdata_of<'a>(cursor: &mut Cursor<'a>) -> Result<XLogData<'a>, CopyFault>
     ensures { result ≡ xlogdata_at cursor.old }
 {
-    let start = cursor.u64().ok_or(CopyFault::Short)?;
-    let end = cursor.u64().ok_or(CopyFault::Short)?;
-    let clock = cursor.u64().ok_or(CopyFault::Short)?;
+    let start = int64_of(cursor)?;
+    let end = int64_of(cursor)?;
+    let clock = signed64_of(cursor)?;
     Ok(XLogData {
         start,
         end,
-        clock: clock.cast_signed(),
+        clock,
         payload: cursor.rest(),
     })
 }

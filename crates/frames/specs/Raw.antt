@@ -18,3 +18,8 @@ abbrev pub as_value : Result (Option (Bor (List ℕ))) FrameFault → Result Dat
 as_value (Ok None) = Ok Null
 as_value (Ok (Some bytes)) = Ok (Bytes bytes.now)
 as_value (Err e) = Err e
+
+-- a string as a reader lends it
+abbrev pub as_bytes : Result (Bor (List ℕ)) FrameFault → Result (List ℕ) FrameFault
+as_bytes (Ok bytes) = Ok bytes.now
+as_bytes (Err e) = Err e

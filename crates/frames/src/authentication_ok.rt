@@ -8,6 +8,7 @@ ghost use Rattle.frames.specs.Plain.{authentication_at};
 use crate::body::end_of;
 use crate::cursor::Cursor;
 use crate::fault::FrameFault;
+use crate::field::int32;
 
 /// The type byte of AuthenticationOk (PostgreSQL 15, 55.7).
 ///
@@ -20,7 +21,7 @@ pub(crate) fn authentication_of(body: &[u8]) -> Result<u32, FrameFault>
     ensures { Gives result (whole always (authentication_at body.now)) }
 {
     let mut cursor = Cursor::new(body);
-    let asked = cursor.u32().ok_or(FrameFault::BadBody)?;
+    let asked = int32(&mut cursor)?;
     if asked != 0 {
         return Err(FrameFault::BadBody);
     }

@@ -9,6 +9,7 @@ ghost use Rattle.frames.specs.Putting.{Puts};
 use crate::body::end_of;
 use crate::cursor::Cursor;
 use crate::fault::FrameFault;
+use crate::field::int32;
 use crate::put::put_int32;
 use bytes::BytesMut;
 use std::alloc::AllocError;
@@ -33,8 +34,8 @@ pub(crate) fn backend_key_of(body: &[u8]) -> Result<(u32, u32), FrameFault>
     ensures { Gives result (whole always (backend_key_at body.now)) }
 {
     let mut cursor = Cursor::new(body);
-    let process = cursor.u32().ok_or(FrameFault::BadBody)?;
-    let key = cursor.u32().ok_or(FrameFault::BadBody)?;
+    let process = int32(&mut cursor)?;
+    let key = int32(&mut cursor)?;
     end_of(&cursor)?;
     Ok((process, key))
 }

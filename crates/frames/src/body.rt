@@ -7,6 +7,7 @@ ghost use Rattle.frames.specs.Frame.{Gives};
 
 use crate::cursor::{Cursor, utf8_of};
 use crate::fault::FrameFault;
+use crate::field::string;
 use crate::text::Text;
 use std::alloc::Global;
 
@@ -33,7 +34,7 @@ pub(crate) fn only_text(alloc: Global, body: &[u8]) -> Result<Text, FrameFault>
     ensures { Gives result (whole is_utf8 (text_at body.now)) }
 {
     let mut cursor = Cursor::new(body);
-    let text = cursor.cstr().ok_or(FrameFault::BadBody)?;
+    let text = string(&mut cursor)?;
     end_of(&cursor)?;
     text_of(alloc, text)
 }

@@ -9,6 +9,7 @@ ghost use Rattle.frames.specs.Putting.{Puts};
 
 use crate::cursor::Cursor;
 use crate::fault::FrameFault;
+use crate::field::{byte, int16};
 use crate::items::Items;
 use crate::list::{Field, Put, counted_of};
 use crate::put::put_int16;
@@ -39,12 +40,12 @@ impl Field for u16 {
     ghost is_text = { always };
 
     fn pass(cursor: &mut Cursor<'_>) -> Result<(), FrameFault> {
-        cursor.u16().ok_or(FrameFault::BadBody)?;
+        int16(cursor)?;
         Ok(())
     }
 
     fn read(_alloc: Global, cursor: &mut Cursor<'_>) -> Result<Self, FrameFault> {
-        cursor.u16().ok_or(FrameFault::BadBody)
+        int16(cursor)
     }
 }
 
@@ -77,7 +78,7 @@ pub(crate) fn copy_both_of(alloc: Global, body: &[u8]) -> Result<CopyBothRespons
     ensures { Gives result (whole always (copy_both_at body.now)) }
 {
     let mut cursor = Cursor::new(body);
-    let format = cursor.u8().ok_or(FrameFault::BadBody)?;
+    let format = byte(&mut cursor)?;
     let formats = formats_of(alloc, &mut cursor)?;
     Ok(CopyBothResponse { format, formats })
 }

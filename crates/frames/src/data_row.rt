@@ -10,6 +10,7 @@ ghost use Rattle.frames.specs.DataRow.{data_value, value_at, FitsValue};
 
 use crate::cursor::Cursor;
 use crate::fault::FrameFault;
+use crate::field::int32;
 use crate::items::Items;
 use crate::list::{Field, Put, counted_of};
 use crate::put::{put_bytes, put_int32};
@@ -48,7 +49,7 @@ pub enum DataValue {
 fn lent_value<'a>(cursor: &mut Cursor<'a>) -> Result<Option<&'a [u8]>, FrameFault>
     ensures { GivesAt (as_value result) cursor.new (checked_at always (value_at cursor.old)) }
 {
-    let length = cursor.u32().ok_or(FrameFault::BadBody)?;
+    let length = int32(cursor)?;
     if length == NO_LENGTH {
         return Ok(None);
     }

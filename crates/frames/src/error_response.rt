@@ -8,6 +8,7 @@ ghost use Rattle.frames.specs.ErrorResponse.{error_field, error_field_at, is_err
 use crate::body::text_of;
 use crate::cursor::Cursor;
 use crate::fault::FrameFault;
+use crate::field::{byte, string};
 use crate::items::Items;
 use crate::list::{Field, Put};
 use crate::put::{put_byte, put_string};
@@ -48,15 +49,15 @@ impl Field for ErrorField {
 
     #[tactic(auto, unfolding(crate::specs::ErrorResponse::error_field_at))]
     fn pass(cursor: &mut Cursor<'_>) -> Result<(), FrameFault> {
-        cursor.u8().ok_or(FrameFault::BadBody)?;
-        cursor.cstr().ok_or(FrameFault::BadBody)?;
+        byte(cursor)?;
+        string(cursor)?;
         Ok(())
     }
 
     #[tactic(auto, unfolding(crate::specs::ErrorResponse::error_field_at))]
     fn read(alloc: Global, cursor: &mut Cursor<'_>) -> Result<Self, FrameFault> {
-        let code = cursor.u8().ok_or(FrameFault::BadBody)?;
-        let text = cursor.cstr().ok_or(FrameFault::BadBody)?;
+        let code = byte(cursor)?;
+        let text = string(cursor)?;
         let text = text_of(alloc, text)?;
         Ok(ErrorField { code, text })
     }

@@ -14,6 +14,7 @@ mod cursor;
 mod data_row;
 mod error_response;
 mod fault;
+mod field;
 mod frame;
 mod front;
 mod items;

@@ -12,6 +12,7 @@ ghost use Rattle.frames.specs.Frame.{Gives};
 use crate::body::end_of;
 use crate::cursor::Cursor;
 use crate::fault::FrameFault;
+use crate::field::int16;
 use crate::items::Items;
 use crate::put::{put_byte, put_int16};
 use bytes::BytesMut;
@@ -106,7 +107,7 @@ pub(crate) fn counted_of<T: Field + Drop>(
 ) -> Result<Items<T>, FrameFault>
     ensures { Gives result (whole (list_all T.is_text) (counted_at T.field_at cursor.old)) }
 {
-    let count = cursor.u16().ok_or(FrameFault::BadBody)?;
+    let count = int16(cursor)?;
     if count >= 1 << 15 {
         return Err(FrameFault::BadBody);
     }

@@ -7,6 +7,7 @@ ghost use Rattle.frames.specs.Parameter.{parameter_at, is_parameter_text};
 use crate::body::text_of;
 use crate::cursor::Cursor;
 use crate::fault::FrameFault;
+use crate::field::string;
 use crate::list::Field;
 use crate::text::Text;
 use std::alloc::Global;
@@ -31,15 +32,15 @@ impl Field for Parameter {
 
     #[tactic(auto, unfolding(crate::specs::Parameter::parameter_at))]
     fn pass(cursor: &mut Cursor<'_>) -> Result<(), FrameFault> {
-        cursor.cstr().ok_or(FrameFault::BadBody)?;
-        cursor.cstr().ok_or(FrameFault::BadBody)?;
+        string(cursor)?;
+        string(cursor)?;
         Ok(())
     }
 
     #[tactic(auto, unfolding(crate::specs::Parameter::parameter_at))]
     fn read(alloc: Global, cursor: &mut Cursor<'_>) -> Result<Self, FrameFault> {
-        let name = cursor.cstr().ok_or(FrameFault::BadBody)?;
-        let value = cursor.cstr().ok_or(FrameFault::BadBody)?;
+        let name = string(cursor)?;
+        let value = string(cursor)?;
         let name = text_of(alloc, name)?;
         let value = text_of(alloc, value)?;
         Ok(Parameter { name, value })

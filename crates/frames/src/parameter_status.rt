@@ -9,6 +9,7 @@ ghost use Rattle.frames.specs.Putting.{Puts};
 use crate::body::{end_of, text_of};
 use crate::cursor::Cursor;
 use crate::fault::FrameFault;
+use crate::field::string;
 use crate::parameter::Parameter;
 use crate::put::put_string;
 use bytes::BytesMut;
@@ -26,8 +27,8 @@ pub(crate) fn parameter_status_of(alloc: Global, body: &[u8]) -> Result<Paramete
     ensures { Gives result (whole is_parameter_text (parameter_at body.now)) }
 {
     let mut cursor = Cursor::new(body);
-    let name = cursor.cstr().ok_or(FrameFault::BadBody)?;
-    let value = cursor.cstr().ok_or(FrameFault::BadBody)?;
+    let name = string(&mut cursor)?;
+    let value = string(&mut cursor)?;
     end_of(&cursor)?;
     let name = text_of(alloc, name)?;
     let value = text_of(alloc, value)?;

@@ -8,6 +8,7 @@ ghost use Rattle.frames.specs.Plain.{status_letter, status_at};
 use crate::body::end_of;
 use crate::cursor::Cursor;
 use crate::fault::FrameFault;
+use crate::field::byte;
 
 /// The type byte of ReadyForQuery (PostgreSQL 15, 55.7).
 ///
@@ -40,7 +41,7 @@ pub(crate) fn ready_of(body: &[u8]) -> Result<Status, FrameFault>
     ensures { Gives result (whole always (status_at body.now)) }
 {
     let mut cursor = Cursor::new(body);
-    let status = match cursor.u8().ok_or(FrameFault::BadBody)? {
+    let status = match byte(&mut cursor)? {
         b'I' => Status::Idle,
         b'T' => Status::InTransaction,
         b'E' => Status::Failed,

@@ -8,6 +8,7 @@ ghost use Rattle.frames.specs.RowDescription.{column, column_type, column_at, ty
 use crate::body::text_of;
 use crate::cursor::Cursor;
 use crate::fault::FrameFault;
+use crate::field::{int16, int32, string};
 use crate::items::Items;
 use crate::list::{Field, Put};
 use crate::put::{put_int16, put_int32, put_string};
@@ -58,9 +59,9 @@ pub struct ColumnType {
 fn type_of(cursor: &mut Cursor<'_>) -> Result<ColumnType, FrameFault>
     ensures { GivesAt result cursor.new (passed (λ t. t) (type_at cursor.old)) }
 {
-    let oid = cursor.u32().ok_or(FrameFault::BadBody)?;
-    let size = cursor.u16().ok_or(FrameFault::BadBody)?.cast_signed();
-    let modifier = cursor.u32().ok_or(FrameFault::BadBody)?.cast_signed();
+    let oid = int32(cursor)?;
+    let size = int16(cursor)?.cast_signed();
+    let modifier = int32(cursor)?.cast_signed();
     Ok(ColumnType {
         oid,
         size,
@@ -77,21 +78,21 @@ impl Field for ColumnDescription {
 
     #[tactic(auto, unfolding(crate::specs::RowDescription::column_at))]
     fn pass(cursor: &mut Cursor<'_>) -> Result<(), FrameFault> {
-        cursor.cstr().ok_or(FrameFault::BadBody)?;
-        cursor.u32().ok_or(FrameFault::BadBody)?;
-        cursor.u16().ok_or(FrameFault::BadBody)?;
+        string(cursor)?;
+        int32(cursor)?;
+        int16(cursor)?;
         type_of(cursor)?;
-        cursor.u16().ok_or(FrameFault::BadBody)?;
+        int16(cursor)?;
         Ok(())
     }
 
     #[tactic(auto, unfolding(crate::specs::RowDescription::column_at))]
     fn read(alloc: Global, cursor: &mut Cursor<'_>) -> Result<Self, FrameFault> {
-        let name = cursor.cstr().ok_or(FrameFault::BadBody)?;
-        let table = cursor.u32().ok_or(FrameFault::BadBody)?;
-        let attribute = cursor.u16().ok_or(FrameFault::BadBody)?.cast_signed();
+        let name = string(cursor)?;
+        let table = int32(cursor)?;
+        let attribute = int16(cursor)?.cast_signed();
         let data_type = type_of(cursor)?;
-        let format = cursor.u16().ok_or(FrameFault::BadBody)?;
+        let format = int16(cursor)?;
         let name = text_of(alloc, name)?;
         Ok(ColumnDescription {
             name,

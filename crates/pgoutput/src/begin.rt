@@ -6,7 +6,7 @@ ghost use Rattle.pgoutput.specs.Reading.{Gives};
 ghost use Rattle.pgoutput.specs.Begin.{begin, begin_at};
 
 use crate::fault::OutFault;
-use crate::fields::{put_signed64, signed64_of};
+use crate::fields::{number32_of, number64_of, put_signed64, signed64_of};
 use bytes::BytesMut;
 use frames::{Cursor, put_int32, put_int64};
 use std::alloc::AllocError;
@@ -34,9 +34,9 @@ pub(crate) fn begin_of(cursor: &mut Cursor<'_>) -> Result<Begin, OutFault>
     ensures exact { Gives result cursor.new (begin_at cursor.old) }
     ensures steady { result ≢ Err OutFault.Memory }
 {
-    let position = cursor.u64().ok_or(OutFault::Short)?;
+    let position = number64_of(cursor)?;
     let time = signed64_of(cursor)?;
-    let xid = cursor.u32().ok_or(OutFault::Short)?;
+    let xid = number32_of(cursor)?;
     Ok(Begin {
         position,
         time,
@@ -50,6 +50,5 @@ pub(crate) fn put_begin(out: &mut BytesMut, message: &Begin) -> Result<(), Alloc
 {
     put_int64(out, message.position)?;
     put_signed64(out, message.time)?;
-    put_int32(out, message.xid)?;
-    Ok(())
+    put_int32(out, message.xid)
 }

@@ -6,7 +6,7 @@ ghost use Rattle.pgoutput.specs.Reading.{Gives};
 ghost use Rattle.pgoutput.specs.Commit.{commit, commit_at};
 
 use crate::fault::OutFault;
-use crate::fields::{expected_of, put_signed64, signed64_of};
+use crate::fields::{expected_of, number64_of, put_signed64, signed64_of};
 use bytes::BytesMut;
 use frames::{Cursor, put_byte, put_int64};
 use std::alloc::AllocError;
@@ -38,8 +38,8 @@ pub(crate) fn commit_of(cursor: &mut Cursor<'_>) -> Result<Commit, OutFault>
     ensures steady { result ≢ Err OutFault.Memory }
 {
     expected_of(cursor, COMMIT_FLAGS)?;
-    let position = cursor.u64().ok_or(OutFault::Short)?;
-    let end = cursor.u64().ok_or(OutFault::Short)?;
+    let position = number64_of(cursor)?;
+    let end = number64_of(cursor)?;
     let time = signed64_of(cursor)?;
     Ok(Commit {
         position,

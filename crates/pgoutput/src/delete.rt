@@ -6,6 +6,7 @@ ghost use Rattle.pgoutput.specs.Reading.{Gives};
 ghost use Rattle.pgoutput.specs.Delete.{delete, delete_at, IsShortDelete};
 
 use crate::fault::OutFault;
+use crate::fields::number32_of;
 use crate::old_tuple::{OldTuple, old_tuple_of, put_old_tuple};
 use bytes::BytesMut;
 use frames::{Cursor, put_int32};
@@ -30,7 +31,7 @@ pub struct Delete {
 pub(crate) fn delete_of(alloc: Global, cursor: &mut Cursor<'_>) -> Result<Delete, OutFault>
     ensures { Gives result cursor.new (delete_at cursor.old) }
 {
-    let oid = cursor.u32().ok_or(OutFault::Short)?;
+    let oid = number32_of(cursor)?;
     let old = old_tuple_of(alloc, cursor)?;
     Ok(Delete { oid, old })
 }

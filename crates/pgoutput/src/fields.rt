@@ -2,9 +2,9 @@
 
 ghost use Rattle.std.specs.Prelude.{◌≡◌, ◌≢◌, ◌^◌, ◌<◌, length, Err};
 ghost use Rattle.std.specs.Int.{w32, w64, cast_unsigned};
-ghost use Rattle.frames.specs.Fields.{int32, int64};
+ghost use Rattle.frames.specs.Fields.{byte_at, int32, int64, number_at};
 ghost use Rattle.frames.specs.Putting.{Puts};
-ghost use Rattle.pgoutput.specs.Reading.{Gives, expected, count16_at, count32_at, signed32_at, signed64_at, name_at, text_at};
+ghost use Rattle.pgoutput.specs.Reading.{Gives, expected, short, count16_at, count32_at, signed32_at, signed64_at, name_at, text_at};
 ghost use Rattle.pgoutput.specs.Tuple.{counted_text};
 
 use crate::fault::OutFault;
@@ -12,12 +12,33 @@ use bytes::BytesMut;
 use frames::{Cursor, Text, put_bytes, put_int32, put_int64, utf8_of};
 use std::alloc::{AllocError, Global};
 
+pub(crate) fn byte_of(cursor: &mut Cursor<'_>) -> Result<u8, OutFault>
+    ensures exact { Gives result cursor.new (short (byte_at cursor.old)) }
+    ensures steady { result ≢ Err OutFault.Memory }
+{
+    cursor.u8().ok_or(OutFault::Short)
+}
+
+pub(crate) fn number32_of(cursor: &mut Cursor<'_>) -> Result<u32, OutFault>
+    ensures exact { Gives result cursor.new (short (number_at w32 cursor.old)) }
+    ensures steady { result ≢ Err OutFault.Memory }
+{
+    cursor.u32().ok_or(OutFault::Short)
+}
+
+pub(crate) fn number64_of(cursor: &mut Cursor<'_>) -> Result<u64, OutFault>
+    ensures exact { Gives result cursor.new (short (number_at w64 cursor.old)) }
+    ensures steady { result ≢ Err OutFault.Memory }
+{
+    cursor.u64().ok_or(OutFault::Short)
+}
+
 /// Moves past this letter; another one is O3.
 pub(crate) fn expected_of(cursor: &mut Cursor<'_>, letter: u8) -> Result<(), OutFault>
     ensures exact { Gives result cursor.new (expected letter cursor.old) }
     ensures steady { result ≢ Err OutFault.Memory }
 {
-    let found = cursor.u8().ok_or(OutFault::Short)?;
+    let found = byte_of(cursor)?;
     if found != letter {
         return Err(OutFault::BadMark);
     }
@@ -39,7 +60,7 @@ pub(crate) fn count16_of(cursor: &mut Cursor<'_>) -> Result<u16, OutFault>
 pub(crate) fn count32_of(cursor: &mut Cursor<'_>) -> Result<u32, OutFault>
     ensures { Gives result cursor.new (count32_at cursor.old) }
 {
-    let count = cursor.u32().ok_or(OutFault::Short)?;
+    let count = number32_of(cursor)?;
     if count < 1 << 31 {
         return Ok(count);
     }
@@ -49,7 +70,7 @@ pub(crate) fn count32_of(cursor: &mut Cursor<'_>) -> Result<u32, OutFault>
 pub(crate) fn signed32_of(cursor: &mut Cursor<'_>) -> Result<i32, OutFault>
     ensures { Gives result cursor.new (signed32_at cursor.old) }
 {
-    let number = cursor.u32().ok_or(OutFault::Short)?;
+    let number = number32_of(cursor)?;
     Ok(number.cast_signed())
 }
 
@@ -57,7 +78,7 @@ pub(crate) fn signed64_of(cursor: &mut Cursor<'_>) -> Result<i64, OutFault>
     ensures exact { Gives result cursor.new (signed64_at cursor.old) }
     ensures steady { result ≢ Err OutFault.Memory }
 {
-    let number = cursor.u64().ok_or(OutFault::Short)?;
+    let number = number64_of(cursor)?;
     Ok(number.cast_signed())
 }
 

@@ -6,7 +6,7 @@ ghost use Rattle.pgoutput.specs.Reading.{Gives};
 ghost use Rattle.pgoutput.specs.Insert.{insert, insert_at, IsShortInsert};
 
 use crate::fault::OutFault;
-use crate::fields::expected_of;
+use crate::fields::{expected_of, number32_of};
 use crate::tuple::{Cell, put_tuple, tuple_of};
 use bytes::BytesMut;
 use frames::{Cursor, Items, put_byte, put_int32};
@@ -35,7 +35,7 @@ pub struct Insert {
 pub(crate) fn insert_of(alloc: Global, cursor: &mut Cursor<'_>) -> Result<Insert, OutFault>
     ensures { Gives result cursor.new (insert_at cursor.old) }
 {
-    let oid = cursor.u32().ok_or(OutFault::Short)?;
+    let oid = number32_of(cursor)?;
     expected_of(cursor, NEW)?;
     let new = tuple_of(alloc, cursor)?;
     Ok(Insert { oid, new })
@@ -48,6 +48,5 @@ pub(crate) fn put_insert(out: &mut BytesMut, message: &Insert) -> Result<(), All
 {
     put_int32(out, message.oid)?;
     put_byte(out, NEW)?;
-    put_tuple(out, &message.new)?;
-    Ok(())
+    put_tuple(out, &message.new)
 }

@@ -9,6 +9,7 @@ use crate::begin::{BEGIN, Begin, begin_of, put_begin};
 use crate::commit::{COMMIT, Commit, commit_of, put_commit};
 use crate::delete::{DELETE, Delete, delete_of, put_delete};
 use crate::fault::OutFault;
+use crate::fields::byte_of;
 use crate::insert::{INSERT, Insert, insert_of, put_insert};
 use crate::relation::{RELATION, Relation, put_relation, relation_of};
 use crate::truncate::{TRUNCATE, Truncate, put_truncate, truncate_of};
@@ -71,7 +72,7 @@ fn logical_of(alloc: Global, cursor: &mut Cursor<'_>) -> Result<Logical, OutFaul
     ensures exact { Gives result cursor.new (logical_at cursor.old) }
     ensures memory { result ≡ Err OutFault.Memory → Stands OutFault.Memory cursor.old }
 {
-    match cursor.u8().ok_or(OutFault::Short)? {
+    match byte_of(cursor)? {
         BEGIN => Ok(Logical::Begin(begin_of(cursor)?)),
         COMMIT => Ok(Logical::Commit(commit_of(cursor)?)),
         RELATION => Ok(Logical::Relation(relation_of(alloc, cursor)?)),

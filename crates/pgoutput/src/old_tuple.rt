@@ -6,6 +6,7 @@ ghost use Rattle.pgoutput.specs.Reading.{Gives};
 ghost use Rattle.pgoutput.specs.OldTuple.{old_tuple, old_tuple_at, IsShortOldTuple};
 
 use crate::fault::OutFault;
+use crate::fields::byte_of;
 use crate::tuple::{Cell, put_tuple, tuple_of};
 use bytes::BytesMut;
 use frames::{Cursor, Items, put_byte};
@@ -35,7 +36,7 @@ pub enum OldTuple {
 pub(crate) fn old_tuple_of(alloc: Global, cursor: &mut Cursor<'_>) -> Result<OldTuple, OutFault>
     ensures { Gives result cursor.new (old_tuple_at cursor.old) }
 {
-    match cursor.u8().ok_or(OutFault::Short)? {
+    match byte_of(cursor)? {
         KEY => Ok(OldTuple::Key(tuple_of(alloc, cursor)?)),
         OLD => Ok(OldTuple::Full(tuple_of(alloc, cursor)?)),
         _ => Err(OutFault::BadMark),

@@ -6,7 +6,7 @@ ghost use Rattle.pgoutput.specs.Reading.{Gives};
 ghost use Rattle.pgoutput.specs.Relation.{identity_letter, identity_of, is_key_of, column_at, columns_at, relation, relation_at, IsShortRelation};
 
 use crate::fault::OutFault;
-use crate::fields::{count16_of, name_of, put_signed32, signed32_of};
+use crate::fields::{byte_of, count16_of, name_of, number32_of, put_signed32, signed32_of};
 use crate::list::{PutItem, ReadItem, items_of, put_items};
 use bytes::BytesMut;
 use frames::{Cursor, Items, Text, put_byte, put_int32, put_string};
@@ -70,10 +70,10 @@ pub struct Column {
 pub(crate) fn relation_of(alloc: Global, cursor: &mut Cursor<'_>) -> Result<Relation, OutFault>
     ensures { Gives result cursor.new (relation_at cursor.old) }
 {
-    let oid = cursor.u32().ok_or(OutFault::Short)?;
+    let oid = number32_of(cursor)?;
     let namespace = name_of(alloc, cursor)?;
     let name = name_of(alloc, cursor)?;
-    let letter = cursor.u8().ok_or(OutFault::Short)?;
+    let letter = byte_of(cursor)?;
     let identity = identity_by(letter).ok_or(OutFault::BadMark)?;
     let columns = columns_of(alloc, cursor)?;
     Ok(Relation {
@@ -109,10 +109,10 @@ fn columns_of(alloc: Global, cursor: &mut Cursor<'_>) -> Result<Items<Column>, O
 fn column_of(alloc: Global, cursor: &mut Cursor<'_>) -> Result<Column, OutFault>
     ensures { Gives result cursor.new (column_at cursor.old) }
 {
-    let flags = cursor.u8().ok_or(OutFault::Short)?;
+    let flags = byte_of(cursor)?;
     let is_key = is_key_by(flags).ok_or(OutFault::BadMark)?;
     let name = name_of(alloc, cursor)?;
-    let kind = cursor.u32().ok_or(OutFault::Short)?;
+    let kind = number32_of(cursor)?;
     let modifier = signed32_of(cursor)?;
     Ok(Column {
         is_key,

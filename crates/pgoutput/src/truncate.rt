@@ -8,7 +8,7 @@ ghost use Rattle.pgoutput.specs.Reading.{Gives};
 ghost use Rattle.pgoutput.specs.Truncate.{truncate, truncate_at, options_letter, options_of, IsShortTruncate};
 
 use crate::fault::OutFault;
-use crate::fields::count32_of;
+use crate::fields::{byte_of, count32_of, number32_of};
 use crate::list::{PutItem, ReadItem, items_of, put_each};
 use bytes::BytesMut;
 use frames::{Cursor, Items, put_byte, put_int32};
@@ -50,7 +50,7 @@ pub(crate) fn truncate_of(alloc: Global, cursor: &mut Cursor<'_>) -> Result<Trun
     ensures { Gives result cursor.new (truncate_at cursor.old) }
 {
     let count = count32_of(cursor)?;
-    let letter = cursor.u8().ok_or(OutFault::Short)?;
+    let letter = byte_of(cursor)?;
     let options = options_by(letter).ok_or(OutFault::BadMark)?;
     let oids = items_of(alloc, cursor, count as usize)?;
     Ok(Truncate { options, oids })
@@ -101,7 +101,7 @@ impl ReadItem for u32 {
     ghost item_at = { oid_at };
 
     fn read(_alloc: Global, cursor: &mut Cursor<'_>) -> Result<Self, OutFault> {
-        cursor.u32().ok_or(OutFault::Short)
+        number32_of(cursor)
     }
 }
 

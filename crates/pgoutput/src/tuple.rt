@@ -6,7 +6,7 @@ ghost use Rattle.pgoutput.specs.Reading.{Gives};
 ghost use Rattle.pgoutput.specs.Tuple.{cell_at, tuple, tuple_at, IsShortTuple};
 
 use crate::fault::OutFault;
-use crate::fields::{count16_of, put_text, text_of};
+use crate::fields::{byte_of, count16_of, put_text, text_of};
 use crate::list::{PutItem, ReadItem, items_of, put_items};
 use bytes::BytesMut;
 use frames::{Cursor, Items, Text, put_byte};
@@ -38,7 +38,7 @@ pub enum Cell {
 fn cell_of(alloc: Global, cursor: &mut Cursor<'_>) -> Result<Cell, OutFault>
     ensures { Gives result cursor.new (cell_at cursor.old) }
 {
-    match cursor.u8().ok_or(OutFault::Short)? {
+    match byte_of(cursor)? {
         NULL => Ok(Cell::Null),
         UNCHANGED => Ok(Cell::Unchanged),
         TEXT => Ok(Cell::Text(text_of(alloc, cursor)?)),

@@ -6,7 +6,7 @@ ghost use Rattle.pgoutput.specs.Reading.{Gives};
 ghost use Rattle.pgoutput.specs.Update.{update, update_at, old_if_any, rows_at, tuples_at, IsShortIfAny, IsShortUpdate};
 
 use crate::fault::OutFault;
-use crate::fields::expected_of;
+use crate::fields::{byte_of, expected_of, number32_of};
 use crate::insert::NEW;
 use crate::old_tuple::{KEY, OLD, OldTuple, put_old_tuple};
 use crate::tuple::{Cell, put_tuple, tuple_of};
@@ -37,7 +37,7 @@ pub struct Update {
 pub(crate) fn update_of(alloc: Global, cursor: &mut Cursor<'_>) -> Result<Update, OutFault>
     ensures { Gives result cursor.new (update_at cursor.old) }
 {
-    let oid = cursor.u32().ok_or(OutFault::Short)?;
+    let oid = number32_of(cursor)?;
     let (old, new) = rows_of(alloc, cursor)?;
     Ok(Update { oid, old, new })
 }
@@ -50,7 +50,7 @@ fn rows_of(
 ) -> Result<(Option<OldTuple>, Items<Cell>), OutFault>
     ensures { Gives result cursor.new (rows_at cursor.old) }
 {
-    match cursor.u8().ok_or(OutFault::Short)? {
+    match byte_of(cursor)? {
         NEW => Ok((None, tuple_of(alloc, cursor)?)),
         KEY => {
             let (old, new) = tuples_of(alloc, cursor)?;

@@ -95,12 +95,13 @@ another_column key columns d =
     if is_column columns name then None
     else Some (record { name = name; kind = kind; is_key = list_any (bytes_eq name) key }))))
 
--- each further column, while there is room for one more
+-- the next column, where there is room for one more
+unfoldable pub next_column : List (List ℕ) → List Column → Data → Option Column
+next_column key columns d = if nat_lt (length columns) MAX_COLUMNS then another_column key columns d else None
+
 abbrev pub columns_behind : List (List ℕ) → List Column → Items → Option (List Column)
 columns_behind key columns no_items = Some columns
-columns_behind key columns (item d ds) =
-    if nat_lt (length columns) MAX_COLUMNS then and_then (another_column key columns d) (λ column. columns_behind key (columns ++ column ∷ []) ds)
-    else None
+columns_behind key columns (item d ds) = and_then (next_column key columns d) (λ column. columns_behind key (columns ++ column ∷ []) ds)
 
 unfoldable pub columns_in : List (List ℕ) → Data → Option (List Column)
 columns_in key d = and_then (as_array d) (λ ds. and_then (columns_behind key [] ds) unless_empty)
@@ -121,23 +122,28 @@ is_more_than known (Some ms) = not (count_of ms == known)
 abbrev pub has_others : Data → Bool
 has_others d = is_more_than (if is_some (get (codes "identity") d) then 6 else 5) (as_table d)
 
+-- the columns, of which some have the names of the key
+unfoldable pub columns_at : Data → Result (List Column) Member
+columns_at d = do
+  key ← told members.Key (codes "key") names_in d
+  columns ← told members.Columns (codes "columns") (columns_in key) d
+  if list_all (is_column columns) key then Ok columns else Err members.Key
+
 unfoldable pub table_in : Data → Result Table Member
 table_in d = do
   oid ← told members.Oid (codes "oid") oid_in d
   schema ← told members.Schema (codes "schema") name_in d
   name ← told members.Name (codes "name") name_in d
   identity ← ok_or (identity_in (get (codes "identity") d)) members.Identity
-  key ← told members.Key (codes "key") names_in d
-  columns ← told members.Columns (codes "columns") (columns_in key) d
-  if not (list_all (is_column columns) key) then Err members.Key
-      else if has_others d then Err members.Other
+  columns ← columns_at d
+  if has_others d then Err members.Other
       else Ok (record { oid = oid; schema = schema; name = name; identity = identity; columns = columns })
 
--- what reading a table answers, memory apart
-abbrev pub ReadsTable : Result Table Unread → Result Table Member → Type 0
-ReadsTable (Ok t) read = read ≡ Ok t
-ReadsTable (Err (unread.Wrong which)) read = read ≡ Err which
-ReadsTable (Err unread.Memory) read = Unit {0}
+-- what reading a table or a part of it answers, memory apart
+abbrev pub Reads : {X : Type 0} → Result X Unread → Result X Member → Type 0
+Reads (Ok x) read = read ≡ Ok x
+Reads (Err (unread.Wrong which)) read = read ≡ Err which
+Reads (Err unread.Memory) read = Unit {0}
 
 abbrev pub is_namesake : Table → Table → Bool
 is_namesake u t = bytes_eq u.schema t.schema && bytes_eq u.name t.name
@@ -161,20 +167,23 @@ abbrev pub numbered : {X : Type 0} → ℕ → Result X Member → Result X Misf
 numbered n (Ok x) = Ok x
 numbered n (Err which) = Err (misfits.Table n which)
 
+-- the next table, where there is room for one more
+unfoldable pub next_table : List Table → Data → Result Table Misfit
+next_table tables d =
+    if nat_lt (length tables) MAX_TABLES then numbered (length tables + 1) (another_table tables d) else Err misfits.TooMany
+
 -- the tables of a list, in its order
 abbrev pub tables_behind : List Table → Items → Result (List Table) Misfit
 tables_behind tables no_items = Ok tables
-tables_behind tables (item d ds) =
-    if nat_lt (length tables) MAX_TABLES then (numbered (length tables + 1) (another_table tables d) >>= λ t. tables_behind (tables ++ t ∷ []) ds)
-    else Err misfits.TooMany
+tables_behind tables (item d ds) = next_table tables d >>= λ t. tables_behind (tables ++ t ∷ []) ds
 
 abbrev pub tables_of : Option Data → Result (List Table) Misfit
 tables_of None = Ok []
 tables_of (Some d) = ok_or (as_array d) misfits.NoList >>= λ ds. tables_behind [] ds
 
--- what reading the tables answers, memory apart
-abbrev pub ReadsTables : Result (List Table) CatalogFault → Result (List Table) Misfit → Type 0
-ReadsTables (Ok tables) read = read ≡ Ok tables
+-- what reading tables answers, memory apart
+abbrev pub ReadsTables : {X : Type 0} → Result X CatalogFault → Result X Misfit → Type 0
+ReadsTables (Ok x) read = read ≡ Ok x
 ReadsTables (Err (faults.BadTables misfit)) read = read ≡ Err misfit
 ReadsTables (Err (faults.NotToml line)) read = ⊥
 ReadsTables (Err faults.Memory) read = Unit {0}

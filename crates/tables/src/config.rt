@@ -3,7 +3,7 @@
 ghost use Rattle.std.specs.Prelude.{◌≡◌, ◌==◌, [], IfOk, option_map};
 ghost use Rattle.std.specs.List.{list_any, AllByRecursion};
 ghost use Rattle.toml.specs.View.{view, items_view};
-ghost use Rattle.tables.specs.Config.{Names, ReadsTable, ReadsTables, another_table, clash, is_namesake, named_by, tables_behind, tables_in, tables_of};
+ghost use Rattle.tables.specs.Config.{Names, Reads, ReadsTables, another_table, clash, is_namesake, named_by, next_table, tables_behind, tables_in, tables_of};
 ghost use Rattle.tables.specs.Tables.{IsTable};
 
 use crate::catalog::Catalog;
@@ -55,24 +55,34 @@ fn tables_behind(alloc: Global, values: &[Value]) -> Result<Items<Table>, Catalo
 {
     let mut tables = Vec::new(alloc);
     for value in values {
-        if tables.len() >= MAX_TABLES {
-            return Err(CatalogFault::BadTables(Misfit::TooMany));
-        }
-        match another_table(alloc, tables.as_slice(), value) {
-            Ok(table) => tables.push(table)?,
-            Err(Unread::Wrong(member)) => {
-                let number = tables.len() + 1;
-                return Err(CatalogFault::BadTables(Misfit::Table(number, member)));
-            }
-            Err(Unread::Memory) => return Err(CatalogFault::Memory),
-        }
+        let table = next_table(alloc, tables.as_slice(), value)?;
+        tables.push(table)?;
     }
     Ok(Items::new(tables))
 }
 
+/// The table behind these, where there is room for one more; a fault is told with its number.
+#[tactic(auto, unfolding(crate::specs::Config::next_table))]
+fn next_table(alloc: Global, tables: &[Table], value: &Value) -> Result<Table, CatalogFault>
+    ensures value { ReadsTables result (next_table tables.now (view value.now)) }
+    ensures fits { IfOk result IsTable }
+{
+    if tables.len() >= MAX_TABLES {
+        return Err(CatalogFault::BadTables(Misfit::TooMany));
+    }
+    match another_table(alloc, tables, value) {
+        Ok(table) => Ok(table),
+        Err(Unread::Wrong(member)) => {
+            let misfit = Misfit::Table(tables.len() + 1, member);
+            Err(CatalogFault::BadTables(misfit))
+        }
+        Err(Unread::Memory) => Err(CatalogFault::Memory),
+    }
+}
+
 #[tactic(auto, unfolding(crate::specs::Config::another_table))]
 fn another_table(alloc: Global, tables: &[Table], value: &Value) -> Result<Table, Unread>
-    ensures value { ReadsTable result (another_table tables.now (view value.now)) }
+    ensures value { Reads result (another_table tables.now (view value.now)) }
     ensures fits { IfOk result IsTable }
 {
     let table = table_in(alloc, value)?;

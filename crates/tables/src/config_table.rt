@@ -1,11 +1,14 @@
 //! A table in a configuration, with its columns.
 
-ghost use Rattle.std.specs.Prelude.{◌≡◌, [], codes, IfOk, IfSome, option_map};
+ghost use Rattle.std.specs.Prelude.{◌≡◌, ◌<◌, [], length, codes, IfOk, IfSome, option_map};
+ghost use Rattle.tables.specs.declared.config_table.TheConstants.{MAX_COLUMNS};
 ghost use Rattle.std.specs.List.{list_all};
 ghost use Rattle.toml.specs.Data.{get};
 ghost use Rattle.toml.specs.View.{view, items_view};
 ghost use Rattle.tables.specs.declared.config_table.Unread.TheVariants.{Memory};
-ghost use Rattle.tables.specs.Config.{and_then, another_column, columns_behind, columns_in, has_others, is_column, name_in, names_in, oid_in, pair_in, table_in, ReadsTable};
+ghost use Rattle.tables.specs.Config.{another_column, columns_at, columns_behind, columns_in, has_others, identity_in, is_column, name_in, names_in, next_column, oid_in, pair_in, table_in, told, Reads};
+ghost use Rattle.std.specs.Option.{ok_or};
+ghost use Rattle.tables.specs.declared.config_fault.Member.TheVariants as members;
 ghost use Rattle.tables.specs.Tables.{AreColumns, IsName, IsTable};
 
 use crate::column::Column;
@@ -13,6 +16,7 @@ use crate::config_fault::Member;
 use crate::config_member::{
     identity_in, is_among, is_more_than, kind_in, name_in, names_in, oid_in, unless_empty,
 };
+use crate::identity::Identity;
 use crate::table::Table;
 use frames::{Items, Text};
 use std::alloc::{AllocError, Global};
@@ -42,18 +46,14 @@ impl From<AllocError> for Unread {
 /// The table that a value names, or its first member that is wrong.
 #[tactic(auto, unfolding(crate::specs::Config::table_in))]
 pub(crate) fn table_in(alloc: Global, value: &Value) -> Result<Table, Unread>
-    ensures value { ReadsTable result (table_in (view value.now)) }
+    ensures value { Reads result (table_in (view value.now)) }
     ensures fits { IfOk result IsTable }
 {
-    let oid = oid_at(value).ok_or(Unread::Wrong(Member::Oid))?;
-    let schema = name_at(alloc, value, "schema")?.ok_or(Unread::Wrong(Member::Schema))?;
-    let name = name_at(alloc, value, "name")?.ok_or(Unread::Wrong(Member::Name))?;
-    let identity = identity_in(value.get("identity")).ok_or(Unread::Wrong(Member::Identity))?;
-    let key = key_at(alloc, value)?.ok_or(Unread::Wrong(Member::Key))?;
-    let columns = columns_at(alloc, key.as_slice(), value)?.ok_or(Unread::Wrong(Member::Columns))?;
-    if !are_columns(columns.as_slice(), key.as_slice()) {
-        return Err(Unread::Wrong(Member::Key));
-    }
+    let oid = oid_at(value)?;
+    let schema = name_at(alloc, value, "schema", Member::Schema)?;
+    let name = name_at(alloc, value, "name", Member::Name)?;
+    let identity = identity_at(value)?;
+    let columns = columns_at(alloc, value)?;
     if has_others(value) {
         return Err(Unread::Wrong(Member::Other));
     }
@@ -66,46 +66,65 @@ pub(crate) fn table_in(alloc: Global, value: &Value) -> Result<Table, Unread>
     })
 }
 
-fn oid_at(table: &Value) -> Option<u32>
-    ensures { result ≡ and_then (get (codes "oid") (view table.now)) oid_in }
+fn oid_at(table: &Value) -> Result<u32, Unread>
+    ensures { Reads result (told members.Oid (codes "oid") oid_in (view table.now)) }
 {
-    oid_in(table.get("oid")?)
+    let oid = table.get("oid").and_then(oid_in);
+    oid.ok_or(Unread::Wrong(Member::Oid))
 }
 
-fn name_at(alloc: Global, table: &Value, member: &str) -> Result<Option<Text>, AllocError>
-    ensures value { IfOk result (λ name. name ≡ and_then (get member.now (view table.now)) name_in) }
-    ensures named { IfOk result (λ name. IfSome name IsName) }
+/// The name in this member, which `which` tells where there is none.
+fn name_at(alloc: Global, table: &Value, member: &str, which: Member) -> Result<Text, Unread>
+    ensures value { Reads result (told which member.now name_in (view table.now)) }
+    ensures named { IfOk result IsName }
 {
-    let Some(value) = table.get(member) else {
-        return Ok(None);
+    match table.get(member).and_then(name_in) {
+        Some(name) => Ok(Text::copy_of(alloc, name)?),
+        None => Err(Unread::Wrong(which)),
+    }
+}
+
+fn identity_at(table: &Value) -> Result<Identity, Unread>
+    ensures { Reads result (ok_or (identity_in (get (codes "identity") (view table.now))) members.Identity) }
+{
+    identity_in(table.get("identity")).ok_or(Unread::Wrong(Member::Identity))
+}
+
+/// The columns, of which some have the names of the key.
+#[tactic(auto, unfolding(crate::specs::Config::columns_at))]
+fn columns_at(alloc: Global, table: &Value) -> Result<Items<Column>, Unread>
+    ensures value { Reads result (columns_at (view table.now)) }
+    ensures fits { IfOk result AreColumns }
+{
+    let key = key_at(alloc, table)?;
+    let columns = columns_beside(alloc, key.as_slice(), table)?;
+    if are_columns(columns.as_slice(), key.as_slice()) {
+        Ok(columns)
+    } else {
+        Err(Unread::Wrong(Member::Key))
+    }
+}
+
+fn key_at(alloc: Global, table: &Value) -> Result<Items<Text>, Unread>
+    ensures { Reads result (told members.Key (codes "key") names_in (view table.now)) }
+{
+    let Some(value) = table.get("key") else {
+        return Err(Unread::Wrong(Member::Key));
     };
-    match name_in(value) {
-        Some(name) => Ok(Some(Text::copy_of(alloc, name)?)),
-        None => Ok(None),
-    }
+    let names = names_in(alloc, value)?;
+    names.ok_or(Unread::Wrong(Member::Key))
 }
 
-fn key_at(alloc: Global, table: &Value) -> Result<Option<Items<Text>>, AllocError>
-    ensures { IfOk result (λ names. names ≡ and_then (get (codes "key") (view table.now)) names_in) }
+/// The columns beside a key of these names.
+fn columns_beside(alloc: Global, key: &[Text], table: &Value) -> Result<Items<Column>, Unread>
+    ensures value { Reads result (told members.Columns (codes "columns") (columns_in key.now) (view table.now)) }
+    ensures fits { IfOk result AreColumns }
 {
-    match table.get("key") {
-        Some(value) => names_in(alloc, value),
-        None => Ok(None),
-    }
-}
-
-fn columns_at(
-    alloc: Global,
-    key: &[Text],
-    table: &Value,
-) -> Result<Option<Items<Column>>, AllocError>
-    ensures value { IfOk result (λ columns. columns ≡ and_then (get (codes "columns") (view table.now)) (columns_in key.now)) }
-    ensures fits { IfOk result (λ columns. IfSome columns AreColumns) }
-{
-    match table.get("columns") {
-        Some(value) => columns_in(alloc, key, value),
-        None => Ok(None),
-    }
+    let Some(value) = table.get("columns") else {
+        return Err(Unread::Wrong(Member::Columns));
+    };
+    let columns = columns_in(alloc, key, value)?;
+    columns.ok_or(Unread::Wrong(Member::Columns))
 }
 
 fn are_columns(columns: &[Column], names: &[Text]) -> bool
@@ -151,15 +170,30 @@ fn columns_of(
 {
     let mut columns = Vec::new(alloc);
     for value in values {
-        if columns.len() >= MAX_COLUMNS {
-            return Ok(None);
-        }
-        let Some(column) = another_column(alloc, key, columns.as_slice(), value)? else {
+        let Some(column) = next_column(alloc, key, columns.as_slice(), value)? else {
             return Ok(None);
         };
         columns.push(column)?;
     }
     Ok(Some(Items::new(columns)))
+}
+
+/// The column behind these, where there is room for one more.
+#[tactic(auto, unfolding(crate::specs::Config::next_column))]
+fn next_column(
+    alloc: Global,
+    key: &[Text],
+    columns: &[Column],
+    value: &Value,
+) -> Result<Option<Column>, AllocError>
+    ensures value { IfOk result (λ column. column ≡ next_column key.now columns.now (view value.now)) }
+    ensures named { IfOk result (λ column. IfSome column (λ c. IsName c.name)) }
+    ensures room { IfOk result (λ column. IfSome column (λ _. length columns.now < MAX_COLUMNS)) }
+{
+    if columns.len() >= MAX_COLUMNS {
+        return Ok(None);
+    }
+    another_column(alloc, key, columns, value)
 }
 
 #[tactic(auto, unfolding(crate::specs::Config::another_column))]

@@ -1,0 +1,43 @@
+//! The fields of a body, each where it is there whole.
+
+ghost use Rattle.std.specs.Int.{w64};
+ghost use Rattle.frames.specs.Steps.{signed_at};
+ghost use Rattle.copyboth.specs.Reading.{Gives, ask_at, ended, int64_at};
+ghost use Rattle.copyboth.specs.declared.fault.CopyFault.TheVariants.{Short};
+ghost use Rattle.std.specs.Prelude.{◌≡◌};
+
+use crate::fault::CopyFault;
+use crate::keepalive::ASKS;
+use frames::Cursor;
+
+pub(crate) fn int64_of(cursor: &mut Cursor<'_>) -> Result<u64, CopyFault>
+    ensures { Gives result cursor.new (int64_at cursor.old) }
+{
+    cursor.u64().ok_or(CopyFault::Short)
+}
+
+pub(crate) fn signed64_of(cursor: &mut Cursor<'_>) -> Result<i64, CopyFault>
+    ensures { Gives result cursor.new (signed_at Short w64 cursor.old) }
+{
+    let number = int64_of(cursor)?;
+    Ok(number.cast_signed())
+}
+
+/// Whether an answer is asked for: by 1, and by no other byte.
+pub(crate) fn ask_of(cursor: &mut Cursor<'_>) -> Result<bool, CopyFault>
+    ensures { Gives result cursor.new (ask_at cursor.old) }
+{
+    let byte = cursor.u8().ok_or(CopyFault::Short)?;
+    Ok(byte == ASKS)
+}
+
+/// Nothing may stand behind a body.
+pub(crate) fn end_of(cursor: &Cursor<'_>) -> Result<(), CopyFault>
+    ensures { result ≡ ended cursor.now }
+{
+    if cursor.rest().is_empty() {
+        Ok(())
+    } else {
+        Err(CopyFault::Trailing)
+    }
+}
