@@ -59,9 +59,20 @@ pub fn see_all<L: LogName, R: Abort>(
     ends: &[(u64, u64)],
 ) -> Result<(), Fail> {
     for mut follower in followers {
-        follower.finish(alloc, receipts)?;
-        let seen = ends_of(alloc, follower.records.as_slice())?;
-        assert_eq!(rt; seen.as_slice(), ends);
+        see_one(rt, alloc, &mut follower, receipts, ends)?;
     }
+    Ok(())
+}
+
+fn see_one<L: LogName, R: Abort>(
+    rt: &R,
+    alloc: Global,
+    follower: &mut Follower<L>,
+    receipts: &[Receipt<L>],
+    ends: &[(u64, u64)],
+) -> Result<(), Fail> {
+    follower.finish(alloc, receipts)?;
+    let seen = ends_of(alloc, follower.records.as_slice())?;
+    assert_eq!(rt; seen.as_slice(), ends);
     Ok(())
 }

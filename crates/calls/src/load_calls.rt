@@ -100,10 +100,7 @@ pub fn run_load<L: LogName + Send + Sync, R: Threads + Wait + Abort + Sync>(
     let mut last = readers.pop().ok_or("a reader")?;
     let pacers = pacers(alloc, readers, load.seed)?;
     let (told, followers) = beside(rt, alloc, desk, pacers, load)?;
-    let log = log_of(rt, alloc, desk, &mut last)?;
-    see_log(rt, log.as_slice(), &told)?;
-    assert!(rt; !load.is_plain || log.len() == load.sessions.saturating_mul(100));
-    let ends = ends_of(alloc, log.as_slice())?;
+    let ends = see_whole(rt, alloc, desk, &mut last, &told, load)?;
     see_all(
         rt,
         alloc,
@@ -111,6 +108,21 @@ pub fn run_load<L: LogName + Send + Sync, R: Threads + Wait + Abort + Sync>(
         told.receipts.as_slice(),
         ends.as_slice(),
     )
+}
+
+/// The whole log has what the sessions did; where its records start and end.
+fn see_whole<L: LogName, R: Wait + Abort>(
+    rt: &R,
+    alloc: Global,
+    desk: &Mutex<Publisher<L>>,
+    last: &mut LogReader<L>,
+    told: &Told<L>,
+    load: Load,
+) -> Result<Vec<(u64, u64)>, Fail> {
+    let log = log_of(rt, alloc, desk, last)?;
+    see_log(rt, log.as_slice(), told)?;
+    assert!(rt; !load.is_plain || log.len() == load.sessions.saturating_mul(100));
+    Ok(ends_of(alloc, log.as_slice())?)
 }
 
 /// What the sessions did, and what was read beside them.

@@ -1,13 +1,14 @@
 //! A log and its sessions, for tests.
 
 use frames::Text;
-use publication::Publications;
+use publication::{Publications, Selection};
 use sender::Sender;
 use shared_log::{LogName, LogReader, ReadFault};
 use std::alloc::{AllocError, Global};
 use std::fmt::Debug;
 use std::sync::{Arc, Mutex, MutexGuard, Wait};
 use std::test::Fail;
+use std::thread::{Threads, join};
 use tables::{Catalog, Row, Value};
 use txlog::{Opened, Publisher, Receipt, SessionFault};
 use wal::{FIRST_POSITION, Record};
@@ -35,11 +36,19 @@ pub fn opened(alloc: Global, readers: usize) -> Result<Opened, Fail> {
 
 /// A sender of what the publication `p` publishes, from the beginning of the log on.
 pub fn sender_of_p(alloc: Global) -> Result<Sender, Fail> {
-    let catalog = Catalog::from_toml(alloc, CONFIGURATION)?;
-    let names = [Text::copy_of(alloc, "p")?];
-    let publications = Publications::from_toml(alloc, CONFIGURATION, &catalog)?;
-    let selection = publications.select(&names)?;
+    let selection = selection_of_p(alloc)?;
     Ok(Sender::start(alloc, selection, 0, FIRST_POSITION)?)
+}
+
+fn selection_of_p(alloc: Global) -> Result<Selection, Fail> {
+    let publications = publications(alloc)?;
+    let name = Text::copy_of(alloc, "p")?;
+    Ok(publications.select(&[name])?)
+}
+
+fn publications(alloc: Global) -> Result<Publications, Fail> {
+    let catalog = Catalog::from_toml(alloc, CONFIGURATION)?;
+    Ok(Publications::from_toml(alloc, CONFIGURATION, &catalog)?)
 }
 
 /// A row of the table public.item.
@@ -61,6 +70,22 @@ pub fn commit_under_lock<L: LogName, R: Wait>(
     let mut guard = desk.lock(rt);
     let done = commit_one(rt, &mut guard, row);
     MutexGuard::unlock(guard);
+    done
+}
+
+/// The same on a thread of its own, which is joined.
+pub fn commit_elsewhere<L: LogName + Send + Sync, R: Threads + Wait + Sync>(
+    rt: &R,
+    alloc: Global,
+    desk: &Mutex<Publisher<L>>,
+    row: (i32, &str, i64),
+) -> Result<Receipt<L>, SessionFault> {
+    let (id, name, qty) = row;
+    let (done, ()) = join(
+        rt,
+        || commit_under_lock(rt, alloc, desk, id, name, qty),
+        || (),
+    );
     done
 }
 

@@ -1,6 +1,6 @@
 //! A receipt that is learnt of on another thread than the one that committed.
 
-use crate::log_fixture::commit_under_lock;
+use crate::log_fixture::commit_elsewhere;
 use crate::work::{Work, do_work};
 use shared_log::{LogName, LogReader, ReadFault};
 use std::alloc::Global;
@@ -24,11 +24,40 @@ pub fn learn_elsewhere<L: LogName + Send + Sync, R: Threads + Wait + Abort + Syn
     readers: Vec<LogReader<L>>,
 ) -> Result<(), Fail> {
     let mut readers = readers;
-    let mut reader = readers.pop().ok_or("a reader")?;
-    let (told, ()) = join(rt, || commit_under_lock(rt, alloc, desk, 1, "ab", 7), || ());
-    let receipt = told?;
-    let (fetched, ()) = join(rt, || learnt(alloc, &mut reader, &receipt), || ());
-    let fetched = fetched?;
+    match readers.pop() {
+        Some(mut reader) => learn_by(rt, alloc, desk, &mut reader),
+        None => Err(Fail::from("a reader")),
+    }
+}
+
+fn learn_by<L: LogName + Send + Sync, R: Threads + Wait + Abort + Sync>(
+    rt: &R,
+    alloc: Global,
+    desk: &Mutex<Publisher<L>>,
+    reader: &mut LogReader<L>,
+) -> Result<(), Fail> {
+    let receipt = commit_elsewhere(rt, alloc, desk, (1, "ab", 7))?;
+    let fetched = fetched_elsewhere(rt, alloc, reader, &receipt)?;
+    see_commit(rt, fetched.as_slice(), &receipt)
+}
+
+/// What the reader fetches on another thread, once it has learnt of the receipt.
+fn fetched_elsewhere<L: LogName + Send + Sync, R: Threads + Sync>(
+    rt: &R,
+    alloc: Global,
+    reader: &mut LogReader<L>,
+    receipt: &Receipt<L>,
+) -> Result<Vec<Arc<Record>>, ReadFault> {
+    let (fetched, ()) = join(rt, || learnt(alloc, reader, receipt), || ());
+    fetched
+}
+
+/// The record of the receipt stands at its place.
+fn see_commit<L: LogName, R: Abort>(
+    rt: &R,
+    fetched: &[Arc<Record>],
+    receipt: &Receipt<L>,
+) -> Result<(), Fail> {
     let found = fetched.get(receipt.place()).ok_or("the record")?;
     assert_eq!(rt; (found.start, found.end), (receipt.start(), receipt.end()));
     assert!(rt; matches!(found.body, Body::Commit(700, 5)) && receipt.xid() == 700);

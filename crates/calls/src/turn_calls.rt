@@ -2,7 +2,7 @@
 
 ghost use Rattle.std.specs.Prelude.{Some};
 
-use crate::log_fixture::{commit_under_lock, ends_of, sender_of_p};
+use crate::log_fixture::{commit_elsewhere, commit_under_lock, ends_of, sender_of_p};
 use crate::work::{Work, do_work};
 use sender::{Sender, TurnFault, turn};
 use shared_log::{LogName, LogReader};
@@ -12,7 +12,7 @@ use std::io::{ErrorKind, Write};
 use std::process::Abort;
 use std::sync::{Arc, Mutex, Wait};
 use std::test::Fail;
-use std::thread::{Threads, join};
+use std::thread::Threads;
 use txlog::Publisher;
 use wal::{Body, Record};
 
@@ -35,6 +35,25 @@ const SECOND_BLOCK: &str = "\
 
 /// The length of the first block.
 const LENGTH: usize = 253;
+
+/// A transaction with one insert: its row, where its two records start and end, and what is sent of it.
+struct Sample {
+    row: (i32, &'static str, i64),
+    ends: [(u64, u64); 2],
+    block: &'static str,
+}
+
+const FIRST: Sample = Sample {
+    row: (1, "ab", 7),
+    ends: [(0x100_0000, 0x100_0030), (0x100_0030, 0x100_0050)],
+    block: FIRST_BLOCK,
+};
+
+const SECOND: Sample = Sample {
+    row: (2, "b", 1),
+    ends: [(0x100_0050, 0x100_0080), (0x100_0080, 0x100_00A0)],
+    block: SECOND_BLOCK,
+};
 
 /// A reader, and another one from which a sender is fed.
 #[derive(Drop)]
@@ -76,10 +95,16 @@ fn subscriber_of<L: LogName>(
     readers: Vec<LogReader<L>>,
 ) -> Result<Subscriber<L>, Fail> {
     let sender = sender_of_p(alloc)?;
+    match last_two(readers) {
+        Some((plain, fed)) => Ok(Subscriber { plain, fed, sender }),
+        None => Err(Fail::from("two readers")),
+    }
+}
+
+fn last_two<L: LogName>(readers: Vec<LogReader<L>>) -> Option<(LogReader<L>, LogReader<L>)> {
     let mut readers = readers;
-    let fed = readers.pop().ok_or("two readers")?;
-    let plain = readers.pop().ok_or("two readers")?;
-    Ok(Subscriber { plain, fed, sender })
+    let last = readers.pop()?;
+    Some((readers.pop()?, last))
 }
 
 /// A transaction on one thread, and what this one gets once the other is joined; and the same once more.
@@ -90,8 +115,17 @@ pub fn look_twice<L: LogName + Send + Sync, R: Threads + Wait + Abort + Sync>(
     readers: Vec<LogReader<L>>,
 ) -> Result<(), Fail> {
     let mut subscriber = subscriber_of(alloc, readers)?;
-    look_behind(rt, alloc, desk, &mut subscriber, (1, "ab", 7), FIRST_BLOCK)?;
-    look_behind(rt, alloc, desk, &mut subscriber, (2, "b", 1), SECOND_BLOCK)
+    look_behind_both(rt, alloc, desk, &mut subscriber)
+}
+
+fn look_behind_both<L: LogName + Send + Sync, R: Threads + Wait + Abort + Sync>(
+    rt: &R,
+    alloc: Global,
+    desk: &Mutex<Publisher<L>>,
+    subscriber: &mut Subscriber<L>,
+) -> Result<(), Fail> {
+    look_behind(rt, alloc, desk, subscriber, &FIRST)?;
+    look_behind(rt, alloc, desk, subscriber, &SECOND)
 }
 
 fn look_behind<L: LogName + Send + Sync, R: Threads + Wait + Abort + Sync>(
@@ -99,27 +133,34 @@ fn look_behind<L: LogName + Send + Sync, R: Threads + Wait + Abort + Sync>(
     alloc: Global,
     desk: &Mutex<Publisher<L>>,
     subscriber: &mut Subscriber<L>,
-    row: (i32, &str, i64),
-    block: &str,
+    sample: &Sample,
 ) -> Result<(), Fail> {
-    let (written, ()) = join(
-        rt,
-        || commit_under_lock(rt, alloc, desk, row.0, row.1, row.2).map(|_| ()),
-        || (),
-    );
-    written?;
+    commit_elsewhere(rt, alloc, desk, sample.row)?;
     let got = subscriber.look(alloc)?;
-    let ends = ends_of(alloc, got.records.as_slice())?;
-    let start = if row.0 == 1 { 0x100_0000 } else { 0x100_0050 };
-    let behind = [(start, start + 0x30), (start + 0x30, start + 0x50)];
-    assert_eq!(rt; ends.as_slice(), behind.as_slice());
+    see_records(rt, alloc, got.records.as_slice(), &sample.ends)?;
+    assert_eq!(rt; got.turned, 2);
+    see_bytes(rt, alloc, got.bytes.as_slice(), sample.block)
+}
+
+/// Records that start and end so, with a Commit as the last.
+fn see_records<R: Abort>(
+    rt: &R,
+    alloc: Global,
+    records: &[Arc<Record>],
+    behind: &[(u64, u64)],
+) -> Result<(), Fail> {
+    let ends = ends_of(alloc, records)?;
+    assert_eq!(rt; ends.as_slice(), behind);
     assert!(rt;
-        got.records
+        records
             .last()
             .is_some_and(|last| matches!(last.body, Body::Commit(_, 5)))
     );
-    assert_eq!(rt; got.turned, 2);
-    let text = hex::encode(alloc, got.bytes.as_slice())?;
+    Ok(())
+}
+
+fn see_bytes<R: Abort>(rt: &R, alloc: Global, bytes: &[u8], block: &str) -> Result<(), Fail> {
+    let text = hex::encode(alloc, bytes)?;
     assert_eq!(rt; text.as_str(), block);
     Ok(())
 }
@@ -163,9 +204,19 @@ pub fn turn_narrowly<L: LogName, R: Wait + Abort>(
 ) -> Result<(), Fail> {
     commit_under_lock(rt, alloc, desk, 1, "ab", 7)?;
     let mut readers = readers;
-    let mut reader = readers.pop().ok_or("a reader")?;
+    match readers.pop() {
+        Some(mut reader) => turn_to_each(rt, alloc, &mut reader),
+        None => Err(Fail::from("a reader")),
+    }
+}
+
+fn turn_to_each<L: LogName, R: Abort>(
+    rt: &R,
+    alloc: Global,
+    reader: &mut LogReader<L>,
+) -> Result<(), Fail> {
     for left in 0..LENGTH + 1 {
-        turn_to(rt, alloc, &mut reader, left)?;
+        turn_to(rt, alloc, reader, left)?;
     }
     Ok(())
 }
@@ -177,18 +228,40 @@ fn turn_to<L: LogName, R: Abort>(
     left: usize,
 ) -> Result<(), Fail> {
     let mut sender = sender_of_p(alloc)?;
+    turn_into(rt, alloc, &mut sender, reader, left)
+}
+
+fn turn_into<L: LogName, R: Abort>(
+    rt: &R,
+    alloc: Global,
+    sender: &mut Sender,
+    reader: &mut LogReader<L>,
+    left: usize,
+) -> Result<(), Fail> {
     let mut out = Narrow {
         left,
         taken: Vec::new(alloc),
     };
     reader.seek(0);
-    match turn(alloc, &mut sender, reader, 9, &mut out) {
+    let turned = turn(alloc, sender, reader, 9, &mut out);
+    see_turned(rt, turned, left)?;
+    see_taken(rt, alloc, out.taken.as_slice(), left)
+}
+
+/// A writer that takes fewer bytes than the block has makes the turn fail.
+fn see_turned<R: Abort>(rt: &R, turned: Result<usize, TurnFault>, left: usize) -> Result<(), Fail> {
+    match turned {
         Ok(count) => assert!(rt; count == 2 && left == LENGTH),
         Err(TurnFault::Write(_)) => assert!(rt; left < LENGTH),
         Err(_) => return Err(Fail::from("another fault")),
     }
-    assert_eq!(rt; out.taken.len(), left);
-    let text = hex::encode(alloc, out.taken.as_slice())?;
+    Ok(())
+}
+
+/// The writer took what it could, from the front of the block.
+fn see_taken<R: Abort>(rt: &R, alloc: Global, taken: &[u8], left: usize) -> Result<(), Fail> {
+    assert_eq!(rt; taken.len(), left);
+    let text = hex::encode(alloc, taken)?;
     assert!(rt; FIRST_BLOCK.starts_with(text.as_str()));
     Ok(())
 }

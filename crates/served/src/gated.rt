@@ -9,6 +9,7 @@ use hub::{Gate, Hub, OpenedHub};
 use shared_log::LogName;
 use slots::SlotName;
 use std::alloc::Global;
+use std::io::{Read, Write};
 use std::marker::Brand;
 use std::net::{Net, SocketAddr, TcpListener, TcpStream};
 use std::sync::Wait;
@@ -68,17 +69,26 @@ where
 {
     let mut first = connect(rt, alloc, address)?;
     let mut second = connect(rt, alloc, address)?;
-    send_query(alloc, &mut first, COMMAND)?;
-    send_query(alloc, &mut second, COMMAND)?;
-    read_until(alloc, &mut second, b'Z')?;
-    gate.first.store(1, Ordering::SeqCst);
-    read_until(alloc, &mut first, b'Z')?;
-    send_query(alloc, &mut second, COMMAND)?;
-    send_query(alloc, &mut first, COMMAND)?;
-    read_until(alloc, &mut first, b'Z')?;
-    gate.second.store(1, Ordering::SeqCst);
-    read_until(alloc, &mut second, b'Z')?;
+    ask_in_turn(alloc, gate, &mut first, &mut second)?;
     Ok(gate.late.load(Ordering::SeqCst) == 0)
+}
+
+fn ask_in_turn<R: Clock, S: Read + Write>(
+    alloc: Global,
+    gate: &Held<'_, R>,
+    first: &mut S,
+    second: &mut S,
+) -> io::Result<()> {
+    send_query(alloc, first, COMMAND)?;
+    send_query(alloc, second, COMMAND)?;
+    read_until(alloc, second, b'Z')?;
+    gate.first.store(1, Ordering::SeqCst);
+    read_until(alloc, first, b'Z')?;
+    send_query(alloc, second, COMMAND)?;
+    send_query(alloc, first, COMMAND)?;
+    read_until(alloc, first, b'Z')?;
+    gate.second.store(1, Ordering::SeqCst);
+    read_until(alloc, second, b'Z')
 }
 
 fn serve_both<L, R>(rt: &R, alloc: Global, opened: OpenedHub) -> Result<bool, Fail>

@@ -1,27 +1,37 @@
 //! Logical messages, bodies inside CopyData and bodies of changes: what is read of all bytes is written again.
 
-ghost use Rattle.std.specs.Prelude.{◌≡◌, true};
+ghost use Rattle.std.specs.Prelude.{◌≡◌, true, IfOk};
 ghost use Rattle.pgoutput.specs.Logical.{FitsLogical, IsShort};
 ghost use Rattle.tables.specs.Spelling.{IsShort as IsShortBody};
 
-use crate::answer::{bytes_of, tell, tell_written};
+use crate::answer::{tell, tell_written};
 use anyhow::{Result, ensure};
 use bytes::BytesMut;
 use copyboth::{
     ServerBody, read_client, read_server, write_keepalive, write_status, write_xlogdata,
 };
-use pgoutput::{Logical, read_logical, write_logical, written_and_read};
+use pgoutput::{Logical, OutFault, read_logical, write_logical, written_and_read};
 use std::alloc::Global;
-use tables::{Change, MAX_TRUNCATED, body_len, read_body, write_body};
+use tables::{BodyFault, Change, MAX_TRUNCATED, body_len, read_body, write_body};
 
-pub fn answer_logical(alloc: Global, given: &str, answer: &mut String) -> Result<()> {
-    let bytes = bytes_of(alloc, given)?;
-    let came = read_logical(alloc, bytes.as_slice());
-    tell(answer, &came)?;
-    if let Ok(message) = &came {
-        tell_logical(alloc, message, bytes.as_slice(), answer)?;
+pub fn answer_logical(alloc: Global, bytes: &[u8], answer: &mut String) -> Result<()> {
+    let came = read_logical(alloc, bytes);
+    add_logical(alloc, &came, bytes, answer)
+}
+
+fn add_logical(
+    alloc: Global,
+    came: &Result<Logical, OutFault>,
+    read: &[u8],
+    answer: &mut String,
+) -> Result<()>
+    requires { IfOk came.now (λ message. FitsLogical message × IsShort message) }
+{
+    tell(answer, came)?;
+    match came {
+        Ok(message) => tell_logical(alloc, message, read, answer),
+        Err(_) => Ok(()),
     }
-    Ok(())
 }
 
 fn tell_logical(alloc: Global, message: &Logical, read: &[u8], answer: &mut String) -> Result<()>
@@ -32,17 +42,14 @@ fn tell_logical(alloc: Global, message: &Logical, read: &[u8], answer: &mut Stri
     write_logical(message, &mut written)?;
     tell_written(answer, written.as_slice(), read)?;
     let again = written_and_read(alloc, message)?;
-    ensure!(
-        again == *message,
-        "is another message when it is read again"
-    );
+    let is_same = again == *message;
+    ensure!(is_same, "is another message when it is read again");
     Ok(())
 }
 
-pub fn answer_server(alloc: Global, given: &str, answer: &mut String) -> Result<()> {
-    let bytes = bytes_of(alloc, given)?;
+pub fn answer_server(alloc: Global, bytes: &[u8], answer: &mut String) -> Result<()> {
     let mut written = BytesMut::new(alloc);
-    let came = read_server(bytes.as_slice());
+    let came = read_server(bytes);
     tell(answer, &came)?;
     match &came {
         Ok(ServerBody::XLogData(data)) => {
@@ -53,35 +60,46 @@ pub fn answer_server(alloc: Global, given: &str, answer: &mut String) -> Result<
         }
         Err(_) => return Ok(()),
     }
-    tell_written(answer, written.as_slice(), bytes.as_slice())?;
-    Ok(())
+    Ok(tell_written(answer, written.as_slice(), bytes)?)
 }
 
-pub fn answer_client(alloc: Global, given: &str, answer: &mut String) -> Result<()> {
-    let bytes = bytes_of(alloc, given)?;
-    let came = read_client(bytes.as_slice());
+pub fn answer_client(alloc: Global, bytes: &[u8], answer: &mut String) -> Result<()> {
+    let came = read_client(bytes);
     tell(answer, &came)?;
     if let Ok(status) = &came {
         let mut written = BytesMut::new(alloc);
         write_status(status, &mut written)?;
-        tell_written(answer, written.as_slice(), bytes.as_slice())?;
+        tell_written(answer, written.as_slice(), bytes)?;
     }
     Ok(())
 }
 
 /// A change is written again where it is short enough.
-pub fn answer_body(alloc: Global, given: &str, answer: &mut String) -> Result<()> {
-    let bytes = bytes_of(alloc, given)?;
-    let came = read_body(alloc, bytes.as_slice());
-    tell(answer, &came)?;
-    if let Ok(change) = &came {
-        if is_short(change) {
-            let mut written = BytesMut::new(alloc);
-            write_body(change, &mut written)?;
-            tell_written(answer, written.as_slice(), bytes.as_slice())?;
-            ensure!(body_len(change) == written.len(), "has another length");
-        }
+pub fn answer_body(alloc: Global, bytes: &[u8], answer: &mut String) -> Result<()> {
+    let came = read_body(alloc, bytes);
+    add_body(alloc, &came, bytes, answer)
+}
+
+fn add_body(
+    alloc: Global,
+    came: &Result<Change, BodyFault>,
+    read: &[u8],
+    answer: &mut String,
+) -> Result<()> {
+    tell(answer, came)?;
+    match came {
+        Ok(change) if is_short(change) => tell_body(alloc, change, read, answer),
+        _ => Ok(()),
     }
+}
+
+fn tell_body(alloc: Global, change: &Change, read: &[u8], answer: &mut String) -> Result<()>
+    requires { IsShortBody change.now }
+{
+    let mut written = BytesMut::new(alloc);
+    write_body(change, &mut written)?;
+    tell_written(answer, written.as_slice(), read)?;
+    ensure!(body_len(change) == written.len(), "has another length");
     Ok(())
 }
 

@@ -1,5 +1,6 @@
 //! The calls by their names.
 
+use crate::answer::bytes_of;
 use crate::bodies::{answer_body, answer_client, answer_logical, answer_server};
 use crate::fault_texts::{answer_codes, answer_texts};
 use crate::fields::answer_field;
@@ -14,14 +15,6 @@ use std::alloc::Global;
 
 pub fn answer_call(alloc: Global, call: &str, given: &str, answer: &mut String) -> Result<()> {
     match call {
-        "read_startup" => answer_startup(alloc, given, answer),
-        "read_front" => answer_front(alloc, given, answer),
-        "read_back" => answer_back(alloc, given, answer),
-        "read_logical" => answer_logical(alloc, given, answer),
-        "read_server" => answer_server(alloc, given, answer),
-        "read_client" => answer_client(alloc, given, answer),
-        "read_body" => answer_body(alloc, given, answer),
-        "render" => answer_render(alloc, given, answer),
         "status" => answer_status(alloc, given, answer),
         "applied" => answer_applied(alloc, given, answer),
         "talk" => answer_talk(alloc, given, answer),
@@ -35,6 +28,21 @@ pub fn answer_call(alloc: Global, call: &str, given: &str, answer: &mut String) 
         "event" => answer_event(alloc, given, answer),
         "catalog" => answer_catalog(alloc, given, answer),
         "config" => answer_config(alloc, given, answer),
-        _ => answer_field(alloc, call, given, answer),
+        _ => answer_bytes(alloc, call, bytes_of(alloc, given)?.as_slice(), answer),
+    }
+}
+
+/// The calls that are given bytes.
+fn answer_bytes(alloc: Global, call: &str, bytes: &[u8], answer: &mut String) -> Result<()> {
+    match call {
+        "read_startup" => Ok(answer_startup(alloc, bytes, answer)?),
+        "read_front" => Ok(answer_front(alloc, bytes, answer)?),
+        "read_back" => Ok(answer_back(alloc, bytes, answer)?),
+        "read_logical" => answer_logical(alloc, bytes, answer),
+        "read_server" => answer_server(alloc, bytes, answer),
+        "read_client" => answer_client(alloc, bytes, answer),
+        "read_body" => answer_body(alloc, bytes, answer),
+        "render" => answer_render(alloc, bytes, answer),
+        _ => answer_field(alloc, call, bytes, answer),
     }
 }

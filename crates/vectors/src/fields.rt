@@ -1,15 +1,14 @@
 //! Fields of messages from the front of some bytes.
 
-use crate::answer::{bytes_of, tell_written};
+use crate::answer::tell_written;
 use anyhow::{Result, bail};
 use bytes::BytesMut;
 use frames::{Cursor, put_byte, put_bytes, put_int16, put_int32, put_int64, put_string, utf8_of};
 use std::alloc::Global;
 
 /// Adds the field, or None where it isn't there whole, and what is left behind it.
-pub fn answer_field(alloc: Global, call: &str, given: &str, answer: &mut String) -> Result<()> {
-    let bytes = bytes_of(alloc, given)?;
-    let mut cursor = Cursor::new(bytes.as_slice());
+pub fn answer_field(alloc: Global, call: &str, bytes: &[u8], answer: &mut String) -> Result<()> {
+    let mut cursor = Cursor::new(bytes);
     let mut written = BytesMut::new(alloc);
     match call {
         "take2" | "cstr" => add_text(call, &mut cursor, &mut written, answer)?,
@@ -17,9 +16,8 @@ pub fn answer_field(alloc: Global, call: &str, given: &str, answer: &mut String)
     }
     let rest = cursor.rest();
     write!(answer, " {rest:?}")?;
-    let read = bytes.as_slice().strip_suffix(rest).unwrap_or(&[]);
-    tell_written(answer, written.as_slice(), read)?;
-    Ok(())
+    let read = bytes.strip_suffix(rest).unwrap_or(&[]);
+    Ok(tell_written(answer, written.as_slice(), read)?)
 }
 
 fn add_number(

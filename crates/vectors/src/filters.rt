@@ -4,7 +4,7 @@ use crate::answer::bytes_of;
 use anyhow::{Context, Result};
 use rowfilter::{Filter, fault_at, parse};
 use std::alloc::Global;
-use tables::{Catalog, Change, read_body};
+use tables::{Catalog, Change, Table, read_body};
 
 /// `TABLES|INSERTS|FILTER`: a configuration of one table, and the bodies of inserts, between commas. Adds what the filter is of
 /// each row, or its fault and the byte where it stands.
@@ -13,22 +13,37 @@ pub fn answer_filter(alloc: Global, given: &str, answer: &mut String) -> Result<
     let (inserts, text) = rest.split_once('|').context("gives no filter")?;
     let catalog = Catalog::from_toml(alloc, tables)?;
     let table = catalog.tables().first().context("gives no table")?;
+    add_filtered(alloc, table, inserts, text, answer)
+}
+
+fn add_filtered(
+    alloc: Global,
+    table: &Table,
+    inserts: &str,
+    text: &str,
+    answer: &mut String,
+) -> Result<()> {
     match parse(alloc, text, table) {
-        Ok(filter) => add_truths(alloc, &filter, inserts, answer)?,
+        Ok(filter) => add_truths(alloc, &filter, inserts, answer),
         Err(fault) => {
             let at = fault_at(alloc, text, table, fault)?;
-            write!(answer, "! {at} {fault}")?;
+            Ok(write!(answer, "! {at} {fault}")?)
         }
     }
-    Ok(())
 }
 
 fn add_truths(alloc: Global, filter: &Filter, inserts: &str, answer: &mut String) -> Result<()> {
     write!(answer, "=")?;
     for insert in inserts.split_terminator(',') {
-        if let Change::Insert(_, row) = read_body(alloc, bytes_of(alloc, insert)?.as_slice())? {
-            write!(answer, " {:?}", filter.truth(&row))?;
-        }
+        add_truth(alloc, filter, insert, answer)?;
     }
     Ok(())
+}
+
+fn add_truth(alloc: Global, filter: &Filter, insert: &str, answer: &mut String) -> Result<()> {
+    let bytes = bytes_of(alloc, insert)?;
+    match read_body(alloc, bytes.as_slice())? {
+        Change::Insert(_, row) => Ok(write!(answer, " {:?}", filter.truth(&row))?),
+        _ => Ok(()),
+    }
 }

@@ -3,9 +3,10 @@
 use crate::answer::bytes_of;
 use anyhow::{Context, Result, bail};
 use frames::Text;
-use publication::{Publications, Selection, explained};
+use publication::{PubFault, Publications, Selection, explained};
 use std::alloc::{AllocError, Global};
-use tables::{Catalog, read_body, read_document};
+use tables::{Catalog, Change, read_body, read_document};
+use toml::Value;
 
 /// `NAMES|BODIES|TABLES|PUBLICATIONS`: names and bodies of changes between commas, and two configurations. Adds the Relation of
 /// each table, and what is published of each change.
@@ -13,11 +14,19 @@ pub fn answer_published(alloc: Global, given: &str, answer: &mut String) -> Resu
     let (names, rest) = given.split_once('|').context("gives no changes")?;
     let (bodies, rest) = rest.split_once('|').context("gives no tables")?;
     let (tables, text) = rest.split_once('|').context("gives no publications")?;
-    let catalog = Catalog::from_toml(alloc, tables)?;
-    match Publications::from_toml(alloc, text, &catalog) {
+    match publications_of(alloc, tables, text)? {
         Ok(publications) => add_selected(alloc, &publications, names, bodies, answer),
         Err(fault) => Ok(write!(answer, "! {fault}")?),
     }
+}
+
+fn publications_of(
+    alloc: Global,
+    tables: &str,
+    text: &str,
+) -> Result<Result<Publications, PubFault>> {
+    let catalog = Catalog::from_toml(alloc, tables)?;
+    Ok(Publications::from_toml(alloc, text, &catalog))
 }
 
 fn add_selected(
@@ -27,13 +36,24 @@ fn add_selected(
     bodies: &str,
     answer: &mut String,
 ) -> Result<()> {
-    match publications.select(named(alloc, names)?.as_slice()) {
-        Ok(selection) => {
-            add_relations(&selection, answer)?;
-            add_messages(alloc, &selection, bodies, answer)
-        }
+    let names = named(alloc, names)?;
+    match publications.select(names.as_slice()) {
+        Ok(selection) => add_published(alloc, &selection, bodies, answer),
         Err(fault) => Ok(write!(answer, "! {fault}")?),
     }
+}
+
+fn add_published(
+    alloc: Global,
+    selection: &Selection,
+    bodies: &str,
+    answer: &mut String,
+) -> Result<()> {
+    add_relations(selection, answer)?;
+    for body in bodies.split_terminator(',') {
+        add_message(alloc, selection, body, answer)?;
+    }
+    Ok(())
 }
 
 fn named(alloc: Global, names: &str) -> Result<Vec<Text>, AllocError> {
@@ -47,22 +67,34 @@ fn named(alloc: Global, names: &str) -> Result<Vec<Text>, AllocError> {
 fn add_relations(selection: &Selection, answer: &mut String) -> Result<(), AllocError> {
     write!(answer, "=")?;
     for oid in selection.oids() {
-        write!(answer, " {:?}", selection.relation(*oid)?)?;
+        add_relation(selection, *oid, answer)?;
     }
     Ok(())
 }
 
-fn add_messages(
+fn add_relation(selection: &Selection, oid: u32, answer: &mut String) -> Result<(), AllocError> {
+    let relation = selection.relation(oid)?;
+    write!(answer, " {relation:?}")
+}
+
+fn add_message(
     alloc: Global,
     selection: &Selection,
-    bodies: &str,
+    body: &str,
     answer: &mut String,
 ) -> Result<()> {
-    for body in bodies.split_terminator(',') {
-        let change = read_body(alloc, bytes_of(alloc, body)?.as_slice())?;
-        write!(answer, " {:?}", selection.project(&change)?)?;
-    }
-    Ok(())
+    let bytes = bytes_of(alloc, body)?;
+    let change = read_body(alloc, bytes.as_slice())?;
+    Ok(add_projected(selection, &change, answer)?)
+}
+
+fn add_projected(
+    selection: &Selection,
+    change: &Change,
+    answer: &mut String,
+) -> Result<(), AllocError> {
+    let message = selection.project(change)?;
+    write!(answer, " {message:?}")
 }
 
 /// `TABLES|PUBLICATIONS`: the same for whoever wrote a text that is refused.
@@ -70,12 +102,18 @@ pub fn answer_explained(alloc: Global, given: &str, answer: &mut String) -> Resu
     let (tables, text) = given.split_once('|').context("gives no publications")?;
     let catalog = Catalog::from_toml(alloc, tables)?;
     let document = read_document(alloc, text)?;
-    match Publications::of_document(alloc, &document, &catalog) {
-        Ok(_) => bail!("is no refusal"),
-        Err(fault) => {
-            let lines = explained(alloc, &document, &catalog, fault)?;
-            write!(answer, "= {lines:?}")?;
-        }
-    }
-    Ok(())
+    add_explained(alloc, &document, &catalog, answer)
+}
+
+fn add_explained(
+    alloc: Global,
+    document: &Value,
+    catalog: &Catalog,
+    answer: &mut String,
+) -> Result<()> {
+    let Err(fault) = Publications::of_document(alloc, document, catalog) else {
+        bail!("is no refusal");
+    };
+    let lines = explained(alloc, document, catalog, fault)?;
+    Ok(write!(answer, "= {lines:?}")?)
 }

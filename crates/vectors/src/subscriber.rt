@@ -2,29 +2,49 @@
 
 use crate::answer::bytes_of;
 use anyhow::{Context, Result};
-use client::{Applied, Applier, render};
+use client::{Applied, Applier, ClientFault, render};
 use pgoutput::{Begin, Commit, Logical, read_logical};
 use std::alloc::{AllocError, Global};
 
 /// Pieces of a stream in digits, a comma behind each; a dot among them begins another connection. Adds what each piece was answered,
 /// and then the position and the lines of what was applied.
 pub fn answer_applied(alloc: Global, given: &str, answer: &mut String) -> Result<()> {
-    let mut applier = Applier::new(alloc);
+    add_pieces(alloc, &mut Applier::new(alloc), given, answer)
+}
+
+fn add_pieces(
+    alloc: Global,
+    applier: &mut Applier,
+    given: &str,
+    answer: &mut String,
+) -> Result<()> {
     write!(answer, "=")?;
     for piece in given.split_terminator(',') {
-        if piece == "." {
-            applier.reconnect();
-            write!(answer, " reconnect")?;
-            continue;
-        }
-        match applier.take(bytes_of(alloc, piece)?.as_slice()) {
-            Ok(()) => write!(answer, " taken")?,
-            Err(fault) => write!(answer, " {:?}", fault.to_string(alloc)?)?,
-        }
+        add_piece(alloc, applier, piece, answer)?;
     }
     write!(answer, " {}", applier.position())?;
-    add_all(alloc, applier.applied(), answer)?;
-    Ok(())
+    Ok(add_all(alloc, applier.applied(), answer)?)
+}
+
+fn add_piece(alloc: Global, applier: &mut Applier, piece: &str, answer: &mut String) -> Result<()> {
+    if piece == "." {
+        applier.reconnect();
+        return Ok(write!(answer, " reconnect")?);
+    }
+    let bytes = bytes_of(alloc, piece)?;
+    let came = applier.take(bytes.as_slice());
+    Ok(add_taken(alloc, came, answer)?)
+}
+
+fn add_taken(
+    alloc: Global,
+    came: Result<(), ClientFault>,
+    answer: &mut String,
+) -> Result<(), AllocError> {
+    match came {
+        Ok(()) => write!(answer, " taken"),
+        Err(fault) => write!(answer, " {:?}", fault.to_string(alloc)?),
+    }
 }
 
 fn add_all(alloc: Global, all: &[Applied], answer: &mut String) -> Result<(), AllocError> {
@@ -66,11 +86,14 @@ fn rendered_commit(alloc: Global, applied: &Applied) -> Result<String, AllocErro
 }
 
 /// The line of the message that the bytes spell.
-pub fn answer_render(alloc: Global, given: &str, answer: &mut String) -> Result<()> {
-    let message = read_logical(alloc, bytes_of(alloc, given)?.as_slice())?;
-    let line = render(alloc, &message)?;
-    write!(answer, "= {line}")?;
-    Ok(())
+pub fn answer_render(alloc: Global, bytes: &[u8], answer: &mut String) -> Result<()> {
+    let message = read_logical(alloc, bytes)?;
+    Ok(add_line(alloc, &message, answer)?)
+}
+
+fn add_line(alloc: Global, message: &Logical, answer: &mut String) -> Result<(), AllocError> {
+    let line = render(alloc, message)?;
+    write!(answer, "= {line}")
 }
 
 /// The frame of a status: `STREAM CLOCK asks`, or `silent` in place of `asks`.
@@ -78,8 +101,23 @@ pub fn answer_status(alloc: Global, given: &str, answer: &mut String) -> Result<
     let (stream, rest) = given.split_once(' ').context("gives no clock")?;
     let (clock, asks) = rest.split_once(' ').context("says not whether it asks")?;
     let clock = clock.parse::<i64>().context("reading the clock")?;
-    let mut applier = Applier::new(alloc);
-    applier.take(bytes_of(alloc, stream)?.as_slice())?;
-    write!(answer, "= {:?}", applier.status(clock, asks == "asks"))?;
-    Ok(())
+    let bytes = bytes_of(alloc, stream)?;
+    add_status(
+        &mut Applier::new(alloc),
+        bytes.as_slice(),
+        clock,
+        asks == "asks",
+        answer,
+    )
+}
+
+fn add_status(
+    applier: &mut Applier,
+    stream: &[u8],
+    clock: i64,
+    ask: bool,
+    answer: &mut String,
+) -> Result<()> {
+    applier.take(stream)?;
+    Ok(write!(answer, "= {:?}", applier.status(clock, ask))?)
 }

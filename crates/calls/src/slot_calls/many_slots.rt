@@ -44,18 +44,49 @@ fn work_all<L: SlotName + Send + Sync, R: Threads + Abort + Sync>(
     requires name { opened.first.table_id ≡ L.table }
 {
     let (table, mut seats) = opened.open::<L>(WORKERS + 1)?;
-    let mut seat = seats.pop().ok_or("a seat")?;
     let marks = marks(alloc)?;
+    match seats.pop() {
+        Some(mut seat) => {
+            let workers = worked(
+                rt,
+                alloc,
+                &table,
+                marks.as_slice(),
+                workers(alloc, seats, seed)?,
+            )?;
+            see_slots(rt, &table, &mut seat, marks.as_slice(), workers.as_slice())
+        }
+        None => Err(Fail::from("a seat")),
+    }
+}
+
+/// Lets all workers work, each on a thread of its own.
+fn worked<L: SlotName + Send + Sync, R: Threads + Sync>(
+    rt: &R,
+    alloc: Global,
+    table: &SlotTable<L>,
+    marks: &[Mark],
+    workers: Vec<Worker<L>>,
+) -> Result<Vec<Worker<L>>, Fail> {
     let gate = Gate::new(WORKERS);
     let worked = map_vec(
         rt,
-        workers(alloc, seats, seed)?,
-        &|worker: Worker<L>| work(worker, &table, marks.as_slice(), &gate),
+        workers,
+        &|worker: Worker<L>| work(worker, table, marks, &gate),
     )?;
-    let workers = all_of(alloc, worked)?;
-    see_creates(rt, workers.as_slice());
+    all_of(alloc, worked)
+}
+
+fn see_slots<L: SlotName, R: Abort>(
+    rt: &R,
+    table: &SlotTable<L>,
+    seat: &mut SlotSeat<L>,
+    marks: &[Mark],
+    workers: &[Worker<L>],
+) -> Result<(), Fail> {
+    see_creates(rt, workers);
     for (place, mark) in marks.iter().enumerate() {
-        see_place(rt, &table, &mut seat, place, mark, workers.as_slice())?;
+        see_place(rt, table, seat, place, mark, workers)?;
     }
     Ok(())
 }

@@ -87,23 +87,46 @@ fn race<L: SlotName + Send + Sync, R: Threads + Abort + Sync>(
     requires name { opened.first.table_id ≡ L.table }
 {
     let (table, mut seats) = opened.open::<L>(RACERS + 1)?;
-    let mut seat = seats.pop().ok_or("a seat")?;
-    assert_eq!(rt; table.create(&mut seat, 0)?, PLACE);
+    match seats.pop() {
+        Some(mut seat) => race_at(rt, alloc, &table, &mut seat, seats),
+        None => Err(Fail::from("a seat")),
+    }
+}
+
+fn race_at<L: SlotName + Send + Sync, R: Threads + Abort + Sync>(
+    rt: &R,
+    alloc: Global,
+    table: &SlotTable<L>,
+    seat: &mut SlotSeat<L>,
+    seats: Vec<SlotSeat<L>>,
+) -> Result<(), Fail> {
+    assert_eq!(rt; table.create(seat, 0)?, PLACE);
+    let greatest = raced(rt, alloc, table, seats)?;
+    let lease = table.claim(seat, PLACE)?;
+    let confirmed = table.confirmed(seat, &lease);
+    table.release(seat, lease);
+    assert_eq!(rt; confirmed, greatest);
+    Ok(())
+}
+
+/// Lets racers with these seats race, and answers the greatest position that any of them confirmed.
+fn raced<L: SlotName + Send + Sync, R: Threads + Sync>(
+    rt: &R,
+    alloc: Global,
+    table: &SlotTable<L>,
+    seats: Vec<SlotSeat<L>>,
+) -> Result<u64, Fail> {
     let gate = Gate::new(RACERS);
     let raced = map_vec(
         rt,
         racers(alloc, seats)?,
-        &|racer: Racer<L>| racer.run(&table, &gate),
+        &|racer: Racer<L>| racer.run(table, &gate),
     )?;
     let mut greatest = 0;
     for racer in raced {
         greatest = racer?.greatest.max(greatest);
     }
-    let lease = table.claim(&mut seat, PLACE)?;
-    let confirmed = table.confirmed(&mut seat, &lease);
-    table.release(&mut seat, lease);
-    assert_eq!(rt; confirmed, greatest);
-    Ok(())
+    Ok(greatest)
 }
 
 fn racers<L: SlotName>(
