@@ -75,6 +75,18 @@ fn word_at(
         pending: Vec::new(alloc),
         place: Place::Wanting,
     };
+    end_of(alloc, &mut search, text, columns)
+}
+
+/// Where the search ends.
+fn end_of(
+    alloc: Global,
+    search: &mut Search,
+    text: &[u8],
+    columns: &[Column],
+) -> Result<usize, AllocError>
+    ensures { IfOk result (λ at. at ≤ length text.now) }
+{
     let mut rest = text;
     while let Some((token, tail)) = token_of(alloc, rest)? {
         if search.ends_at(alloc, &token, columns)? {

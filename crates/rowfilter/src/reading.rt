@@ -7,15 +7,16 @@ ghost use Rattle.rowfilter.specs.Grammar.{IsRefused, MOST_BYTES, SpellsCondition
 ghost use Rattle.rowfilter.specs.Parts.{parts, word_at};
 ghost use Rattle.rowfilter.specs.Readings.{GivesFilter, IsJudged, IsUnspelled, IsUnread, expression_of};
 ghost use Rattle.rowfilter.specs.Shapes.{shape};
-ghost use Rattle.rowfilter.specs.Stacks.{Wanting, run};
+ghost use Rattle.rowfilter.specs.Stacks.{Wanting, run, step};
 ghost use Rattle.rowfilter.specs.Tokens.{Spells};
-ghost use Rattle.rowfilter.specs.Views.{GivesPart};
+ghost use Rattle.rowfilter.specs.Views.{GivesPart, Moves, state_of};
 
 use crate::expression::Expression;
 use crate::fault::FilterFault;
 use crate::filter::Filter;
 use crate::lexer::read_tokens;
 use crate::part::Part;
+use crate::pending::Pending;
 use crate::place::{Place, whole};
 use crate::token::Token;
 use crate::word::Word;
@@ -68,10 +69,23 @@ fn part_of(alloc: Global, tokens: &[Token], columns: &[Column]) -> Result<Part, 
     let mut pending = Vec::new(alloc);
     let mut place = Place::Wanting;
     for token in tokens {
-        let word = Word::of(alloc, token, columns)?;
-        place = place.next(alloc, &mut pending, word)?;
+        place = place_behind(alloc, &mut pending, place, token, columns)?;
     }
     whole(alloc, &mut pending, place)
+}
+
+/// The place behind the word of one token more.
+fn place_behind(
+    alloc: Global,
+    pending: &mut Vec<Pending>,
+    place: Place,
+    token: &Token,
+    columns: &[Column],
+) -> Result<Place, FilterFault>
+    ensures { Moves result pending.new.items (step parts (state_of pending.old.items place) (word_at columns.now token.now)) }
+{
+    let word = Word::of(alloc, token, columns)?;
+    place.next(alloc, pending, word)
 }
 
 fn expression_of(part: Result<Part, FilterFault>) -> Result<Expression, FilterFault>

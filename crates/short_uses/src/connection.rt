@@ -23,16 +23,25 @@ pub fn hold_conversations<R: Print>(rt: &R, alloc: Global, words: &[String]) -> 
     let [times, length, piece] = words else {
         bail!("wants TIMES LENGTH PIECE");
     };
-    let sent = sent_by_client(alloc, number(length)? as usize)?;
+    let times = number(times)?;
     let piece = number(piece)? as usize;
     ensure!(1 <= piece, "a piece has a byte at least");
-    let mut said = BytesMut::new(alloc);
-    for _ in 0..number(times)? {
-        said.clear();
-        hold(alloc, sent.as_slice(), piece, &mut said)?;
-    }
+    let sent = sent_by_client(alloc, number(length)? as usize)?;
+    let said = last_answers(alloc, times, sent.as_slice(), piece)?;
     println!(rt; "{}", hex::encode(alloc, said.as_slice())?)?;
     Ok(())
+}
+
+/// Holds the conversation so many times; what the server says in the last one.
+fn last_answers(alloc: Global, times: u32, sent: &[u8], piece: usize) -> Result<BytesMut>
+    requires { 1 ≤ piece }
+{
+    let mut said = BytesMut::new(alloc);
+    for _ in 0..times {
+        said.clear();
+        hold(alloc, sent, piece, &mut said)?;
+    }
+    Ok(said)
 }
 
 /// The startup of a session, and a query with blanks behind its command.

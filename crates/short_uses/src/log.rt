@@ -95,11 +95,26 @@ fn through<L: LogName + Send + Sync, R: Threads + Wait + Sync>(
     let Some(mut reader) = readers.pop() else {
         bail!("no reader");
     };
+    write_beside(rt, alloc, publisher, readers, work)?;
+    fetch_often(alloc, &mut reader, work.fetches)
+}
+
+/// Writes the log, and then goes on beside the readers.
+fn write_beside<L: LogName + Send + Sync, R: Threads + Wait + Sync>(
+    rt: &R,
+    alloc: Global,
+    publisher: &mut Publisher<L>,
+    readers: Vec<LogReader<L>>,
+    work: Work,
+) -> Result<()> {
     insert(rt, publisher, item(alloc, ROW, 0)?)?;
     commit(rt, alloc, publisher, work.records / 2)?;
-    commit_beside(rt, alloc, publisher, readers, work)?;
-    for _ in 0..work.fetches {
-        fetch_all(alloc, &mut reader)?;
+    commit_beside(rt, alloc, publisher, readers, work)
+}
+
+fn fetch_often<L: LogName>(alloc: Global, reader: &mut LogReader<L>, times: usize) -> Result<()> {
+    for _ in 0..times {
+        fetch_all(alloc, reader)?;
     }
     Ok(())
 }

@@ -5,7 +5,7 @@ ghost use Rattle.std.specs.Prelude.{◌≡◌};
 use anyhow::Result;
 use bytes::BytesMut;
 use frames::Text;
-use publication::Publications;
+use publication::{Publications, Selection};
 use sender::Sender;
 use shared_log::{LogName, LogReader};
 use std::alloc::Global;
@@ -59,10 +59,14 @@ fn session_sent<L: LogName, R: Wait>(
 
 /// A sender of what the publication `p` publishes, from the beginning of the log on.
 fn sender_of_p(alloc: Global, catalog: &Catalog) -> Result<Sender> {
-    let names = [Text::copy_of(alloc, "p")?];
-    let publications = Publications::from_toml(alloc, CONFIGURATION, catalog)?;
-    let selection = publications.select(&names)?;
+    let selection = selection_of_p(alloc, catalog)?;
     Ok(Sender::start(alloc, selection, 0, FIRST_POSITION)?)
+}
+
+fn selection_of_p(alloc: Global, catalog: &Catalog) -> Result<Selection> {
+    let name = Text::copy_of(alloc, "p")?;
+    let publications = Publications::from_toml(alloc, CONFIGURATION, catalog)?;
+    Ok(publications.select(&[name])?)
 }
 
 /// The bytes that a sender makes of the log.

@@ -13,8 +13,8 @@ pub fn work_on_store(alloc: Global, words: &[String]) -> Result<()> {
         bail!("store ROWS WORK..");
     };
     let rows = i32::try_from(number(rows)?)?;
-    let mut store = Store::new(alloc, catalog(alloc)?);
-    do_works(alloc, &mut store, rows, works)
+    let catalog = catalog(alloc)?;
+    do_works(alloc, &mut Store::new(alloc, catalog), rows, works)
 }
 
 fn do_works(alloc: Global, store: &mut Store, rows: i32, works: &[String]) -> Result<()> {

@@ -33,14 +33,22 @@ pub fn follow_stream<R: Print>(rt: &R, alloc: Global, words: &[String]) -> Resul
     let [times, inserts, piece] = words else {
         bail!("wants TIMES INSERTS PIECE");
     };
-    let stream = stream_of(alloc, number(inserts)? as usize)?;
+    let times = number(times)?;
     let piece = number(piece)? as usize;
     ensure!(1 <= piece, "a piece has a byte at least");
+    let stream = stream_of(alloc, number(inserts)? as usize)?;
     let mut applier = Applier::new(alloc);
-    for _ in 0..number(times)? {
-        take(&mut applier, stream.as_slice(), piece)?;
-    }
+    take_often(&mut applier, times, stream.as_slice(), piece)?;
     print(rt, alloc, &applier)
+}
+
+fn take_often(applier: &mut Applier, times: u32, stream: &[u8], piece: usize) -> Result<()>
+    requires { 1 ≤ piece }
+{
+    for _ in 0..times {
+        take(applier, stream, piece)?;
+    }
+    Ok(())
 }
 
 /// One transaction of so many inserts.

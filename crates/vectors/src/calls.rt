@@ -23,11 +23,11 @@ pub fn answer_call(alloc: Global, call: &str, given: &str, answer: &mut String) 
         "filter" => answer_filter(alloc, given, answer),
         "texts" => answer_texts(given, answer),
         "codes" => answer_codes(answer),
-        "command" => answer_command(alloc, given, answer),
-        "position" => answer_position(alloc, given, answer),
-        "event" => answer_event(alloc, given, answer),
-        "catalog" => answer_catalog(alloc, given, answer),
-        "config" => answer_config(alloc, given, answer),
+        "command" => Ok(answer_command(alloc, given, answer)?),
+        "position" => Ok(answer_position(alloc, given, answer)?),
+        "event" => Ok(answer_event(alloc, given, answer)?),
+        "catalog" => Ok(answer_catalog(alloc, given, answer)?),
+        "config" => Ok(answer_config(alloc, given, answer)?),
         _ => answer_bytes(alloc, call, bytes_of(alloc, given)?.as_slice(), answer),
     }
 }

@@ -1,45 +1,43 @@
 //! Texts: commands, positions, lines of schedules and configurations.
 
 use crate::answer::tell;
-use anyhow::Result;
-use configuration::Config;
+use configuration::{Config, ConfigFault};
 use replcmd::{parse_command, parse_position, write_position};
 use schedule::Event;
-use std::alloc::Global;
+use std::alloc::{AllocError, Global};
 use tables::Catalog;
 
-pub fn answer_command(alloc: Global, given: &str, answer: &mut String) -> Result<()> {
-    tell(answer, &parse_command(alloc, given))?;
-    Ok(())
+pub fn answer_command(alloc: Global, given: &str, answer: &mut String) -> Result<(), AllocError> {
+    tell(answer, &parse_command(alloc, given))
 }
 
 /// A position is written again.
-pub fn answer_position(alloc: Global, given: &str, answer: &mut String) -> Result<()> {
+pub fn answer_position(alloc: Global, given: &str, answer: &mut String) -> Result<(), AllocError> {
     match parse_position(given) {
         Ok(position) => {
             let written = write_position(alloc, position)?;
-            write!(answer, "= {written}")?;
+            write!(answer, "= {written}")
         }
-        Err(fault) => write!(answer, "! {fault}")?,
+        Err(fault) => write!(answer, "! {fault}"),
     }
-    Ok(())
 }
 
-pub fn answer_event(alloc: Global, given: &str, answer: &mut String) -> Result<()> {
-    tell(answer, &Event::parse(alloc, given))?;
-    Ok(())
+pub fn answer_event(alloc: Global, given: &str, answer: &mut String) -> Result<(), AllocError> {
+    tell(answer, &Event::parse(alloc, given))
 }
 
-pub fn answer_catalog(alloc: Global, given: &str, answer: &mut String) -> Result<()> {
-    tell(answer, &Catalog::from_toml(alloc, given))?;
-    Ok(())
+pub fn answer_catalog(alloc: Global, given: &str, answer: &mut String) -> Result<(), AllocError> {
+    tell(answer, &Catalog::from_toml(alloc, given))
 }
 
 /// The server, and the tables.
-pub fn answer_config(alloc: Global, given: &str, answer: &mut String) -> Result<()> {
-    match Config::from_toml(alloc, given) {
-        Ok(config) => write!(answer, "= {:?} {:?}", config.server(), config.catalog())?,
-        Err(fault) => write!(answer, "! {fault}")?,
+pub fn answer_config(alloc: Global, given: &str, answer: &mut String) -> Result<(), AllocError> {
+    add_config(&Config::from_toml(alloc, given), answer)
+}
+
+fn add_config(came: &Result<Config, ConfigFault>, answer: &mut String) -> Result<(), AllocError> {
+    match came {
+        Ok(config) => write!(answer, "= {:?} {:?}", config.server(), config.catalog()),
+        Err(fault) => write!(answer, "! {fault}"),
     }
-    Ok(())
 }
