@@ -9,10 +9,10 @@ use Rattle.tables.specs.declared.config_fault.Misfit.{Misfit}
 use Rattle.tables.specs.declared.config_fault.CatalogFault.TheVariants as catalog_faults
 use Rattle.tables.specs.Config.{and_then, told, tables_in, document_of}
 use Rattle.txlog.specs.declared.limits.TheConstants.{MAX_RECORDS}
-use Rattle.publication.specs.declared.fault.PubFault.{PubFault}
-use Rattle.publication.specs.declared.fault.PubFault.TheVariants as pubs
+use Rattle.publication_config.specs.declared.fault.PubFault.{PubFault}
+use Rattle.publication_config.specs.declared.fault.PubFault.TheVariants as pubs
 use Rattle.publication.specs.Publications.{PublicationSet}
-use Rattle.publication.specs.Config.{publications_in}
+use Rattle.publication_config.specs.Config.{publications_in}
 use Rattle.configuration.specs.declared.server.TheConstants.{MAX_CHUNKS}
 use Rattle.configuration.specs.declared.server.Server.{Server}
 use Rattle.configuration.specs.declared.server.Unread.{Unread}

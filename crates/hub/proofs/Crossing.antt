@@ -14,8 +14,8 @@ use Rattle.frames.proofs.text.Text.TheSendSync as text
 use Rattle.tables.proofs.table.Table.TheSendSync as table
 use Rattle.rowfilter.proofs.expression.Expression.TheLaws.TheKnot as tree
 use Rattle.rowfilter.specs.contracts.filter.Filter as filter
-use Rattle.publication.specs.contracts.published_table.PublishedTable as published
-use Rattle.publication.specs.contracts.publication.Publication as publication
+use Rattle.publication_config.specs.contracts.published_table.PublishedTable as published
+use Rattle.publication_config.specs.contracts.publication.Publication as publication
 use Rattle.publication.specs.contracts.selection.Selection as selection
 use Rattle.publication.specs.contracts.publications.Publications as publications
 use Rattle.server.proofs.connection.Phase.TheSendSync as phase

@@ -3,8 +3,8 @@ use Rattle.server.specs.declared.fault.DeskFault.{DeskFault}
 use Rattle.server.specs.declared.fault.DeskFault.TheVariants as desks
 use Rattle.slots.specs.declared.fault.SlotFault.{SlotFault}
 use Rattle.slots.specs.declared.fault.SlotFault.TheVariants as slots
-use Rattle.publication.specs.declared.fault.PubFault.{PubFault}
-use Rattle.publication.specs.declared.fault.PubFault.TheVariants as publications
+use Rattle.publication_config.specs.declared.fault.PubFault.{PubFault}
+use Rattle.publication_config.specs.declared.fault.PubFault.TheVariants as publications
 
 abbrev pub of_slot : SlotFault → DeskFault
 of_slot slots.Missing = desks.SlotMissing

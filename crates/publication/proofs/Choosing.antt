@@ -15,7 +15,8 @@ use Rattle.tables.specs.declared.row.TheConstants.{MAX_ROW_LENGTH}
 use Rattle.tables.specs.Spelling.{row_length, spell_value}
 use Rattle.tables.specs.Tables.{fits_column, fits_table}
 use Rattle.pgoutput.specs.Relation.{FitsName}
-use Rattle.publication.specs.Selection.{chosen, is_listed, narrowed, FitsTable}
+use Rattle.publication_config.specs.Published.{is_listed}
+use Rattle.publication.specs.Selection.{chosen, narrowed, FitsTable}
 use Rattle.pgoutput.specs.declared.tuple.Cell.{Cell}
 use Rattle.pgoutput.specs.declared.tuple.Cell.TheVariants as cells
 use Rattle.publication.specs.Tuples.{cell_of, changes_key, same_value}

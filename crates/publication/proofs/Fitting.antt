@@ -23,10 +23,10 @@ use Rattle.tables.specs.declared.change_body.TheConstants.{MAX_TRUNCATED}
 use Rattle.tables.specs.History.{repeats}
 use Rattle.tables.specs.Tables.{table_of, IsValue}
 use Rattle.stream.specs.Items.{FitsRelationOf}
-use Rattle.publication.specs.declared.operations.Operation.{Operation}
-use Rattle.publication.specs.declared.operations.Operation.TheVariants.{Insert, Update, Delete, Truncate}
-use Rattle.publication.specs.declared.publication.Publication.{Publication}
-use Rattle.publication.specs.Publications.{PublicationSet, has, publishes}
+use Rattle.publication_config.specs.declared.operations.Operation.{Operation}
+use Rattle.publication_config.specs.declared.operations.Operation.TheVariants.{Insert, Update, Delete, Truncate}
+use Rattle.publication_config.specs.declared.publication.Publication.{Publication}
+use Rattle.publication_config.specs.Published.{PublicationSet, has, publishes}
 use Rattle.publication.specs.Selection.{has_table, list_by, narrowed, relation, relation_column, selected_table, whole_table, FitsTable, FitTables}
 use Rattle.publication.specs.Tuples.{old_by, replaced_by, tuple_of}
 use Rattle.publication.specs.Projection.{delete_message, insert_message, is_published, may_be_emptied, message, message_by, only_if, passes, shown, stands, stands_in, truncate_message, update_message, updated, AreValues, MessageFits}

@@ -1,8 +1,7 @@
 pub mod Catalogued
 pub mod Choosing
-pub mod Configured
-pub mod Filtering
 pub mod Fitting
 pub mod Relations
+pub mod Repeats
 pub mod Rows
 pub mod Worked

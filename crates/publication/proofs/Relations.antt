@@ -20,7 +20,7 @@ use Rattle.tables.specs.declared.column.Column.{Column}
 use Rattle.tables.specs.declared.table.Table.{Table}
 use Rattle.tables.specs.Tables.{table_of}
 use Rattle.stream.specs.Items.{IsShortMessage, FitsRelationOf}
-use Rattle.publication.specs.Publications.{PublicationSet}
+use Rattle.publication_config.specs.Published.{PublicationSet}
 use Rattle.publication.specs.Selection.{relation, relation_of, relation_column, selected_table, type_oid, FitsTable, FitTables}
 
 pub some_is : {A : Type 0} (x y : A) → Some x ≡ Some y → x ≡ y

@@ -16,8 +16,9 @@ use Rattle.tables.specs.declared.value.Value.TheVariants as values
 use Rattle.tables.specs.declared.table.Table.{Table}
 use Rattle.tables.specs.declared.change.Change.TheVariants as changes
 use Rattle.tables.specs.Tables.{item_table, table_named}
-use Rattle.publication.specs.declared.publication.Publication.{Publication}
-use Rattle.publication.specs.Publications.{PublicationSet, all_operations, is_unknown, published_whole, selected}
+use Rattle.publication_config.specs.declared.publication.Publication.{Publication}
+use Rattle.publication_config.specs.Published.{PublicationSet, all_operations, published_whole}
+use Rattle.publication.specs.Publications.{is_unknown, selected}
 use Rattle.publication.specs.Projection.{delete_message, message, update_message, updated}
 
 -- ---- Tables, rows and messages.

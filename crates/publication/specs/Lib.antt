@@ -2,5 +2,6 @@ pub mod Publications
 pub mod Selection
 pub mod Tuples
 pub mod Projection
-pub mod Config
-pub mod Faults
+pub use Rattle.publication_config.specs.Config
+pub use Rattle.publication_config.specs.Faults
+pub use Rattle.publication_config.specs.Published

@@ -14,9 +14,10 @@ use Rattle.tables.specs.Spelling.{row_length}
 use Rattle.tables.specs.History.{repeats}
 use Rattle.tables.specs.Tables.{table_of, fits_table, IsValue}
 use Rattle.stream.specs.Items.{tables_of, IsShortMessage, IsOfChange, FitsRelationOf}
-use Rattle.publication.specs.declared.operations.Operation.{Operation}
-use Rattle.publication.specs.declared.operations.Operation.TheVariants.{Insert, Update, Delete, Truncate}
-use Rattle.publication.specs.Publications.{PublicationSet, has, passes_in, publishes}
+use Rattle.publication_config.specs.declared.operations.Operation.{Operation}
+use Rattle.publication_config.specs.declared.operations.Operation.TheVariants.{Insert, Update, Delete, Truncate}
+use Rattle.publication_config.specs.Published.{PublicationSet, has, publishes}
+use Rattle.publication.specs.Publications.{passes_in}
 use Rattle.publication.specs.Selection.{chosen, list_by, selected_table, relation}
 use Rattle.publication.specs.Tuples.{tuple_of, old_by, replaced_by}
 use Rattle.publication.specs.declared.projection.Projected.{Projected}

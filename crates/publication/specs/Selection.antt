@@ -1,5 +1,5 @@
 -- The tables of a selection, and what it says of each: its listed columns, and its Relation (PostgreSQL 15, 31.4 and 55.9).
-use Rattle.std.specs.Prelude.{ℕ, get_or, ◌<◌, ◌≤◌, ◌^◌, Bool, true, false, List, [], ◌∷◌, map, filter, length, Option, Some, None, option_map, if◌then◌else◌}
+use Rattle.std.specs.Prelude.{ℕ, ◌<◌, ◌≤◌, ◌^◌, Bool, List, [], ◌∷◌, map, filter, length, Option, Some, None, option_map, if◌then◌else◌}
 use Rattle.std.specs.List.{list_any, AllByRecursion}
 use Rattle.pgoutput.specs.declared.relation.Relation.{Relation}
 use Rattle.pgoutput.specs.declared.relation.Column.{Column as ToldColumn}
@@ -14,9 +14,9 @@ use Rattle.tables.specs.declared.column.Column.{Column}
 use Rattle.tables.specs.declared.table.Table.{Table}
 use Rattle.tables.specs.Tables.{table_of}
 use Rattle.publication.specs.declared.relation.TheConstants.{BOOL_OID, INT4_OID, INT8_OID, TEXT_OID, NO_MODIFIER}
-use Rattle.publication.specs.declared.publication.Publication.{Publication}
-use Rattle.publication.specs.declared.published_table.PublishedTable.{PublishedTable}
-use Rattle.publication.specs.Publications.{PublicationSet, has, table_in}
+use Rattle.publication_config.specs.declared.publication.Publication.{Publication}
+use Rattle.publication_config.specs.declared.published_table.PublishedTable.{PublishedTable}
+use Rattle.publication_config.specs.Published.{PublicationSet, has, is_identity, table_in}
 
 -- whether some publication of the selection has the table of this OID
 abbrev pub has_table : PublicationSet → ℕ → Bool
@@ -27,10 +27,6 @@ abbrev pub chosen : {A : Type 0} → List Bool → List A → List A
 chosen [] xs = []
 chosen (listed ∷ flags) [] = []
 chosen (listed ∷ flags) (x ∷ xs) = if listed then x ∷ chosen flags xs else chosen flags xs
-
--- whether a list has the column at this place
-abbrev pub is_listed : List Bool → ℕ → Bool
-is_listed listed place = get_or listed place false
 
 -- the list of a table, or this one where there is no such table
 abbrev pub listed_or : List Bool → Option PublishedTable → List Bool
@@ -68,12 +64,6 @@ abbrev pub identity_of : Identity → ToldIdentity
 identity_of identities.Default = told.Default
 identity_of identities.Nothing = told.Nothing
 identity_of identities.Full = told.Full
-
--- whether a column belongs to the identity: the primary key, no column, or every column
-abbrev pub is_identity : Identity → Bool → Bool
-is_identity identities.Default is_key = is_key
-is_identity identities.Nothing is_key = false
-is_identity identities.Full is_key = true
 
 abbrev pub relation_column : Identity → Column → ToldColumn
 relation_column identity c = record { is_key = is_identity identity c.is_key; name = c.name; kind = type_oid c.kind; modifier = NO_MODIFIER }

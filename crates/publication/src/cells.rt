@@ -3,11 +3,12 @@
 ghost use Rattle.std.specs.Prelude.{◌≡◌, ◌++◌, ◌&&◌, not, IfOk, length, codes, if◌then◌else◌};
 ghost use Rattle.std.specs.List.{list_any, zip};
 ghost use Rattle.pgoutput.specs.declared.tuple.Cell.TheVariants as cells;
-ghost use Rattle.publication.specs.Selection.{chosen, is_listed, narrowed};
+ghost use Rattle.publication.specs.Selection.{chosen, narrowed};
 ghost use Rattle.publication.specs.Tuples.{cell_of, changes_key, key_tuple_of, old_by, replaced_by, same_value, tuple_of};
 
 use frames::{Items, Text};
 use pgoutput::{Cell, OldTuple};
+use publication_config::is_listed;
 use std::alloc::{AllocError, Global};
 use tables::{Column, Identity, Row, Table, Value};
 
@@ -26,13 +27,6 @@ pub(crate) fn tuple_of(
         }
     }
     Ok(Items::new(cells))
-}
-
-/// Whether a column list has the column at this place of the table.
-pub(crate) fn is_listed(listed: &[bool], place: usize) -> bool
-    ensures { result ≡ is_listed listed.now place }
-{
-    listed.get(place).copied().unwrap_or(false)
 }
 
 fn cell(alloc: Global, value: &Value) -> Result<Cell, AllocError>

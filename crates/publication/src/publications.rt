@@ -3,21 +3,19 @@
 ghost use Rattle.std.specs.Prelude.{◌≡◌, ◌++◌, ◌∷◌, [], IfOk, IfErr, Err, false, true, not, filter, drop};
 ghost use Rattle.std.specs.List.{list_any, AllByRecursion};
 ghost use Rattle.std.specs.Str.{bytes_eq};
-ghost use Rattle.publication.specs.declared.fault.PubFault.{PubFault};
+ghost use Rattle.publication_config.specs.declared.fault.PubFault.{PubFault};
 ghost use Rattle.toml.specs.View.{view};
-ghost use Rattle.publication.specs.Config.{Configures, ReadsPublications, configured_by, publications_in};
+ghost use Rattle.publication_config.specs.Config.{Configures, ReadsPublications, configured_by, publications_in};
 ghost use Rattle.publication.specs.Selection.{FitsTable};
-ghost use Rattle.publication.specs.Publications.{IsOfSelect, conflicts, is_unknown, selected};
+ghost use Rattle.publication_config.specs.Published.{conflicts};
+ghost use Rattle.publication.specs.Publications.{IsOfSelect, is_unknown, selected};
 
-use crate::config::{fault_of, publications_of};
-use crate::config_fault::Unread;
-use crate::fault::PubFault;
-use crate::publication::Publication;
 use crate::selection::Selection;
 use frames::{Items, Text};
+use publication_config::{PubFault, Publication, configured_by, conflicts, named, publications_in};
 use std::alloc::{AllocError, Global};
 use std::marker::Model;
-use tables::{Catalog, CatalogFault, Table, read_document};
+use tables::{Catalog, Table};
 use toml::Value;
 
 /// The publications of a publisher, over the tables of its catalogue.
@@ -33,7 +31,7 @@ pub struct Publications {
 
 impl Model for Publications {
     ghost use Rattle.std.specs.Coded.{codes};
-    ghost use Rattle.publication.specs.Publications.{PublicationSet, condition_code};
+    ghost use Rattle.publication_config.specs.Published.{PublicationSet, condition_code};
     ghost use Rattle.std.specs.List.{AllByRecursion};
     ghost use Rattle.publication.specs.Selection.{FitsTable};
 
@@ -49,27 +47,30 @@ impl Model for Publications {
 impl Publications {
     /// The publications that the text of a configuration names over the tables of the catalogue, in its order. What a publication is told by
     /// stands in docs/CONFIGURATION.md.
-    #[tactic(auto, using(crate::proofs::Configured::configured))]
     pub fn from_toml(alloc: Global, text: &str, catalog: &Catalog) -> Result<Self, PubFault>
         ensures { Configures result (configured_by catalog.now text.now) }
     {
-        match read_document(alloc, text) {
-            Ok(document) => Publications::of_document(alloc, &document, catalog),
-            Err(CatalogFault::NotToml(line)) => Err(PubFault::NotToml(line)),
-            Err(_) => Err(PubFault::Memory),
-        }
+        let publications = configured_by(alloc, text, catalog)?;
+        Ok(Publications::over(alloc, catalog, publications)?)
     }
 
     /// The publications that the document of a configuration names over the tables of the catalogue.
-    #[tactic(auto, using(crate::proofs::Catalogued::all_fit, crate::proofs::Configured::refused_so))]
     pub fn of_document(alloc: Global, document: &Value, catalog: &Catalog) -> Result<Self, PubFault>
         ensures { ReadsPublications result (publications_in catalog.now (view document.now)) }
     {
-        let publications = match publications_of(alloc, catalog, document.get("publication")) {
-            Ok(publications) => publications,
-            Err(Unread::Refused(refusal)) => return Err(fault_of(refusal)),
-            Err(Unread::Memory) => return Err(PubFault::Memory),
-        };
+        let publications = publications_in(alloc, document, catalog)?;
+        Ok(Publications::over(alloc, catalog, publications)?)
+    }
+
+    /// These publications, over the tables of the catalogue.
+    #[tactic(auto, using(crate::proofs::Catalogued::all_fit))]
+    fn over(
+        alloc: Global,
+        catalog: &Catalog,
+        publications: Items<Publication>,
+    ) -> Result<Self, AllocError>
+        ensures { IfOk result (λ p. p ≡ record { tables = catalog.now; publications = publications }) }
+    {
         Ok(Publications {
             alloc,
             tables: copies(alloc, catalog.tables())?,
@@ -116,15 +117,6 @@ impl Publications {
     }
 }
 
-/// Whether two of the publications have different column lists for one table.
-fn conflicts(publications: &[Publication]) -> bool
-    ensures { result ≡ conflicts publications.now }
-{
-    publications
-        .iter()
-        .any(|p| p.is_contradicted_by(publications))
-}
-
 fn copies(alloc: Global, tables: &[Table]) -> Result<Items<Table>, AllocError>
     ensures { IfOk result (λ ts. ts ≡ tables.now) }
 {
@@ -133,21 +125,4 @@ fn copies(alloc: Global, tables: &[Table]) -> Result<Items<Table>, AllocError>
         copies.push(table.copy(alloc)?)?;
     }
     Ok(Items::new(copies))
-}
-
-/// Those of the publications that are named.
-fn named(
-    alloc: Global,
-    publications: &[Publication],
-    names: &[Text],
-) -> Result<Items<Publication>, AllocError>
-    ensures { IfOk result (λ ps. ps ≡ filter (λ p. list_any (λ n. bytes_eq p.name n) names.now) publications.now) }
-{
-    let mut named = Vec::new(alloc);
-    for publication in publications {
-        if publication.is_among(names) {
-            named.push(publication.copy(alloc)?)?;
-        }
-    }
-    Ok(Items::new(named))
 }

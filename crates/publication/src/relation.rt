@@ -1,11 +1,11 @@
 //! The Relation message of a table.
 
 ghost use Rattle.std.specs.Prelude.{◌≡◌, ◌++◌, IfOk, map, pos, negsuc};
-ghost use Rattle.publication.specs.Selection.{chosen, narrowed, relation_of, relation_column, identity_of, is_identity, type_oid};
+ghost use Rattle.publication.specs.Selection.{chosen, narrowed, relation_of, relation_column, identity_of, type_oid};
 
-use crate::cells::is_listed;
 use frames::Items;
 use pgoutput::{Column, Identity, Relation};
+use publication_config::{is_in_identity, is_listed};
 use std::alloc::{AllocError, Global};
 use tables::{Kind, Table};
 
@@ -77,17 +77,6 @@ fn identity(identity: tables::Identity) -> Identity
         tables::Identity::Default => Identity::Default,
         tables::Identity::Nothing => Identity::Nothing,
         tables::Identity::Full => Identity::Full,
-    }
-}
-
-/// Whether a column belongs to the identity, by whether it belongs to the primary key.
-pub(crate) fn is_in_identity(identity: tables::Identity, is_key: bool) -> bool
-    ensures { result ≡ is_identity identity is_key }
-{
-    match identity {
-        tables::Identity::Default => is_key,
-        tables::Identity::Nothing => false,
-        tables::Identity::Full => true,
     }
 }
 

@@ -9,18 +9,18 @@ ghost use Rattle.tables.specs.History.{repeats};
 ghost use Rattle.tables.specs.Tables.{table_of, IsValue};
 ghost use Rattle.tables.specs.declared.change.Change.{Change};
 ghost use Rattle.stream.specs.Items.{IsShortMessage};
-ghost use Rattle.publication.specs.Publications.{has};
+ghost use Rattle.publication_config.specs.Published.{has};
 ghost use Rattle.publication.specs.Selection.{relation_of, FitsTable, has_table, list_by, selected_oids, selected_table, whole_table};
-ghost use Rattle.publication.specs.declared.operations.Operation.{Operation};
+ghost use Rattle.publication_config.specs.declared.operations.Operation.{Operation};
 ghost use Rattle.publication.specs.Projection.{is_published, may_be_emptied, message, passes, projected, stands_in, AreValues, FitsProjected, MessageFits};
 
 use crate::messages::{deletion, insertion, replacement, truncation};
-use crate::operations::Operation;
+use crate::passing::passes;
 use crate::projection::Projected;
-use crate::publication::Publication;
 use crate::relation::relation_message;
 use frames::Items;
 use pgoutput::Logical;
+use publication_config::{Operation, Publication};
 use std::alloc::{AllocError, Global};
 use std::marker::Model;
 use tables::{Change, MAX_TRUNCATED, Row, Table};
@@ -43,7 +43,7 @@ impl Model for Selection {
     ghost use Rattle.std.specs.Prelude.{◌≡◌};
     ghost use Rattle.std.specs.List.{AllByRecursion};
     ghost use Rattle.std.specs.Coded.{codes};
-    ghost use Rattle.publication.specs.Publications.{PublicationSet, condition_code};
+    ghost use Rattle.publication_config.specs.Published.{PublicationSet, condition_code};
     ghost use Rattle.publication.specs.Selection.{FitsTable, selected_oids};
 
     ghost Value = { PublicationSet };
@@ -87,7 +87,7 @@ impl Selection {
     }
 
     /// The OIDs of its tables, in the order of the catalogue.
-    #[tactic(auto, using(crate::proofs::Filtering::no_repeats))]
+    #[tactic(auto, using(crate::proofs::Repeats::no_repeats))]
     pub fn oids(&self) -> &[u32]
         ensures value { result.now ≡ selected_oids self.now }
         ensures each_once { repeats (map (λ t. t.oid) self.now.tables) ≡ false → repeats result.now ≡ false }
@@ -233,7 +233,7 @@ impl Selection {
         ensures { result ≡ passes self.now operation oid row.now }
     {
         let mut publications = self.publications.as_slice().iter();
-        publications.any(|publication| publication.passes(operation, oid, row))
+        publications.any(|publication| passes(publication, operation, oid, row))
     }
 
     fn has_table(&self, oid: u32) -> bool

@@ -7,7 +7,7 @@ use Rattle.slots.specs.declared.fault.SlotFault.{SlotFault}
 use Rattle.slots.specs.declared.fault.SlotFault.TheVariants as slot_faults
 use Rattle.named_slots.specs.State.{NamedSlot, SlotsState, confirming, create_refusal, created, holding, if_named, refused, slot_of}
 use Rattle.txlog.specs.Publishing.{log_end}
-use Rattle.publication.specs.declared.fault.PubFault.TheVariants as pubs
+use Rattle.publication_config.specs.declared.fault.PubFault.TheVariants as pubs
 use Rattle.schedule.specs.declared.event.Event.{Event}
 use Rattle.schedule.specs.declared.event.Event.TheVariants as events
 use Rattle.schedule.specs.declared.answer.Answer.{Answer}

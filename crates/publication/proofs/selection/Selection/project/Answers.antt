@@ -1,7 +1,7 @@
 use Rattle.std.proofs.Common.{sym, subst, ◌∙◌}
 use Rattle.std.specs.Prelude.{Option, OnSome}
 use Rattle.pgoutput.specs.declared.logical.Logical.{Logical}
-use Rattle.publication.specs.Publications.{PublicationSet}
+use Rattle.publication_config.specs.Published.{PublicationSet}
 use Rattle.publication.specs.Selection.{FitTables}
 use Rattle.publication.specs.Projection.{AreValues}
 use Rattle.publication.proofs.Fitting.{message_fits}

@@ -1,0 +1,22 @@
+//! Publications as values, and how the text of a configuration tells them.
+#![tactic(auto)]
+
+mod config;
+mod config_fault;
+mod config_publication;
+mod config_table;
+mod explaining;
+mod fault;
+mod judging;
+mod operations;
+mod publication;
+mod published_table;
+
+pub use config::{configured_by, publications_in};
+pub use config_fault::{Member, Misfit, Place, TableMember};
+pub use explaining::explained;
+pub use fault::PubFault;
+pub use judging::is_in_identity;
+pub use operations::{Operation, Operations};
+pub use publication::{Publication, conflicts, named};
+pub use published_table::{PublishedTable, is_listed};
