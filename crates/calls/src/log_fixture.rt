@@ -1,6 +1,6 @@
 //! A log and its sessions, for tests.
 
-use frames::Text;
+use pqformat::Text;
 use publication::{Publications, Selection};
 use sender::Sender;
 use shared_log::{LogName, LogReader, ReadFault};

@@ -10,7 +10,7 @@ use Rattle.copyboth.proofs.Bodies.{server_again}
 use Rattle.pgoutput.specs.declared.logical.Logical.{Logical}
 use Rattle.pgoutput.specs.Logical.{SpellsLogical}
 use Rattle.pgoutput.proofs.Whole.{two_spellings}
-use Rattle.frames.proofs.Codec.{ok_is}
+use Rattle.pqformat.proofs.Codec.{ok_is}
 use Rattle.stream.specs.declared.word.Word.{Word}
 use Rattle.stream.specs.declared.word.Word.TheVariants as words
 use Rattle.stream.specs.declared.word.XLogData.{XLogData}

@@ -5,8 +5,8 @@ use Rattle.std.specs.Result.{IsErrAnd}
 use Rattle.std.specs.Option.{ok_or}
 use Rattle.std.specs.Map.{lookup}
 use Rattle.std.proofs.lemmas.List.{append-nil, take-append-drop}
-use Rattle.frames.specs.Steps.{◌>>=◌}
-use Rattle.frames.proofs.Codec.{ok_is}
+use Rattle.pqformat.specs.Steps.{◌>>=◌}
+use Rattle.pqformat.proofs.Codec.{ok_is}
 use Rattle.pgoutput.specs.declared.logical.Logical.{Logical}
 use Rattle.pgoutput.specs.declared.logical.Logical.TheVariants as logical
 use Rattle.pgoutput.specs.declared.begin.Begin.{Begin}

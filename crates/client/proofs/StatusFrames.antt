@@ -2,10 +2,10 @@
 use Rattle.std.proofs.Common.{◌≡◌, ℕ, ◌+◌, List, [], ◌∷◌, ◌++◌, length, refl, ap, ◌∙◌, append_assoc, arith}
 use Rattle.std.specs.Int.{w64, cast_unsigned}
 use Rattle.std.proofs.lemmas.List.{length-append}
-use Rattle.frames.specs.Fields.{int32, int64}
+use Rattle.pqformat.specs.Fields.{int32, int64}
 use Rattle.frames.specs.Frame.{frame}
 use Rattle.frames.specs.declared.copy_data.TheConstants.{COPY_DATA}
-use Rattle.frames.proofs.Numbers.{length-int64}
+use Rattle.pqformat.proofs.Numbers.{length-int64}
 use Rattle.copyboth.specs.declared.status.Status.{Status}
 use Rattle.copyboth.specs.Keepalive.{ask_byte}
 use Rattle.copyboth.specs.Status.{status}

@@ -3,7 +3,7 @@
 ghost use Rattle.std.specs.Prelude.{◌≡◌, [], OnErr, OnOk};
 ghost use Rattle.client.specs.Subscriber.{transaction_of, with_change};
 
-use frames::Items;
+use pqformat::Items;
 use pgoutput::{Begin, Commit, Logical};
 use std::alloc::{AllocError, Global};
 use std::marker::Model;

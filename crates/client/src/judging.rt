@@ -5,7 +5,7 @@ ghost use Rattle.client.specs.Subscriber.{are_told, columns_of, fits, fits_old, 
 ghost use Rattle.pgoutput.specs.OldTuple.{cells_of};
 
 use crate::fault::ClientFault;
-use frames::Items;
+use pqformat::Items;
 use indexmap::IndexMap;
 use pgoutput::{Cell, Logical, OldTuple};
 

@@ -1,7 +1,7 @@
 //! The frame of a standby status update, made without memory.
 
 ghost use Rattle.std.specs.Prelude.{◌≡◌, ◌+◌, ◌≤◌, ◌++◌, length, take};
-ghost use Rattle.frames.specs.Fields.{int64};
+ghost use Rattle.pqformat.specs.Fields.{int64};
 ghost use Rattle.frames.specs.Frame.{frame};
 ghost use Rattle.frames.specs.declared.copy_data.TheConstants.{COPY_DATA};
 ghost use Rattle.copyboth.specs.Status.{status};
@@ -38,7 +38,7 @@ pub(crate) fn status_frame(position: u64, clock: i64, ask: bool) -> [u8; 39]
 }
 
 /// Writes a number at a place.
-#[tactic(auto, unfolding(frames::specs::Fields::int64))]
+#[tactic(auto, unfolding(pqformat::specs::Fields::int64))]
 fn put_number(out: &mut [u8], at: usize, number: u64)
     requires { at + 8 ≤ length out.old }
     ensures value { take (at + 8) out.new ≡ take at out.old ++ int64 number }

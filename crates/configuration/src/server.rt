@@ -10,7 +10,7 @@ ghost use Rattle.configuration.specs.declared.server.Unread.TheVariants.{Memory}
 ghost use Rattle.configuration.specs.Config.{IsServer, ReadsServer, has_another_in, is_of_server, is_part, number_in, server_in, server_of};
 
 use crate::config_fault::ServerMisfit;
-use frames::Text;
+use pqformat::Text;
 use std::alloc::{AllocError, Global};
 use toml::{Table, Value};
 use txlog::MAX_RECORDS;

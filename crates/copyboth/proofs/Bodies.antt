@@ -3,10 +3,10 @@ use Rattle.std.proofs.Common.{◌≡◌, ℕ, ℤ, Bool, true, false, cond, eqb,
 use Rattle.std.specs.Prelude.{IfOk}
 use Rattle.std.specs.Int.{w64, cast_unsigned}
 use Rattle.std.proofs.lemmas.Bool.{eqb-true}
-use Rattle.frames.specs.Fields.{int64}
-use Rattle.frames.specs.Steps.{◌>>=◌, signed_at}
-use Rattle.frames.proofs.Codec.{Codec, Takes, IsBytes, IsBytes-rest, bind_ok, ok_is}
-use Rattle.frames.proofs.Numbers.{number64, signed64}
+use Rattle.pqformat.specs.Fields.{int64}
+use Rattle.pqformat.specs.Steps.{◌>>=◌, signed_at}
+use Rattle.pqformat.proofs.Codec.{Codec, Takes, IsBytes, IsBytes-rest, bind_ok, ok_is}
+use Rattle.pqformat.proofs.Numbers.{number64, signed64}
 use Rattle.copyboth.specs.declared.keepalive.Keepalive.{Keepalive}
 use Rattle.copyboth.specs.declared.keepalive.TheConstants.{KEEPALIVE, ASKS}
 use Rattle.copyboth.specs.declared.xlogdata.TheConstants.{XLOGDATA}

@@ -5,7 +5,7 @@ use Rattle.std.specs.Option.{ok_or}
 use Rattle.std.specs.Int.{w64, from_be_bytes, cast_signed}
 use Rattle.std.proofs.lemmas.Bool.{ltb-true, ltb-false, lt-ltb, le-ltb}
 use Rattle.std.proofs.lemmas.List.{length-drop}
-use Rattle.frames.specs.Steps.{◌>>=◌, signed_at}
+use Rattle.pqformat.specs.Steps.{◌>>=◌, signed_at}
 use Rattle.copyboth.specs.declared.keepalive.Keepalive.{Keepalive}
 use Rattle.copyboth.specs.declared.keepalive.TheConstants.{KEEPALIVE}
 use Rattle.copyboth.specs.declared.xlogdata.TheConstants.{XLOGDATA}

@@ -2,7 +2,7 @@
 -- 1 where the client should answer at once, else 0.
 use Rattle.std.specs.Prelude.{ℕ, ℤ, Bool, true, false, List, [], ◌∷◌, ◌++◌}
 use Rattle.std.specs.Int.{w64, cast_unsigned}
-use Rattle.frames.specs.Fields.{int64}
+use Rattle.pqformat.specs.Fields.{int64}
 use Rattle.copyboth.specs.declared.keepalive.TheConstants.{KEEPALIVE, ASKS, SILENT}
 
 abbrev pub ask_byte : Bool → ℕ

@@ -2,8 +2,8 @@
 use Rattle.std.specs.Prelude.{◌≡◌, ℕ, ◌==◌, Bool, List, [], ◌∷◌, Option, Some, None, Result, Ok, Err, if◌then◌else◌}
 use Rattle.std.specs.Option.{ok_or}
 use Rattle.std.specs.Int.{w64}
-use Rattle.frames.specs.Fields.{byte_at, number_at}
-use Rattle.frames.specs.Steps.{◌>>=◌, signed_at}
+use Rattle.pqformat.specs.Fields.{byte_at, number_at}
+use Rattle.pqformat.specs.Steps.{◌>>=◌, signed_at}
 use Rattle.copyboth.specs.declared.keepalive.TheConstants.{KEEPALIVE, ASKS}
 use Rattle.copyboth.specs.declared.keepalive.Keepalive.{Keepalive}
 use Rattle.copyboth.specs.declared.xlogdata.TheConstants.{XLOGDATA}

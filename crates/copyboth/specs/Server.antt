@@ -1,7 +1,7 @@
 -- What a server sends inside CopyData (PostgreSQL 15, 55.4): XLogData or a keepalive, and what is wrong with any other bytes.
 use Rattle.std.specs.Prelude.{◌≡◌, ℕ, ◌<◌, ◌^◌, ◌==◌, nat_lt, FitsSigned, List, [], ◌∷◌, ◌++◌, length, Option, Some, None, if◌then◌else◌}
 use Rattle.std.specs.Int.{w64, cast_unsigned}
-use Rattle.frames.specs.Fields.{int64}
+use Rattle.pqformat.specs.Fields.{int64}
 use Rattle.copyboth.specs.declared.keepalive.TheConstants.{KEEPALIVE, ASKS}
 use Rattle.copyboth.specs.declared.keepalive.Keepalive.{Keepalive}
 use Rattle.copyboth.specs.declared.xlogdata.TheConstants.{XLOGDATA}

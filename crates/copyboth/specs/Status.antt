@@ -2,7 +2,7 @@
 -- that is 1 where the server should answer at once, else 0.
 use Rattle.std.specs.Prelude.{◌≡◌, ℕ, ◌<◌, ◌^◌, ◌==◌, FitsSigned, List, [], ◌∷◌, ◌++◌, Option, Some, if◌then◌else◌}
 use Rattle.std.specs.Int.{w64, cast_unsigned}
-use Rattle.frames.specs.Fields.{int64}
+use Rattle.pqformat.specs.Fields.{int64}
 use Rattle.copyboth.specs.declared.keepalive.TheConstants.{ASKS}
 use Rattle.copyboth.specs.declared.status.TheConstants.{STATUS}
 use Rattle.copyboth.specs.declared.status.Status.{Status}

@@ -2,7 +2,7 @@
 -- server's clock, and the data.
 use Rattle.std.specs.Prelude.{ℕ, ℤ, List, ◌∷◌, ◌++◌}
 use Rattle.std.specs.Int.{w64, cast_unsigned}
-use Rattle.frames.specs.Fields.{int64}
+use Rattle.pqformat.specs.Fields.{int64}
 use Rattle.copyboth.specs.declared.xlogdata.TheConstants.{XLOGDATA}
 
 -- what contracts see of one

@@ -1,14 +1,14 @@
 //! The fields of a body, each where it is there whole.
 
 ghost use Rattle.std.specs.Int.{w64};
-ghost use Rattle.frames.specs.Steps.{signed_at};
+ghost use Rattle.pqformat.specs.Steps.{signed_at};
 ghost use Rattle.copyboth.specs.Reading.{Gives, ask_at, ended, int64_at};
 ghost use Rattle.copyboth.specs.declared.fault.CopyFault.TheVariants.{Short};
 ghost use Rattle.std.specs.Prelude.{◌≡◌};
 
 use crate::fault::CopyFault;
 use crate::keepalive::ASKS;
-use frames::Cursor;
+use pqformat::Cursor;
 
 pub(crate) fn int64_of(cursor: &mut Cursor<'_>) -> Result<u64, CopyFault>
     ensures { Gives result cursor.new (int64_at cursor.old) }

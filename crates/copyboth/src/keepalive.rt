@@ -1,14 +1,14 @@
 //! Primary keepalive, the server's position between pieces of the stream: its type, its reader and its writer.
 
 ghost use Rattle.std.specs.Prelude.{◌≡◌, ◌++◌, OnOk, OnErr};
-ghost use Rattle.frames.specs.Putting.{Puts};
+ghost use Rattle.pqformat.specs.Putting.{Puts};
 ghost use Rattle.copyboth.specs.Keepalive.{keepalive, ask_byte};
 ghost use Rattle.copyboth.specs.Reading.{keepalive_at};
 
 use crate::fault::CopyFault;
 use crate::fields::{ask_of, end_of, int64_of, signed64_of};
 use bytes::BytesMut;
-use frames::{Cursor, put_byte, put_int64};
+use pqformat::{Cursor, put_byte, put_int64};
 use std::alloc::AllocError;
 
 /// The kind byte of a primary keepalive.

@@ -1,6 +1,6 @@
 //! The bodies of the streaming replication protocol that stand inside CopyData in the copy-both state: their writers and
 //! readers.
-#![tactic(auto, using(frames::proofs::Putting::in_place))]
+#![tactic(auto, using(pqformat::proofs::Putting::in_place))]
 
 mod fault;
 mod fields;

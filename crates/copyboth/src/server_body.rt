@@ -7,7 +7,7 @@ ghost use Rattle.copyboth.specs.Server.{SpellsServer, server_fault};
 use crate::fault::CopyFault;
 use crate::keepalive::{KEEPALIVE, Keepalive, keepalive_of};
 use crate::xlogdata::{XLOGDATA, XLogData, xlogdata_of};
-use frames::Cursor;
+use pqformat::Cursor;
 
 /// A body of a server (PostgreSQL 15, 55.4).
 #[derive(Debug, Drop)]

@@ -1,7 +1,7 @@
 //! Standby status update, how far a client is: its type, its reader and its writer.
 
 ghost use Rattle.std.specs.Prelude.{◌≡◌, ◌++◌, IfOk, Ok, OnOk, OnErr};
-ghost use Rattle.frames.specs.Putting.{Puts};
+ghost use Rattle.pqformat.specs.Putting.{Puts};
 ghost use Rattle.copyboth.specs.Reading.{FaultIs, client_at, status_at};
 ghost use Rattle.copyboth.specs.Status.{SpellsStatus, client_fault, status};
 
@@ -9,7 +9,7 @@ use crate::fault::CopyFault;
 use crate::fields::{ask_of, end_of, int64_of, signed64_of};
 use crate::keepalive::byte_of;
 use bytes::BytesMut;
-use frames::{Cursor, put_byte, put_int64};
+use pqformat::{Cursor, put_byte, put_int64};
 use std::alloc::AllocError;
 
 /// The kind byte of a standby status update.

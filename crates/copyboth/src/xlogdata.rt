@@ -1,14 +1,14 @@
 //! XLogData, a piece of the stream of changes: its type, its reader and its writer.
 
 ghost use Rattle.std.specs.Prelude.{◌≡◌, ◌++◌, OnOk, OnErr};
-ghost use Rattle.frames.specs.Putting.{Puts};
+ghost use Rattle.pqformat.specs.Putting.{Puts};
 ghost use Rattle.copyboth.specs.XLogData.{xlogdata};
 ghost use Rattle.copyboth.specs.Reading.{xlogdata_at};
 
 use crate::fault::CopyFault;
 use crate::fields::{int64_of, signed64_of};
 use bytes::BytesMut;
-use frames::{Cursor, put_byte, put_bytes, put_int64};
+use pqformat::{Cursor, put_byte, put_bytes, put_int64};
 use std::alloc::AllocError;
 use std::marker::Model;
 

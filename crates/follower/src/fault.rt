@@ -1,7 +1,8 @@
 //! Why a stream was not followed to its end, K1 to K6.
 
 use client::ClientFault;
-use frames::{ErrorResponse, FrameFault, Text};
+use frames::{ErrorResponse, FrameFault};
+use pqformat::Text;
 use std::alloc::AllocError;
 use std::{fmt, io};
 use thiserror::Error;

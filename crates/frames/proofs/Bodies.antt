@@ -36,8 +36,8 @@ use Rattle.frames.specs.declared.front.Front.{Front}
 use Rattle.frames.specs.declared.front.Front.TheVariants as fronts
 use Rattle.frames.specs.declared.back.Back.{Back}
 use Rattle.frames.specs.declared.back.Back.TheVariants as backs
-use Rattle.frames.specs.Fields.{int32, string, has_zero, number_at, bytes_at}
-use Rattle.frames.specs.Steps.{◌>>=◌, repeat_at, until_at, closed}
+use Rattle.pqformat.specs.Fields.{int32, string, has_zero, number_at, bytes_at}
+use Rattle.pqformat.specs.Steps.{◌>>=◌, repeat_at, until_at, closed}
 use Rattle.frames.specs.Body.{whole, checked, always, there, text_at}
 use Rattle.frames.specs.Parameter.{is_parameter_text}
 use Rattle.frames.specs.Plain.{authentication_at, status_letter, status_of, status_at, counted, counted_at, copy_both, copy_both_at}
@@ -47,9 +47,9 @@ use Rattle.frames.specs.ErrorResponse.{error_field, error_field_at, FitsErrorFie
 use Rattle.frames.specs.CopyData.{copy_data, copy_data_at}
 use Rattle.frames.specs.Front.{front_kind, front_body, front_limit, front_at, IsShapedFront, is_front_text}
 use Rattle.frames.specs.Back.{back_kind, back_body, back_limit, back_at, list_at, IsShapedBack, is_back_text}
-use Rattle.frames.proofs.Codec as codec
-use Rattle.frames.proofs.Codec.{IsBytes, Takes, Takes-then, Codec, bind_ok, ok_is, done, field, last_field, codec_of, tested, repeated}
-use Rattle.frames.proofs.Numbers.{number16, number32, signed16, signed32, byte_codec, bytes_codec, string_codec, letter_codec, count_codec}
+use Rattle.pqformat.proofs.Codec as codec
+use Rattle.pqformat.proofs.Codec.{IsBytes, Takes, Takes-then, Codec, bind_ok, ok_is, done, field, last_field, codec_of, tested, repeated}
+use Rattle.pqformat.proofs.Numbers.{number16, number32, signed16, signed32, byte_codec, bytes_codec, string_codec, letter_codec, count_codec}
 use Rattle.frames.proofs.Cases.{Cases, Body, body_of_codec, case, no_case, whole_again, made}
 use Rattle.frames.proofs.Lists.{until_body}
 use Rattle.frames.proofs.Startups.{parameter_codec, key_codec, empty_body}

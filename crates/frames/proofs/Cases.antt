@@ -3,12 +3,12 @@ use Rattle.std.proofs.Common.{◌≡◌, ℕ, Bool, true, false, cond, eqb, List
 use Rattle.std.specs.Prelude.{◌⊎◌}
 use Rattle.std.proofs.lemmas.Bool.{eqb-true}
 use Rattle.std.proofs.lemmas.List.{append-nil}
-use Rattle.frames.specs.Steps.{◌>>=◌}
+use Rattle.pqformat.specs.Steps.{◌>>=◌}
 use Rattle.frames.specs.Body.{ended, checked, whole}
 use Rattle.frames.specs.Frame.{HasBody}
 use Rattle.frames.specs.declared.fault.FrameFault.{FrameFault}
 use Rattle.frames.specs.declared.fault.FrameFault.TheVariants.{BadBody, NotUtf8}
-use Rattle.frames.proofs.Codec.{IsBytes, Takes, Codec, bind_ok, ok_is, done}
+use Rattle.pqformat.proofs.Codec.{IsBytes, Takes, Codec, bind_ok, ok_is, done}
 
 -- what a value is refused for by its body
 abbrev pub IsBadBody : {X : Type 0} → (X → List ℕ) → (X → Type 0) → (X → Bool) → List ℕ → FrameFault → Type 0

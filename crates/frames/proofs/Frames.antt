@@ -6,14 +6,14 @@ use Rattle.std.specs.Option.{ok_or}
 use Rattle.std.specs.Int.{w32}
 use Rattle.std.proofs.lemmas.Bool.{ltb-true, ltb-false, le-ltb, lt-ltb, cases_lt}
 use Rattle.std.proofs.lemmas.List.{take_at, drop_at, take-append-drop, take-append-le, length-append, length-drop}
-use Rattle.frames.specs.Fields.{int32, bytes_at, number_at}
-use Rattle.frames.specs.Steps.{◌>>=◌}
+use Rattle.pqformat.specs.Fields.{int32, bytes_at, number_at}
+use Rattle.pqformat.specs.Steps.{◌>>=◌}
 use Rattle.frames.specs.declared.fault.FrameFault.{FrameFault}
 use Rattle.frames.specs.declared.fault.FrameFault.TheVariants.{BadLength, BadVersion, UnknownType, BadBody, NotUtf8, TooLong, Memory}
 use Rattle.frames.specs.Body.{checked}
 use Rattle.frames.specs.Frame.{frame, FitsLength, with_size, with_kind, Fits, SpellsFrame, IsShort, Fails, Gives, sized_at, body_at, raw_at, whole_of, framed_at, IsWhole, HasBody, BeginsWith, HoldsBody, StandsAt}
-use Rattle.frames.proofs.Codec.{IsBytes, IsBytes-take, IsBytes-rest, bind_ok, found_some, some_is, done, ok_is}
-use Rattle.frames.proofs.Numbers.{number32, bytes_codec, length-int32}
+use Rattle.pqformat.proofs.Codec.{IsBytes, IsBytes-take, IsBytes-rest, bind_ok, found_some, some_is, done, ok_is}
+use Rattle.pqformat.proofs.Numbers.{number32, bytes_codec, length-int32}
 use Rattle.frames.proofs.Cases.{Cases}
 
 -- ---- steps

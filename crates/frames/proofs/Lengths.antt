@@ -5,10 +5,10 @@ use Rattle.std.proofs.lemmas.List.{length-append}
 use Rattle.frames.specs.declared.row_description.ColumnDescription.{ColumnDescription}
 use Rattle.frames.specs.declared.data_row.DataValue.{DataValue}
 use Rattle.frames.specs.declared.data_row.DataValue.TheVariants.{Null, Bytes}
-use Rattle.frames.specs.Fields.{int16, int32, string}
+use Rattle.pqformat.specs.Fields.{int16, int32, string}
 use Rattle.frames.specs.RowDescription.{column, column_type}
 use Rattle.frames.specs.DataRow.{data_value, no_length}
-use Rattle.frames.proofs.Numbers.{length-int16, length-int32}
+use Rattle.pqformat.proofs.Numbers.{length-int16, length-int32}
 
 five : (a b c d e : List ℕ) → length (a ++ (b ++ (c ++ (d ++ e)))) ≡ length a + length b + length c + length d + length e
 five a b c d e = omega (arith, length-append a (b ++ (c ++ (d ++ e))), length-append b (c ++ (d ++ e)), length-append c (d ++ e), length-append d e)

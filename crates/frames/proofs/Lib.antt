@@ -1,9 +1,4 @@
-pub mod Texts
-pub mod Codec
-pub mod Numbers
 pub mod Lengths
-pub mod Loop
-pub mod Putting
 pub mod Cases
 pub mod Lists
 pub mod Frames

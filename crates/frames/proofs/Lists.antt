@@ -5,14 +5,14 @@ use Rattle.std.specs.List.{flat_map, AllByRecursion, list_all}
 use Rattle.std.proofs.lemmas.Bool.{eqb-true}
 use Rattle.std.proofs.lemmas.List.{length-append}
 use Rattle.std.proofs.lemmas.List.Concat.{flat_map-cons}
-use Rattle.frames.specs.Steps.{◌>>=◌, repeat_at, next_at, go_on, until_at, closed}
+use Rattle.pqformat.specs.Steps.{◌>>=◌, repeat_at, next_at, go_on, until_at, closed}
 use Rattle.frames.specs.Body.{ended, checked, checked_at, passed, passed_over, whole, always, starts, GivesAt}
 use Rattle.frames.specs.Frame.{Fails, Gives}
 use Rattle.frames.specs.declared.fault.FrameFault.{FrameFault}
 use Rattle.frames.specs.declared.fault.FrameFault.TheVariants.{BadLength, BadVersion, UnknownType, BadBody, NotUtf8, TooLong, Memory}
-use Rattle.frames.proofs.Codec.{IsBytes, IsBytes-rest, Takes, Takes-then, Codec, bind_ok, ok_is, some_is, done}
-use Rattle.frames.proofs.Loop as loop
-use Rattle.frames.proofs.Loop.{with_front}
+use Rattle.pqformat.proofs.Codec.{IsBytes, IsBytes-rest, Takes, Takes-then, Codec, bind_ok, ok_is, some_is, done}
+use Rattle.pqformat.proofs.Loop as loop
+use Rattle.pqformat.proofs.Loop.{with_front}
 use Rattle.frames.proofs.Cases.{Body}
 
 -- ---- a loop over a count that ends at a fault

@@ -6,8 +6,8 @@ use Rattle.std.specs.Int.{w32}
 use Rattle.std.specs.List.{AllByRecursion, list_all}
 use Rattle.std.proofs.lemmas.Bool.{ltb-true, ltb-false, le-ltb, lt-ltb, cases_lt}
 use Rattle.std.proofs.lemmas.List.{take_at, drop_at, take-append-drop, take-append-le, length-append, length-drop}
-use Rattle.frames.specs.Fields.{int32, string, has_zero, bytes_at, number_at}
-use Rattle.frames.specs.Steps.{◌>>=◌, closed}
+use Rattle.pqformat.specs.Fields.{int32, string, has_zero, bytes_at, number_at}
+use Rattle.pqformat.specs.Steps.{◌>>=◌, closed}
 use Rattle.frames.specs.Body.{checked, always, nothing_at, starts}
 use Rattle.frames.specs.Frame.{Fits, HasBody, Fails, Gives, whole_of, IsWhole}
 use Rattle.frames.specs.Plain.{backend_key, backend_key_at}
@@ -19,8 +19,8 @@ use Rattle.frames.specs.declared.startup.Startup.TheVariants.{Session, Ssl, Gss,
 use Rattle.frames.specs.declared.startup.TheConstants.{STARTUP_LIMIT, PROTOCOL_VERSION, SSL_REQUEST, GSS_REQUEST, CANCEL_REQUEST}
 use Rattle.frames.specs.declared.fault.FrameFault.{FrameFault}
 use Rattle.frames.specs.declared.fault.FrameFault.TheVariants.{BadLength, BadVersion, UnknownType, BadBody, NotUtf8, TooLong, Memory}
-use Rattle.frames.proofs.Codec.{IsBytes, IsBytes-take, bind_ok, found_some, some_is, done, ok_is, Codec, field, last_field, codec_of}
-use Rattle.frames.proofs.Numbers.{number32, string_codec, nothing_codec, bytes_codec, length-int32}
+use Rattle.pqformat.proofs.Codec.{IsBytes, IsBytes-take, bind_ok, found_some, some_is, done, ok_is, Codec, field, last_field, codec_of}
+use Rattle.pqformat.proofs.Numbers.{number32, string_codec, nothing_codec, bytes_codec, length-int32}
 use Rattle.frames.proofs.Cases.{Body, Cases, body_of_codec, case, no_case, whole_again, made}
 use Rattle.frames.proofs.Lists.{Starting, until_body}
 use Rattle.frames.proofs.Frames.{went_on, mapped, failed, number_there, bytes_there, still_waits}

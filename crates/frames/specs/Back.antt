@@ -18,8 +18,8 @@ use Rattle.frames.specs.declared.copy_done.TheConstants.{COPY_DONE}
 use Rattle.frames.specs.declared.frame.TheConstants.{FRAME_LIMIT}
 use Rattle.frames.specs.declared.fault.FrameFault.{FrameFault}
 use Rattle.frames.specs.declared.fault.FrameFault.TheVariants.{UnknownType}
-use Rattle.frames.specs.Steps.{◌>>=◌, until_at, closed}
-use Rattle.frames.specs.Fields.{int32, string, has_zero}
+use Rattle.pqformat.specs.Steps.{◌>>=◌, until_at, closed}
+use Rattle.pqformat.specs.Fields.{int32, string, has_zero}
 use Rattle.frames.specs.Body.{whole, always, nothing_at, text_at}
 use Rattle.frames.specs.Frame.{Fits, SpellsFrame, IsShort, StandsAt, framed_at}
 use Rattle.frames.specs.Parameter.{parameter, parameter_at, is_parameter_text}

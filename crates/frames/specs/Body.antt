@@ -1,8 +1,8 @@
 -- A body that is read whole: first its parts, one behind the other, with nothing left over, and then its texts.
 use Rattle.std.specs.Prelude.{◌≡◌, ℕ, ◌==◌, Bool, true, false, not, List, [], ◌∷◌, Option, Result, Ok, Err, if◌then◌else◌}
 use Rattle.std.specs.Option.{ok_or}
-use Rattle.frames.specs.Fields.{string_at}
-use Rattle.frames.specs.Steps.{◌>>=◌}
+use Rattle.pqformat.specs.Fields.{string_at}
+use Rattle.pqformat.specs.Steps.{◌>>=◌}
 use Rattle.frames.specs.Frame.{Fails}
 use Rattle.frames.specs.declared.fault.FrameFault.{FrameFault}
 use Rattle.frames.specs.declared.fault.FrameFault.TheVariants.{BadBody, NotUtf8}

@@ -3,8 +3,8 @@ use Rattle.std.specs.Prelude.{ℕ, ◌^◌, ◌<◌, ◌==◌, nat_lt, List, ◌
 use Rattle.std.specs.Int.{w32}
 use Rattle.frames.specs.declared.data_row.DataValue.{DataValue}
 use Rattle.frames.specs.declared.data_row.DataValue.TheVariants.{Null, Bytes}
-use Rattle.frames.specs.Fields.{int32, bytes_at, number_at}
-use Rattle.frames.specs.Steps.{◌>>=◌}
+use Rattle.pqformat.specs.Fields.{int32, bytes_at, number_at}
+use Rattle.pqformat.specs.Steps.{◌>>=◌}
 use Rattle.frames.specs.Body.{there}
 
 -- -1 in two's complement

@@ -2,8 +2,8 @@
 use Rattle.std.specs.Prelude.{◌≡◌, ℕ, ◌<◌, ◌==◌, Bool, true, false, not, List, [], ◌∷◌, ◌++◌, Result, Ok}
 use Rattle.std.specs.Str.{is_utf8}
 use Rattle.frames.specs.declared.error_response.ErrorField.{ErrorField}
-use Rattle.frames.specs.Fields.{string, string_at, byte_at, has_zero}
-use Rattle.frames.specs.Steps.{◌>>=◌}
+use Rattle.pqformat.specs.Fields.{string, string_at, byte_at, has_zero}
+use Rattle.pqformat.specs.Steps.{◌>>=◌}
 use Rattle.frames.specs.Body.{there}
 
 abbrev pub error_field : ErrorField → List ℕ

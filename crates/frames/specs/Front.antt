@@ -11,8 +11,8 @@ use Rattle.frames.specs.declared.copy_fail.TheConstants.{COPY_FAIL}
 use Rattle.frames.specs.declared.frame.TheConstants.{FRAME_LIMIT}
 use Rattle.frames.specs.declared.fault.FrameFault.{FrameFault}
 use Rattle.frames.specs.declared.fault.FrameFault.TheVariants.{UnknownType}
-use Rattle.frames.specs.Steps.{◌>>=◌}
-use Rattle.frames.specs.Fields.{string, has_zero}
+use Rattle.pqformat.specs.Steps.{◌>>=◌}
+use Rattle.pqformat.specs.Fields.{string, has_zero}
 use Rattle.frames.specs.Body.{whole, always, nothing_at, text_at}
 use Rattle.frames.specs.Frame.{Fits, SpellsFrame, IsShort, StandsAt, framed_at}
 use Rattle.frames.specs.CopyData.{copy_data, copy_data_at}

@@ -1,6 +1,3 @@
-pub mod Fields
-pub mod Steps
-pub mod Putting
 pub mod Frame
 pub mod Raw
 pub mod Body

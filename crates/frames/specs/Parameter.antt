@@ -2,8 +2,8 @@
 use Rattle.std.specs.Prelude.{◌≡◌, ℕ, Bool, true, false, ◌&&◌, List, [], ◌∷◌, ◌++◌, Result, Ok}
 use Rattle.std.specs.Str.{is_utf8}
 use Rattle.frames.specs.declared.parameter.Parameter.{Parameter}
-use Rattle.frames.specs.Fields.{string, string_at, has_zero}
-use Rattle.frames.specs.Steps.{◌>>=◌}
+use Rattle.pqformat.specs.Fields.{string, string_at, has_zero}
+use Rattle.pqformat.specs.Steps.{◌>>=◌}
 use Rattle.frames.specs.Body.{there}
 
 abbrev pub parameter : Parameter → List ℕ

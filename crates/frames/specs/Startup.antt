@@ -10,8 +10,8 @@ use Rattle.frames.specs.declared.startup.TheConstants.{STARTUP_LIMIT, PROTOCOL_V
 use Rattle.frames.specs.declared.parameter.Parameter.{Parameter}
 use Rattle.frames.specs.declared.fault.FrameFault.{FrameFault}
 use Rattle.frames.specs.declared.fault.FrameFault.TheVariants.{BadLength, BadVersion, UnknownType, BadBody, NotUtf8, TooLong, Memory}
-use Rattle.frames.specs.Fields.{int32, number_at, bytes_at}
-use Rattle.frames.specs.Steps.{◌>>=◌, until_at, closed}
+use Rattle.pqformat.specs.Fields.{int32, number_at, bytes_at}
+use Rattle.pqformat.specs.Steps.{◌>>=◌, until_at, closed}
 use Rattle.frames.specs.Body.{whole, always, nothing_at}
 use Rattle.frames.specs.Frame.{Fits, HasBody, whole_of}
 use Rattle.frames.specs.Plain.{backend_key, backend_key_at}

@@ -6,9 +6,9 @@ ghost use Rattle.frames.specs.Frame.{Gives};
 ghost use Rattle.frames.specs.Plain.{authentication_at};
 
 use crate::body::end_of;
-use crate::cursor::Cursor;
 use crate::fault::FrameFault;
 use crate::field::int32;
+use pqformat::Cursor;
 
 /// The type byte of AuthenticationOk (PostgreSQL 15, 55.7).
 ///

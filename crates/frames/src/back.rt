@@ -2,7 +2,7 @@
 
 ghost use Rattle.std.specs.Prelude.{◌≡◌, ◌<◌, ◌≤◌, ◌++◌, List, ℕ, length, take, Ok, Err, Some, None, IfOk, IfErr, IfSome, OnOk, OnErr};
 ghost use Rattle.frames.specs.Frame.{FitsLength, frame, Gives, IsWhole, raw_at};
-ghost use Rattle.frames.specs.Putting.{Puts};
+ghost use Rattle.pqformat.specs.Putting.{Puts};
 ghost use Rattle.frames.specs.Back.{back_kind, back_body, back_limit, back_at, list_at, framed_back, SpellsBack, IsShortBack, IsBackFault, HasCounts};
 
 use crate::authentication_ok::{AUTHENTICATION, authentication_of};
@@ -12,7 +12,6 @@ use crate::command_complete::{COMMAND_COMPLETE, CommandComplete};
 use crate::copy_both_response::{COPY_BOTH_RESPONSE, CopyBothResponse, copy_both_of};
 use crate::copy_data::{COPY_DATA, CopyData, copy_data_len, copy_data_of, put_copy_data};
 use crate::copy_done::COPY_DONE;
-use crate::cursor::Cursor;
 use crate::data_row::{DATA_ROW, DataRow, data_row_of};
 use crate::error_response::{ERROR_RESPONSE, ErrorResponse};
 use crate::fault::FrameFault;
@@ -22,10 +21,10 @@ use crate::parameter::Parameter;
 use crate::parameter_status::{
     PARAMETER_STATUS, parameter_len, parameter_status_of, put_parameter,
 };
-use crate::put::{put_byte, put_int32, put_string};
 use crate::ready_for_query::{READY_FOR_QUERY, Status, ready_of};
 use crate::row_description::{ROW_DESCRIPTION, RowDescription};
 use bytes::BytesMut;
+use pqformat::{Cursor, put_byte, put_int32, put_string};
 use std::alloc::{AllocError, Global};
 
 /// A frame that the server sends (PostgreSQL 15, 55.7).
@@ -168,7 +167,7 @@ pub fn write_back(message: &Back, out: &mut BytesMut) -> Result<(), AllocError>
     written
 }
 
-#[tactic(auto, using(crate::proofs::Putting::in_place))]
+#[tactic(auto, using(pqformat::proofs::Putting::in_place))]
 fn put_back(out: &mut BytesMut, message: &Back) -> Result<(), AllocError>
     requires length { FitsLength (back_body message.now) }
     requires counts { HasCounts message.now }
@@ -178,7 +177,7 @@ fn put_back(out: &mut BytesMut, message: &Back) -> Result<(), AllocError>
     put_body(out, message)
 }
 
-#[tactic(auto, using(crate::proofs::Putting::in_place))]
+#[tactic(auto, using(pqformat::proofs::Putting::in_place))]
 fn put_body(out: &mut BytesMut, message: &Back) -> Result<(), AllocError>
     requires { HasCounts message.now }
     ensures { Puts result out.old.items out.new.items (back_body message.now) }

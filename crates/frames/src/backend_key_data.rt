@@ -4,14 +4,13 @@ ghost use Rattle.std.specs.Prelude.{◌≡◌};
 ghost use Rattle.frames.specs.Body.{whole, always};
 ghost use Rattle.frames.specs.Frame.{Gives};
 ghost use Rattle.frames.specs.Plain.{backend_key, backend_key_at};
-ghost use Rattle.frames.specs.Putting.{Puts};
+ghost use Rattle.pqformat.specs.Putting.{Puts};
 
 use crate::body::end_of;
-use crate::cursor::Cursor;
 use crate::fault::FrameFault;
 use crate::field::int32;
-use crate::put::put_int32;
 use bytes::BytesMut;
+use pqformat::{Cursor, put_int32};
 use std::alloc::AllocError;
 
 /// The type byte of BackendKeyData.
@@ -40,7 +39,7 @@ pub(crate) fn backend_key_of(body: &[u8]) -> Result<(u32, u32), FrameFault>
     Ok((process, key))
 }
 
-#[tactic(auto, using(crate::proofs::Putting::in_place))]
+#[tactic(auto, using(pqformat::proofs::Putting::in_place))]
 pub(crate) fn put_backend_key(out: &mut BytesMut, key: &BackendKeyData) -> Result<(), AllocError>
     ensures { Puts result out.old.items out.new.items (backend_key (key.now.process, key.now.key)) }
 {

@@ -5,10 +5,9 @@ ghost use Rattle.std.specs.Str.{is_utf8};
 ghost use Rattle.frames.specs.Body.{ended, checked, whole, always, nothing_at, text_at};
 ghost use Rattle.frames.specs.Frame.{Gives};
 
-use crate::cursor::{Cursor, utf8_of};
 use crate::fault::FrameFault;
 use crate::field::string;
-use crate::text::Text;
+use pqformat::{Cursor, Text, utf8_of};
 use std::alloc::Global;
 
 /// That nothing is left over.

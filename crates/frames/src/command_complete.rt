@@ -1,6 +1,6 @@
 //! CommandComplete, the end of a command that was carried out: its type.
 
-use crate::text::Text;
+use pqformat::Text;
 
 /// The type byte of CommandComplete.
 pub const COMMAND_COMPLETE: u8 = b'C';

@@ -1,19 +1,17 @@
 //! CopyBothResponse, the beginning of copy mode in both directions: its type, its reader and its writer.
 
 ghost use Rattle.std.specs.Prelude.{◌≡◌, length};
-ghost use Rattle.frames.specs.Fields.{int16};
+ghost use Rattle.pqformat.specs.Fields.{int16};
 ghost use Rattle.frames.specs.Body.{GivesAt, checked_at, passed_over, whole, always};
 ghost use Rattle.frames.specs.Frame.{Gives};
 ghost use Rattle.frames.specs.Plain.{counted_at, format_at, copy_both_at};
-ghost use Rattle.frames.specs.Putting.{Puts};
+ghost use Rattle.pqformat.specs.Putting.{Puts};
 
-use crate::cursor::Cursor;
 use crate::fault::FrameFault;
 use crate::field::{byte, int16};
-use crate::items::Items;
 use crate::list::{Field, Put, counted_of};
-use crate::put::put_int16;
 use bytes::BytesMut;
+use pqformat::{Cursor, Items, put_int16};
 use std::alloc::{AllocError, Global};
 
 /// The type byte of CopyBothResponse.
@@ -50,13 +48,13 @@ impl Field for u16 {
 }
 
 impl Put for u16 {
-    ghost use Rattle.frames.specs.Fields.{int16};
+    ghost use Rattle.pqformat.specs.Fields.{int16};
 
     ghost spelled = { int16 };
 
     ghost is_short = { λ _. Unit {0} };
 
-    #[tactic(auto, unfolding(crate::specs::Fields::int16))]
+    #[tactic(auto, unfolding(pqformat::specs::Fields::int16))]
     fn len(&self) -> usize {
         2
     }

@@ -2,14 +2,13 @@
 
 ghost use Rattle.std.specs.Prelude.{◌≡◌, length};
 ghost use Rattle.frames.specs.Frame.{Gives};
-ghost use Rattle.frames.specs.Putting.{Puts};
+ghost use Rattle.pqformat.specs.Putting.{Puts};
 ghost use Rattle.frames.specs.Body.{whole, always};
 ghost use Rattle.frames.specs.CopyData.{copy_data, copy_data_at};
 
 use crate::fault::FrameFault;
-use crate::items::Items;
-use crate::put::put_bytes;
 use bytes::BytesMut;
+use pqformat::{Items, put_bytes};
 use std::alloc::{AllocError, Global};
 
 /// The type byte of CopyData.

@@ -1,6 +1,6 @@
 //! CopyFail, the end of copy mode by a client that couldn't go on: its type.
 
-use crate::text::Text;
+use pqformat::Text;
 
 /// The type byte of CopyFail.
 pub const COPY_FAIL: u8 = b'f';

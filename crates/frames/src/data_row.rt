@@ -5,16 +5,14 @@ ghost use Rattle.frames.specs.Body.{GivesAt, checked_at, passed_over, whole, alw
 ghost use Rattle.frames.specs.Frame.{Gives};
 ghost use Rattle.frames.specs.Plain.{counted_at};
 ghost use Rattle.frames.specs.Raw.{as_value};
-ghost use Rattle.frames.specs.Putting.{Puts};
+ghost use Rattle.pqformat.specs.Putting.{Puts};
 ghost use Rattle.frames.specs.DataRow.{data_value, value_at, FitsValue};
 
-use crate::cursor::Cursor;
 use crate::fault::FrameFault;
 use crate::field::int32;
-use crate::items::Items;
 use crate::list::{Field, Put, counted_of};
-use crate::put::{put_bytes, put_int32};
 use bytes::BytesMut;
+use pqformat::{Cursor, Items, put_bytes, put_int32};
 use std::alloc::{AllocError, Global};
 
 /// The type byte of DataRow.
@@ -103,7 +101,7 @@ impl Put for DataValue {
         }
     }
 
-    #[tactic(auto, using(crate::proofs::Putting::in_place))]
+    #[tactic(auto, using(pqformat::proofs::Putting::in_place))]
     fn put(&self, out: &mut BytesMut) -> Result<(), AllocError> {
         match self {
             DataValue::Null => put_int32(out, NO_LENGTH),

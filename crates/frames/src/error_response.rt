@@ -2,18 +2,15 @@
 
 ghost use Rattle.std.specs.Prelude.{◌≡◌, length};
 ghost use Rattle.frames.specs.Body.{GivesAt, checked_at, passed_over};
-ghost use Rattle.frames.specs.Putting.{Puts};
+ghost use Rattle.pqformat.specs.Putting.{Puts};
 ghost use Rattle.frames.specs.ErrorResponse.{error_field, error_field_at, is_error_text};
 
 use crate::body::text_of;
-use crate::cursor::Cursor;
 use crate::fault::FrameFault;
 use crate::field::{byte, string};
-use crate::items::Items;
 use crate::list::{Field, Put};
-use crate::put::{put_byte, put_string};
-use crate::text::Text;
 use bytes::BytesMut;
+use pqformat::{Cursor, Items, Text, put_byte, put_string};
 use std::alloc::{AllocError, Global};
 
 /// The type byte of ErrorResponse.
@@ -74,7 +71,7 @@ impl Put for ErrorField {
         self.text.as_str().len() + 2
     }
 
-    #[tactic(auto, using(crate::proofs::Putting::in_place))]
+    #[tactic(auto, using(pqformat::proofs::Putting::in_place))]
     fn put(&self, out: &mut BytesMut) -> Result<(), AllocError> {
         put_byte(out, self.code)?;
         put_string(out, self.text.as_str())

@@ -4,10 +4,10 @@ ghost use Rattle.std.specs.Prelude.{◌≡◌};
 ghost use Rattle.std.specs.Int.{w16, w32};
 ghost use Rattle.frames.specs.Body.{GivesAt, passed, there};
 ghost use Rattle.frames.specs.Raw.{as_bytes};
-ghost use Rattle.frames.specs.Fields.{byte_at, number_at, string_at};
+ghost use Rattle.pqformat.specs.Fields.{byte_at, number_at, string_at};
 
-use crate::cursor::Cursor;
 use crate::fault::FrameFault;
+use pqformat::Cursor;
 
 pub(crate) fn byte(cursor: &mut Cursor<'_>) -> Result<u8, FrameFault>
     ensures { GivesAt result cursor.new (passed (λ n. n) (there (byte_at cursor.old))) }

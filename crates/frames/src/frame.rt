@@ -1,15 +1,14 @@
 //! What all regular frames have in common (PostgreSQL 15, 55.1.1): a type byte, a length that counts itself, and a body.
 
 ghost use Rattle.std.specs.Prelude.{◌≡◌, ◌≢◌, ◌+◌, ◌^◌, ◌<◌, ◌∷◌, ◌++◌, option_map, Result, Ok, Err};
-ghost use Rattle.frames.specs.Fields.{int32};
+ghost use Rattle.pqformat.specs.Fields.{int32};
 ghost use Rattle.frames.specs.Frame.{Gives, body_at};
-ghost use Rattle.frames.specs.Putting.{Puts};
+ghost use Rattle.pqformat.specs.Putting.{Puts};
 ghost use Rattle.frames.specs.Raw.{lent};
 
-use crate::cursor::Cursor;
 use crate::fault::FrameFault;
-use crate::put::{put_byte, put_int32};
 use bytes::BytesMut;
+use pqformat::{Cursor, put_byte, put_int32};
 use std::alloc::AllocError;
 
 /// The greatest length field of a frame that has no limit of its own.
@@ -41,7 +40,7 @@ pub(crate) fn body_of<'a>(
 }
 
 /// The type byte and the length of a frame with a body of this many bytes.
-#[tactic(auto, using(crate::proofs::Putting::in_place))]
+#[tactic(auto, using(pqformat::proofs::Putting::in_place))]
 pub(crate) fn put_head(out: &mut BytesMut, kind: u8, body_len: usize) -> Result<(), AllocError>
     requires { 4 + body_len < 2 ^ 32 }
     ensures { Puts result out.old.items out.new.items (kind ∷ int32 (4 + body_len)) }

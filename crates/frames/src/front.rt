@@ -2,20 +2,19 @@
 
 ghost use Rattle.std.specs.Prelude.{◌≡◌, ◌<◌, ◌≤◌, ◌++◌, List, ℕ, length, take, Ok, Err, Some, None, IfOk, IfErr, IfSome, OnOk, OnErr};
 ghost use Rattle.frames.specs.Frame.{FitsLength, frame, Gives, IsWhole, raw_at};
-ghost use Rattle.frames.specs.Putting.{Puts};
+ghost use Rattle.pqformat.specs.Putting.{Puts};
 ghost use Rattle.frames.specs.Front.{front_kind, front_body, front_limit, front_at, framed_front, SpellsFront, IsShortFront, IsFrontFault};
 
 use crate::body::{nothing_of, only_text};
 use crate::copy_data::{COPY_DATA, CopyData, copy_data_len, copy_data_of, put_copy_data};
 use crate::copy_done::COPY_DONE;
 use crate::copy_fail::{COPY_FAIL, CopyFail};
-use crate::cursor::Cursor;
 use crate::fault::FrameFault;
 use crate::frame::{FRAME_LIMIT, body_of, put_head};
-use crate::put::put_string;
 use crate::query::{QUERY, QUERY_LIMIT, Query};
 use crate::terminate::TERMINATE;
 use bytes::BytesMut;
+use pqformat::{Cursor, put_string};
 use std::alloc::{AllocError, Global};
 
 /// A frame that a client sends (PostgreSQL 15, 55.7).
@@ -116,7 +115,7 @@ pub fn write_front(message: &Front, out: &mut BytesMut) -> Result<(), AllocError
     written
 }
 
-#[tactic(auto, using(crate::proofs::Putting::in_place))]
+#[tactic(auto, using(pqformat::proofs::Putting::in_place))]
 fn put_front(out: &mut BytesMut, message: &Front) -> Result<(), AllocError>
     requires { FitsLength (front_body message.now) }
     ensures { Puts result out.old.items out.new.items (frame (front_kind message.now) (front_body message.now)) }

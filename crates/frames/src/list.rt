@@ -3,19 +3,17 @@
 
 ghost use Rattle.std.specs.Prelude.{◌≡◌, ◌^◌, ◌<◌, ◌++◌, length, is_none};
 ghost use Rattle.std.specs.List.{list_all, flat_map, AllByRecursion};
-ghost use Rattle.frames.specs.Steps.{repeat_at, next_at, until_at, closed};
+ghost use Rattle.pqformat.specs.Steps.{repeat_at, next_at, until_at, closed};
 ghost use Rattle.frames.specs.Plain.{counted, counted_at};
-ghost use Rattle.frames.specs.Putting.{Puts};
+ghost use Rattle.pqformat.specs.Putting.{Puts};
 ghost use Rattle.frames.specs.Body.{GivesAt, checked_at, passed, passed_over, whole};
 ghost use Rattle.frames.specs.Frame.{Gives};
 
 use crate::body::end_of;
-use crate::cursor::Cursor;
 use crate::fault::FrameFault;
 use crate::field::int16;
-use crate::items::Items;
-use crate::put::{put_byte, put_int16};
 use bytes::BytesMut;
+use pqformat::{Cursor, Items, put_byte, put_int16};
 use std::alloc::{AllocError, Global};
 
 /// What stands in a list, as it is read.
@@ -51,7 +49,7 @@ fn items_of<T: Field + Drop>(
 }
 
 /// Moves past one more, or past the zero byte that ends them, which it answers.
-#[tactic(auto, unfolding(crate::specs::Steps::next_at))]
+#[tactic(auto, unfolding(pqformat::specs::Steps::next_at))]
 fn pass_next<T: Field>(cursor: &mut Cursor<'_>) -> Result<bool, FrameFault>
     ensures { GivesAt result cursor.new (passed is_none (next_at tt T.field_at cursor.old)) }
 {
@@ -156,7 +154,7 @@ pub(crate) fn items_len<T: Put>(items: &[T]) -> usize
     total
 }
 
-#[tactic(auto, using(crate::proofs::Putting::in_place))]
+#[tactic(auto, using(pqformat::proofs::Putting::in_place))]
 fn put_items<T: Put>(out: &mut BytesMut, items: &[T]) -> Result<(), AllocError>
     requires { AllByRecursion T.is_short items.now }
     ensures { Puts result out.old.items out.new.items (flat_map T.spelled items.now) }
@@ -168,7 +166,7 @@ fn put_items<T: Put>(out: &mut BytesMut, items: &[T]) -> Result<(), AllocError>
 }
 
 /// The count of the items, and each item.
-#[tactic(auto, using(crate::proofs::Putting::in_place))]
+#[tactic(auto, using(pqformat::proofs::Putting::in_place))]
 pub(crate) fn put_counted<T: Put>(out: &mut BytesMut, items: &[T]) -> Result<(), AllocError>
     requires count { length items.now < 2 ^ 15 }
     requires each { AllByRecursion T.is_short items.now }
@@ -179,7 +177,7 @@ pub(crate) fn put_counted<T: Put>(out: &mut BytesMut, items: &[T]) -> Result<(),
 }
 
 /// Each item, and the zero byte that ends them.
-#[tactic(auto, using(crate::proofs::Putting::in_place))]
+#[tactic(auto, using(pqformat::proofs::Putting::in_place))]
 pub(crate) fn put_closed<T: Put>(out: &mut BytesMut, items: &[T]) -> Result<(), AllocError>
     requires { AllByRecursion T.is_short items.now }
     ensures { Puts result out.old.items out.new.items (closed T.spelled items.now) }

@@ -5,11 +5,10 @@ ghost use Rattle.frames.specs.Body.{GivesAt, checked_at, passed_over};
 ghost use Rattle.frames.specs.Parameter.{parameter_at, is_parameter_text};
 
 use crate::body::text_of;
-use crate::cursor::Cursor;
 use crate::fault::FrameFault;
 use crate::field::string;
 use crate::list::Field;
-use crate::text::Text;
+use pqformat::{Cursor, Text};
 use std::alloc::Global;
 
 /// A parameter of a session (PostgreSQL 15, 55.7, StartupMessage). The name is never empty.

@@ -4,15 +4,14 @@ ghost use Rattle.std.specs.Prelude.{◌≡◌, ◌^◌, ◌<◌, length};
 ghost use Rattle.frames.specs.Body.{whole};
 ghost use Rattle.frames.specs.Frame.{Gives};
 ghost use Rattle.frames.specs.Parameter.{parameter, parameter_at, is_parameter_text};
-ghost use Rattle.frames.specs.Putting.{Puts};
+ghost use Rattle.pqformat.specs.Putting.{Puts};
 
 use crate::body::{end_of, text_of};
-use crate::cursor::Cursor;
 use crate::fault::FrameFault;
 use crate::field::string;
 use crate::parameter::Parameter;
-use crate::put::put_string;
 use bytes::BytesMut;
+use pqformat::{Cursor, put_string};
 use std::alloc::{AllocError, Global};
 
 /// The type byte of ParameterStatus (PostgreSQL 15, 55.7).
@@ -42,7 +41,7 @@ pub(crate) fn parameter_len(status: &Parameter) -> usize
     status.name.as_str().len() + status.value.as_str().len() + 2
 }
 
-#[tactic(auto, using(crate::proofs::Putting::in_place))]
+#[tactic(auto, using(pqformat::proofs::Putting::in_place))]
 pub(crate) fn put_parameter(out: &mut BytesMut, status: &Parameter) -> Result<(), AllocError>
     ensures { Puts result out.old.items out.new.items (parameter status.now) }
 {

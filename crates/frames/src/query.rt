@@ -1,6 +1,6 @@
 //! Query, a text to be carried out: its type and its limit.
 
-use crate::text::Text;
+use pqformat::Text;
 
 /// The type byte of Query.
 pub const QUERY: u8 = b'Q';

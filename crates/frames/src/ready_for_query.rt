@@ -6,9 +6,9 @@ ghost use Rattle.frames.specs.Frame.{Gives};
 ghost use Rattle.frames.specs.Plain.{status_letter, status_at};
 
 use crate::body::end_of;
-use crate::cursor::Cursor;
 use crate::fault::FrameFault;
 use crate::field::byte;
+use pqformat::Cursor;
 
 /// The type byte of ReadyForQuery (PostgreSQL 15, 55.7).
 ///

@@ -2,18 +2,15 @@
 
 ghost use Rattle.std.specs.Prelude.{◌≡◌, length};
 ghost use Rattle.frames.specs.Body.{GivesAt, checked_at, passed, passed_over};
-ghost use Rattle.frames.specs.Putting.{Puts};
+ghost use Rattle.pqformat.specs.Putting.{Puts};
 ghost use Rattle.frames.specs.RowDescription.{column, column_type, column_at, type_at, is_column_text};
 
 use crate::body::text_of;
-use crate::cursor::Cursor;
 use crate::fault::FrameFault;
 use crate::field::{int16, int32, string};
-use crate::items::Items;
 use crate::list::{Field, Put};
-use crate::put::{put_int16, put_int32, put_string};
-use crate::text::Text;
 use bytes::BytesMut;
+use pqformat::{Cursor, Items, Text, put_int16, put_int32, put_string};
 use std::alloc::{AllocError, Global};
 
 /// The type byte of RowDescription.
@@ -116,7 +113,7 @@ impl Put for ColumnDescription {
         self.name.as_str().len() + 19
     }
 
-    #[tactic(auto, using(crate::proofs::Putting::in_place))]
+    #[tactic(auto, using(pqformat::proofs::Putting::in_place))]
     fn put(&self, out: &mut BytesMut) -> Result<(), AllocError> {
         put_string(out, self.name.as_str())?;
         put_int32(out, self.table)?;
@@ -126,7 +123,7 @@ impl Put for ColumnDescription {
     }
 }
 
-#[tactic(auto, using(crate::proofs::Putting::in_place))]
+#[tactic(auto, using(pqformat::proofs::Putting::in_place))]
 fn put_type(out: &mut BytesMut, data_type: ColumnType) -> Result<(), AllocError>
     ensures { Puts result out.old.items out.new.items (column_type data_type) }
 {

@@ -7,11 +7,10 @@ ghost use Rattle.frames.specs.Startup.{SpellsStartup, IsStartupFault, startup_li
 
 use crate::backend_key_data::backend_key_of;
 use crate::body::nothing_of;
-use crate::cursor::Cursor;
 use crate::fault::FrameFault;
-use crate::items::Items;
 use crate::list::listed;
 use crate::parameter::Parameter;
+use pqformat::{Cursor, Items};
 use std::alloc::Global;
 
 /// The greatest length of a startup.

@@ -9,8 +9,8 @@ use denote.Param.Send.{IsSend, IsSync, AllSend, sendable}
 use denote.Param.SendFields.{FieldsHave, declared_send, declared_sync, as_row_send}
 use Rattle.std.proofs.Crossing as heap
 use Rattle.bytes.proofs.unique.BytesMut.TheSendSync as buffer
-use Rattle.frames.proofs.items.Items.TheSendSync as items
-use Rattle.frames.proofs.text.Text.TheSendSync as text
+use Rattle.pqformat.proofs.items.Items.TheSendSync as items
+use Rattle.pqformat.proofs.text.Text.TheSendSync as text
 use Rattle.tables.proofs.table.Table.TheSendSync as table
 use Rattle.rowfilter.proofs.expression.Expression.TheLaws.TheKnot as tree
 use Rattle.rowfilter.specs.contracts.filter.Filter as filter

@@ -12,7 +12,7 @@ use crate::pool::{Pair, Pool};
 use crate::refusals::{of_publications, of_slot};
 use crate::streaming::Stream;
 use crate::system::SystemName;
-use frames::Text;
+use pqformat::Text;
 use publication::{Publications, Selection};
 use replcmd::Name;
 use server::DeskFault;

@@ -2,7 +2,7 @@
 
 ghost use Rattle.std.specs.Prelude.{◌≡◌, ◌<◌, ◌≤◌, ◌^◌, length, MatchOption};
 
-use frames::Text;
+use pqformat::Text;
 
 /// The most bytes of a system's name, with which it fits its row in any case.
 pub const MOST_NAME_BYTES: usize = 65_535;

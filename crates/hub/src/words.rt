@@ -3,7 +3,8 @@
 ghost use Rattle.std.specs.Prelude.{◌≡◌, IfOk, length, ◌≤◌};
 
 use bytes::BytesMut;
-use frames::{Back, ErrorField, ErrorResponse, Items, Text, write_back};
+use frames::{Back, ErrorField, ErrorResponse, write_back};
+use pqformat::{Items, Text};
 use std::alloc::{AllocError, Global};
 use std::io;
 use std::io::{ErrorKind, Write};

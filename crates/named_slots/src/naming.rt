@@ -6,7 +6,7 @@ ghost use Rattle.slots.specs.declared.fault.SlotFault.TheVariants.{Memory};
 ghost use Rattle.named_slots.specs.Keeping.{noted};
 
 use crate::slot::Slot;
-use frames::Text;
+use pqformat::Text;
 use slots::{Directory, SlotFault};
 use std::alloc::Global;
 

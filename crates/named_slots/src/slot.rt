@@ -2,7 +2,7 @@
 
 ghost use Rattle.std.specs.Prelude.{◌≡◌};
 
-use frames::Text;
+use pqformat::Text;
 
 /// What is kept of a slot beside its place in the table.
 #[derive(Debug, Drop)]

@@ -13,7 +13,7 @@ use crate::following::{Followed, follow_both};
 use crate::ordering::take_orders;
 use crate::shop::CONFIGURATION;
 use anyhow::Result;
-use frames::Text;
+use pqformat::Text;
 use hub::{Hub, OpenGate, OpenedHub, serve};
 use publication::Publications;
 use shared_log::LogName;

@@ -1,7 +1,7 @@
 //! The tables of the shop, and their rows.
 
 use crate::orders::Order;
-use frames::Text;
+use pqformat::Text;
 use std::alloc::{AllocError, Global};
 use tables::{Row, Value};
 

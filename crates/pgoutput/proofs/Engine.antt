@@ -9,10 +9,10 @@ use Rattle.std.proofs.lemmas.Bool.{cases_lt}
 use Rattle.std.proofs.lemmas.List.{take-append-le, length-append}
 use Rattle.std.proofs.Math.Seq.{take-append-add}
 use Rattle.std.proofs.lemmas.List.Concat.{flat_map-cons}
-use Rattle.frames.specs.Fields.{byte_at}
-use Rattle.frames.specs.Steps.{◌>>=◌, repeat_at}
-use Rattle.frames.proofs.Codec.{Codec, Part, Chooses}
-use Rattle.frames.proofs.Codec as codec
+use Rattle.pqformat.specs.Fields.{byte_at}
+use Rattle.pqformat.specs.Steps.{◌>>=◌, repeat_at}
+use Rattle.pqformat.proofs.Codec.{Codec, Part, Chooses}
+use Rattle.pqformat.proofs.Codec as codec
 use Rattle.pgoutput.specs.declared.fault.OutFault.{OutFault}
 use Rattle.pgoutput.specs.declared.fault.OutFault.TheVariants.{Short, BadMark, BadText}
 

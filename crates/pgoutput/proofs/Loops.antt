@@ -1,8 +1,8 @@
 -- A reader's loop over a count that ends at a fault.
 use Rattle.std.proofs.Common.{◌≡◌, ℕ, ◌-◌, ◌<◌, List, Result}
-use Rattle.frames.specs.Steps.{repeat_at}
-use Rattle.frames.proofs.Loop as loop
-use Rattle.frames.proofs.Loop.{with_front}
+use Rattle.pqformat.specs.Steps.{repeat_at}
+use Rattle.pqformat.proofs.Loop as loop
+use Rattle.pqformat.proofs.Loop.{with_front}
 use Rattle.pgoutput.specs.declared.fault.OutFault.{OutFault}
 use Rattle.pgoutput.specs.declared.fault.OutFault.TheVariants.{Short, UnknownKind, BadMark, BadText, Trailing, Memory}
 use Rattle.pgoutput.specs.Reading.{Fails}

@@ -9,10 +9,10 @@ use Rattle.std.proofs.lemmas.Bool.{ltb-true, lt-ltb, le-ltb}
 use Rattle.std.proofs.lemmas.List.{length-take}
 use Rattle.std.proofs.lemmas.List.Recursion.{is_position_or_len}
 use Rattle.std.proofs.Math.Facts.{Fits-of_z, Fits-lt-pow}
-use Rattle.frames.specs.Fields.{bytes_at, number_at, string, string_at, has_zero, int16, int32, int64}
-use Rattle.frames.specs.Steps.{◌>>=◌, repeat_at}
-use Rattle.frames.proofs.Numbers as numbers
-use Rattle.frames.proofs.Numbers.{IsWide, wide16, wide32, wide64}
+use Rattle.pqformat.specs.Fields.{bytes_at, number_at, string, string_at, has_zero, int16, int32, int64}
+use Rattle.pqformat.specs.Steps.{◌>>=◌, repeat_at}
+use Rattle.pqformat.proofs.Numbers as numbers
+use Rattle.pqformat.proofs.Numbers.{IsWide, wide16, wide32, wide64}
 use Rattle.pgoutput.specs.declared.fault.OutFault.{OutFault}
 use Rattle.pgoutput.specs.declared.fault.OutFault.TheVariants.{Short, BadMark, BadText}
 use Rattle.pgoutput.specs.Reading.{short, expected, one_of, count16_at, count32_at, signed32_at, signed64_at, name_at, text_at}

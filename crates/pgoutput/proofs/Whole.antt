@@ -2,7 +2,7 @@
 use Rattle.std.proofs.Common.{◌≡◌, ◌≢◌, ℕ, ◌<◌, List, [], ◌∷◌, ◌++◌, length, take, Result, Ok, Err, refl, sym, ap, subst, ◌∙◌, arith, inl, inr}
 use Rattle.std.specs.Prelude.{◌⊎◌, IfOk, IfErr}
 use Rattle.std.proofs.lemmas.List.{append-nil, take_at, length-append}
-use Rattle.frames.proofs.Codec.{IsBytes, bind_ok, ok_is}
+use Rattle.pqformat.proofs.Codec.{IsBytes, bind_ok, ok_is}
 use Rattle.pgoutput.specs.declared.fault.OutFault.{OutFault}
 use Rattle.pgoutput.specs.declared.fault.OutFault.TheVariants.{Short, UnknownKind, BadMark, BadText, Trailing, Memory}
 use Rattle.pgoutput.specs.declared.logical.Logical.{Logical}

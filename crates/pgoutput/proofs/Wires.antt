@@ -1,7 +1,7 @@
 -- Each message is read as it is spelled, with its faults.
 use Rattle.std.proofs.Common.{◌≡◌, ℕ, suc, ◌<◌, ◌^◌, Bool, true, false, List, [], ◌∷◌, ◌++◌, length, take, Option, Some, None, Ok, Err, refl, arith}
 use Rattle.std.specs.List.{flat_map, AllByRecursion}
-use Rattle.frames.specs.Fields.{int16, int32}
+use Rattle.pqformat.specs.Fields.{int16, int32}
 use Rattle.std.proofs.lemmas.Bool.Decides.{nat_tests}
 use Rattle.pgoutput.specs.declared.fault.OutFault.TheVariants.{Short, UnknownKind, BadMark}
 use Rattle.pgoutput.specs.Reading.{one_of}
@@ -33,7 +33,7 @@ use Rattle.pgoutput.specs.Update.{old_if_any, update, FitsIfAny, FitsUpdate, tup
 use Rattle.pgoutput.specs.Delete.{delete, FitsDelete, delete_at}
 use Rattle.pgoutput.specs.Truncate.{letter_of, options, options_letter, options_of, truncate, FitsTruncate, truncate_at}
 use Rattle.pgoutput.specs.Logical.{logical_at, fields_at, is_kind, spell_logical, FitsLogical}
-use Rattle.frames.proofs.Codec.{Codec, choice_codec}
+use Rattle.pqformat.proofs.Codec.{Codec, choice_codec}
 use Rattle.pgoutput.proofs.Engine.{Wire, field, last_field, free_field, wire_of, counted, repeated, Chosen, choice, no_choice, choice_wire, choice_cut}
 use Rattle.pgoutput.proofs.Plain.{number32, number64, count32, signed32, signed64, name_wire, text_wire, list_wire, letter_wire, expected_wire, nothing}
 

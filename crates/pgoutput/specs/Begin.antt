@@ -1,8 +1,8 @@
 -- Begin (PostgreSQL 15, 55.9): B, the commit record's position, the commit time, the transaction's id.
 use Rattle.std.specs.Prelude.{ℕ, ◌<◌, ◌^◌, FitsSigned, List, ◌++◌, Result, Ok}
 use Rattle.std.specs.Int.{w32, w64, cast_unsigned}
-use Rattle.frames.specs.Fields.{int32, int64, number_at}
-use Rattle.frames.specs.Steps.{◌>>=◌}
+use Rattle.pqformat.specs.Fields.{int32, int64, number_at}
+use Rattle.pqformat.specs.Steps.{◌>>=◌}
 use Rattle.pgoutput.specs.Reading.{short, signed64_at}
 use Rattle.pgoutput.specs.declared.fault.OutFault.{OutFault}
 use Rattle.pgoutput.specs.declared.begin.Begin.{Begin}

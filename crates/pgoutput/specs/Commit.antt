@@ -1,8 +1,8 @@
 -- Commit (PostgreSQL 15, 55.9): C, a flags byte that is 0, the commit record's position, its end, the commit time.
 use Rattle.std.specs.Prelude.{ℕ, ◌<◌, ◌^◌, FitsSigned, List, [], ◌∷◌, ◌++◌, Result, Ok}
 use Rattle.std.specs.Int.{w64, cast_unsigned}
-use Rattle.frames.specs.Fields.{int64, number_at}
-use Rattle.frames.specs.Steps.{◌>>=◌}
+use Rattle.pqformat.specs.Fields.{int64, number_at}
+use Rattle.pqformat.specs.Steps.{◌>>=◌}
 use Rattle.pgoutput.specs.Reading.{short, expected, signed64_at}
 use Rattle.pgoutput.specs.declared.fault.OutFault.{OutFault}
 use Rattle.pgoutput.specs.declared.commit.Commit.{Commit}

@@ -1,8 +1,8 @@
 -- Delete (PostgreSQL 15, 55.9): D, the table's OID, the old row.
 use Rattle.std.specs.Prelude.{ℕ, ◌<◌, ◌^◌, List, ◌++◌, Result, Ok}
 use Rattle.std.specs.Int.{w32}
-use Rattle.frames.specs.Fields.{int32, number_at}
-use Rattle.frames.specs.Steps.{◌>>=◌}
+use Rattle.pqformat.specs.Fields.{int32, number_at}
+use Rattle.pqformat.specs.Steps.{◌>>=◌}
 use Rattle.pgoutput.specs.Reading.{short}
 use Rattle.pgoutput.specs.declared.fault.OutFault.{OutFault}
 use Rattle.pgoutput.specs.declared.delete.Delete.{Delete}

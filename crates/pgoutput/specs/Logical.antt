@@ -1,8 +1,8 @@
 -- Logical replication messages (PostgreSQL 15, 55.9), protocol version 1: a kind byte, and the fields of that kind.
 use Rattle.std.specs.Prelude.{◌≡◌, ◌≢◌, ℕ, ◌==◌, List, [], ◌∷◌, ◌++◌, Bool, true, false, ◌||◌, Result, Ok, Err, if◌then◌else◌}
 use Rattle.std.specs.List.{list_any}
-use Rattle.frames.specs.Fields.{byte_at}
-use Rattle.frames.specs.Steps.{◌>>=◌}
+use Rattle.pqformat.specs.Fields.{byte_at}
+use Rattle.pqformat.specs.Steps.{◌>>=◌}
 use Rattle.pgoutput.specs.Reading.{short}
 use Rattle.pgoutput.specs.declared.fault.OutFault.{OutFault}
 use Rattle.pgoutput.specs.declared.fault.OutFault.TheVariants.{UnknownKind, Trailing, Memory}

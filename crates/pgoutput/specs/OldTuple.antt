@@ -1,7 +1,7 @@
 -- The old row of an Update or a Delete (PostgreSQL 15, 55.9): K and the cells of the key, or O and all cells.
 use Rattle.std.specs.Prelude.{ℕ, ◌==◌, List, ◌∷◌, Result, Ok, Err, if◌then◌else◌}
-use Rattle.frames.specs.Fields.{byte_at}
-use Rattle.frames.specs.Steps.{◌>>=◌}
+use Rattle.pqformat.specs.Fields.{byte_at}
+use Rattle.pqformat.specs.Steps.{◌>>=◌}
 use Rattle.pgoutput.specs.Reading.{short}
 use Rattle.pgoutput.specs.declared.fault.OutFault.{OutFault}
 use Rattle.pgoutput.specs.declared.fault.OutFault.TheVariants.{BadMark}

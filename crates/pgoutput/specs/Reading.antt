@@ -4,8 +4,8 @@ use Rattle.std.specs.Prelude.{◌≡◌, ℕ, ℤ, ◌^◌, List, Option, Result
 use Rattle.std.specs.Option.{ok_or}
 use Rattle.std.specs.Str.{is_utf8}
 use Rattle.std.specs.Int.{w16, w32, w64}
-use Rattle.frames.specs.Fields.{string_at, bytes_at}
-use Rattle.frames.specs.Steps.{◌>>=◌, mark_at, letter_at, count_at, signed_at}
+use Rattle.pqformat.specs.Fields.{string_at, bytes_at}
+use Rattle.pqformat.specs.Steps.{◌>>=◌, mark_at, letter_at, count_at, signed_at}
 use Rattle.pgoutput.specs.declared.fault.OutFault.{OutFault}
 use Rattle.pgoutput.specs.declared.fault.OutFault.TheVariants.{Short, BadMark, BadText, Memory}
 

@@ -4,8 +4,8 @@ use Rattle.std.specs.Prelude.{◌≡◌, ℕ, ◌<◌, ◌^◌, ◌==◌, FitsSi
 use Rattle.std.specs.List.{flat_map, AllByRecursion}
 use Rattle.std.specs.Int.{w32, cast_unsigned}
 use Rattle.std.specs.Str.{is_utf8}
-use Rattle.frames.specs.Fields.{int16, int32, string, has_zero, number_at}
-use Rattle.frames.specs.Steps.{◌>>=◌, repeat_at}
+use Rattle.pqformat.specs.Fields.{int16, int32, string, has_zero, number_at}
+use Rattle.pqformat.specs.Steps.{◌>>=◌, repeat_at}
 use Rattle.pgoutput.specs.Reading.{short, one_of, count16_at, signed32_at, name_at}
 use Rattle.pgoutput.specs.declared.fault.OutFault.{OutFault}
 use Rattle.pgoutput.specs.declared.relation.Relation.{Relation}

@@ -1,8 +1,8 @@
 -- Update (PostgreSQL 15, 55.9): U, the table's OID, the old row where it is sent, N, the new tuple.
 use Rattle.std.specs.Prelude.{ℕ, ◌<◌, ◌^◌, ◌==◌, List, [], ◌∷◌, ◌++◌, Option, Some, None, Result, Ok, Err, if◌then◌else◌}
 use Rattle.std.specs.Int.{w32}
-use Rattle.frames.specs.Fields.{int32, number_at, byte_at}
-use Rattle.frames.specs.Steps.{◌>>=◌}
+use Rattle.pqformat.specs.Fields.{int32, number_at, byte_at}
+use Rattle.pqformat.specs.Steps.{◌>>=◌}
 use Rattle.pgoutput.specs.Reading.{short, expected}
 use Rattle.pgoutput.specs.declared.fault.OutFault.{OutFault}
 use Rattle.pgoutput.specs.declared.fault.OutFault.TheVariants.{BadMark}

@@ -1,14 +1,14 @@
 //! Begin, before a transaction's messages: its type, its reader and its writer.
 
 ghost use Rattle.std.specs.Prelude.{◌≡◌, ◌≢◌, Err};
-ghost use Rattle.frames.specs.Putting.{Puts};
+ghost use Rattle.pqformat.specs.Putting.{Puts};
 ghost use Rattle.pgoutput.specs.Reading.{Gives};
 ghost use Rattle.pgoutput.specs.Begin.{begin, begin_at};
 
 use crate::fault::OutFault;
 use crate::fields::{number32_of, number64_of, put_signed64, signed64_of};
 use bytes::BytesMut;
-use frames::{Cursor, put_int32, put_int64};
+use pqformat::{Cursor, put_int32, put_int64};
 use std::alloc::AllocError;
 
 /// The kind byte of Begin.
@@ -44,7 +44,7 @@ pub(crate) fn begin_of(cursor: &mut Cursor<'_>) -> Result<Begin, OutFault>
     })
 }
 
-#[tactic(auto, using(frames::proofs::Putting::in_place))]
+#[tactic(auto, using(pqformat::proofs::Putting::in_place))]
 pub(crate) fn put_begin(out: &mut BytesMut, message: &Begin) -> Result<(), AllocError>
     ensures { Puts result out.old.items out.new.items (begin message.now) }
 {

@@ -1,14 +1,14 @@
 //! Commit, behind a transaction's messages: its type, its reader and its writer.
 
 ghost use Rattle.std.specs.Prelude.{◌≡◌, ◌≢◌, Err};
-ghost use Rattle.frames.specs.Putting.{Puts};
+ghost use Rattle.pqformat.specs.Putting.{Puts};
 ghost use Rattle.pgoutput.specs.Reading.{Gives};
 ghost use Rattle.pgoutput.specs.Commit.{commit, commit_at};
 
 use crate::fault::OutFault;
 use crate::fields::{expected_of, number64_of, put_signed64, signed64_of};
 use bytes::BytesMut;
-use frames::{Cursor, put_byte, put_int64};
+use pqformat::{Cursor, put_byte, put_int64};
 use std::alloc::AllocError;
 
 /// The kind byte of Commit.
@@ -48,7 +48,7 @@ pub(crate) fn commit_of(cursor: &mut Cursor<'_>) -> Result<Commit, OutFault>
     })
 }
 
-#[tactic(auto, using(frames::proofs::Putting::in_place))]
+#[tactic(auto, using(pqformat::proofs::Putting::in_place))]
 pub(crate) fn put_commit(out: &mut BytesMut, message: &Commit) -> Result<(), AllocError>
     ensures { Puts result out.old.items out.new.items (commit message.now) }
 {

@@ -1,7 +1,7 @@
 //! Delete, a row that is gone: its type, its reader and its writer.
 
 ghost use Rattle.std.specs.Prelude.{◌≡◌};
-ghost use Rattle.frames.specs.Putting.{Puts};
+ghost use Rattle.pqformat.specs.Putting.{Puts};
 ghost use Rattle.pgoutput.specs.Reading.{Gives};
 ghost use Rattle.pgoutput.specs.Delete.{delete, delete_at, IsShortDelete};
 
@@ -9,7 +9,7 @@ use crate::fault::OutFault;
 use crate::fields::number32_of;
 use crate::old_tuple::{OldTuple, old_tuple_of, put_old_tuple};
 use bytes::BytesMut;
-use frames::{Cursor, put_int32};
+use pqformat::{Cursor, put_int32};
 use std::alloc::{AllocError, Global};
 
 /// The kind byte of Delete.
@@ -36,7 +36,7 @@ pub(crate) fn delete_of(alloc: Global, cursor: &mut Cursor<'_>) -> Result<Delete
     Ok(Delete { oid, old })
 }
 
-#[tactic(auto, using(frames::proofs::Putting::in_place))]
+#[tactic(auto, using(pqformat::proofs::Putting::in_place))]
 pub(crate) fn put_delete(out: &mut BytesMut, message: &Delete) -> Result<(), AllocError>
     requires { IsShortDelete message.now }
     ensures { Puts result out.old.items out.new.items (delete message.now) }

@@ -2,14 +2,14 @@
 
 ghost use Rattle.std.specs.Prelude.{◌≡◌, ◌≢◌, ◌^◌, ◌<◌, length, Err};
 ghost use Rattle.std.specs.Int.{w32, w64, cast_unsigned};
-ghost use Rattle.frames.specs.Fields.{byte_at, int32, int64, number_at};
-ghost use Rattle.frames.specs.Putting.{Puts};
+ghost use Rattle.pqformat.specs.Fields.{byte_at, int32, int64, number_at};
+ghost use Rattle.pqformat.specs.Putting.{Puts};
 ghost use Rattle.pgoutput.specs.Reading.{Gives, expected, short, count16_at, count32_at, signed32_at, signed64_at, name_at, text_at};
 ghost use Rattle.pgoutput.specs.Tuple.{counted_text};
 
 use crate::fault::OutFault;
 use bytes::BytesMut;
-use frames::{Cursor, Text, put_bytes, put_int32, put_int64, utf8_of};
+use pqformat::{Cursor, Text, put_bytes, put_int32, put_int64, utf8_of};
 use std::alloc::{AllocError, Global};
 
 pub(crate) fn byte_of(cursor: &mut Cursor<'_>) -> Result<u8, OutFault>
@@ -116,7 +116,7 @@ pub(crate) fn put_signed64(out: &mut BytesMut, number: i64) -> Result<(), AllocE
 }
 
 /// A text behind its length.
-#[tactic(auto, using(frames::proofs::Putting::in_place))]
+#[tactic(auto, using(pqformat::proofs::Putting::in_place))]
 pub(crate) fn put_text(out: &mut BytesMut, text: &Text) -> Result<(), AllocError>
     requires { length text.now < 2 ^ 31 }
     ensures { Puts result out.old.items out.new.items (counted_text text.now) }

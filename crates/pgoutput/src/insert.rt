@@ -1,7 +1,7 @@
 //! Insert, a new row: its type, its reader and its writer.
 
 ghost use Rattle.std.specs.Prelude.{◌≡◌};
-ghost use Rattle.frames.specs.Putting.{Puts};
+ghost use Rattle.pqformat.specs.Putting.{Puts};
 ghost use Rattle.pgoutput.specs.Reading.{Gives};
 ghost use Rattle.pgoutput.specs.Insert.{insert, insert_at, IsShortInsert};
 
@@ -9,7 +9,7 @@ use crate::fault::OutFault;
 use crate::fields::{expected_of, number32_of};
 use crate::tuple::{Cell, put_tuple, tuple_of};
 use bytes::BytesMut;
-use frames::{Cursor, Items, put_byte, put_int32};
+use pqformat::{Cursor, Items, put_byte, put_int32};
 use std::alloc::{AllocError, Global};
 
 /// The kind byte of Insert.
@@ -41,7 +41,7 @@ pub(crate) fn insert_of(alloc: Global, cursor: &mut Cursor<'_>) -> Result<Insert
     Ok(Insert { oid, new })
 }
 
-#[tactic(auto, using(frames::proofs::Putting::in_place))]
+#[tactic(auto, using(pqformat::proofs::Putting::in_place))]
 pub(crate) fn put_insert(out: &mut BytesMut, message: &Insert) -> Result<(), AllocError>
     requires { IsShortInsert message.now }
     ensures { Puts result out.old.items out.new.items (insert message.now) }

@@ -2,14 +2,14 @@
 
 ghost use Rattle.std.specs.Prelude.{◌≡◌, ◌^◌, ◌<◌, ◌++◌, length, take};
 ghost use Rattle.std.specs.List.{flat_map, AllByRecursion};
-ghost use Rattle.frames.specs.Fields.{int16};
-ghost use Rattle.frames.specs.Steps.{repeat_at};
-ghost use Rattle.frames.specs.Putting.{Puts};
+ghost use Rattle.pqformat.specs.Fields.{int16};
+ghost use Rattle.pqformat.specs.Steps.{repeat_at};
+ghost use Rattle.pqformat.specs.Putting.{Puts};
 ghost use Rattle.pgoutput.specs.Reading.{Gives};
 
 use crate::fault::OutFault;
 use bytes::BytesMut;
-use frames::{Cursor, Items, put_int16};
+use pqformat::{Cursor, Items, put_int16};
 use std::alloc::{AllocError, Global};
 
 /// What stands in a list, as it is read.
@@ -52,7 +52,7 @@ pub(crate) trait PutItem {
 }
 
 /// The count of the items, in two bytes, and each item.
-#[tactic(auto, using(frames::proofs::Putting::in_place))]
+#[tactic(auto, using(pqformat::proofs::Putting::in_place))]
 pub(crate) fn put_items<T: PutItem>(out: &mut BytesMut, items: &[T]) -> Result<(), AllocError>
     requires count { length items.now < 2 ^ 15 }
     requires each { AllByRecursion T.is_short items.now }

@@ -1,7 +1,7 @@
 //! A logical message, one kind byte and the fields of its kind: the enum over them, its reader and its writer.
 
 ghost use Rattle.std.specs.Prelude.{◌≡◌, ◌≢◌, ◌⊎◌, ℕ, List, [], ◌++◌, Ok, Err, IfOk, IfErr, OnOk, OnErr};
-ghost use Rattle.frames.specs.Putting.{Puts};
+ghost use Rattle.pqformat.specs.Putting.{Puts};
 ghost use Rattle.pgoutput.specs.Reading.{Gives, Answers};
 ghost use Rattle.pgoutput.specs.Logical.{SpellsLogical, FitsLogical, IsShort, Stands, spell_logical, kind_byte, logical_at, whole_of};
 
@@ -15,7 +15,7 @@ use crate::relation::{RELATION, Relation, put_relation, relation_of};
 use crate::truncate::{TRUNCATE, Truncate, put_truncate, truncate_of};
 use crate::update::{UPDATE, Update, put_update, update_of};
 use bytes::BytesMut;
-use frames::{Cursor, put_byte};
+use pqformat::{Cursor, put_byte};
 use std::alloc::{AllocError, Global};
 
 /// A logical replication message (PostgreSQL 15, 55.9), protocol version 1.
@@ -98,7 +98,7 @@ pub fn write_logical(message: &Logical, out: &mut BytesMut) -> Result<(), AllocE
     written
 }
 
-#[tactic(auto, using(frames::proofs::Putting::in_place))]
+#[tactic(auto, using(pqformat::proofs::Putting::in_place))]
 fn put_logical(out: &mut BytesMut, message: &Logical) -> Result<(), AllocError>
     requires { IsShort message.now }
     ensures { Puts result out.old.items out.new.items (spell_logical message.now) }

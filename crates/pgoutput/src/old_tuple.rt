@@ -1,7 +1,7 @@
 //! The old row in an Update or a Delete: what of it is sent, its reader and its writer.
 
 ghost use Rattle.std.specs.Prelude.{◌≡◌};
-ghost use Rattle.frames.specs.Putting.{Puts};
+ghost use Rattle.pqformat.specs.Putting.{Puts};
 ghost use Rattle.pgoutput.specs.Reading.{Gives};
 ghost use Rattle.pgoutput.specs.OldTuple.{old_tuple, old_tuple_at, IsShortOldTuple};
 
@@ -9,7 +9,7 @@ use crate::fault::OutFault;
 use crate::fields::byte_of;
 use crate::tuple::{Cell, put_tuple, tuple_of};
 use bytes::BytesMut;
-use frames::{Cursor, Items, put_byte};
+use pqformat::{Cursor, Items, put_byte};
 use std::alloc::{AllocError, Global};
 
 /// The letter before the cells of the key.
@@ -43,7 +43,7 @@ pub(crate) fn old_tuple_of(alloc: Global, cursor: &mut Cursor<'_>) -> Result<Old
     }
 }
 
-#[tactic(auto, using(frames::proofs::Putting::in_place))]
+#[tactic(auto, using(pqformat::proofs::Putting::in_place))]
 pub(crate) fn put_old_tuple(out: &mut BytesMut, old: &OldTuple) -> Result<(), AllocError>
     requires { IsShortOldTuple old.now }
     ensures { Puts result out.old.items out.new.items (old_tuple old.now) }

@@ -1,7 +1,7 @@
 //! Relation, the columns of a table, before the first message that names it: its type, its reader and its writer.
 
 ghost use Rattle.std.specs.Prelude.{◌≡◌};
-ghost use Rattle.frames.specs.Putting.{Puts};
+ghost use Rattle.pqformat.specs.Putting.{Puts};
 ghost use Rattle.pgoutput.specs.Reading.{Gives};
 ghost use Rattle.pgoutput.specs.Relation.{identity_letter, identity_of, is_key_of, column_at, columns_at, relation, relation_at, IsShortRelation};
 
@@ -9,7 +9,7 @@ use crate::fault::OutFault;
 use crate::fields::{byte_of, count16_of, name_of, number32_of, put_signed32, signed32_of};
 use crate::list::{PutItem, ReadItem, items_of, put_items};
 use bytes::BytesMut;
-use frames::{Cursor, Items, Text, put_byte, put_int32, put_string};
+use pqformat::{Cursor, Items, Text, put_byte, put_int32, put_string};
 use std::alloc::{AllocError, Global};
 
 /// The kind byte of Relation.
@@ -132,7 +132,7 @@ fn is_key_by(flags: u8) -> Option<bool>
     }
 }
 
-#[tactic(auto, using(frames::proofs::Putting::in_place))]
+#[tactic(auto, using(pqformat::proofs::Putting::in_place))]
 pub(crate) fn put_relation(out: &mut BytesMut, message: &Relation) -> Result<(), AllocError>
     requires { IsShortRelation message.now }
     ensures { Puts result out.old.items out.new.items (relation message.now) }
@@ -173,7 +173,7 @@ impl PutItem for Column {
 
     ghost is_short = { λ _. Unit {0} };
 
-    #[tactic(auto, using(frames::proofs::Putting::in_place))]
+    #[tactic(auto, using(pqformat::proofs::Putting::in_place))]
     fn put(&self, out: &mut BytesMut) -> Result<(), AllocError> {
         put_byte(out, if self.is_key { KEY_FLAG } else { NO_FLAG })?;
         put_string(out, self.name.as_str())?;

@@ -1,8 +1,8 @@
 //! Truncate, tables whose rows are all gone: its type, its reader and its writer.
 
 ghost use Rattle.std.specs.Prelude.{◌≡◌};
-ghost use Rattle.frames.specs.Fields.{int32};
-ghost use Rattle.frames.specs.Putting.{Puts};
+ghost use Rattle.pqformat.specs.Fields.{int32};
+ghost use Rattle.pqformat.specs.Putting.{Puts};
 ghost use Rattle.std.specs.List.{flat_map};
 ghost use Rattle.pgoutput.specs.Reading.{Gives};
 ghost use Rattle.pgoutput.specs.Truncate.{truncate, truncate_at, options_letter, options_of, IsShortTruncate};
@@ -11,7 +11,7 @@ use crate::fault::OutFault;
 use crate::fields::{byte_of, count32_of, number32_of};
 use crate::list::{PutItem, ReadItem, items_of, put_each};
 use bytes::BytesMut;
-use frames::{Cursor, Items, put_byte, put_int32};
+use pqformat::{Cursor, Items, put_byte, put_int32};
 use std::alloc::{AllocError, Global};
 
 /// The kind byte of Truncate.
@@ -83,7 +83,7 @@ fn letter_of(options: TruncateOptions) -> u8
     }
 }
 
-#[tactic(auto, using(frames::proofs::Putting::in_place))]
+#[tactic(auto, using(pqformat::proofs::Putting::in_place))]
 pub(crate) fn put_truncate(out: &mut BytesMut, message: &Truncate) -> Result<(), AllocError>
     requires { IsShortTruncate message.now }
     ensures { Puts result out.old.items out.new.items (truncate message.now) }
@@ -106,7 +106,7 @@ impl ReadItem for u32 {
 }
 
 impl PutItem for u32 {
-    ghost use Rattle.frames.specs.Fields.{int32};
+    ghost use Rattle.pqformat.specs.Fields.{int32};
 
     ghost spelled = { int32 };
 

@@ -1,7 +1,7 @@
 //! Tuples, the values of a row as texts: the type of a value, and the reader and the writer of rows.
 
 ghost use Rattle.std.specs.Prelude.{◌≡◌};
-ghost use Rattle.frames.specs.Putting.{Puts};
+ghost use Rattle.pqformat.specs.Putting.{Puts};
 ghost use Rattle.pgoutput.specs.Reading.{Gives};
 ghost use Rattle.pgoutput.specs.Tuple.{cell_at, tuple, tuple_at, IsShortTuple};
 
@@ -9,7 +9,7 @@ use crate::fault::OutFault;
 use crate::fields::{byte_of, count16_of, put_text, text_of};
 use crate::list::{PutItem, ReadItem, items_of, put_items};
 use bytes::BytesMut;
-use frames::{Cursor, Items, Text, put_byte};
+use pqformat::{Cursor, Items, Text, put_byte};
 use std::alloc::{AllocError, Global};
 
 /// The letters of the cells.
@@ -78,7 +78,7 @@ impl PutItem for Cell {
 
     ghost is_short = { IsShortCell };
 
-    #[tactic(auto, using(frames::proofs::Putting::in_place))]
+    #[tactic(auto, using(pqformat::proofs::Putting::in_place))]
     fn put(&self, out: &mut BytesMut) -> Result<(), AllocError> {
         match self {
             Cell::Null => put_byte(out, NULL),

@@ -1,7 +1,7 @@
 //! Update, a changed row: its type, its reader and its writer.
 
 ghost use Rattle.std.specs.Prelude.{◌≡◌};
-ghost use Rattle.frames.specs.Putting.{Puts};
+ghost use Rattle.pqformat.specs.Putting.{Puts};
 ghost use Rattle.pgoutput.specs.Reading.{Gives};
 ghost use Rattle.pgoutput.specs.Update.{update, update_at, old_if_any, rows_at, tuples_at, IsShortIfAny, IsShortUpdate};
 
@@ -11,7 +11,7 @@ use crate::insert::NEW;
 use crate::old_tuple::{KEY, OLD, OldTuple, put_old_tuple};
 use crate::tuple::{Cell, put_tuple, tuple_of};
 use bytes::BytesMut;
-use frames::{Cursor, Items, put_byte, put_int32};
+use pqformat::{Cursor, Items, put_byte, put_int32};
 use std::alloc::{AllocError, Global};
 
 /// The kind byte of Update.
@@ -75,7 +75,7 @@ fn tuples_of(alloc: Global, cursor: &mut Cursor<'_>) -> Result<(Items<Cell>, Ite
     Ok((old, new))
 }
 
-#[tactic(auto, using(frames::proofs::Putting::in_place))]
+#[tactic(auto, using(pqformat::proofs::Putting::in_place))]
 pub(crate) fn put_update(out: &mut BytesMut, message: &Update) -> Result<(), AllocError>
     requires { IsShortUpdate message.now }
     ensures { Puts result out.old.items out.new.items (update message.now) }

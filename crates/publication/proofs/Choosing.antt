@@ -6,8 +6,8 @@ use Rattle.std.proofs.lemmas.Bool.{leb-true, le-leb, eqb-true, eq-eqb}
 use Rattle.std.proofs.lemmas.List.{drop_all, drop_more, length-append}
 use Rattle.std.proofs.lemmas.List.Concat.{flat_map-cons}
 use Rattle.std.proofs.lemmas.Slice.Zip.{get_or-zip, length-zip}
-use Rattle.frames.specs.Fields.{int16}
-use Rattle.frames.proofs.Numbers.{length-int16}
+use Rattle.pqformat.specs.Fields.{int16}
+use Rattle.pqformat.proofs.Numbers.{length-int16}
 use Rattle.tables.specs.declared.column.Column.{Column}
 use Rattle.tables.specs.declared.table.Table.{Table}
 use Rattle.tables.specs.declared.value.Value.{Value}

@@ -5,8 +5,8 @@ use Rattle.std.specs.List.{flat_map, list_all, list_any, AllByRecursion}
 use Rattle.std.proofs.lemmas.Bool.{leb-true}
 use Rattle.std.proofs.lemmas.List.{length-append, length-map}
 use Rattle.std.proofs.lemmas.List.Concat.{flat_map-cons}
-use Rattle.frames.specs.Fields.{int32}
-use Rattle.frames.proofs.Numbers.{length-int32}
+use Rattle.pqformat.specs.Fields.{int32}
+use Rattle.pqformat.proofs.Numbers.{length-int32}
 use Rattle.pgoutput.specs.declared.logical.Logical.{Logical}
 use Rattle.pgoutput.specs.declared.logical.Logical.TheVariants as logical
 use Rattle.pgoutput.specs.declared.tuple.Cell.{Cell}
@@ -20,7 +20,7 @@ use Rattle.tables.specs.declared.table.Table.{Table}
 use Rattle.tables.specs.declared.change.Change.{Change}
 use Rattle.tables.specs.declared.change.Change.TheVariants as changes
 use Rattle.tables.specs.declared.change_body.TheConstants.{MAX_TRUNCATED}
-use Rattle.tables.specs.History.{repeats}
+use Rattle.tables.specs.Tables.{repeats}
 use Rattle.tables.specs.Tables.{table_of, IsValue}
 use Rattle.stream.specs.Items.{FitsRelationOf}
 use Rattle.publication_config.specs.declared.operations.Operation.{Operation}

@@ -8,8 +8,8 @@ use Rattle.std.specs.Int.{w32, cast_unsigned}
 use Rattle.std.proofs.lemmas.Bool.{eqb-true}
 use Rattle.std.proofs.lemmas.List.{length-append, length-map}
 use Rattle.std.proofs.lemmas.List.Concat.{flat_map-cons}
-use Rattle.frames.specs.Fields.{int16, int32, string}
-use Rattle.frames.proofs.Numbers.{length-int16, length-int32}
+use Rattle.pqformat.specs.Fields.{int16, int32, string}
+use Rattle.pqformat.proofs.Numbers.{length-int16, length-int32}
 use Rattle.pgoutput.specs.declared.logical.Logical.TheVariants as logical
 use Rattle.pgoutput.specs.Relation.{column, identity_letter, FitsName, FitsColumn}
 use Rattle.pgoutput.specs.Logical.{FitsLogical}

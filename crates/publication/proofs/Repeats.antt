@@ -2,7 +2,7 @@
 use Rattle.std.proofs.Common.{◌≡◌, ℕ, Bool, true, false, cond, List, [], ◌∷◌, ap, ◌∙◌, refl}
 use Rattle.std.specs.Prelude.{◌||◌, ◌==◌, filter}
 use Rattle.std.specs.List.{list_any}
-use Rattle.tables.specs.History.{repeats}
+use Rattle.tables.specs.Tables.{repeats}
 
 either_false : (a b : Bool) → (a || b) ≡ false → (a ≡ false) × (b ≡ false)
 either_false false b e = (refl, e)

@@ -10,8 +10,8 @@ use Rattle.std.proofs.lemmas.Fmt.{IsAscii-signed, length_signed_le}
 use Rattle.std.proofs.lemmas.Bool.{eqb-true, leb-true, ltb-true}
 use Rattle.std.proofs.lemmas.List.{length-append, length-map}
 use Rattle.std.proofs.lemmas.List.Concat.{flat_map-cons}
-use Rattle.frames.specs.Fields.{int16, int32}
-use Rattle.frames.proofs.Numbers.{length-int16, length-int32, length-int64}
+use Rattle.pqformat.specs.Fields.{int16, int32}
+use Rattle.pqformat.proofs.Numbers.{length-int16, length-int32, length-int64}
 use Rattle.pgoutput.specs.declared.tuple.Cell.{Cell}
 use Rattle.pgoutput.specs.declared.tuple.Cell.TheVariants as cells
 use Rattle.pgoutput.specs.declared.old_tuple.OldTuple.{OldTuple}

@@ -11,7 +11,7 @@ use Rattle.tables.specs.declared.table.Table.{Table}
 use Rattle.tables.specs.declared.change.Change.{Change}
 use Rattle.tables.specs.declared.change.Change.TheVariants as changes
 use Rattle.tables.specs.Spelling.{row_length}
-use Rattle.tables.specs.History.{repeats}
+use Rattle.tables.specs.Tables.{repeats}
 use Rattle.tables.specs.Tables.{table_of, fits_table, IsValue}
 use Rattle.stream.specs.Items.{tables_of, IsShortMessage, IsOfChange, FitsRelationOf}
 use Rattle.publication_config.specs.declared.operations.Operation.{Operation}

@@ -11,7 +11,7 @@ ghost use Rattle.publication_config.specs.Published.{conflicts};
 ghost use Rattle.publication.specs.Publications.{IsOfSelect, is_unknown, selected};
 
 use crate::selection::Selection;
-use frames::{Items, Text};
+use pqformat::{Items, Text};
 use publication_config::{PubFault, Publication, configured_by, conflicts, named, publications_in};
 use std::alloc::{AllocError, Global};
 use std::marker::Model;

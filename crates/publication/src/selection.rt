@@ -5,7 +5,7 @@ ghost use Rattle.std.specs.Option.{option_copied};
 ghost use Rattle.std.specs.List.{AllByRecursion, list_all, list_any};
 ghost use Rattle.pgoutput.specs.declared.logical.Logical.TheVariants as logical;
 ghost use Rattle.pgoutput.specs.Logical.{FitsLogical};
-ghost use Rattle.tables.specs.History.{repeats};
+ghost use Rattle.tables.specs.Tables.{repeats};
 ghost use Rattle.tables.specs.Tables.{table_of, IsValue};
 ghost use Rattle.tables.specs.declared.change.Change.{Change};
 ghost use Rattle.stream.specs.Items.{IsShortMessage};
@@ -18,12 +18,12 @@ use crate::messages::{deletion, insertion, replacement, truncation};
 use crate::passing::passes;
 use crate::projection::Projected;
 use crate::relation::relation_message;
-use frames::Items;
+use pqformat::Items;
 use pgoutput::Logical;
 use publication_config::{Operation, Publication};
 use std::alloc::{AllocError, Global};
 use std::marker::Model;
-use tables::{Change, MAX_TRUNCATED, Row, Table};
+use tables::{Change, MAX_TRUNCATED, Row, Table, repeats};
 
 /// The publications that a sender was asked for.
 ///
@@ -305,16 +305,4 @@ fn are_known(tables: &[Table], oids: &[u32]) -> bool
     ensures { result ≡ list_all (λ oid. is_some (table_of oid tables.now)) oids.now }
 {
     oids.iter().all(|oid| found(tables, *oid).is_some())
-}
-
-/// Whether a table is named twice.
-fn repeats(oids: &[u32]) -> bool
-    ensures { result ≡ repeats oids.now }
-{
-    for (i, oid) in oids.iter().enumerate() {
-        if oids[i + 1..].contains(oid) {
-            return true;
-        }
-    }
-    false
 }

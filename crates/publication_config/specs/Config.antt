@@ -6,7 +6,7 @@ use Rattle.std.specs.List.{list_all, list_any}
 use Rattle.std.specs.Str.{bytes_eq}
 use Rattle.toml.specs.Data.{Data, Items, no_items, item, get, as_array, as_bool, as_str, as_table}
 use Rattle.toml.specs.View.{items_view}
-use Rattle.frames.specs.Steps.{◌>>=◌}
+use Rattle.pqformat.specs.Steps.{◌>>=◌}
 use Rattle.tables.specs.declared.column.Column.{Column}
 use Rattle.tables.specs.declared.identity.Identity.{Identity}
 use Rattle.tables.specs.declared.identity.Identity.TheVariants as identities
@@ -164,13 +164,19 @@ wrong_member place which = refusals.Misfit (misfits.Table place which)
 abbrev pub has_more : Data → Bool
 has_more d = is_more_than (1 + count_if (is_some (get (codes "where") d)) + count_if (is_some (get (codes "columns") d))) (as_table d)
 
+-- the columns, and then whether there are others
+unfoldable pub columns_in : Place → Table → Data → Result (List Bool) Refusal
+columns_in place table d = do
+  listed ← ok_or (listed_in table (get (codes "columns") d)) (wrong_member place table_members.Columns)
+  if has_more d then Err (wrong_member place table_members.Other) else Ok listed
+
 unfoldable pub published_in : Place → Operations → List Table → List PublishedTable → Data → Result PublishedTable Refusal
 published_in place operations tables before d = do
   table ← ok_or (table_in tables before d) (wrong_member place table_members.Name)
   text ← ok_or (text_in (get (codes "where") d)) (wrong_member place table_members.Where)
-  listed ← ok_or (listed_in table (get (codes "columns") d)) (wrong_member place table_members.Columns)
-  if has_more d then Err (wrong_member place table_members.Other)
-      else (filter_in place table text >>= λ condition. judged place operations table (is_some (get (codes "columns") d)) (record { oid = table.oid; filter = condition; listed = listed }))
+  listed ← columns_in place table d
+  condition ← filter_in place table text
+  judged place operations table (is_some (get (codes "columns") d)) (record { oid = table.oid; filter = condition; listed = listed })
 
 -- the tables of a list, in its order
 abbrev pub published_behind : ℕ → Operations → List Table → List PublishedTable → Items → Result (List PublishedTable) Refusal
@@ -263,13 +269,18 @@ name_of publications d = and_then (and_then (get (codes "name") d) name_in) (unl
 abbrev pub has_others : Data → Bool
 has_others d = is_more_than (2 + count_if (is_some (get (codes "publish") d))) (as_table d)
 
+-- what it is of, then whether there are others, and then its tables
+unfoldable pub tables_in : ℕ → Operations → List Table → Data → Result (List PublishedTable) Refusal
+tables_in number operations tables d = do
+  reach ← reach_in number tables d
+  if has_others d then Err (wrong number members.Other) else published_by number operations tables reach
+
 unfoldable pub publication_in : ℕ → List Table → List Publication → Data → Result Publication Refusal
 publication_in number tables before d = do
   name ← ok_or (name_of before d) (wrong number members.Name)
   operations ← ok_or (operations_in (get (codes "publish") d)) (wrong number members.Publish)
-  reach ← reach_in number tables d
-  if has_others d then Err (wrong number members.Other)
-      else (published_by number operations tables reach >>= λ published. Ok (record { name = name; operations = operations; tables = published }))
+  published ← tables_in number operations tables d
+  Ok (record { name = name; operations = operations; tables = published })
 
 -- the publications of a list, in its order
 abbrev pub publications_behind : List Table → List Publication → Items → Result (List Publication) Refusal

@@ -8,7 +8,7 @@ use crate::config_fault::{Misfit, Refusal, Unread};
 use crate::config_publication::publication_in;
 use crate::fault::PubFault;
 use crate::publication::Publication;
-use frames::Items;
+use pqformat::Items;
 use std::alloc::Global;
 use tables::{Catalog, CatalogFault, read_document};
 use toml::Value;

@@ -95,7 +95,7 @@ impl fmt::Display for Misfit {
 }
 
 /// Why a document names no publications.
-#[derive(Clone, Copy, Debug, PartialEq, Eq)]
+#[derive(Clone, Copy)]
 pub(crate) enum Refusal {
     Misfit(Misfit),
     BadFilter(Place, FilterFault),
@@ -105,7 +105,7 @@ pub(crate) enum Refusal {
 }
 
 /// Why a part of a configuration was not read.
-#[derive(Clone, Copy, Debug, PartialEq, Eq)]
+#[derive(Clone, Copy)]
 pub(crate) enum Unread {
     Refused(Refusal),
     Memory,

@@ -1,11 +1,12 @@
 //! A publication in a configuration.
 
-ghost use Rattle.std.specs.Prelude.{◌≡◌, [], codes, filter, IfOk, option_copied, option_map};
+ghost use Rattle.std.specs.Prelude.{◌≡◌, [], codes, false, filter, IfOk, option_copied, option_map};
 ghost use Rattle.std.specs.List.{list_all, list_any};
 ghost use Rattle.std.specs.Str.{bytes_eq};
 ghost use Rattle.toml.specs.Data.{get};
 ghost use Rattle.toml.specs.View.{view, items_view};
-ghost use Rattle.publication_config.specs.Config.{Reads, ReadsReach, all_in, has_others, has_whole, is_schema, list_in, name_of, no_operations, operation_in, operation_of, operations_behind, operations_in, publication_in, published_behind, published_by, reach_in, schemas_in, seen_reach, whole_behind, with_operation, wrong};
+ghost use Rattle.publication_config.specs.Config.{Reads, ReadsReach, all_in, has_others, has_whole, is_schema, judged, list_in, name_of, no_operations, operation_in, operation_of, operations_behind, operations_in, publication_in, published_behind, published_by, reach_in, schemas_in, seen_reach, tables_in, whole_behind, with_operation, wrong};
+ghost use Rattle.publication_config.specs.Published.{published_whole};
 ghost use Rattle.publication_config.specs.declared.config_fault.Unread.TheVariants.{Refused};
 
 use crate::config_fault::{Member, Misfit, Place, Refusal, Unread};
@@ -14,7 +15,7 @@ use crate::judging::judged;
 use crate::operations::{Operation, Operations};
 use crate::publication::Publication;
 use crate::published_table::PublishedTable;
-use frames::{Items, Text};
+use pqformat::{Items, Text};
 use std::alloc::{AllocError, Global};
 use tables::{Catalog, Table, is_more_than, name_in, names_in};
 use toml::Value;
@@ -23,7 +24,7 @@ use toml::Value;
 const REQUIRED: usize = 2;
 
 /// Of which tables a publication is.
-#[derive(Debug, Drop)]
+#[derive(Drop)]
 pub(crate) enum Reach<'v> {
     /// Those of a list.
     Listed(&'v [Value]),
@@ -43,18 +44,36 @@ pub(crate) fn publication_in(
 ) -> Result<Publication, Unread>
     ensures { Reads result (publication_in number catalog.now before.now (view value.now)) }
 {
-    let name = name_of(before, value).ok_or(wrong(number, Member::Name))?;
-    let operations = operations_in(value.get("publish")).ok_or(wrong(number, Member::Publish))?;
-    let reach = reach_in(alloc, number, catalog.tables(), value)?;
-    if has_others(value) {
-        return Err(wrong(number, Member::Other));
-    }
-    let tables = published_by(alloc, number, operations, catalog, &reach)?;
+    let Some(name) = name_of(before, value) else {
+        return Err(wrong(number, Member::Name));
+    };
+    let Some(operations) = operations_in(value.get("publish")) else {
+        return Err(wrong(number, Member::Publish));
+    };
+    let tables = tables_in(alloc, number, operations, catalog, value)?;
     Ok(Publication {
         name: Text::copy_of(alloc, name)?,
         operations,
         tables,
     })
+}
+
+/// The tables of the value, with what of each is published, if it has no member that no publication has.
+#[tactic(auto, unfolding(crate::specs::Config::tables_in))]
+fn tables_in(
+    alloc: Global,
+    number: usize,
+    operations: Operations,
+    catalog: &Catalog,
+    value: &Value,
+) -> Result<Items<PublishedTable>, Unread>
+    ensures { Reads result (tables_in number operations catalog.now (view value.now)) }
+{
+    let reach = reach_in(alloc, number, catalog.tables(), value)?;
+    if has_others(value) {
+        return Err(wrong(number, Member::Other));
+    }
+    published_by(alloc, number, operations, catalog, &reach)
 }
 
 fn wrong(number: usize, which: Member) -> Unread
@@ -266,11 +285,23 @@ fn whole_behind(
                 publication: number,
                 table: published.len() + 1,
             };
-            let whole = PublishedTable::whole(alloc, table)?;
-            published.push(judged(place, operations, table, false, whole)?)?;
+            published.push(whole_in(alloc, place, operations, table)?)?;
         }
     }
     Ok(Items::new(published))
+}
+
+/// The table as a whole, if what is published of it goes with its identity.
+fn whole_in(
+    alloc: Global,
+    place: Place,
+    operations: Operations,
+    table: &Table,
+) -> Result<PublishedTable, Unread>
+    ensures { Reads result (judged place operations table.now false (published_whole table.now)) }
+{
+    let whole = PublishedTable::whole(alloc, table)?;
+    judged(place, operations, table, false, whole)
 }
 
 fn has_whole(reach: &Reach<'_>, table: &Table) -> bool

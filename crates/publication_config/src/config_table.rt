@@ -6,14 +6,14 @@ ghost use Rattle.std.specs.Str.{bytes_eq};
 ghost use Rattle.toml.specs.Data.{as_str, get};
 ghost use Rattle.toml.specs.View.{view};
 ghost use Rattle.tables.specs.Config.{and_then, is_column};
-ghost use Rattle.publication_config.specs.Config.{Reads, count_if, filter_in, has_more, has_published, listed_if, listed_in, published_in, table_in, text_in, wrong_member};
+ghost use Rattle.publication_config.specs.Config.{Reads, columns_in, count_if, filter_in, has_more, has_published, listed_if, listed_in, published_in, table_in, text_in, wrong_member};
 ghost use Rattle.publication_config.specs.declared.config_fault.Unread.TheVariants.{Refused};
 
 use crate::config_fault::{Misfit, Place, Refusal, TableMember, Unread};
 use crate::judging::judged;
 use crate::operations::Operations;
 use crate::published_table::PublishedTable;
-use frames::{Items, Text};
+use pqformat::{Items, Text};
 use rowfilter::{Filter, FilterFault, parse};
 use std::alloc::{AllocError, Global};
 use tables::{Catalog, Column, Table, is_more_than, names_in};
@@ -31,24 +31,40 @@ pub(crate) fn published_in(
 ) -> Result<PublishedTable, Unread>
     ensures { Reads result (published_in place operations catalog.now before.now (view value.now)) }
 {
-    let table = table_in(catalog, before, value).ok_or(wrong_member(place, TableMember::Name))?;
-    let text = text_in(value.get("where")).ok_or(wrong_member(place, TableMember::Where))?;
-    let columns = value.get("columns");
-    let has_list = columns.is_some();
-    let listed = listed_in(alloc, table, columns)?.ok_or(wrong_member(
-        place,
-        TableMember::Columns,
-    ))?;
-    if has_more(value) {
-        return Err(wrong_member(place, TableMember::Other));
-    }
+    let Some(table) = table_in(catalog, before, value) else {
+        return Err(wrong_member(place, TableMember::Name));
+    };
+    let Some(text) = text_in(value.get("where")) else {
+        return Err(wrong_member(place, TableMember::Where));
+    };
+    let listed = columns_in(alloc, place, table, value)?;
     let filter = filter_in(alloc, place, table, text)?;
+    let has_list = value.get("columns").is_some();
     let published = PublishedTable {
         oid: table.oid,
         filter,
         listed,
     };
     judged(place, operations, table, has_list, published)
+}
+
+/// For each column whether the value lists it, if it has no member that no table of a publication has.
+#[tactic(auto, unfolding(crate::specs::Config::columns_in))]
+fn columns_in(
+    alloc: Global,
+    place: Place,
+    table: &Table,
+    value: &Value,
+) -> Result<Items<bool>, Unread>
+    ensures { Reads result (columns_in place table.now (view value.now)) }
+{
+    let Some(listed) = listed_in(alloc, table, value.get("columns"))? else {
+        return Err(wrong_member(place, TableMember::Columns));
+    };
+    if has_more(value) {
+        return Err(wrong_member(place, TableMember::Other));
+    }
+    Ok(listed)
 }
 
 fn wrong_member(place: Place, which: TableMember) -> Unread

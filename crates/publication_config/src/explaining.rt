@@ -16,30 +16,56 @@ pub fn explained(
     fault: PubFault,
 ) -> Result<String, AllocError> {
     let mut lines = format!(in alloc; "{fault}")?;
-    let Some(place) = place_of(fault) else {
-        return Ok(lines);
-    };
-    let publications = document.get("publication");
-    let Some(publication) = numbered(publications, place.publication) else {
-        return Ok(lines);
-    };
-    if let Some(name) = name_of(publication) {
-        lines.push_str("\npublication ")?;
-        lines.push_str(name)?;
-    }
-    if let Some(name) = table_name(publication, place.table) {
-        lines.push_str("\ntable ")?;
-        lines.push_str(name)?;
-    } else if let Some(table) = whole_table(publication, catalog, place.table) {
-        lines.push_str("\ntable ")?;
-        lines.push_str(table.schema.as_str())?;
-        lines.push_str(".")?;
-        lines.push_str(table.name.as_str())?;
-    }
-    if let PubFault::BadFilter(_, why) = fault {
-        mark_filter(alloc, &mut lines, publication, catalog, place.table, why)?;
+    if let Some(place) = place_of(fault) {
+        push_place(alloc, &mut lines, document, catalog, place, fault)?;
     }
     Ok(lines)
+}
+
+/// Adds what the document says at the place of the fault.
+fn push_place(
+    alloc: Global,
+    lines: &mut String,
+    document: &Value,
+    catalog: &Catalog,
+    place: Place,
+    fault: PubFault,
+) -> Result<(), AllocError> {
+    let Some(publication) = numbered(document.get("publication"), place.publication) else {
+        return Ok(());
+    };
+    push_names(lines, publication, catalog, place.table)?;
+    match fault {
+        PubFault::BadFilter(_, why) => {
+            mark_filter(alloc, lines, publication, catalog, place.table, why)
+        }
+        _ => Ok(()),
+    }
+}
+
+/// Adds the names of the publication, and of its table of this number, each in a line of its own.
+fn push_names(
+    lines: &mut String,
+    publication: &Value,
+    catalog: &Catalog,
+    number: usize,
+) -> Result<(), AllocError> {
+    if let Some(name) = name_of(publication) {
+        push_both(lines, "\npublication ", name)?;
+    }
+    if let Some(name) = table_name(publication, number) {
+        return push_both(lines, "\ntable ", name);
+    }
+    let Some(table) = whole_table(publication, catalog, number) else {
+        return Ok(());
+    };
+    push_both(lines, "\ntable ", table.schema.as_str())?;
+    push_both(lines, ".", table.name.as_str())
+}
+
+fn push_both(lines: &mut String, first: &str, second: &str) -> Result<(), AllocError> {
+    lines.push_str(first)?;
+    lines.push_str(second)
 }
 
 /// Where a fault stands; a fault of a publication alone at its table 0, which none is.
@@ -137,21 +163,27 @@ fn table_of<'c>(value: &Value, catalog: &'c Catalog) -> Option<&'c Table> {
     catalog.named(name_of(value)?)
 }
 
-/// The mark stands below the character that begins at this byte. Each line is indented alike, and a tab stands below a tab.
+/// The mark stands below the character that begins at this byte. Each line is indented alike.
 fn push_marked(lines: &mut String, text: &str, at: usize) -> Result<(), AllocError> {
     let before = text.get(..at).unwrap_or(text);
     let line = match before.rfind('\n') {
         Some(end) => end.saturating_add(1),
         None => 0,
     };
-    let shown = text.get(line..).unwrap_or("");
-    let shown = shown.split('\n').next().unwrap_or("");
+    push_line(lines, text.get(line..).unwrap_or(""))?;
+    push_mark(lines, before.get(line..).unwrap_or(""))
+}
+
+/// Adds the first line of the text.
+fn push_line(lines: &mut String, text: &str) -> Result<(), AllocError> {
+    push_both(lines, "\n    ", text.split('\n').next().unwrap_or(""))
+}
+
+/// Adds the mark behind as many blanks as there are characters before it; a tab stands below a tab.
+fn push_mark(lines: &mut String, before: &str) -> Result<(), AllocError> {
     lines.push_str("\n    ")?;
-    lines.push_str(shown)?;
-    lines.push_str("\n    ")?;
-    for c in before.get(line..).unwrap_or("").chars() {
+    for c in before.chars() {
         lines.push(if c == '\t' { '\t' } else { ' ' })?;
     }
-    lines.push('^')?;
-    Ok(())
+    lines.push('^')
 }

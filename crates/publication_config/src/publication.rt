@@ -8,7 +8,7 @@ ghost use Rattle.publication_config.specs.Published.{conflicts, has, is_listed_o
 
 use crate::operations::{Operation, Operations};
 use crate::published_table::PublishedTable;
-use frames::{Items, Text};
+use pqformat::{Items, Text};
 use std::alloc::{AllocError, Global};
 
 /// A publication: its tables, and the operations that it publishes.
@@ -91,7 +91,7 @@ fn is_listed_otherwise(publications: &[Publication], table: &PublishedTable) -> 
     publications.iter().any(|p| p.lists_otherwise(table))
 }
 
-/// Those of the publications that are named.
+/// Those of the publications that have one of the names.
 pub fn named(
     alloc: Global,
     publications: &[Publication],

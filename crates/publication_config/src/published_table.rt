@@ -4,7 +4,7 @@ ghost use Rattle.std.specs.Prelude.{◌≡◌, IfOk, not, if◌then◌else◌};
 ghost use Rattle.std.specs.List.{list_all, zip};
 ghost use Rattle.publication_config.specs.Published.{differs_from, is_listed, published_whole, same_list};
 
-use frames::Items;
+use pqformat::Items;
 use rowfilter::Filter;
 use std::alloc::{AllocError, Global};
 use tables::Table;

@@ -7,7 +7,7 @@ ghost use Rattle.rowfilter.specs.Shapes.{shape};
 
 use crate::expression::Expression;
 use crate::truth::Truth;
-use frames::Items;
+use pqformat::Items;
 use std::alloc::{AllocError, Global};
 use std::marker::Model;
 use tables::Row;

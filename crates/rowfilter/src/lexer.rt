@@ -14,7 +14,7 @@ ghost use Rattle.rowfilter.specs.Lexing.{GivesTokens, is_stray, Lexes, after_run
 use crate::class::Class;
 use crate::fault::FilterFault;
 use crate::token::{MINUS, NAME_QUOTE, TEXT_QUOTE, Token};
-use frames::Items;
+use pqformat::Items;
 use std::alloc::{AllocError, Global};
 
 fn is_first(b: u8) -> bool

@@ -2,7 +2,7 @@
 
 ghost use Rattle.std.specs.Prelude.{◌≡◌, IfOk};
 
-use frames::Items;
+use pqformat::Items;
 use std::alloc::{AllocError, Global};
 
 /// A value as it stands in a filter. A text is held as its bytes, by which it is compared.

@@ -1,6 +1,6 @@
 //! The tokens of a filter's text.
 
-use frames::Items;
+use pqformat::Items;
 
 /// The quote round names, and the one round texts. One that is meant stands twice.
 pub(crate) const NAME_QUOTE: u8 = b'"';

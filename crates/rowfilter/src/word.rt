@@ -20,7 +20,7 @@ use crate::number::integer;
 use crate::part::Part;
 use crate::question::Question;
 use crate::token::Token;
-use frames::Items;
+use pqformat::Items;
 use std::alloc::{AllocError, Global};
 use tables::Column;
 

@@ -1,6 +1,6 @@
 //! The events of a schedule, one a line.
 
-use frames::{Items, Text};
+use pqformat::{Items, Text};
 
 /// One line of a schedule. T names a transaction, C a connection.
 #[derive(Debug, Drop, PartialEq)]

@@ -3,7 +3,7 @@
 use crate::event::Literal;
 use crate::fault::WorldFault;
 use crate::literals::row_in;
-use frames::{Items, Text};
+use pqformat::{Items, Text};
 use replcmd::{is_slot_name, parse_position};
 use std::alloc::Global;
 

@@ -2,7 +2,7 @@
 
 use crate::event::Literal;
 use crate::fault::WorldFault;
-use frames::{Items, Text};
+use pqformat::{Items, Text};
 use std::alloc::Global;
 
 /// The values of the row that a text begins with, such as `(1,'ab',null)`, and what stands behind it. There are none in `()`.

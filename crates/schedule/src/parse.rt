@@ -3,7 +3,7 @@
 use crate::event::Event;
 use crate::fault::WorldFault;
 use crate::fields::Fields;
-use frames::Text;
+use pqformat::Text;
 use std::alloc::Global;
 
 impl Event {

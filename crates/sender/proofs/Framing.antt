@@ -4,9 +4,9 @@ use Rattle.std.specs.Prelude.{Bool}
 use Rattle.std.specs.Int.{w64, cast_unsigned}
 use Rattle.std.proofs.lemmas.List.{length-append, append-nil}
 use Rattle.std.proofs.lemmas.List.Concat.{flat_map-cons, flat_map-append}
-use Rattle.frames.specs.Fields.{int32, int64}
+use Rattle.pqformat.specs.Fields.{int32, int64}
 use Rattle.frames.specs.declared.copy_data.TheConstants.{COPY_DATA}
-use Rattle.frames.proofs.Numbers.{length-int32, length-int64}
+use Rattle.pqformat.proofs.Numbers.{length-int32, length-int64}
 use Rattle.copyboth.specs.XLogData.{xlogdata}
 use Rattle.copyboth.specs.Keepalive.{keepalive, ask_byte}
 use Rattle.pgoutput.specs.declared.logical.Logical.{Logical}

@@ -1,9 +1,9 @@
 //! What is on its way out: the bytes that are held, and the tables whose Relation was sent.
-#![tactic(auto, using(frames::proofs::Putting::in_place))]
+#![tactic(auto, using(pqformat::proofs::Putting::in_place))]
 
 ghost use Rattle.std.specs.Prelude.{◌≡◌, ◌≤◌, ◌++◌, ◌∷◌, [], OnErr, OnOk, reverse, IsSome, min, take, drop, length};
 ghost use Rattle.std.specs.List.{AllByRecursion};
-ghost use Rattle.frames.specs.Putting.{Puts};
+ghost use Rattle.pqformat.specs.Putting.{Puts};
 ghost use Rattle.pgoutput.specs.Logical.{IsShort};
 ghost use Rattle.pgoutput.specs.declared.logical.Logical.TheVariants as logical;
 ghost use Rattle.publication.specs.Selection.{relation, selected_table};
@@ -220,7 +220,7 @@ impl Outgoing {
     }
 
     /// Adds the block of a transaction.
-    #[tactic(auto, using(frames::proofs::Putting::in_place, crate::proofs::Framing::block_is))]
+    #[tactic(auto, using(pqformat::proofs::Putting::in_place, crate::proofs::Framing::block_is))]
     fn block(
         &mut self,
         selection: &Selection,

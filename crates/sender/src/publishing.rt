@@ -6,7 +6,7 @@ ghost use Rattle.publication.specs.Projection.{MessageFits, message};
 ghost use Rattle.sender.specs.Published.{published_at, published_changes};
 ghost use Rattle.sender.specs.Sending.{published_by_commit};
 
-use frames::Items;
+use pqformat::Items;
 use publication::{Projected, Selection};
 use reorder::{Ready, Reorder};
 use std::alloc::{AllocError, Global};

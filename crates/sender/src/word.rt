@@ -1,9 +1,9 @@
 //! Words of the stream as frames: a CopyData of an XLogData with a message, or of a keepalive (PostgreSQL 15, 55.4).
-#![tactic(auto, using(frames::proofs::Putting::in_place))]
+#![tactic(auto, using(pqformat::proofs::Putting::in_place))]
 
 ghost use Rattle.std.specs.Prelude.{◌≡◌, ◌+◌, ◌<◌, ◌≤◌, ◌^◌, ◌∷◌, ◌++◌, OnOk, OnErr, length};
-ghost use Rattle.frames.specs.Fields.{int32};
-ghost use Rattle.frames.specs.Putting.{Puts};
+ghost use Rattle.pqformat.specs.Fields.{int32};
+ghost use Rattle.pqformat.specs.Putting.{Puts};
 ghost use Rattle.frames.specs.declared.frame.TheConstants.{FRAME_LIMIT};
 ghost use Rattle.pgoutput.specs.Logical.{IsShort, spell_logical};
 ghost use Rattle.stream.specs.Words.{word_bytes};
@@ -11,7 +11,8 @@ ghost use Rattle.stream.specs.Items.{xlogdata_word, keepalive_word, IsShortMessa
 
 use bytes::BytesMut;
 use copyboth::{write_keepalive, write_xlogdata};
-use frames::{COPY_DATA, put_byte, put_int32};
+use frames::COPY_DATA;
+use pqformat::{put_byte, put_int32};
 use pgoutput::{Logical, write_logical};
 use std::alloc::AllocError;
 

@@ -1,6 +1,6 @@
 //! A hub of one table, for tests.
 
-use frames::Text;
+use pqformat::Text;
 use hub::OpenedHub;
 use publication::Publications;
 use std::alloc::Global;

@@ -6,8 +6,8 @@ use Rattle.std.specs.List.{flat_map}
 use Rattle.std.proofs.lemmas.List.{length-append}
 use Rattle.std.proofs.lemmas.List.Concat.{flat_map-cons}
 use Rattle.frames.specs.declared.parameter.Parameter.{Parameter}
-use Rattle.frames.specs.Fields.{string}
-use Rattle.frames.specs.Steps.{closed}
+use Rattle.pqformat.specs.Fields.{string}
+use Rattle.pqformat.specs.Steps.{closed}
 use Rattle.frames.specs.Parameter.{parameter}
 use Rattle.server.specs.Opening.{latest, value_of, first_of}
 

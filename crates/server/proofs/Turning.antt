@@ -11,11 +11,11 @@ use Rattle.frames.specs.declared.front.Front.TheVariants as fronts
 use Rattle.frames.specs.declared.copy_data.CopyData.{CopyData}
 use Rattle.frames.specs.declared.copy_fail.CopyFail.{CopyFail}
 use Rattle.frames.specs.declared.query.Query.{Query}
-use Rattle.frames.specs.Fields.{int32}
+use Rattle.pqformat.specs.Fields.{int32}
 use Rattle.frames.specs.Frame.{Gives}
 use Rattle.frames.specs.Front.{SpellsFront, IsShortFront, framed_front}
 use Rattle.frames.specs.Startup.{SpellsStartup, framed_startup, startup_number, startup_body}
-use Rattle.frames.proofs.Numbers.{length-int32}
+use Rattle.pqformat.proofs.Numbers.{length-int32}
 use Rattle.server.specs.declared.connection.Connection.{Connection}
 use Rattle.server.specs.declared.refusal.Refusal.TheVariants.{Violation}
 use Rattle.server.specs.declared.stage.Stage.{Stage}

@@ -2,7 +2,7 @@
 
 ghost use Rattle.std.specs.Prelude.{◌≡◌, ◌≤◌, length};
 
-use frames::Text;
+use pqformat::Text;
 use std::marker::Model;
 
 /// The longest name of a database, in bytes: no startup has room for a longer one.

@@ -1,7 +1,7 @@
 //! The beginning of a session: what its startup asks for.
 
 ghost use Rattle.std.specs.Prelude.{◌≡◌, ◌≤◌, ◌+◌, ◌++◌, length, option_map, OnOk, IfOk, codes};
-ghost use Rattle.frames.specs.Steps.{closed};
+ghost use Rattle.pqformat.specs.Steps.{closed};
 ghost use Rattle.frames.specs.Parameter.{parameter};
 ghost use Rattle.server.specs.Opening.{value_of, opened, is_database, first_of};
 ghost use Rattle.server.specs.Said.{greeted};
@@ -10,7 +10,8 @@ use crate::database::{Database, MOST_DATABASE_BYTES};
 use crate::refusal::Refusal;
 use crate::say::{say_greeting, say_refused};
 use bytes::BytesMut;
-use frames::{Parameter, Text};
+use frames::Parameter;
+use pqformat::Text;
 use std::alloc::{AllocError, Global};
 
 /// The value of the last parameter of this name.

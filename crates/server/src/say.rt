@@ -10,11 +10,8 @@ ghost use Rattle.server.specs.Said.{said, refused, refused_ready, ready, greetin
 use crate::fault::DeskFault;
 use crate::refusal::Refusal;
 use bytes::BytesMut;
-use frames::{
-    Back, BackendKeyData, ColumnDescription, ColumnType, CommandComplete, CopyBothResponse,
-    DataRow, DataValue, ErrorField, ErrorResponse, Items, Parameter, RowDescription, Status, Text,
-    write_back,
-};
+use frames::{Back, BackendKeyData, ColumnDescription, ColumnType, CommandComplete, CopyBothResponse, DataRow, DataValue, ErrorField, ErrorResponse, Parameter, RowDescription, Status, write_back};
+use pqformat::{Items, Text};
 use replcmd::write_position;
 use std::alloc::{AllocError, Global};
 
@@ -32,7 +29,7 @@ pub const NO_MODIFIER: i32 = -1;
 /// The attribute of a column that is no table's.
 pub const NO_ATTRIBUTE: i16 = 0;
 
-#[tactic(auto, unfolding(crate::specs::Said::ready, crate::specs::Said::said, frames::specs::Fields::int32))]
+#[tactic(auto, unfolding(crate::specs::Said::ready, crate::specs::Said::said, pqformat::specs::Fields::int32))]
 pub(crate) fn say_ready(out: &mut BytesMut) -> Result<(), AllocError>
     ensures { OnOk result (out.new.items ≡ out.old.items ++ ready) }
 {
@@ -76,7 +73,7 @@ pub(crate) fn say_refused_ready(
     say_ready(out)
 }
 
-#[tactic(auto, unfolding(crate::specs::Said::said, frames::specs::Fields::int32))]
+#[tactic(auto, unfolding(crate::specs::Said::said, pqformat::specs::Fields::int32))]
 fn say_status(alloc: Global, out: &mut BytesMut, name: &str, value: &str) -> Result<(), AllocError>
     requires name { length name.now ≤ 40 }
     requires value { length value.now ≤ 40 }
@@ -87,14 +84,14 @@ fn say_status(alloc: Global, out: &mut BytesMut, name: &str, value: &str) -> Res
     write_back(&Back::ParameterStatus(Parameter { name, value }), out)
 }
 
-#[tactic(auto, unfolding(crate::specs::Said::said, frames::specs::Fields::int32))]
+#[tactic(auto, unfolding(crate::specs::Said::said, pqformat::specs::Fields::int32))]
 fn say_authenticated(out: &mut BytesMut) -> Result<(), AllocError>
     ensures { OnOk result (out.new.items ≡ out.old.items ++ said AuthenticationOk) }
 {
     write_back(&Back::AuthenticationOk, out)
 }
 
-#[tactic(auto, unfolding(crate::specs::Said::said, frames::specs::Fields::int32))]
+#[tactic(auto, unfolding(crate::specs::Said::said, pqformat::specs::Fields::int32))]
 fn say_key(out: &mut BytesMut, process: u32) -> Result<(), AllocError>
     ensures { OnOk result (out.new.items ≡ out.old.items ++ said (key_frame process)) }
 {
@@ -157,7 +154,7 @@ fn value(alloc: Global, text: &str) -> Result<DataValue, AllocError>
     Ok(DataValue::Bytes(Items::new(bytes)))
 }
 
-#[tactic(auto, unfolding(crate::specs::Said::said, frames::specs::Fields::int32))]
+#[tactic(auto, unfolding(crate::specs::Said::said, pqformat::specs::Fields::int32))]
 fn say_completed(alloc: Global, out: &mut BytesMut, tag: &str) -> Result<(), AllocError>
     requires { length tag.now ≤ 40 }
     ensures { OnOk result (out.new.items ≡ out.old.items ++ said (completed tag.now)) }
@@ -185,7 +182,7 @@ pub(crate) fn say_dropped(
 }
 
 /// The answer of START_REPLICATION.
-#[tactic(auto, unfolding(crate::specs::Said::started, crate::specs::Said::said, frames::specs::Fields::int32, frames::specs::Fields::int16))]
+#[tactic(auto, unfolding(crate::specs::Said::started, crate::specs::Said::said, pqformat::specs::Fields::int32, pqformat::specs::Fields::int16))]
 pub(crate) fn say_started(
     alloc: Global,
     out: &mut BytesMut,
@@ -205,7 +202,7 @@ pub(crate) fn say_started(
     }
 }
 
-#[tactic(auto, unfolding(crate::specs::Said::said, frames::specs::Fields::int32))]
+#[tactic(auto, unfolding(crate::specs::Said::said, pqformat::specs::Fields::int32))]
 fn say_copy_done(out: &mut BytesMut) -> Result<(), AllocError>
     ensures { OnOk result (out.new.items ≡ out.old.items ++ said CopyDone) }
 {

@@ -3,7 +3,7 @@
 ghost use Rattle.std.specs.Prelude.{◌≡◌, ◌≤◌, ◌+◌, ◌++◌, length, OnOk, IfOk, codes};
 ghost use Rattle.frames.specs.Parameter.{parameter};
 ghost use Rattle.frames.specs.Startup.{startup_body};
-ghost use Rattle.frames.specs.Steps.{closed};
+ghost use Rattle.pqformat.specs.Steps.{closed};
 ghost use Rattle.frames.specs.declared.startup.Startup.TheVariants.{Session};
 ghost use Rattle.server.specs.Conversation.{Gave};
 ghost use Rattle.server.specs.Segment.{IsTurned, Said};

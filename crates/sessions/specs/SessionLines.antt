@@ -3,7 +3,7 @@ use Rattle.std.specs.Prelude.{◌≡◌, ℕ, Bool, true, false, List, [], ◌�
 use Rattle.tables.specs.declared.table.Table.{Table}
 use Rattle.tables.specs.declared.change.Change.TheVariants as changes
 use Rattle.tables.specs.Tables.{table_named}
-use Rattle.tables.specs.Rows.{Key}
+use Rattle.store.specs.Rows.{Key}
 use Rattle.txlog.specs.declared.fault.SessionFault.{SessionFault}
 use Rattle.txlog.specs.declared.fault.SessionFault.TheVariants as faults
 use Rattle.txlog.specs.Publishing.{PublisherState, IsRefusalOrMemory, begun, changed, updated, deleted, saved, rolled_back, released, after_commit, after_abort, begin_refusal, insert_refusal, update_refusal, delete_refusal, truncate_refusal, receipt_of, savepoint_refusal, rollback_refusal, release_refusal, end_refusal}

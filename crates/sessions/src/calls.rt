@@ -6,7 +6,7 @@ ghost use Rattle.sessions.specs.SessionLines.{ask_of, receipt_due};
 ghost use Rattle.sessions.specs.Sessions.{Grows, IsCallOf, IsNamedAt, named_tx, sessions_state};
 
 use crate::session::{Session, place_of};
-use frames::Text;
+use pqformat::Text;
 use schedule::{Answer, Event, Literal, WorldFault};
 use shared_log::LogName;
 use std::alloc::Global;

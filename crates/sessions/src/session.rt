@@ -7,7 +7,7 @@ ghost use Rattle.sessions.specs.SessionLines.{delete_refused, deleted_in, insert
 ghost use Rattle.sessions.specs.Sessions.{Called, Grows, named_tx, place_from};
 
 use crate::rows::{key_of, row_of};
-use frames::{Items, Text};
+use pqformat::{Items, Text};
 use schedule::{Answer, Literal};
 use shared_log::LogName;
 use std::alloc::{AllocError, Global};

@@ -7,7 +7,7 @@ ghost use Rattle.sessions.specs.Sessions.{Grows};
 
 use crate::calls::{call, is_known};
 use crate::session::{Session, leave_all};
-use frames::Text;
+use pqformat::Text;
 use schedule::{Answer, Event, WorldFault};
 use shared_log::LogName;
 use std::alloc::Global;

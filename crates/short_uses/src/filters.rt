@@ -5,7 +5,7 @@
 use crate::item::{ITEM, ITEM_TABLE, catalog};
 use crate::number;
 use anyhow::{Context, Result, bail};
-use frames::Text;
+use pqformat::Text;
 use publication::{Projected, Publications, Selection};
 use rowfilter::{Filter, Truth, parse};
 use std::alloc::Global;

@@ -4,7 +4,7 @@ ghost use Rattle.std.specs.Prelude.{◌≡◌};
 
 use anyhow::Result;
 use bytes::BytesMut;
-use frames::Text;
+use pqformat::Text;
 use publication::{Publications, Selection};
 use sender::Sender;
 use shared_log::{LogName, LogReader};

@@ -4,7 +4,8 @@ use crate::item::{ITEM, catalog, item, key};
 use crate::number;
 use anyhow::{Result, bail};
 use std::alloc::Global;
-use tables::{Row, Store};
+use store::Store;
+use tables::Row;
 
 const XID: u32 = 700;
 

@@ -9,13 +9,13 @@ use Rattle.std.proofs.lemmas.Int.{to_z-of_z}
 use Rattle.std.proofs.Math.Facts.{Fits-of_z, Fits-lt-pow}
 use Rattle.std.proofs.lemmas.List.{length-append}
 use Rattle.std.proofs.lemmas.List.Concat.{flat_map-cons}
-use Rattle.frames.specs.Fields.{int32, int64, number_at}
+use Rattle.pqformat.specs.Fields.{int32, int64, number_at}
 use Rattle.frames.specs.declared.copy_data.TheConstants.{COPY_DATA}
 use Rattle.frames.specs.declared.fault.FrameFault.{FrameFault}
 use Rattle.frames.specs.declared.fault.FrameFault.TheVariants.{BadBody}
 use Rattle.frames.specs.Frame.{FitsLength}
-use Rattle.frames.proofs.Codec.{done, ok_is}
-use Rattle.frames.proofs.Numbers.{number64, length-int32, length-int64}
+use Rattle.pqformat.proofs.Codec.{done, ok_is}
+use Rattle.pqformat.proofs.Numbers.{number64, length-int32, length-int64}
 use Rattle.frames.proofs.Frames.{frame_begins}
 use Rattle.copyboth.specs.Keepalive.{ask_byte}
 use Rattle.pgoutput.specs.declared.logical.Logical.{Logical}

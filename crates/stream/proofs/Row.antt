@@ -1,6 +1,6 @@
 -- A worked row: one transaction with one insert, read under clock 9, block by block against the bytes of the protocol.
 use Rattle.std.specs.Prelude.{◌≡◌, ℕ, pos, negsuc, codes, true, false, List, [], ◌∷◌, ◌++◌, refl}
-use Rattle.frames.specs.Fields.{int16, int32, int64}
+use Rattle.pqformat.specs.Fields.{int16, int32, int64}
 use Rattle.pgoutput.specs.declared.logical.Logical.{Logical}
 use Rattle.pgoutput.specs.declared.logical.Logical.TheVariants as logical
 use Rattle.pgoutput.specs.declared.relation.Relation.{Relation}

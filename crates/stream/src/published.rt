@@ -1,7 +1,7 @@
 //! A published transaction, what a subscriber is to apply: its commit's place and time, and its changes as messages.
 
-use frames::Items;
 use pgoutput::Logical;
+use pqformat::Items;
 
 /// A transaction as it is published.
 #[derive(Debug, Drop, PartialEq)]

@@ -6,10 +6,10 @@ use Rattle.std.specs.List.{flat_map, AllByRecursion}
 use Rattle.std.specs.Option.{ok_or}
 use Rattle.std.proofs.lemmas.Bool.{eqb-true}
 use Rattle.std.proofs.lemmas.List.{append-nil, nil_from_length}
-use Rattle.frames.specs.Fields.{byte_at, number_at, int16, int32}
-use Rattle.frames.specs.Steps.{◌>>=◌, repeat_at}
-use Rattle.frames.proofs.Codec.{IsBytes, IsBytes-rest, Takes, bind_ok, passed, Codec, field, last_field, codec_of, counted, repeated, Chooses, no_choice, choice, choice_codec}
-use Rattle.frames.proofs.Numbers.{number16, number32}
+use Rattle.pqformat.specs.Fields.{byte_at, number_at, int16, int32}
+use Rattle.pqformat.specs.Steps.{◌>>=◌, repeat_at}
+use Rattle.pqformat.proofs.Codec.{IsBytes, IsBytes-rest, Takes, bind_ok, passed, Codec, field, last_field, codec_of, counted, repeated, Chooses, no_choice, choice, choice_codec}
+use Rattle.pqformat.proofs.Numbers.{number16, number32}
 use Rattle.tables.specs.declared.change_body.TheConstants.{INSERT_TAG, UPDATE_TAG, DELETE_TAG, TRUNCATE_TAG}
 use Rattle.tables.specs.declared.fault.BodyFault.{BodyFault}
 use Rattle.tables.specs.declared.fault.BodyFault.TheVariants.{Short, UnknownTag, Trailing}

@@ -1,8 +1,8 @@
 -- The lengths of numbers, rows and bodies in a spelling.
 use Rattle.std.proofs.Common.{◌≡◌, ◌≤◌, ◌+◌, ◌*◌, ℕ, List, [], ◌∷◌, length, arith, length-append}
 use Rattle.std.specs.List.{flat_map}
-use Rattle.frames.specs.Fields.{int16, int32}
-use Rattle.frames.proofs.Numbers.{length-int16, length-int32, length-int64}
+use Rattle.pqformat.specs.Fields.{int16, int32}
+use Rattle.pqformat.proofs.Numbers.{length-int16, length-int32, length-int64}
 use Rattle.tables.specs.declared.value.Value.{Value}
 use Rattle.tables.specs.declared.value.Value.TheVariants as values
 use Rattle.tables.specs.declared.table.Table.{Table}

@@ -1,16 +1,6 @@
 pub mod Catalogs
 pub mod ChangeBodies
-pub mod Changing
-pub mod Forgetting
-pub mod Histories
-pub mod Holding
-pub mod Keys
 pub mod Lengths
 pub mod Members
 pub mod Names
-pub mod Outcomes
-pub mod Refusing
 pub mod RowBodies
-pub mod Storing
-pub mod Truncating
-pub mod Undoing

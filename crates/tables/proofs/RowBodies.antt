@@ -5,11 +5,11 @@ use Rattle.std.specs.List.{flat_map, AllByRecursion}
 use Rattle.std.specs.Option.{ok_or}
 use Rattle.std.specs.Str.{is_utf8}
 use Rattle.std.proofs.lemmas.Bool.{eqb-true}
-use Rattle.frames.specs.Fields.{byte_at, bytes_at, int32}
-use Rattle.frames.specs.Steps.{◌>>=◌, letter_at, repeat_at}
-use Rattle.frames.proofs.Codec.{Codec, field, last_field, codec_of, with_range, tested, counted, repeated, Chooses, no_choice, choice, choice_codec}
-use Rattle.frames.proofs.Loop.{with_front, ends}
-use Rattle.frames.proofs.Numbers.{number16, number32, bytes_codec, nothing_codec, letter_codec, signed32, signed64}
+use Rattle.pqformat.specs.Fields.{byte_at, bytes_at, int32}
+use Rattle.pqformat.specs.Steps.{◌>>=◌, letter_at, repeat_at}
+use Rattle.pqformat.proofs.Codec.{Codec, field, last_field, codec_of, with_range, tested, counted, repeated, Chooses, no_choice, choice, choice_codec}
+use Rattle.pqformat.proofs.Loop.{with_front, ends}
+use Rattle.pqformat.proofs.Numbers.{number16, number32, bytes_codec, nothing_codec, letter_codec, signed32, signed64}
 use Rattle.tables.specs.declared.row_body.TheConstants.{NULL_TAG, BOOL_TAG, INT4_TAG, INT8_TAG, TEXT_TAG}
 use Rattle.tables.specs.declared.fault.BodyFault.{BodyFault}
 use Rattle.tables.specs.declared.fault.BodyFault.TheVariants.{Short, UnknownTag, BadBool, BadText, Trailing, Memory}

@@ -1,10 +1,5 @@
 pub mod Config
-pub mod Emptying
-pub mod History
-pub mod Keeping
 pub mod Reading
-pub mod Rows
-pub mod Slots
 pub mod Spelling
 pub mod Tables
-pub use Rattle.frames.specs.Fields
+pub use Rattle.pqformat.specs.Fields

@@ -4,8 +4,8 @@ use Rattle.std.specs.List.{AllByRecursion}
 use Rattle.std.specs.Option.{ok_or}
 use Rattle.std.specs.Int.{w16, w32, w64}
 use Rattle.std.specs.Str.{is_utf8}
-use Rattle.frames.specs.Fields.{byte_at, bytes_at, number_at, int16, int32}
-use Rattle.frames.specs.Steps.{◌>>=◌, letter_at, signed_at, repeat_at}
+use Rattle.pqformat.specs.Fields.{byte_at, bytes_at, number_at, int16, int32}
+use Rattle.pqformat.specs.Steps.{◌>>=◌, letter_at, signed_at, repeat_at}
 use Rattle.tables.specs.declared.row_body.TheConstants.{NULL_TAG, BOOL_TAG, INT4_TAG, INT8_TAG, TEXT_TAG}
 use Rattle.tables.specs.declared.change_body.TheConstants.{INSERT_TAG, UPDATE_TAG, DELETE_TAG, TRUNCATE_TAG}
 use Rattle.tables.specs.declared.fault.BodyFault.{BodyFault}

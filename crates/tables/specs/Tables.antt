@@ -1,6 +1,6 @@
 -- Which rows a table takes, and which changes fit a catalogue.
-use Rattle.std.specs.Prelude.{◌≡◌, ℕ, ◌^◌, ◌<◌, ◌≤◌, ◌==◌, nat_le, Bool, true, false, ◌&&◌, not, List, [], ◌∷◌, ◌++◌, length, codes, count_by, filter, find, Option, IsSome, IsSomeAnd, FitsSigned}
-use Rattle.std.specs.List.{list_all, zip, AllByRecursion}
+use Rattle.std.specs.Prelude.{◌≡◌, ℕ, ◌^◌, ◌<◌, ◌≤◌, ◌==◌, nat_le, Bool, true, false, ◌&&◌, ◌||◌, not, List, [], ◌∷◌, ◌++◌, length, codes, count_by, filter, find, Option, IsSome, IsSomeAnd, FitsSigned}
+use Rattle.std.specs.List.{list_all, list_any, zip, AllByRecursion}
 use Rattle.std.specs.Int.{w32, w64}
 use Rattle.std.specs.Str.{bytes_eq, is_utf8}
 use Rattle.tables.specs.declared.config_member.TheConstants.{MAX_NAME_LENGTH}
@@ -109,3 +109,8 @@ FitsChange tables (changes.Update oid old row) = FitsRow tables oid old × FitsR
 FitsChange tables (changes.Delete oid old) = FitsRow tables oid old
 FitsChange tables (changes.Truncate oids) =
     (length oids ≤ MAX_TRUNCATED) × AllByRecursion (λ oid. (oid < 2 ^ 32) × IsSome (table_of oid tables)) oids
+
+-- a table stands there twice
+abbrev pub repeats : List ℕ → Bool
+repeats [] = false
+repeats (oid ∷ oids) = list_any (λ other. other == oid) oids || repeats oids

@@ -6,7 +6,7 @@ ghost use Rattle.std.specs.Option.{option_copied};
 ghost use Rattle.tables.specs.Tables.{IsTable, table_named, table_of};
 
 use crate::table::Table;
-use frames::Items;
+use pqformat::Items;
 use std::marker::Model;
 
 /// The tables of a publisher. Contracts see the list of them. Each is named, and has at most 64 columns.

@@ -1,7 +1,7 @@
 //! What a session changed in the tables.
 
 use crate::row::Row;
-use frames::Items;
+use pqformat::Items;
 
 /// A change of tables, by their OIDs.
 #[derive(Debug, Drop, PartialEq)]

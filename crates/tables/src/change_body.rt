@@ -1,10 +1,10 @@
 //! How a change is written into the log: the lengths and bytes of its body.
-#![tactic(auto, using(frames::proofs::Putting::extends_itself, frames::proofs::Putting::extends_more, frames::proofs::Putting::extends_back))]
+#![tactic(auto, using(pqformat::proofs::Putting::extends_itself, pqformat::proofs::Putting::extends_more, pqformat::proofs::Putting::extends_back))]
 
 ghost use Rattle.std.specs.Prelude.{◌≡◌, ◌+◌, ◌*◌, ◌++◌, ◌∷◌, ◌<◌, ◌≤◌, ◌^◌, OnErr, OnOk, length};
 ghost use Rattle.std.specs.List.{flat_map};
-ghost use Rattle.frames.specs.Fields.{int16, int32};
-ghost use Rattle.frames.specs.Putting.{Puts};
+ghost use Rattle.pqformat.specs.Fields.{int16, int32};
+ghost use Rattle.pqformat.specs.Putting.{Puts};
 ghost use Rattle.tables.specs.Spelling.{IsShort, body_length, row_length, spell_body, spell_oids, spell_one};
 ghost use Rattle.tables.specs.declared.row.TheConstants.{MAX_ROW_LENGTH};
 

@@ -1,7 +1,7 @@
 //! How a change is read from its body.
 
 ghost use Rattle.std.specs.Prelude.{◌≡◌, ◌≢◌, ◌<◌, [], IfOk, IsOk, Ok, Err};
-ghost use Rattle.frames.specs.Steps.{repeat_at};
+ghost use Rattle.pqformat.specs.Steps.{repeat_at};
 ghost use Rattle.tables.specs.declared.fault.BodyFault.TheVariants.{Memory};
 ghost use Rattle.tables.specs.Reading.{ChangeHasPart, Gives, HoldsPart, InsertHasValue, KindHasPart, OidsHaveOne, SpellsBody, UpdateHasValue, change_tagged, insert_at, oid_at, oids_at, body_at, change_at, update_at};
 ghost use Rattle.tables.specs.declared.change.Change.{Change as Changed};
@@ -11,7 +11,7 @@ use crate::change_body::{DELETE_TAG, INSERT_TAG, TRUNCATE_TAG, UPDATE_TAG};
 use crate::fault::BodyFault;
 use crate::row::Row;
 use crate::row_reading::row_of;
-use frames::{Cursor, Items};
+use pqformat::{Cursor, Items};
 use std::alloc::Global;
 
 /// The change whose body these bytes are. The leftmost fault is answered, unless memory is refused before it, which can

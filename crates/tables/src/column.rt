@@ -5,7 +5,7 @@ ghost use Rattle.tables.specs.Tables.{fits_column};
 
 use crate::kind::Kind;
 use crate::value::Value;
-use frames::Text;
+use pqformat::Text;
 use std::alloc::{AllocError, Global};
 
 #[derive(Debug, Drop, PartialEq)]

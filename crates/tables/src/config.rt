@@ -11,7 +11,7 @@ use crate::config_fault::{CatalogFault, Member, Misfit};
 use crate::config_table::{Unread, table_in};
 use crate::document::read_document;
 use crate::table::Table;
-use frames::Items;
+use pqformat::Items;
 use std::alloc::Global;
 use toml::Value;
 

@@ -10,7 +10,7 @@ ghost use Rattle.tables.specs.Tables.{IsName, is_name};
 
 use crate::identity::Identity;
 use crate::kind::{Kind, is_without_zero};
-use frames::{Items, Text};
+use pqformat::{Items, Text};
 use std::alloc::{AllocError, Global};
 use toml::Value;
 
@@ -20,7 +20,7 @@ pub const MAX_NAME_LENGTH: usize = 63;
 /// The greatest OID.
 pub const MAX_OID: i64 = 4_294_967_295;
 
-#[tactic(auto, using(frames::proofs::Texts::valid_text))]
+#[tactic(auto, using(pqformat::proofs::Texts::valid_text))]
 pub(crate) fn is_name(text: &str) -> bool
     ensures value { result ≡ is_name text.now }
     ensures named { result ≡ true → IsName text.now }

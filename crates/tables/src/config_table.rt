@@ -18,7 +18,7 @@ use crate::config_member::{
 };
 use crate::identity::Identity;
 use crate::table::Table;
-use frames::{Items, Text};
+use pqformat::{Items, Text};
 use std::alloc::{AllocError, Global};
 use toml::Value;
 

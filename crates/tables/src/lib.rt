@@ -1,4 +1,4 @@
-//! The tables that a publisher knows, their rows, and the changes of rows as the log keeps them.
+//! The tables that a publisher knows, what their rows are, and the changes of rows as the log keeps them.
 #![tactic(auto)]
 
 mod catalog;
@@ -11,20 +11,13 @@ mod config_fault;
 mod config_member;
 mod config_table;
 mod document;
-mod emptying;
 mod fault;
 mod identity;
-mod journals;
-mod judging;
-mod key;
 mod kind;
+mod oids;
 mod row;
 mod row_body;
 mod row_reading;
-mod slot;
-mod slots;
-mod store;
-mod store_fault;
 mod table;
 mod value;
 
@@ -44,9 +37,8 @@ pub use document::read_document;
 pub use fault::BodyFault;
 pub use identity::Identity;
 pub use kind::Kind;
+pub use oids::repeats;
 pub use row::{MAX_ROW_LENGTH, Row};
 pub use row_body::{BOOL_TAG, INT4_TAG, INT8_TAG, NULL_TAG, TEXT_TAG};
-pub use store::Store;
-pub use store_fault::StoreFault;
 pub use table::Table;
 pub use value::Value;

@@ -6,7 +6,7 @@ ghost use Rattle.tables.specs.Spelling.{row_length, spell_value};
 ghost use Rattle.tables.specs.Tables.{IsValue};
 
 use crate::value::Value;
-use frames::Items;
+use pqformat::Items;
 use std::alloc::{AllocError, Global};
 use std::marker::Model;
 
@@ -76,7 +76,7 @@ impl Row {
 }
 
 /// The length of the value's coding in bytes.
-#[tactic(auto, using(crate::proofs::Lengths::lengths, frames::proofs::Texts::valid_text))]
+#[tactic(auto, using(crate::proofs::Lengths::lengths, pqformat::proofs::Texts::valid_text))]
 fn coded_len_of(value: &Value) -> usize
     ensures value { result ≡ length (spell_value value.now) }
     ensures in_range { IsValue value.now }

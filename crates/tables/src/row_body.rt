@@ -1,10 +1,10 @@
 //! How a row is written into the log.
-#![tactic(auto, using(frames::proofs::Putting::extends_itself, frames::proofs::Putting::extends_more, frames::proofs::Putting::extends_back))]
+#![tactic(auto, using(pqformat::proofs::Putting::extends_itself, pqformat::proofs::Putting::extends_more, pqformat::proofs::Putting::extends_back))]
 
 ghost use Rattle.std.specs.Prelude.{◌≡◌, ◌++◌, ◌∷◌, [], ◌<◌, ◌≤◌, ◌^◌, OnErr, OnOk, length, if◌then◌else◌};
 ghost use Rattle.std.specs.List.{flat_map};
-ghost use Rattle.frames.specs.Fields.{int16, int32, int64};
-ghost use Rattle.frames.specs.Putting.{Puts};
+ghost use Rattle.pqformat.specs.Fields.{int16, int32, int64};
+ghost use Rattle.pqformat.specs.Putting.{Puts};
 ghost use Rattle.tables.specs.declared.row.TheConstants.{MAX_ROW_LENGTH};
 ghost use Rattle.tables.specs.Spelling.{row_length, spell_row, spell_value};
 
@@ -63,7 +63,7 @@ fn put_value(value: &Value, out: &mut BytesMut) -> Result<(), AllocError>
     }
 }
 
-#[tactic(auto, unfolding(frames::specs::Fields::int16))]
+#[tactic(auto, unfolding(pqformat::specs::Fields::int16))]
 pub(crate) fn put_int16(out: &mut BytesMut, n: u16) -> Result<(), AllocError>
     ensures ok { OnOk result (out.new.items ≡ out.old.items ++ int16 n) }
     ensures err { OnErr result (out.new.items ≡ out.old.items) }
@@ -71,7 +71,7 @@ pub(crate) fn put_int16(out: &mut BytesMut, n: u16) -> Result<(), AllocError>
     out.put_u16(n)
 }
 
-#[tactic(auto, unfolding(frames::specs::Fields::int32))]
+#[tactic(auto, unfolding(pqformat::specs::Fields::int32))]
 pub(crate) fn put_int32(out: &mut BytesMut, n: u32) -> Result<(), AllocError>
     ensures ok { OnOk result (out.new.items ≡ out.old.items ++ int32 n) }
     ensures err { OnErr result (out.new.items ≡ out.old.items) }
@@ -79,7 +79,7 @@ pub(crate) fn put_int32(out: &mut BytesMut, n: u32) -> Result<(), AllocError>
     out.put_u32(n)
 }
 
-#[tactic(auto, unfolding(frames::specs::Fields::int64))]
+#[tactic(auto, unfolding(pqformat::specs::Fields::int64))]
 fn put_int64(out: &mut BytesMut, n: u64) -> Result<(), AllocError>
     ensures ok { OnOk result (out.new.items ≡ out.old.items ++ int64 n) }
     ensures err { OnErr result (out.new.items ≡ out.old.items) }

@@ -2,7 +2,7 @@
 
 ghost use Rattle.std.specs.Prelude.{◌≡◌, ◌≢◌, ◌<◌, IsOk, Err};
 ghost use Rattle.std.specs.Int.{w32, w64};
-ghost use Rattle.frames.specs.Steps.{letter_at, signed_at, repeat_at};
+ghost use Rattle.pqformat.specs.Steps.{letter_at, signed_at, repeat_at};
 ghost use Rattle.tables.specs.Reading.{Gives, RowHasValue, bool_of, row_at, text_at, value_at};
 ghost use Rattle.tables.specs.declared.fault.BodyFault.TheVariants.{Short, BadBool, Memory};
 
@@ -10,7 +10,7 @@ use crate::fault::BodyFault;
 use crate::row::Row;
 use crate::row_body::{BOOL_TAG, INT4_TAG, INT8_TAG, NULL_TAG, TEXT_TAG};
 use crate::value::Value;
-use frames::{Cursor, Items, Text, utf8_of};
+use pqformat::{Cursor, Items, Text, utf8_of};
 use std::alloc::Global;
 
 #[tactic(auto, unfolding(crate::specs::Reading::row_at))]

@@ -9,7 +9,7 @@ use crate::column::Column;
 use crate::identity::Identity;
 use crate::row::Row;
 use crate::value::Value;
-use frames::{Items, Text};
+use pqformat::{Items, Text};
 use std::alloc::{AllocError, Global};
 
 /// A table that sessions write. Its columns stand in table order.

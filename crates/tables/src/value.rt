@@ -2,7 +2,7 @@
 
 ghost use Rattle.std.specs.Prelude.{◌≡◌, IfOk};
 
-use frames::Text;
+use pqformat::Text;
 use std::alloc::{AllocError, Global};
 
 /// What a row holds in one column.

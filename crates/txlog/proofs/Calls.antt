@@ -8,8 +8,8 @@ use Rattle.tables.specs.declared.change.Change.{Change}
 use Rattle.tables.specs.declared.change.Change.TheVariants as changes
 use Rattle.tables.specs.Spelling.{IsShort}
 use Rattle.tables.specs.Tables.{FitsChange}
-use Rattle.tables.specs.History.{made, count_of, rolled_back, forgotten}
-use Rattle.tables.specs.Keeping.{StoreState, Keeps}
+use Rattle.store.specs.History.{made, count_of, rolled_back, forgotten}
+use Rattle.store.specs.Keeping.{StoreState, Keeps}
 use Rattle.tables.proofs.Lengths.{insert_length, delete_length, two_rows_length, truncate_length}
 use Rattle.txlog.specs.declared.savepoint.Savepoint.{Savepoint}
 use Rattle.txlog.specs.declared.limits.TheConstants.{MAX_DEPTH, MAX_LIVE, MAX_RECORDS}

@@ -6,13 +6,13 @@ use Rattle.tables.specs.declared.value.Value.{Value}
 use Rattle.tables.specs.declared.table.Table.{Table}
 use Rattle.tables.specs.declared.change.Change.{Change}
 use Rattle.tables.specs.declared.change.Change.TheVariants as changes
-use Rattle.tables.specs.declared.store_fault.StoreFault.{StoreFault}
-use Rattle.tables.specs.declared.store_fault.StoreFault.TheVariants as store_faults
+use Rattle.store.specs.declared.store_fault.StoreFault.{StoreFault}
+use Rattle.store.specs.declared.store_fault.StoreFault.TheVariants as store_faults
 use Rattle.tables.specs.Spelling.{IsShort}
 use Rattle.tables.specs.Tables.{FitsChange}
-use Rattle.tables.specs.History.{Made, made, count_of, rolled_back}
-use Rattle.tables.specs.Keeping as tables
-use Rattle.tables.specs.Keeping.{StoreState, Keeps}
+use Rattle.store.specs.History.{Made, made, count_of, rolled_back}
+use Rattle.store.specs.Keeping as tables
+use Rattle.store.specs.Keeping.{StoreState, Keeps}
 use Rattle.txlog.specs.declared.changing.Changing.{Changing}
 use Rattle.txlog.specs.declared.fault.SessionFault.{SessionFault}
 use Rattle.txlog.specs.declared.fault.SessionFault.TheVariants as faults

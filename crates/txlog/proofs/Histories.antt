@@ -4,7 +4,7 @@ use Rattle.std.specs.List.{filter}
 use Rattle.std.proofs.lemmas.Bool.{eqb-true}
 use Rattle.std.proofs.lemmas.List.{map-append}
 use Rattle.tables.specs.declared.change.Change.{Change}
-use Rattle.tables.specs.History.{Made, made, is_top, no_longer, settled, forgotten, rolled_back}
+use Rattle.store.specs.History.{Made, made, is_top, no_longer, settled, forgotten, rolled_back}
 use Rattle.wal.specs.declared.record.Record.{Record}
 use Rattle.wal.specs.declared.record.Body.TheVariants.{Assign, Change as Changed, AbortSub, Abort, Commit}
 use Rattle.wal.specs.Log.{is_named, chain, last_of, top_of, ends, has_ended, Entry, entries, IsOpen}

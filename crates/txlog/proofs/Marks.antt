@@ -2,7 +2,7 @@
 use Rattle.std.proofs.Common.{◌≡◌, ℕ, zero, suc, Bool, true, false, cond, not, List, [], ◌∷◌, ◌++◌, map, refl, sym, ap, subst, ◌∙◌, eq-eqb}
 use Rattle.std.specs.List.{filter, AllByRecursion}
 use Rattle.tables.specs.declared.change.Change.{Change}
-use Rattle.tables.specs.History.{Made, made, is_top, rolled_back, count_of}
+use Rattle.store.specs.History.{Made, made, is_top, rolled_back, count_of}
 use Rattle.wal.specs.Log.{Entry}
 use Rattle.txlog.specs.Invariants.{IsBehind}
 

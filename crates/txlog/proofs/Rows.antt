@@ -1,16 +1,16 @@
 -- Whole logs with what they commit, as worked by hand: the definitions compute to it.
 use Rattle.std.proofs.Common.{◌≡◌, ℕ, pos, true, false, List, [], ◌∷◌, Some, None, take, refl}
 use Rattle.std.specs.Prelude.{codes}
-use Rattle.frames.specs.Fields.{int16, int32, int64}
+use Rattle.pqformat.specs.Fields.{int16, int32, int64}
 use Rattle.tables.specs.declared.value.Value.TheVariants as values
 use Rattle.tables.specs.declared.change.Change.{Change}
 use Rattle.tables.specs.declared.change.Change.TheVariants as changes
-use Rattle.tables.specs.Rows.{Key}
+use Rattle.store.specs.Rows.{Key}
 use Rattle.tables.specs.Tables.{item_tables}
 use Rattle.wal.specs.declared.record.Record.{Record}
 use Rattle.wal.specs.declared.record.Body.{Body}
 use Rattle.wal.specs.declared.record.Body.TheVariants.{Assign, Change as Changed, AbortSub, Commit}
-use Rattle.tables.specs.History.{is_key_held}
+use Rattle.store.specs.History.{is_key_held}
 use Rattle.txlog.specs.Rows.{history_of, rows_of}
 use Rattle.wal.specs.Log.{Entry, Transaction, IsWellFormedLog, committed}
 use Rattle.wal.proofs.LiveChanges.{live_changes}

@@ -1,7 +1,7 @@
 -- What is true of a publisher between its calls.
 use Rattle.std.specs.Prelude.{◌≡◌, ℕ, zero, suc, ◌+◌, ◌*◌, ◌^◌, ◌<◌, ◌≤◌, ◌==◌, Bool, true, false, List, [], ◌∷◌, length, if◌then◌else◌}
 use Rattle.std.specs.List.{list_any, AllByRecursion}
-use Rattle.tables.specs.Keeping.{StoreState, Keeps}
+use Rattle.store.specs.Keeping.{StoreState, Keeps}
 use Rattle.tables.specs.declared.table.Table.{Table}
 use Rattle.txlog.specs.declared.limits.TheConstants.{MAX_LIVE, MAX_DEPTH, MAX_RECORDS}
 use Rattle.wal.specs.declared.record.TheConstants.{FIRST_POSITION, FIRST_XID}

@@ -4,6 +4,6 @@ pub mod Receipts
 pub mod Rows
 pub use Rattle.tables.specs.Spelling
 pub use Rattle.tables.specs.Tables
-pub use Rattle.frames.specs.Fields
+pub use Rattle.pqformat.specs.Fields
 pub use Rattle.wal.specs.Log
 pub use Rattle.wal.specs.Records

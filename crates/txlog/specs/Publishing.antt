@@ -2,15 +2,15 @@
 -- memory apart, a call is refused exactly where there is such a refusal, and with the first one.
 use Rattle.std.specs.Prelude.{◌≡◌, ℕ, ◌+◌, ◌-◌, ◌==◌, ℤ, Bool, ◌||◌, not, List, [], ◌∷◌, ◌++◌, length, take, map, filter, slice_index, codes, nat_le, nat_lt, Option, Some, None, Result, Ok, Err, if◌then◌else◌}
 use Rattle.std.specs.List.{list_any}
-use Rattle.tables.specs.declared.store_fault.StoreFault.{StoreFault}
-use Rattle.tables.specs.declared.store_fault.StoreFault.TheVariants as store_faults
+use Rattle.store.specs.declared.store_fault.StoreFault.{StoreFault}
+use Rattle.store.specs.declared.store_fault.StoreFault.TheVariants as store_faults
 use Rattle.tables.specs.declared.value.Value.{Value}
 use Rattle.tables.specs.declared.table.Table.{Table}
 use Rattle.tables.specs.declared.change.Change.{Change}
 use Rattle.tables.specs.declared.change.Change.TheVariants as changes
-use Rattle.tables.specs.Rows.{Key}
-use Rattle.tables.specs.History as history
-use Rattle.tables.specs.History.{count_of}
+use Rattle.store.specs.Rows.{Key}
+use Rattle.store.specs.History as history
+use Rattle.store.specs.History.{count_of}
 use Rattle.txlog.specs.declared.limits.TheConstants.{MAX_LIVE, MAX_DEPTH, MAX_READERS}
 use Rattle.wal.specs.declared.record.TheConstants.{FIRST_POSITION, FIRST_XID}
 use Rattle.wal.specs.declared.record.Record.{Record}

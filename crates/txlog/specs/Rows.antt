@@ -3,8 +3,8 @@
 use Rattle.std.specs.Prelude.{ℕ, ◌==◌, Bool, false, ◌&&◌, not, List, map, filter, Option, Some, None, if◌then◌else◌}
 use Rattle.std.specs.List.{list_any}
 use Rattle.tables.specs.declared.table.Table.{Table}
-use Rattle.tables.specs.Rows.{Rows}
-use Rattle.tables.specs.History.{Made, rows_after}
+use Rattle.store.specs.Rows.{Rows}
+use Rattle.store.specs.History.{Made, rows_after}
 use Rattle.wal.specs.declared.record.Record.{Record}
 use Rattle.wal.specs.declared.record.Body.{Body}
 use Rattle.wal.specs.declared.record.Body.TheVariants.{Abort}

@@ -1,8 +1,8 @@
 //! How sessions change rows: the tables take the change, and the log a record of it.
 
 ghost use Rattle.std.specs.Prelude.{◌≡◌, ◌+◌, ◌∷◌, ◌++◌, [], ◌<◌, ◌^◌, IfErr, IfOk, List, OnErr, OnOk, false, true};
-ghost use Rattle.tables.specs.History.{Made, count_of, rolled_back};
-ghost use Rattle.tables.specs.Keeping.{Keeps};
+ghost use Rattle.store.specs.History.{Made, count_of, rolled_back};
+ghost use Rattle.store.specs.Keeping.{Keeps};
 ghost use Rattle.tables.specs.Spelling.{IsShort};
 ghost use Rattle.txlog.specs.Invariants.{IsPublisher};
 ghost use Rattle.wal.specs.Log.{IsWellFormedLog, end_of};
@@ -16,7 +16,8 @@ use crate::publisher::Publisher;
 use crate::tx::Tx;
 use shared_log::{LogName, LogWriter};
 use std::sync::Wait;
-use tables::{Change, Row, Store, StoreFault};
+use store::{Store, StoreFault};
+use tables::{Change, Row};
 use wal::{Body, LoggedChange};
 
 /// A change that is about to be made: its transaction, the innermost open subtransaction, how many changes of the transaction

@@ -5,7 +5,7 @@ ghost use Rattle.txlog.specs.declared.fault.SessionFault.TheVariants.{Memory};
 ghost use Rattle.txlog.specs.Publishing.{code_of, fault_of};
 
 use std::alloc::{AllocError, AllocFailed};
-use tables::StoreFault;
+use store::StoreFault;
 use thiserror::Error;
 
 /// Why a session's call was refused. A refused call changes nothing.

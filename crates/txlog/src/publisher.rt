@@ -20,7 +20,8 @@ use shared_log::{LogName, LogReader, LogWriter};
 use std::alloc::Global;
 use std::marker::Model;
 use std::sync::Wait;
-use tables::{Catalog, Row, Store};
+use store::Store;
+use tables::{Catalog, Row};
 use wal::{Body, FIRST_XID};
 
 /// The log, the transactions that write it, and the rows that it leaves in the tables (`rows_of`). A place in the log is kept

@@ -3,7 +3,7 @@
 use crate::answer::tell_written;
 use anyhow::{Result, bail};
 use bytes::BytesMut;
-use frames::{Cursor, put_byte, put_bytes, put_int16, put_int32, put_int64, put_string, utf8_of};
+use pqformat::{Cursor, put_byte, put_bytes, put_int16, put_int32, put_int64, put_string, utf8_of};
 use std::alloc::Global;
 
 /// Adds the field, or None where it isn't there whole, and what is left behind it.

@@ -2,7 +2,7 @@
 
 use crate::answer::bytes_of;
 use anyhow::{Context, Result, bail};
-use frames::Text;
+use pqformat::Text;
 use publication::{PubFault, Publications, Selection, explained};
 use std::alloc::{AllocError, Global};
 use tables::{Catalog, Change, read_body, read_document};

@@ -3,4 +3,4 @@ pub mod Places
 pub mod Records
 pub use Rattle.tables.specs.Spelling
 pub use Rattle.tables.specs.Tables
-pub use Rattle.frames.specs.Fields
+pub use Rattle.pqformat.specs.Fields

@@ -19,7 +19,7 @@ use crate::slot_word::{is_missing, let_go, slot_named, take};
 use crate::start::Start;
 use crate::subscriber::{Subscriber, place_of, reconnect, subscribe};
 use configuration::Config;
-use frames::Text;
+use pqformat::Text;
 use named_slots::HeldSlots;
 use publication::{Publications, Selection};
 use schedule::{Answer, Event, WorldFault};

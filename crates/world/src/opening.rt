@@ -4,7 +4,7 @@ ghost use Rattle.std.specs.Prelude.{◌≡◌, map, slice_get};
 ghost use Rattle.world.specs.Machine.{is_for, place_among, start_state, without_place};
 
 use crate::start::Start;
-use frames::Text;
+use pqformat::Text;
 use shared_log::LogName;
 
 /// The place of the open start of the connection, among the places of the open starts.

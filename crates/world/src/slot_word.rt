@@ -5,7 +5,7 @@ ghost use Rattle.slots.specs.declared.fault.SlotFault.TheVariants.{InUse};
 ghost use Rattle.world.specs.ConnectionLines.{is_held, is_missing, slot_named, start_from, taken};
 ghost use Rattle.world.specs.Slots.{confirmed_by, let_go};
 
-use frames::Text;
+use pqformat::Text;
 use named_slots::HeldSlots;
 use slots::{SlotFault, SlotName};
 use std::alloc::{AllocError, Global};

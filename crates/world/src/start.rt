@@ -9,7 +9,7 @@ ghost use Rattle.world.specs.Machine.{IsServed, is_open, start_state};
 use crate::action::Action;
 use crate::reading::read_on;
 use bytes::BytesMut;
-use frames::Text;
+use pqformat::Text;
 use publication::Selection;
 use schedule::{Answer, WorldFault};
 use sender::{Ended, Sender};

@@ -9,7 +9,7 @@ use crate::machine::Machine;
 use crate::opening::place_among;
 use crate::slot_word::confirm;
 use crate::subscriber::{has_status, place_of};
-use frames::Text;
+use pqformat::Text;
 use schedule::{Answer, WorldFault};
 use shared_log::LogName;
 use slots::SlotName;

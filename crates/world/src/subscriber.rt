@@ -8,7 +8,7 @@ ghost use Rattle.world.specs.Machine.{subscriber_place, subscriber_state};
 
 use client::Applier;
 use copyboth::Status;
-use frames::Text;
+use pqformat::Text;
 use schedule::Answer;
 use std::alloc::{AllocError, Global};
 use std::collections::VecDeque;

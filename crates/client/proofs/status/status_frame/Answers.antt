@@ -2,7 +2,7 @@ use Rattle.std.proofs.Common.{◌≡◌, ℕ, List, [], ◌∷◌, ◌++◌, ◌
 use Rattle.std.specs.Int.{w64, cast_unsigned}
 use Rattle.std.proofs.lemmas.List.{take_all, take_more_set, length-set}
 use Rattle.std.proofs.lemmas.Int.{to_z-of_z}
-use Rattle.frames.specs.Fields.{int64}
+use Rattle.pqformat.specs.Fields.{int64}
 use Rattle.client.proofs.StatusFrames.{frame_is, in_a_row}
 use Rattle.client.proofs.status.status_frame.Goals as goal
 

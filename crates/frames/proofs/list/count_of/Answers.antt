@@ -1,6 +1,6 @@
 use Rattle.std.proofs.Common.{length}
 use Rattle.std.proofs.lemmas.Result.{err_from_is_err_and}
-use Rattle.frames.specs.Steps.{until_at}
+use Rattle.pqformat.specs.Steps.{until_at}
 use Rattle.frames.specs.Body.{passed}
 use Rattle.frames.proofs.Lists.{stops, goes_on, fails, runs_out}
 use Rattle.frames.proofs.list.count_of.Goals as goal

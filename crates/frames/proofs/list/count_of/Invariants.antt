@@ -1,5 +1,5 @@
 use Rattle.std.proofs.Common.{◌≡◌, ◌-◌, ◌+◌, length}
-use Rattle.frames.specs.Steps.{until_at}
+use Rattle.pqformat.specs.Steps.{until_at}
 use Rattle.frames.specs.Body.{passed}
 use Rattle.frames.proofs.list.count_of.Given as goal
 

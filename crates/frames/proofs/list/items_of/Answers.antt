@@ -1,7 +1,7 @@
 use Rattle.std.proofs.lemmas.Result.{err_from_is_err_and}
-use Rattle.frames.specs.Steps.{repeat_at}
+use Rattle.pqformat.specs.Steps.{repeat_at}
 use Rattle.frames.specs.Body.{checked_at}
-use Rattle.frames.proofs.Loop.{goes_on, is_done}
+use Rattle.pqformat.proofs.Loop.{goes_on, is_done}
 use Rattle.frames.proofs.Lists.{ends}
 use Rattle.frames.proofs.list.items_of.Goals as goal
 

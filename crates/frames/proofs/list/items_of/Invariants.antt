@@ -1,7 +1,7 @@
 use Rattle.std.proofs.Common.{◌≡◌, ◌-◌}
-use Rattle.frames.specs.Steps.{repeat_at}
+use Rattle.pqformat.specs.Steps.{repeat_at}
 use Rattle.frames.specs.Body.{checked_at}
-use Rattle.frames.proofs.Loop.{with_front}
+use Rattle.pqformat.proofs.Loop.{with_front}
 use Rattle.frames.proofs.list.items_of.Given as goal
 
 abbrev pub invariant-loop : goal.invariant-loop

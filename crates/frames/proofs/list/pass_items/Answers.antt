@@ -1,5 +1,5 @@
 use Rattle.std.proofs.lemmas.Result.{err_from_is_err_and}
-use Rattle.frames.specs.Steps.{repeat_at}
+use Rattle.pqformat.specs.Steps.{repeat_at}
 use Rattle.frames.specs.Body.{passed_over}
 use Rattle.frames.proofs.Lists.{passes_on, passing_fails, all_passed}
 use Rattle.frames.proofs.list.pass_items.Goals as goal

@@ -1,5 +1,5 @@
 use Rattle.std.proofs.Common.{◌≡◌, ◌-◌}
-use Rattle.frames.specs.Steps.{repeat_at}
+use Rattle.pqformat.specs.Steps.{repeat_at}
 use Rattle.frames.specs.Body.{passed_over}
 use Rattle.frames.proofs.list.pass_items.Given as goal
 

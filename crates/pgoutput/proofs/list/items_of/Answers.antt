@@ -1,6 +1,6 @@
 use Rattle.std.proofs.lemmas.Result.{err_from_is_err_and}
-use Rattle.frames.specs.Steps.{repeat_at}
-use Rattle.frames.proofs.Loop.{goes_on, is_done}
+use Rattle.pqformat.specs.Steps.{repeat_at}
+use Rattle.pqformat.proofs.Loop.{goes_on, is_done}
 use Rattle.pgoutput.proofs.Loops.{ends}
 use Rattle.pgoutput.proofs.list.items_of.Goals as goal
 

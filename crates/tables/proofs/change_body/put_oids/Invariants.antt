@@ -1,7 +1,7 @@
 use Rattle.std.proofs.Common.{◌≡◌, ◌++◌, ◌∷◌, drop}
 use Rattle.std.specs.List.{flat_map}
-use Rattle.frames.specs.Fields.{int32}
-use Rattle.frames.specs.Putting.{Extends}
+use Rattle.pqformat.specs.Fields.{int32}
+use Rattle.pqformat.specs.Putting.{Extends}
 use Rattle.tables.specs.declared.change_body.TheConstants.{TRUNCATE_TAG}
 use Rattle.tables.specs.Spelling.{spell_oids}
 use Rattle.tables.proofs.change_body.put_oids.Given as goal

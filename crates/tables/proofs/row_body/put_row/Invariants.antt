@@ -1,7 +1,7 @@
 use Rattle.std.proofs.Common.{◌≡◌, ◌≤◌, ◌++◌, length, drop}
 use Rattle.std.specs.List.{flat_map}
 use Rattle.tables.specs.declared.row.TheConstants.{MAX_ROW_LENGTH}
-use Rattle.frames.specs.Putting.{Extends}
+use Rattle.pqformat.specs.Putting.{Extends}
 use Rattle.tables.specs.Spelling.{spell_value, spell_row}
 use Rattle.tables.proofs.row_body.put_row.Given as goal
 

@@ -1,7 +1,7 @@
 use Rattle.std.proofs.Common.{refl, arith}
 use Rattle.std.proofs.lemmas.Result.{err_from_is_err_and}
-use Rattle.frames.specs.Steps.{repeat_at}
-use Rattle.frames.proofs.Loop.{goes_on, is_done}
+use Rattle.pqformat.specs.Steps.{repeat_at}
+use Rattle.pqformat.proofs.Loop.{goes_on, is_done}
 use Rattle.tables.specs.Reading.{value_at}
 use Rattle.tables.proofs.RowBodies.{fails_on, first_read}
 use Rattle.tables.proofs.row_reading.values_of.Goals as goal

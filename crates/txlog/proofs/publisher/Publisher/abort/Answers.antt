@@ -1,7 +1,7 @@
 use Rattle.std.proofs.Common.{arith, ◌∙◌}
 use Rattle.txlog.specs.Publishing.{PublisherState}
 use Rattle.txlog.specs.Rows.{history_of}
-use Rattle.tables.specs.History.{rolled_back}
+use Rattle.store.specs.History.{rolled_back}
 use Rattle.txlog.proofs.Calls.{aborted_kept, abort_good, record_fits}
 use Rattle.txlog.proofs.publisher.Publisher.abort.Goals as goal
 

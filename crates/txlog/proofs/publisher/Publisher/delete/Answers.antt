@@ -1,5 +1,5 @@
 use Rattle.std.proofs.Common.{arith, ◌^◌}
-use Rattle.tables.specs.History as history
+use Rattle.store.specs.History as history
 use Rattle.txlog.specs.Publishing.{PublisherState}
 use Rattle.txlog.proofs.Calls.{record_fits}
 use Rattle.txlog.specs.Rows.{history_of}

@@ -1,8 +1,8 @@
 use Rattle.std.proofs.Common.{arith, ◌^◌, ◌∷◌, [], ◌++◌, sym, subst}
 use Rattle.tables.specs.declared.change.Change.{Change}
-use Rattle.tables.specs.Keeping.{Keeps}
-use Rattle.tables.specs.History.{made}
-use Rattle.tables.specs.History as history
+use Rattle.store.specs.Keeping.{Keeps}
+use Rattle.store.specs.History.{made}
+use Rattle.store.specs.History as history
 use Rattle.txlog.specs.Publishing.{PublisherState}
 use Rattle.txlog.proofs.Calls.{record_fits}
 use Rattle.txlog.specs.Rows.{history_of}

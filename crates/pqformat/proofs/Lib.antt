@@ -1,0 +1,5 @@
+pub mod Codec
+pub mod Loop
+pub mod Numbers
+pub mod Putting
+pub mod Texts

@@ -1,0 +1,12 @@
+//! The fields of messages, read from the front of bytes and written at the end of a buffer.
+#![tactic(auto)]
+
+mod cursor;
+mod items;
+mod put;
+mod text;
+
+pub use cursor::{Cursor, utf8_of};
+pub use items::Items;
+pub use put::{put_byte, put_bytes, put_int16, put_int32, put_int64, put_string};
+pub use text::Text;

@@ -1,0 +1,10 @@
+pub mod Changing
+pub mod Forgetting
+pub mod Histories
+pub mod Holding
+pub mod Keys
+pub mod Outcomes
+pub mod Refusing
+pub mod Storing
+pub mod Truncating
+pub mod Undoing

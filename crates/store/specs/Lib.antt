@@ -1,0 +1,5 @@
+pub mod Emptying
+pub mod History
+pub mod Keeping
+pub mod Rows
+pub mod Slots

@@ -1,0 +1,47 @@
+-- What stands at each place of a store: at a key its row, and who holds it. Places are texts.
+use Rattle.std.specs.Prelude.{ℕ, Bool, nat_eq, List, [], ◌∷◌, None, IsSome, unwrap_or, Vec, if◌then◌else◌}
+use Rattle.std.specs.Cmp.Lexicographic.{pointwise}
+use Rattle.std.specs.List.{AllByRecursion}
+use Rattle.std.specs.Map.{lookup}
+use Rattle.indexmap.specs.IndexMap.{insert_entry}
+use Rattle.store.specs.declared.slot.Slot.{Slot}
+use Rattle.store.specs.declared.slot.Undo.{Undo}
+
+abbrev pub same_key : List ℕ → List ℕ → Bool
+same_key = pointwise nat_eq
+
+abbrev pub vacant : Slot
+vacant = record { row = None; owner = None }
+
+abbrev pub Entries : Type 0
+Entries = List (List ℕ × Slot)
+
+-- the texts of keys that are kept as vectors
+abbrev pub entries_of : {A : Type 0} → List (Vec ℕ A × Slot) → Entries
+entries_of [] = []
+entries_of (e ∷ es) = (e.0.items, e.1) ∷ entries_of es
+
+-- what stands at a place; one that was never used is vacant
+abbrev pub slot_at : Entries → List ℕ → Slot
+slot_at slots key = unwrap_or (lookup (same_key key) slots) vacant
+
+-- a slot is put at a place
+abbrev pub put : List ℕ → Slot → Entries → Entries
+put key slot slots = insert_entry same_key slots key slot
+
+-- the place that was changed has a slot, and so has each
+abbrev pub HasPlace : Entries → Undo → Type 0
+HasPlace slots u = IsSome (lookup (same_key u.key) slots)
+
+abbrev pub HavePlaces : Entries → List Undo → Type 0
+HavePlaces slots undos = AllByRecursion (HasPlace slots) undos
+
+-- the slots after a change is undone, the last of its places first
+abbrev pub undone : Entries → List Undo → Entries
+undone slots [] = slots
+undone slots (u ∷ us) = put u.key u.before (undone slots us)
+
+-- the slot at a place after that
+abbrev pub undone_at : List Undo → List ℕ → Slot → Slot
+undone_at [] key slot = slot
+undone_at (u ∷ us) key slot = if same_key key u.key then u.before else undone_at us key slot

@@ -1,0 +1,54 @@
+//! What stands at a place of a store, and what stood there before a change.
+
+ghost use Rattle.std.specs.Prelude.{◌≡◌};
+ghost use Rattle.store.specs.History.{is_other};
+ghost use Rattle.store.specs.Keeping.{freed};
+ghost use Rattle.store.specs.Slots.{vacant};
+
+use pqformat::Items;
+use tables::Row;
+
+/// What stands at a place: the row, if there is one, and the live transaction that holds the place, if there is one.
+#[derive(Debug, Drop)]
+pub struct Slot {
+    pub row: Option<Row>,
+    pub owner: Option<u32>,
+}
+
+/// A place that was changed, and what stood there before.
+#[derive(Debug, Drop)]
+pub struct Undo {
+    pub key: Items<u8>,
+    pub before: Slot,
+}
+
+impl Slot {
+    /// No row, and nobody's.
+    pub fn vacant() -> Self
+        ensures { result ≡ vacant }
+    {
+        Slot {
+            row: None,
+            owner: None,
+        }
+    }
+
+    /// Whether another transaction holds it.
+    pub fn is_others(&self, top: u32) -> bool
+        ensures { result ≡ is_other top self.now.owner }
+    {
+        match self.owner {
+            Some(owner) => owner != top,
+            None => false,
+        }
+    }
+
+    /// The transaction holds it no longer, if it did.
+    pub fn release(&mut self, top: u32)
+        ensures { self.new ≡ freed top self.old }
+    {
+        if self.owner == Some(top) {
+            self.owner = None;
+        }
+    }
+}

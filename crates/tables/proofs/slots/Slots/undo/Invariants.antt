@@ -1,9 +1,0 @@
-use Rattle.std.proofs.Common.{◌≡◌, length}
-use Rattle.tables.specs.Slots.{HavePlaces, undone}
-use Rattle.tables.proofs.slots.Slots.undo.Given as goal
-
-abbrev pub invariant-loop-undo : goal.invariant-loop-undo
-invariant-loop-undo l = HavePlaces l.fn.self l.fn.undos → HavePlaces l.self l.undos.items × (undone l.self l.undos.items ≡ undone l.fn.self l.fn.undos)
-
-abbrev pub decreases-loop-undo : goal.decreases-loop-undo
-decreases-loop-undo l = length l.undos.items
