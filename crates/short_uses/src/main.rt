@@ -9,7 +9,7 @@ mod filters;
 mod item;
 mod log;
 mod sending;
-mod store;
+mod rows;
 mod subscriber;
 
 use anyhow::{Context, Result, bail};
@@ -23,7 +23,7 @@ use std::env;
 use std::io::Print;
 use std::sync::Wait;
 use std::thread::Threads;
-use store::work_on_store;
+use rows::work_on_store;
 use subscriber::follow_stream;
 
 const USAGE: &str = "usage: short_uses USE [then USE].., where a USE is one of

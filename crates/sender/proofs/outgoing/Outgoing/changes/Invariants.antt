@@ -1,5 +1,5 @@
 use Rattle.std.proofs.Common.{◌≡◌, ◌++◌, drop, reverse}
-use Rattle.frames.specs.Putting.{Extends}
+use Rattle.pqformat.specs.Putting.{Extends}
 use Rattle.publication.specs.Selection.{relation}
 use Rattle.stream.specs.Words.{frames_of}
 use Rattle.stream.specs.Items.{changes_words, relations_sent_by_all}
