@@ -3,8 +3,8 @@
 ghost use Rattle.std.specs.Prelude.{◌≡◌, [], OnErr, OnOk};
 ghost use Rattle.client.specs.Subscriber.{transaction_of, with_change};
 
-use pqformat::Items;
 use pgoutput::{Begin, Commit, Logical};
+use pqformat::Items;
 use std::alloc::{AllocError, Global};
 use std::marker::Model;
 use stream::{Published, PublishedChange};

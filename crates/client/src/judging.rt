@@ -5,9 +5,9 @@ ghost use Rattle.client.specs.Subscriber.{are_told, columns_of, fits, fits_old, 
 ghost use Rattle.pgoutput.specs.OldTuple.{cells_of};
 
 use crate::fault::ClientFault;
-use pqformat::Items;
 use indexmap::IndexMap;
 use pgoutput::{Cell, Logical, OldTuple};
+use pqformat::Items;
 
 /// How many columns each table has, by its OID.
 pub(crate) type Tables = IndexMap<u32, usize>;

@@ -6,8 +6,8 @@ ghost use Rattle.pgoutput.specs.declared.tuple.Cell.TheVariants as cells;
 ghost use Rattle.publication.specs.Selection.{chosen, narrowed};
 ghost use Rattle.publication.specs.Tuples.{cell_of, changes_key, key_tuple_of, old_by, replaced_by, same_value, tuple_of};
 
-use pqformat::{Items, Text};
 use pgoutput::{Cell, OldTuple};
+use pqformat::{Items, Text};
 use publication_config::is_listed;
 use std::alloc::{AllocError, Global};
 use tables::{Column, Identity, Row, Table, Value};

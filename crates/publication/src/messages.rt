@@ -5,8 +5,8 @@ ghost use Rattle.publication.specs.Selection.{chosen, narrowed};
 ghost use Rattle.publication.specs.Projection.{delete_message, insert_message, truncate_message, update_message};
 
 use crate::cells::{old_of, replaced_of, tuple_of};
-use pqformat::Items;
 use pgoutput::{Delete, Insert, Logical, Truncate, TruncateOptions, Update};
+use pqformat::Items;
 use std::alloc::{AllocError, Global};
 use tables::{Row, Table};
 

@@ -3,8 +3,8 @@
 ghost use Rattle.std.specs.Prelude.{◌≡◌, ◌++◌, IfOk, map, pos, negsuc};
 ghost use Rattle.publication.specs.Selection.{chosen, narrowed, relation_of, relation_column, identity_of, type_oid};
 
-use pqformat::Items;
 use pgoutput::{Column, Identity, Relation};
+use pqformat::Items;
 use publication_config::{is_in_identity, is_listed};
 use std::alloc::{AllocError, Global};
 use tables::{Kind, Table};

@@ -12,8 +12,8 @@ ghost use Rattle.stream.specs.Items.{xlogdata_word, keepalive_word, IsShortMessa
 use bytes::BytesMut;
 use copyboth::{write_keepalive, write_xlogdata};
 use frames::COPY_DATA;
-use pqformat::{put_byte, put_int32};
 use pgoutput::{Logical, write_logical};
+use pqformat::{put_byte, put_int32};
 use std::alloc::AllocError;
 
 /// The bytes of an XLogData's body before the message: its kind, two positions and a clock.

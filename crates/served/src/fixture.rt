@@ -1,7 +1,7 @@
 //! A hub of one table, for tests.
 
-use pqformat::Text;
 use hub::OpenedHub;
+use pqformat::Text;
 use publication::Publications;
 use std::alloc::Global;
 use std::test::Fail;

@@ -10,7 +10,10 @@ ghost use Rattle.server.specs.Said.{said, refused, refused_ready, ready, greetin
 use crate::fault::DeskFault;
 use crate::refusal::Refusal;
 use bytes::BytesMut;
-use frames::{Back, BackendKeyData, ColumnDescription, ColumnType, CommandComplete, CopyBothResponse, DataRow, DataValue, ErrorField, ErrorResponse, Parameter, RowDescription, Status, write_back};
+use frames::{
+    Back, BackendKeyData, ColumnDescription, ColumnType, CommandComplete, CopyBothResponse,
+    DataRow, DataValue, ErrorField, ErrorResponse, Parameter, RowDescription, Status, write_back,
+};
 use pqformat::{Items, Text};
 use replcmd::write_position;
 use std::alloc::{AllocError, Global};

@@ -8,8 +8,8 @@ mod desk;
 mod filters;
 mod item;
 mod log;
-mod sending;
 mod rows;
+mod sending;
 mod subscriber;
 
 use anyhow::{Context, Result, bail};
@@ -17,13 +17,13 @@ use claims::work_on_slots;
 use connection::hold_conversations;
 use filters::work_on_filters;
 use log::work_on_log;
+use rows::work_on_store;
 use sending::bytes_sent;
 use std::alloc::Global;
 use std::env;
 use std::io::Print;
 use std::sync::Wait;
 use std::thread::Threads;
-use rows::work_on_store;
 use subscriber::follow_stream;
 
 const USAGE: &str = "usage: short_uses USE [then USE].., where a USE is one of

@@ -7,7 +7,9 @@ ghost use Rattle.frames.specs.Back.{back_body, HasCounts};
 
 use crate::answer::{tell, tell_written};
 use bytes::BytesMut;
-use frames::{Back, FrameFault, Front, read_back, read_front, read_startup, write_back, write_front};
+use frames::{
+    Back, FrameFault, Front, read_back, read_front, read_startup, write_back, write_front,
+};
 use std::alloc::{AllocError, Global};
 
 /// A startup is only read.

@@ -5,8 +5,8 @@ ghost use Rattle.slots.specs.declared.fault.SlotFault.TheVariants.{InUse};
 ghost use Rattle.world.specs.ConnectionLines.{is_held, is_missing, slot_named, start_from, taken};
 ghost use Rattle.world.specs.Slots.{confirmed_by, let_go};
 
-use pqformat::Text;
 use named_slots::HeldSlots;
+use pqformat::Text;
 use slots::{SlotFault, SlotName};
 use std::alloc::{AllocError, Global};
 
