@@ -89,7 +89,7 @@ tables = [{ name = 'public.item' }]
         (folder / script).write_text("\n".join(lines) + "\n")
         self.told, end = os.pipe()
         fcntl.fcntl(end, fcntl.F_SETPIPE_SZ, self.PAGE)
-        words = [program, "--await-streams", str(awaited), "pubd.toml", "127.0.0.1:0", str(connections), str(script)]
+        words = [program, "--wal-sender-timeout", "0", "--await-streams", str(awaited), "pubd.toml", "127.0.0.1:0", str(connections), str(script)]
         self.process = subprocess.Popen(words, cwd=folder, stdout=subprocess.PIPE, stderr=end, text=True)
         os.close(end)
         listening = self.process.stdout.readline()

@@ -1,6 +1,6 @@
 """Follows one transaction by psycopg2: with_psycopg2.py HOST PORT
 
-psycopg2 has no call that ends a stream: the connection is closed instead, and another one drops the slot."""
+psycopg2 has no call that ends a stream: the connection is closed instead, and another one shows what comes again, and a third drops the slot."""
 import sys
 import time
 
@@ -32,14 +32,18 @@ def take(message):
         raise StopReplication
 
 
-def drop_slot():
+def when_free(call):
     """The server lets go of the slot a little after the connection that had it was closed."""
     for _ in range(100):
         try:
-            return connect().cursor().drop_replication_slot("s")
+            return call()
         except ObjectInUse:
             time.sleep(0.1)
     sys.exit("the slot stays in use")
+
+
+def start(cursor):
+    cursor.start_replication("s", options={"proto_version": "1", "publication_names": "p"})
 
 
 with connect().cursor() as cursor:
@@ -47,11 +51,22 @@ with connect().cursor() as cursor:
     print_row("system", cursor)
     cursor.create_replication_slot("s", output_plugin="pgoutput")
     print_row("slot", cursor)
-    cursor.start_replication("s", options={"proto_version": "1", "publication_names": "p"})
+    start(cursor)
     print("started", flush=True)
     try:
         cursor.consume_stream(take)
     except StopReplication:
         cursor.connection.close()
-drop_slot()
+
+# What was acknowledged right before a close doesn't come again.
+with connect().cursor() as cursor:
+    when_free(lambda: start(cursor))
+    for _ in range(10):
+        if message := cursor.read_message():
+            print("again", message.payload.hex())
+        time.sleep(0.1)
+    cursor.connection.close()
+
+with connect().cursor() as cursor:
+    when_free(lambda: cursor.drop_replication_slot("s"))
 print("dropped")

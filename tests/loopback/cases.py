@@ -1,17 +1,22 @@
 """What connections of one pubd do, and what they do to one another. Each case answers what is wrong, a line each."""
+import os
 import pathlib
 import random
 import subprocess
 import time
 
-from connection import Connection, Refused, position
-from server import Server, inserts
+from connection import TERMINATE, Connection, Refused, keepalive, position, status
+from server import NOBODY, Server, inserts
 
 CONVERSATION = pathlib.Path(__file__).resolve().parent / "conversation.frames"
 STREAMS = 16
 CONNECTIONS = 1000
+# How often each way to close is tried.
+TIMES = 100
 # Of each connection.
 THREADS = 2
+# Threads or descriptors, for what is asked of pubd here.
+ENOUGH = 200
 # Where the log begins.
 FIRST = 0x1000000
 
@@ -76,6 +81,94 @@ def refusal_of_one_more(port):
         more.close()
 
 
+def a_descriptor_that_is_not_to_be_had_costs_one_connection(pubd, subcat):
+    """pubd may have 3 to 20 descriptors."""
+    return under_pressure(pubd, "nofile", None)
+
+
+def a_thread_that_is_not_to_be_had_costs_one_connection(pubd, subcat):
+    """Its user may have 3 to 20 threads. Only root can be such a user."""
+    return under_pressure(pubd, "nproc", NOBODY) if os.getuid() == 0 else []
+
+
+def under_pressure(pubd, what, user):
+    """Each client that came while there were few was answered or closed; later 16 streams begin, and a 17th is refused."""
+    wrong = []
+    for most in range(3, 21):
+        with Server(pubd, CONNECTIONS, user=user) as server:
+            server.limit(what, most)
+            clients = [Connection(server.port, says_nothing=True) for _ in range(24)]
+            for client in clients:
+                client.begin()
+            time.sleep(0.2)
+            for client in clients[::2]:
+                client.close()
+            server.limit(what, ENOUGH)
+            wrong += [f"of {most}, a client waits for ever" for client in clients[1::2] if not client.is_answered_or_closed()]
+            for client in clients[1::2]:
+                client.close()
+            wrong += [f"of {most}, {each}" for each in streams_of(server.port)]
+            server.process.kill()
+    return wrong
+
+
+def streams_of(port):
+    """What is wrong with 16 streams, and one more."""
+    streams = [Connection(port) for _ in range(STREAMS)]
+    for at, stream in enumerate(streams):
+        stream.create(f"s{at}")
+        stream.start_when_free(f"s{at}")
+    wrong = refusal_of_one_more(port)
+    for stream in streams:
+        stream.close()
+    return wrong
+
+
+def a_silent_client_is_asked_and_then_lost(pubd, subcat):
+    """A stream's client is asked within half of the time, and closed at the whole, where it says nothing; an answer is enough."""
+    wrong = []
+    with Server(pubd, 3, more=["--wal-sender-timeout", "1s"]) as server:
+        idle, silent, polite = (Connection(server.port) for _ in range(3))
+        for slot, client in (("silent", silent), ("polite", polite)):
+            client.create(slot)
+            client.start(slot)
+        begun = time.monotonic()
+        while time.monotonic() - begun < 3:
+            kind, body = polite.frame()
+            wrong += [f"a polite client gets {kind + body}"] * (body[:1] + body[17:] != b"k\1")
+            polite.socket.sendall(status(FIRST))
+        asked = silent.frame()
+        wrong += [f"a silent client gets {asked}, and no question"] * (asked[1][:1] + asked[1][17:] != b"k\1")
+        wrong += ["a silent client is not lost"] * (silent.bytes.read(1) != b"")
+        idle.start_when_free("silent")
+        for client in (idle, silent, polite):
+            client.close()
+        return wrong + server.end()
+
+
+def statuses_that_ask_cost_no_memory(pubd, subcat):
+    """A million of a client that reads nothing meanwhile take no more memory than ten thousand, and each gets its keepalive."""
+    few, many = (peak_of_statuses(pubd, count) for count in (10_000, 1_000_000))
+    wrong = [each for each in (few, many) if isinstance(each, str)]
+    return wrong or [f"a million take {many} KiB, and ten thousand {few}"] * (many > few + 4096)
+
+
+def peak_of_statuses(pubd, count):
+    """The most memory in KiB, or what is wrong."""
+    with Server(pubd, 1) as server:
+        client = Connection(server.port)
+        client.create("s")
+        client.start("s")
+        for _ in range(count // 1000):
+            client.socket.sendall(status(FIRST, asks=True) * 1000)
+        due = keepalive(FIRST) * count
+        got = client.bytes.read(len(due))
+        peak = server.peak()
+        client.close()
+        wrong = server.end() + ["some statuses get no keepalive"] * (got != due)
+        return wrong[0] if wrong else peak
+
+
 def a_broken_connection_leaves_the_others(pubd, subcat):
     """One of two is broken off within a transaction: the other gets it whole, and so does the broken one's slot, again."""
     with Server(pubd, 3, inserts(5000, 5000), awaited=2) as server:
@@ -136,6 +229,75 @@ def printed_of_inserts(count):
     return "".join(f"{line}\n" for line in lines)
 
 
+def an_acknowledgement_holds_over_a_close(pubd, subcat):
+    """However its connection ends behind it: the next stream of the slot begins with the next transaction."""
+    ways = [in_one_write, in_two_writes, without_terminate, by_a_reset, with_unread_bytes]
+    return lost_over_closes(pubd, ways, TIMES * len(ways) + 1, "ab")
+
+
+def an_acknowledgement_holds_over_a_blocked_write(pubd, subcat):
+    """The same of a client that reads nothing more of a stream of 12 MB, so that the server's write waits."""
+    return lost_over_closes(pubd, [behind_a_blocked_write], 6000, "n" * 2000)
+
+
+def lost_over_closes(pubd, ways, rows, name):
+    """Each stream's first transaction is acknowledged, and then its connection is closed in one of the ways, in turn."""
+    lost = dict.fromkeys(ways, 0)
+    with Server(pubd, TIMES * len(ways) + 2, inserts(rows, name=name), awaited=1) as server:
+        client = Connection(server.port)
+        client.create("s")
+        client.start("s")
+        ends = client.commits(rows)
+        client.close()
+        at = 0
+        for way in TIMES * ways:
+            client = Connection(server.port)
+            client.start_when_free("s")
+            if ends[at] != client.commits(1)[0]:
+                lost[last] += 1
+                at -= 1
+            way(client, ends[at], rows - at - 1)
+            at, last = at + 1, way
+        server.process.kill()
+    return [f"{count} of {TIMES} are lost {way.__name__.replace('_', ' ')}" for way, count in lost.items() if count]
+
+
+def in_one_write(client, end, rest):
+    client.commits(rest)
+    client.socket.sendall(status(end) + TERMINATE)
+    client.close()
+
+
+def in_two_writes(client, end, rest):
+    client.commits(rest)
+    client.socket.sendall(status(end))
+    client.socket.sendall(TERMINATE)
+    client.close()
+
+
+def without_terminate(client, end, rest):
+    client.commits(rest)
+    client.socket.sendall(status(end))
+    client.close()
+
+
+def by_a_reset(client, end, rest):
+    client.commits(rest)
+    client.socket.sendall(status(end))
+    client.break_off()
+
+
+def with_unread_bytes(client, end, rest):
+    client.socket.sendall(status(end))
+    client.close()
+
+
+def behind_a_blocked_write(client, end, rest):
+    time.sleep(0.05)
+    client.socket.sendall(status(end))
+    client.close()
+
+
 def restarts_lose_and_repeat_nothing(pubd, subcat):
     """subcat follows 1,000 transactions; it is ended or killed at random points, and begins again where it was or at 0/0."""
     count, draw = 1000, random.Random(5)
@@ -177,8 +339,14 @@ def follow(words, rows, at, kill_behind):
 ALL = [
     a_conversation_goes_frame_by_frame,
     nothing_is_lost_with_connections,
+    a_descriptor_that_is_not_to_be_had_costs_one_connection,
+    a_thread_that_is_not_to_be_had_costs_one_connection,
+    a_silent_client_is_asked_and_then_lost,
+    statuses_that_ask_cost_no_memory,
     a_broken_connection_leaves_the_others,
     a_slow_reader_holds_up_nobody,
     two_followers_print_what_a_script_commits,
+    an_acknowledgement_holds_over_a_close,
+    an_acknowledgement_holds_over_a_blocked_write,
     restarts_lose_and_repeat_nothing,
 ]

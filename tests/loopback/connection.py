@@ -3,7 +3,18 @@ import socket
 import struct
 import time
 
+TERMINATE = b"X\0\0\0\4"
 STARTUP = b"\0\x03\0\0user\0me\0database\0app\0replication\0database\0\0"
+
+
+def status(flushed, asks=False):
+    """The frame of a status that tells this flushed position."""
+    return b"d" + struct.pack(">IcQQQqB", 38, b"r", flushed, flushed, flushed, 0, asks)
+
+
+def keepalive(position):
+    """The frame of a keepalive that doesn't ask."""
+    return b"d" + struct.pack(">IcQqB", 22, b"k", position, 0, 0)
 
 
 class Refused(Exception):
@@ -24,8 +35,21 @@ class Connection:
         self.socket.connect(("127.0.0.1", port))
         self.bytes = self.socket.makefile("rb")
         if not says_nothing:
-            self.socket.sendall(struct.pack(">I", len(STARTUP) + 4) + STARTUP)
+            self.begin()
             self.answers()
+
+    def begin(self):
+        self.socket.sendall(struct.pack(">I", len(STARTUP) + 4) + STARTUP)
+
+    def is_answered_or_closed(self):
+        """Whether it got an answer to its first words, a refusal, or the end."""
+        try:
+            self.answers()
+        except (EOFError, ConnectionError, Refused):
+            pass
+        except TimeoutError:
+            return False
+        return True
 
     def frame(self):
         """The next frame: its type, and its body."""
@@ -76,6 +100,10 @@ class Connection:
             if kind == b"d" and body[:1] == b"w":
                 yield body[25:]
                 commits -= body[25:26] == b"C"
+
+    def commits(self, count):
+        """Where each of so many transactions of a stream ends."""
+        return [int.from_bytes(each[10:18], "big") for each in self.messages(count) if each[:1] == b"C"]
 
     def break_off(self):
         """Without a word, and with what wasn't read."""

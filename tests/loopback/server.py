@@ -1,5 +1,7 @@
 """A running pubd, with a script."""
+import os
 import pathlib
+import shutil
 import subprocess
 import tempfile
 import threading
@@ -7,6 +9,8 @@ import time
 
 CONFIGURATION = pathlib.Path(__file__).resolve().parent.parent.parent / "crates" / "pubd" / "data" / "sample.toml"
 SECONDS = 300
+# Who has no other threads, and whose number of them can be limited.
+NOBODY = 65534
 
 
 def inserts(rows, each=1, name="ab"):
@@ -19,14 +23,18 @@ def inserts(rows, each=1, name="ab"):
 
 
 class Server:
-    """pubd, which serves so many connections, and runs the script once so many streams have begun."""
+    """pubd, which serves so many connections, and runs the script once so many streams have begun. What it says of connections
+    that it can't take is said apart."""
 
-    def __init__(self, pubd, connections, lines=(), awaited=0):
+    def __init__(self, pubd, connections, lines=(), awaited=0, more=(), user=None):
         self.folder = tempfile.TemporaryDirectory()
         self.script = pathlib.Path(self.folder.name) / "script"
         self.script.write_text("".join(line + "\n" for line in lines))
-        words = ["--await-streams", str(awaited), CONFIGURATION, "127.0.0.1:0", str(connections), self.script]
-        self.process = subprocess.Popen([pubd, *words], stdout=subprocess.PIPE, stderr=subprocess.PIPE, text=True)
+        words = [*more, "--await-streams", str(awaited), CONFIGURATION, "127.0.0.1:0", str(connections), self.script]
+        if user is not None:
+            pubd, words = self.opened_to(user, pubd, words)
+        self.process = subprocess.Popen([pubd, *words], stdout=subprocess.PIPE, stderr=subprocess.PIPE, text=True, user=user)
+        self.user = user
         self.watch = threading.Timer(SECONDS, self.process.kill)
         self.watch.start()
         self.port = int(self.process.stdout.readline().rpartition(":")[2])
@@ -40,6 +48,24 @@ class Server:
         self.watch.cancel()
         self.process.stderr.close()
         self.folder.cleanup()
+
+    def opened_to(self, user, pubd, words):
+        """The same program and its files, where this user can read them."""
+        folder = pathlib.Path(self.folder.name)
+        shutil.copy(pubd, folder / "pubd")
+        shutil.copy(CONFIGURATION, folder / "configuration")
+        os.chmod(folder, 0o755)
+        return folder / "pubd", [folder / "configuration" if word == CONFIGURATION else word for word in words]
+
+    def limit(self, what, most):
+        """From now on it has at most so many of what a limit counts: `nofile` or `nproc`. Its own user sets that."""
+        words = ["prlimit", "--pid", str(self.process.pid), f"--{what}={most}:"]
+        subprocess.run(words, user=self.user, check=True)
+
+    def peak(self):
+        """The most memory that it has taken so far, in KiB."""
+        status = pathlib.Path(f"/proc/{self.process.pid}/status").read_text()
+        return int(next(line.split()[1] for line in status.splitlines() if line.startswith("VmHWM")))
 
     def threads(self):
         return len(list(pathlib.Path(f"/proc/{self.process.pid}/task").iterdir()))
@@ -55,6 +81,6 @@ class Server:
     def end(self, refused=()):
         """Waits until it ends, and answers what is wrong with that; these lines of its script are due to be refused."""
         status = self.process.wait()
-        said = self.process.stderr.read().splitlines()
+        said = [line for line in self.process.stderr.read().splitlines() if not line.startswith("pubd: a connection ")]
         wrong = [f"pubd ended with status {status}"] * bool(status)
         return wrong + [f"pubd said {said}, and not {list(refused)}"] * (said != list(refused))

@@ -8,6 +8,7 @@ use denote.Struct.Tuple.{TupleAt, type_at, parts}
 use denote.Param.Send.{IsSend, IsSync, AllSend, sendable}
 use denote.Param.SendFields.{FieldsHave, declared_send, declared_sync, as_row_send}
 use Rattle.std.proofs.Crossing as heap
+use Rattle.std.proofs.net.tcp.TcpStream.TheSendSync as socket
 use Rattle.bytes.proofs.unique.BytesMut.TheSendSync as buffer
 use Rattle.pqformat.proofs.items.Items.TheSendSync as items
 use Rattle.pqformat.proofs.text.Text.TheSendSync as text
@@ -26,14 +27,17 @@ use Rattle.slots.proofs.lease.Lease.TheSendSync as lease
 use Rattle.slots.proofs.seat.SlotSeat.TheSendSync as seat
 use Rattle.slots.proofs.table.SlotTable.TheSendSync as slots
 use Rattle.txlog.proofs.publisher.Publisher.TheSendSync as publisher
-use Rattle.hub.specs.contracts.begun.Begun as begun
+use Rattle.hub.specs.contracts.arrival.Arrival as arrival
+use Rattle.hub.specs.contracts.arrival.Arriving as arriving
+use Rattle.hub.specs.contracts.grant.StreamGrant as grant
 use Rattle.hub.specs.contracts.hold.Hold as hold
 use Rattle.hub.specs.contracts.hub.Hub as hub
 use Rattle.hub.specs.contracts.inbox.Inbox as inbox
+use Rattle.hub.specs.contracts.latch.Latch as latch
 use Rattle.hub.specs.contracts.line.Line as line
 use Rattle.hub.specs.contracts.system.SystemName as system
 use Rattle.hub.proofs.names.Names.TheSendSync as names
-use Rattle.hub.proofs.news.News.TheSendSync as news
+use Rattle.hub.proofs.commit_notice.CommitNotice.TheSendSync as notice
 use Rattle.hub.proofs.pool.Pool.TheSendSync as pool
 
 -- ---- closures, by what they capture
@@ -76,8 +80,17 @@ publications_sync = search (publication_sync, items.the_sync, table.the_sync, se
 inbox_send : IsSend inbox.the_row
 inbox_send = declared_send inbox.the_type (
   search (buffer.the_send, heap.send, heap.sync, heap.frees, sendable) depth 10,
-  (search sendable depth 10, (search sendable, (phase.the_send, (search sendable, (search sendable, tt))))),
+  (search sendable depth 10, (search sendable, (search sendable, (phase.the_send, (search sendable, (search sendable, tt)))))),
 )
+
+arriving_send : IsSend arriving.the_row
+arriving_send = declared_send arriving.the_type (search (socket.the_send, sendable) depth 10, (search sendable, tt))
+
+pub arrival_sync : IsSync arrival.the_row
+arrival_sync = declared_sync arrival.the_type (search (arriving_send, heap.crosses, sendable) depth 20, (search (heap.crosses, sendable) depth 10, tt))
+
+latch_sync : IsSync latch.the_row
+latch_sync = declared_sync latch.the_type (search (heap.crosses, sendable) depth 20, (search (heap.crosses, sendable) depth 10, tt))
 
 system_sync : IsSync system.the_row
 system_sync = declared_sync system.the_type (text.the_sync, tt)
@@ -87,8 +100,8 @@ module _ (L : RattleType) (s : slot_name.Ghosts L.Denot) (l : log_name.Ghosts L.
   hold_send : IsSend (hold.the_row L s)
   hold_send = declared_send (hold.the_type L s) (seat.the_send L s, (lease.the_send L s, tt))
 
-  begun_send : IsSend (begun.the_row L s l)
-  begun_send = declared_send (begun.the_type L s l) (selection_send, (search sendable, (reader.the_send L l, (hold_send, tt))))
+  grant_send : IsSend (grant.the_row L s l)
+  grant_send = declared_send (grant.the_type L s l) (selection_send, (search sendable, (reader.the_send L l, (hold_send, (search sendable, tt)))))
 
   -- what the two threads of a connection have in common
   pub line_sync : IsSync (line.the_row L s l)
@@ -96,7 +109,7 @@ module _ (L : RattleType) (s : slot_name.Ghosts L.Denot) (l : log_name.Ghosts L.
     heap.sync,
     (
       search (inbox_send, heap.crosses, sendable) depth 10,
-      (search (begun_send, heap.crosses, sendable) depth 10, (search (heap.crosses, sendable) depth 10, tt)),
+      (search (grant_send, heap.crosses, sendable) depth 10, (search (heap.crosses, sendable) depth 10, (search (heap.crosses, sendable) depth 10, tt))),
     ),
   )
 
@@ -117,10 +130,16 @@ module _ (L : RattleType) (s : slot_name.Ghosts L.Denot) (l : log_name.Ghosts L.
               (
                 search (names.the_send, heap.crosses, sendable) depth 10,
                 (
-                  search (news.the_send, heap.crosses, sendable) depth 10,
+                  search (notice.the_send, heap.crosses, sendable) depth 10,
                   (
-                    search (heap.crosses, sendable) depth 10,
-                    (search (heap.crosses, sendable) depth 10, (search (heap.crosses, sendable) depth 10, tt)),
+                    search (latch_sync, heap.crosses, sendable) depth 10,
+                    (
+                      search (heap.crosses, sendable) depth 10,
+                      (
+                        search (heap.crosses, sendable) depth 10,
+                        (search (heap.crosses, sendable) depth 10, (search (heap.crosses, sendable) depth 10, tt)),
+                      ),
+                    ),
                   ),
                 ),
               ),
@@ -132,4 +151,4 @@ module _ (L : RattleType) (s : slot_name.Ghosts L.Denot) (l : log_name.Ghosts L.
   )
 
 -- what a closure needs that shares a hub, as a set for `search`
-pub ruleset crosses = (closure_send, both, hub_sync, line_sync, sendable)
+pub ruleset crosses = (closure_send, both, hub_sync, line_sync, arrival_sync, sendable)

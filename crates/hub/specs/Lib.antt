@@ -1,4 +1,4 @@
 pub mod Inboxes
-pub mod News
-pub mod Pieces
+pub mod Notices
 pub mod Refusals
+pub mod Streams

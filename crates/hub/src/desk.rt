@@ -14,6 +14,8 @@ pub(crate) struct HubDesk<'h, L: LogName + SlotName, R: Wait> {
     pub rt: &'h R,
     pub hub: &'h Hub<L>,
     pub line: &'h Line<L>,
+    /// The latch of the stream that runs.
+    pub latch: Option<usize>,
 }
 
 impl<'h, L: LogName + SlotName, R: Wait> Desk for HubDesk<'h, L, R> {
@@ -37,12 +39,20 @@ impl<'h, L: LogName + SlotName, R: Wait> Desk for HubDesk<'h, L, R> {
     }
 
     fn start(&mut self, slot: &str, position: u64, publications: &[Name]) -> Result<(), DeskFault> {
-        let begun = self.hub.begin(self.rt, slot, position, publications)?;
-        self.line.begin(self.rt, self.hub, begun);
+        let grant = self.hub.begin(self.rt, slot, position, publications)?;
+        self.latch = Some(grant.latch);
+        if let Some(unwritten) = self.line.grant(self.rt, grant) {
+            self.hub.end_grant(self.rt, unwritten);
+        }
         Ok(())
     }
 
     fn flushed(&mut self, position: u64, ask: bool) {
-        self.line.flush(self.rt, self.hub, position, ask);
+        if !self.line.flush(self.rt, position, ask) {
+            return;
+        }
+        if let Some(latch) = self.latch {
+            self.hub.tell_work(self.rt, latch);
+        }
     }
 }

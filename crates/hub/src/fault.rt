@@ -37,6 +37,13 @@ impl<T: Drop> From<AllocFailed<T>> for HubFault {
 pub enum ServeFault {
     #[error("no connection can be taken: {0}")]
     Listener(io::Error),
-    #[error("out of memory")]
-    Memory,
+}
+
+/// Why one connection was not taken.
+#[derive(Debug, Drop, Error)]
+pub enum Untaken {
+    #[error("a connection could not be accepted: {0}")]
+    Accept(io::Error),
+    #[error("a connection was closed, since no thread was to be had for it")]
+    Thread,
 }

@@ -1,12 +1,17 @@
-//! Where the commands of connections may be held.
+//! What a server asks and tells whoever runs it.
+
+use crate::fault::Untaken;
 
 /// What each command of a connection passes, in the connection's reading thread, before it is answered. Connections and the
 /// commands of each are counted from 1; the greatest number stays.
 pub trait Gate {
     fn before(&self, connection: u32, command: u32);
+
+    /// A connection could not be taken, and the next is.
+    fn untaken(&self, _why: &Untaken) {}
 }
 
-/// A gate that holds nothing.
+/// A gate that holds nothing, and to which nothing is told.
 pub struct OpenGate;
 
 impl Gate for OpenGate {

@@ -2,12 +2,13 @@
 
 ghost use Rattle.std.specs.Prelude.{◌≡◌, ◌≤◌, ◌<◌, IfOk, IfSome};
 ghost use Rattle.txlog.specs.declared.limits.TheConstants.{MAX_RECORDS};
+ghost use Rattle.hub.specs.Streams.{HasLearnt};
 
-use crate::begun::Begun;
+use crate::commit_notice::CommitNotice;
 use crate::fault::HubFault;
-use crate::line::Line;
+use crate::grant::StreamGrant;
+use crate::latch::Latch;
 use crate::names::Names;
-use crate::news::News;
 use crate::pool::{Pair, Pool};
 use crate::refusals::{of_publications, of_slot};
 use crate::streaming::Stream;
@@ -21,11 +22,15 @@ use slots::{OpenedSlots, SlotName, SlotSeat, SlotTable};
 use std::alloc::{AllocError, Global};
 use std::sync::atomic::{AtomicBool, AtomicU64, Ordering};
 use std::sync::{Condvar, Mutex, MutexGuard, Wait};
+use std::time::Duration;
 use tables::Catalog;
 use txlog::{Opened, Publisher, Receipt};
 
 /// How many streams may run at once.
 pub const MOST_STREAMS: usize = 16;
+
+/// For how many seconds the client of a stream may be silent, unless another time is set: PostgreSQL's default.
+const WAL_SENDER_TIMEOUT: u64 = 60;
 
 /// What a hub is opened with: `Hub::open` names its log and its slots, and makes it.
 #[derive(Drop)]
@@ -35,6 +40,8 @@ pub struct OpenedHub {
     system: SystemName,
     pub log: Opened,
     pub slots: OpenedSlots,
+    /// For how long the client of a stream may be silent: 60 seconds, unless it is set. Zero is for ever.
+    pub wal_sender_timeout: Duration,
 }
 
 impl OpenedHub {
@@ -59,6 +66,7 @@ impl OpenedHub {
             system,
             log,
             slots,
+            wal_sender_timeout: Duration::from_secs(WAL_SENDER_TIMEOUT),
         })
     }
 }
@@ -84,10 +92,13 @@ pub struct Hub<L: LogName + SlotName> {
     pub(crate) slots: SlotTable<L>,
     pool: Mutex<Pool<L>>,
     names: Mutex<Names<L>>,
-    news: Mutex<News<L>>,
+    notice: Mutex<CommitNotice<L>>,
+    /// One for each stream that may run.
+    latches: Vec<Latch>,
+    wal_sender_timeout: Duration,
     streams_begun: AtomicU64,
     no_more_streams: AtomicBool,
-    /// A commit has left its receipt, an inbox holds more, or a stream has begun.
+    /// A stream has begun, or none will.
     changed: Condvar,
 }
 
@@ -103,11 +114,13 @@ impl<L: LogName + SlotName> Hub<L> {
             system,
             log,
             slots,
+            wal_sender_timeout,
         } = opened;
         let (table, mut seats) = slots.open::<L>(MOST_STREAMS + 1)?;
         let Some(seat) = seats.pop() else {
             return Err(HubFault::Memory);
         };
+        let latches = latches_of(alloc)?;
         let (publisher, pool) = published(rt, alloc, log, seats)?;
         Ok(Hub {
             alloc,
@@ -117,7 +130,9 @@ impl<L: LogName + SlotName> Hub<L> {
             slots: table,
             pool: Mutex::new(pool),
             names: Mutex::new(Names::new(alloc, seat)),
-            news: Mutex::new(News::new()),
+            notice: Mutex::new(CommitNotice::new()),
+            latches,
+            wal_sender_timeout,
             streams_begun: AtomicU64::new(0),
             no_more_streams: AtomicBool::new(false),
             changed: Condvar::new(),
@@ -134,7 +149,9 @@ impl<L: LogName + SlotName> Hub<L> {
             slots: _,
             pool: _,
             names: _,
-            news: _,
+            notice: _,
+            latches: _,
+            wal_sender_timeout: _,
             streams_begun: _,
             no_more_streams: _,
             changed: _,
@@ -150,6 +167,14 @@ impl<L: LogName + SlotName> Hub<L> {
     /// What sessions call, one thread at a time. Each receipt of a commit goes to `tell`.
     pub fn publisher(&self) -> &Mutex<Publisher<L>> {
         &self.publisher
+    }
+
+    /// For how long a read of a connection waits: half of the time for which the client of a stream may be silent.
+    pub(crate) fn silence(&self) -> Option<Duration> {
+        if self.wal_sender_timeout.is_zero() {
+            return None;
+        }
+        Some(self.wal_sender_timeout / 2)
     }
 
     // ---- what commands ask
@@ -184,7 +209,7 @@ impl<L: LogName + SlotName> Hub<L> {
         slot: &str,
         position: u64,
         publications: &[Name],
-    ) -> Result<Begun<L>, DeskFault> {
+    ) -> Result<StreamGrant<L>, DeskFault> {
         let Some(place) = self.place_of(rt, slot) else {
             return Err(DeskFault::SlotMissing);
         };
@@ -192,11 +217,11 @@ impl<L: LogName + SlotName> Hub<L> {
         let Some(pair) = self.take_pair(rt) else {
             return Err(DeskFault::NoReader);
         };
-        match Begun::claim(&self.slots, pair, place, selection, position) {
-            Ok(begun) => {
+        match StreamGrant::claim(&self.slots, pair, place, selection, position) {
+            Ok(grant) => {
                 self.streams_begun.fetch_add(1, Ordering::SeqCst);
                 self.signal(rt);
-                Ok(begun)
+                Ok(grant)
             }
             Err((pair, fault)) => {
                 self.give_back(rt, pair);
@@ -211,9 +236,9 @@ impl<L: LogName + SlotName> Hub<L> {
         self.give_back(rt, pair);
     }
 
-    /// Ends what has begun, and never was written, in the same way.
-    pub(crate) fn end_unwritten<R: Wait>(&self, rt: &R, begun: Begun<L>) {
-        let pair = begun.end(&self.slots);
+    /// Ends what was granted, and never was written, in the same way.
+    pub(crate) fn end_grant<R: Wait>(&self, rt: &R, grant: StreamGrant<L>) {
+        let pair = grant.end(&self.slots);
         self.give_back(rt, pair);
     }
 
@@ -244,40 +269,44 @@ impl<L: LogName + SlotName> Hub<L> {
 
     /// A commit leaves its receipt: streams read on up to it, at least.
     pub fn tell<R: Wait>(&self, rt: &R, receipt: Receipt<L>) {
-        let mut news = self.news.lock(rt);
-        news.leave(receipt);
-        drop(news);
+        let end = receipt.end();
+        let mut notice = self.notice.lock(rt);
+        notice.publish(receipt);
+        drop(notice);
+        for latch in &self.latches {
+            latch.tell_commit(rt, end);
+        }
+    }
+
+    /// The connection of the stream with this latch has something to do.
+    pub(crate) fn tell_work<R: Wait>(&self, rt: &R, latch: usize) {
+        if let Some(latch) = self.latches.get(latch) {
+            latch.tell_work(rt);
+        }
+    }
+
+    /// Waits until a stream or its connection has something to do, and tells the stream of the latest commit.
+    pub(crate) fn await_stream<R: Wait>(&self, rt: &R, stream: &mut Stream<L>)
+        ensures learnt { HasLearnt stream.old.walsender stream.new.walsender }
+        ensures hold { stream.new.hold ≡ stream.old.hold }
+    {
+        if let Some(latch) = self.latches.get(stream.latch()) {
+            latch.wait(rt, stream.position());
+        }
+        self.inform(rt, stream);
+    }
+
+    /// Wakes those that wait for streams to begin. Whoever looked before waits by now, since it looks under the lock.
+    fn signal<R: Wait>(&self, rt: &R) {
+        drop(self.notice.lock(rt));
         self.changed.notify_all();
-    }
-
-    /// Wakes those that wait. Whoever looked for something to do before waits by now, since it looks under the lock.
-    pub(crate) fn signal<R: Wait>(&self, rt: &R) {
-        drop(self.news.lock(rt));
-        self.changed.notify_all();
-    }
-
-    /// Waits until the inbox of a connection without a stream has something to do.
-    pub(crate) fn await_words<R: Wait>(&self, rt: &R, line: &Line<L>) {
-        drop(
-            self.changed
-                .wait_while(rt, self.news.lock(rt), |_| line.is_quiet(rt)),
-        );
-    }
-
-    /// Waits until a stream or its inbox has something to do, and tells the stream of the latest commit.
-    pub(crate) fn await_stream<R: Wait>(&self, rt: &R, line: &Line<L>, stream: &mut Stream<L>) {
-        let position = stream.position();
-        let news = self.changed.wait_while(rt, self.news.lock(rt), |news| {
-            news.end() <= position && line.lets_stream(rt)
-        });
-        stream.learn(&*news);
     }
 
     /// Waits until so many streams have begun since the hub was opened, or `end_awaiting` was called. What is committed then
     /// reaches those streams.
     pub fn await_streams<R: Wait>(&self, rt: &R, count: u64) {
         drop(
-            self.changed.wait_while(rt, self.news.lock(rt), |_| {
+            self.changed.wait_while(rt, self.notice.lock(rt), |_| {
                 self.streams_begun.load(Ordering::SeqCst) < count
                     && !self.no_more_streams.load(Ordering::SeqCst)
             }),
@@ -291,9 +320,20 @@ impl<L: LogName + SlotName> Hub<L> {
     }
 
     /// Tells the stream of the latest commit.
-    pub(crate) fn inform<R: Wait>(&self, rt: &R, stream: &mut Stream<L>) {
-        stream.learn(&*self.news.lock(rt));
+    pub(crate) fn inform<R: Wait>(&self, rt: &R, stream: &mut Stream<L>)
+        ensures learnt { HasLearnt stream.old.walsender stream.new.walsender }
+        ensures hold { stream.new.hold ≡ stream.old.hold }
+    {
+        stream.learn(&*self.notice.lock(rt));
     }
+}
+
+fn latches_of(alloc: Global) -> Result<Vec<Latch>, AllocError> {
+    let mut latches = Vec::with_capacity(alloc, MOST_STREAMS)?;
+    for _ in 0..MOST_STREAMS {
+        latches.push(Latch::new())?;
+    }
+    Ok(latches)
 }
 
 /// The publisher, and its readers with a seat each.

@@ -17,6 +17,8 @@ pub(crate) struct Inbox {
     flushed: Option<u64>,
     /// How many of them asked for an answer.
     asked: u32,
+    /// Nothing came for so long that the client is to be asked for an answer.
+    is_silent: bool,
     phase: Phase,
     /// The stream has ended.
     has_ended: bool,
@@ -30,7 +32,15 @@ pub(crate) struct Work {
     pub said: BytesMut,
     pub flushed: Option<u64>,
     pub asked: u32,
+    pub is_silent: bool,
     pub phase: Phase,
+}
+
+impl Work {
+    /// Whether the stream goes on, and nothing else is to be said.
+    pub fn lets_stream(&self) -> bool {
+        self.phase == Phase::Streaming && self.said.is_empty()
+    }
 }
 
 impl Inbox {
@@ -39,6 +49,7 @@ impl Inbox {
             said: BytesMut::new(alloc),
             flushed: None,
             asked: 0,
+            is_silent: false,
             phase: Phase::Startup,
             has_ended: false,
             is_broken: false,
@@ -60,31 +71,42 @@ impl Inbox {
         self.phase = phase;
     }
 
-    /// A status came.
-    pub fn flush(&mut self, position: u64, ask: bool)
-        ensures { self.new ≡ record self.old { flushed = flushed_after self.old.flushed position; asked = asked_after self.old.asked ask } }
+    /// A status came. It answers whether that is the first thing to do since all was taken.
+    pub fn flush(&mut self, position: u64, ask: bool) -> bool
+        ensures status { self.new ≡ record self.old { flushed = flushed_after self.old.flushed position; asked = asked_after self.old.asked ask } }
     {
+        let is_first = self.flushed.is_none() && self.asked == 0;
         let before = self.flushed.unwrap_or(0);
         self.flushed = Some(position.max(before));
         if ask {
             self.asked = self.asked.saturating_add(1);
         }
+        is_first
+    }
+
+    /// Nothing came for long.
+    pub fn fall_silent(&mut self)
+        ensures { self.new ≡ record self.old { is_silent = true } }
+    {
+        self.is_silent = true;
     }
 
     /// Takes all that is there for the writing thread.
     pub fn take(&mut self, alloc: Global) -> Work
-        ensures work { result ≡ record { said = self.old.said; flushed = self.old.flushed; asked = self.old.asked; phase = self.old.phase } }
+        ensures work { result ≡ record { said = self.old.said; flushed = self.old.flushed; asked = self.old.asked; is_silent = self.old.is_silent; phase = self.old.phase } }
         ensures empty { self.new.said.items ≡ [] }
-        ensures rest { (self.new.flushed ≡ None) × (self.new.asked ≡ 0) × (self.new.phase ≡ self.old.phase) }
+        ensures rest { (self.new.flushed ≡ None) × (self.new.asked ≡ 0) × (self.new.is_silent ≡ false) × (self.new.phase ≡ self.old.phase) }
         ensures same { (self.new.has_ended ≡ self.old.has_ended) × (self.new.is_broken ≡ self.old.is_broken) }
     {
         let said = mem::replace(&mut self.said, BytesMut::new(alloc));
         let flushed = mem::replace(&mut self.flushed, None);
         let asked = mem::replace(&mut self.asked, 0);
+        let is_silent = mem::replace(&mut self.is_silent, false);
         Work {
             said,
             flushed,
             asked,
+            is_silent,
             phase: self.phase,
         }
     }
@@ -94,12 +116,11 @@ impl Inbox {
         self.said.is_empty() && self.phase != Phase::Closed
     }
 
-    /// Whether a stream that has read all of the log has nothing to do.
-    pub fn lets_stream(&self) -> bool {
-        self.said.is_empty()
-            && self.phase == Phase::Streaming
-            && self.flushed.is_none()
-            && self.asked == 0
+    /// Whether the connection is over for the reading thread.
+    pub fn is_closed(&self) -> bool
+        ensures { (result ≡ true) ↔ (self.now.phase ≡ Phase.Closed) }
+    {
+        self.phase == Phase::Closed
     }
 
     /// Whether the reading thread has to wait before it says more.

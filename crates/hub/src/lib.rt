@@ -2,27 +2,31 @@
 //! docs/SERVING.md.
 #![tactic(auto)]
 
-mod begun;
+mod arrival;
+mod commit_notice;
 mod desk;
 mod fault;
 mod gate;
+mod grant;
 mod hold;
 mod hub;
 mod inbox;
+mod latch;
 mod line;
+mod listening;
 mod names;
-mod news;
-mod piece;
 mod pool;
-mod reading;
+mod read_loop;
 mod refusals;
 mod serving;
 mod streaming;
 mod system;
+mod transaction;
 mod words;
-mod writing;
+mod write_loop;
 
-pub use fault::{HubFault, ServeFault};
+pub use fault::{HubFault, ServeFault, Untaken};
 pub use gate::{Gate, OpenGate};
 pub use hub::{Hub, OpenedHub};
 pub use serving::serve;
+pub use transaction::{Savepoint, Transaction};

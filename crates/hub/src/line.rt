@@ -1,7 +1,6 @@
 //! What stands between the two threads of a connection.
 
-use crate::begun::Begun;
-use crate::hub::Hub;
+use crate::grant::StreamGrant;
 use crate::inbox::{Inbox, Work};
 use bytes::BytesMut;
 use server::Phase;
@@ -11,13 +10,15 @@ use std::alloc::{AllocError, Global};
 use std::mem;
 use std::sync::{Condvar, Mutex, MutexGuard, Wait};
 
-/// The inbox of a connection, and the stream that has begun and isn't written yet. It isn't `Drop`: `end` ends it.
+/// The inbox of a connection, and what a START was granted whose stream isn't written yet. It isn't `Drop`: `end` ends it.
 pub(crate) struct Line<L: LogName + SlotName> {
     alloc: Global,
     inbox: Mutex<Inbox>,
-    begun: Mutex<Option<Begun<L>>>,
+    granted: Mutex<Option<StreamGrant<L>>>,
+    /// There is something to be written, or nothing more comes.
+    filled: Condvar,
     /// The writing thread has taken what was to be said, or ended a stream, or writes no more.
-    moved: Condvar,
+    taken: Condvar,
 }
 
 /// The connection is over.
@@ -35,63 +36,58 @@ impl<L: LogName + SlotName> Line<L> {
         Line {
             alloc,
             inbox: Mutex::new(Inbox::new(alloc)),
-            begun: Mutex::new(None),
-            moved: Condvar::new(),
+            granted: Mutex::new(None),
+            filled: Condvar::new(),
+            taken: Condvar::new(),
         }
     }
 
     // ---- the reading thread
 
     /// Has these words said, behind those before, and the conversation at this phase then.
-    pub fn say<R: Wait>(
-        &self,
-        rt: &R,
-        hub: &Hub<L>,
-        said: BytesMut,
-        phase: Phase,
-    ) -> Result<(), Over> {
+    pub fn say<R: Wait>(&self, rt: &R, said: BytesMut, phase: Phase) -> Result<(), Over> {
         let mut inbox = self
-            .moved
+            .taken
             .wait_while(rt, self.inbox.lock(rt), |inbox| inbox.is_full());
         if inbox.is_broken() {
             return Err(Over);
         }
         inbox.say(said, phase);
         drop(inbox);
-        hub.signal(rt);
+        self.filled.notify_all();
         Ok(())
     }
 
     /// The conversation is at this phase, and nothing is to be said.
-    pub fn pass<R: Wait>(&self, rt: &R, hub: &Hub<L>, phase: Phase) {
+    pub fn pass<R: Wait>(&self, rt: &R, phase: Phase) {
         let mut inbox = self.inbox.lock(rt);
         inbox.pass(phase);
         drop(inbox);
-        hub.signal(rt);
+        self.filled.notify_all();
     }
 
-    /// A status came.
-    pub fn flush<R: Wait>(&self, rt: &R, hub: &Hub<L>, position: u64, ask: bool) {
-        let mut inbox = self.inbox.lock(rt);
-        inbox.flush(position, ask);
-        drop(inbox);
-        hub.signal(rt);
+    /// A status came. It answers whether that is the first thing to do since all was taken.
+    pub fn flush<R: Wait>(&self, rt: &R, position: u64, ask: bool) -> bool {
+        self.inbox.lock(rt).flush(position, ask)
     }
 
-    /// A stream begins. The words that say so come behind.
-    pub fn begin<R: Wait>(&self, rt: &R, hub: &Hub<L>, begun: Begun<L>) {
-        let mut place = self.begun.lock(rt);
-        let before = mem::replace(&mut *place, Some(begun));
+    /// Nothing came for long.
+    pub fn fall_silent<R: Wait>(&self, rt: &R) {
+        self.inbox.lock(rt).fall_silent();
+    }
+
+    /// A START was granted. The words that say so come behind. It answers what was granted before and never written.
+    pub fn grant<R: Wait>(&self, rt: &R, grant: StreamGrant<L>) -> Option<StreamGrant<L>> {
+        let mut place = self.granted.lock(rt);
+        let before = mem::replace(&mut *place, Some(grant));
         let _ = MutexGuard::unlock(place);
-        if let Some(before) = before {
-            hub.end_unwritten(rt, before);
-        }
+        before
     }
 
     /// Waits until the stream that stops has ended.
     pub fn await_end<R: Wait>(&self, rt: &R) -> Result<(), Over> {
         let mut inbox = self
-            .moved
+            .taken
             .wait_while(rt, self.inbox.lock(rt), |inbox| inbox.is_ending());
         if inbox.is_broken() {
             return Err(Over);
@@ -102,14 +98,20 @@ impl<L: LogName + SlotName> Line<L> {
 
     // ---- the writing thread
 
-    /// Whether a writing thread without a stream has nothing to do.
-    pub fn is_quiet<R: Wait>(&self, rt: &R) -> bool {
-        self.inbox.lock(rt).is_quiet()
+    /// Waits until a connection without a stream has something to be written, or nothing more comes.
+    pub fn await_words<R: Wait>(&self, rt: &R) {
+        drop(
+            self.filled
+                .wait_while(rt, self.inbox.lock(rt), |inbox| inbox.is_quiet()),
+        );
     }
 
-    /// Whether a stream that has read all of the log has nothing to do.
-    pub fn lets_stream<R: Wait>(&self, rt: &R) -> bool {
-        self.inbox.lock(rt).lets_stream()
+    /// Waits until nothing more comes from the client.
+    pub fn await_close<R: Wait>(&self, rt: &R) {
+        drop(
+            self.filled
+                .wait_while(rt, self.inbox.lock(rt), |inbox| !inbox.is_closed()),
+        );
     }
 
     /// Takes all that is there to do.
@@ -117,16 +119,16 @@ impl<L: LogName + SlotName> Line<L> {
         let mut inbox = self.inbox.lock(rt);
         let work = inbox.take(self.alloc);
         drop(inbox);
-        self.moved.notify_all();
+        self.taken.notify_all();
         work
     }
 
-    /// The stream that has begun.
-    pub fn take_begun<R: Wait>(&self, rt: &R) -> Option<Begun<L>> {
-        let mut place = self.begun.lock(rt);
-        let begun = mem::replace(&mut *place, None);
+    /// What a START was granted.
+    pub fn take_grant<R: Wait>(&self, rt: &R) -> Option<StreamGrant<L>> {
+        let mut place = self.granted.lock(rt);
+        let grant = mem::replace(&mut *place, None);
         let _ = MutexGuard::unlock(place);
-        begun
+        grant
     }
 
     /// The stream has ended.
@@ -134,7 +136,7 @@ impl<L: LogName + SlotName> Line<L> {
         let mut inbox = self.inbox.lock(rt);
         inbox.end();
         drop(inbox);
-        self.moved.notify_all();
+        self.taken.notify_all();
     }
 
     /// Nothing is written any more.
@@ -142,21 +144,20 @@ impl<L: LogName + SlotName> Line<L> {
         let mut inbox = self.inbox.lock(rt);
         inbox.break_off();
         drop(inbox);
-        self.moved.notify_all();
+        self.taken.notify_all();
     }
 
     // ---- behind both
 
-    /// Ends what has begun and wasn't written.
-    pub fn end<R: Wait>(self, rt: &R, hub: &Hub<L>) {
+    /// What was granted and never written.
+    pub fn end(self) -> Option<StreamGrant<L>> {
         let Line {
             alloc: _,
             inbox: _,
-            begun,
-            moved: _,
+            granted,
+            filled: _,
+            taken: _,
         } = self;
-        if let Some(begun) = begun.into_inner() {
-            hub.end_unwritten(rt, begun);
-        }
+        granted.into_inner()
     }
 }

@@ -11,6 +11,8 @@ use std::alloc::{AllocError, Global};
 pub(crate) struct Pair<L: LogName + SlotName> {
     pub reader: LogReader<L>,
     pub seat: SlotSeat<L>,
+    /// Which latch wakes its stream: each pair has one of its own.
+    pub latch: usize,
 }
 
 /// The pairs that no stream has.
@@ -28,7 +30,12 @@ impl<L: LogName + SlotName> Pool<L> {
     ) -> Result<Self, AllocError> {
         let mut pairs = Vec::with_capacity(alloc, readers.len())?;
         for (reader, seat) in readers.into_iter().zip(seats) {
-            pairs.push(Pair { reader, seat })?;
+            let latch = pairs.len();
+            pairs.push(Pair {
+                reader,
+                seat,
+                latch,
+            })?;
         }
         Ok(Pool { pairs })
     }

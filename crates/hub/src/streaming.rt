@@ -1,134 +1,212 @@
 //! A stream that is written, with all that goes back at its end.
 
-ghost use Rattle.std.specs.Prelude.{◌≡◌, ◌≤◌, ◌<◌, ◌++◌, [], ℕ, List, true, false, length, max, min, Err, IfOk, OnErr, OnOk};
+ghost use Rattle.std.specs.Prelude.{◌≡◌, ◌++◌, [], ℕ, List, max, min, OnOk};
 ghost use Rattle.std.specs.Io.KnownBytes.{Appends};
-ghost use Rattle.std.specs.declared.io.Error.{Error};
-ghost use mathlib.Core.List.{IsPrefix};
-ghost use Rattle.shared_log.specs.Fronts.{settled};
-ghost use Rattle.shared_log.specs.Readers.{seen_of};
-ghost use Rattle.hub.specs.declared.streaming.TheConstants.{CLOCK};
-ghost use Rattle.sender.specs.Faults.{has_fetched, has_written};
-ghost use Rattle.sender.specs.Turning.{ReadAndGave, fetched_from};
 ghost use Rattle.slots.specs.Rule.{slot_step, with_step};
 ghost use Rattle.slots.specs.Seats.{DidAt};
 ghost use Rattle.slots.specs.Standings.{held_by};
 ghost use Rattle.slots.specs.declared.step.SlotKind.TheVariants.{Raise, Release};
-ghost use Rattle.wal.specs.declared.record.TheConstants.{FIRST_POSITION};
+ghost use Rattle.wal.specs.declared.record.Record.{Record};
+ghost use Rattle.walsender.specs.Serving.{Gives, Serves, StaysOn};
+ghost use Rattle.hub.specs.declared.streaming.TheConstants.{CLOCK};
+ghost use Rattle.hub.specs.Streams.{HasLearnt, StreamsOn, keepalives};
 
-use crate::begun::Begun;
+use crate::commit_notice::CommitNotice;
+use crate::grant::StreamGrant;
 use crate::hold::Hold;
-use crate::news::News;
+use crate::inbox::Work;
 use crate::pool::Pair;
-use sender::{SendFault, Sender, TurnFault, turn};
-use shared_log::{LogName, LogReader};
+use sender::{SendFault, TurnFault};
+use server::Phase;
+use shared_log::LogName;
 use slots::{SlotName, SlotTable};
 use std::alloc::Global;
 use std::io;
 use std::io::Write;
-use wal::FIRST_POSITION;
+use walsender::Walsender;
 
 /// The clock of all that streams say.
 const CLOCK: i64 = 0;
 
-/// How many bytes are written at once, where a stream breaks off.
-const MOST_WRITTEN: usize = 8192;
+/// How many keepalives are held at once, of those that answer statuses.
+const MOST_KEEPALIVES: u32 = 256;
 
-/// A sender, the reader that feeds it, and the slot that it confirms. It isn't `Drop`: `end` ends it.
+/// A walsender, and the slot that it confirms. It isn't `Drop`: `end` ends it.
 pub(crate) struct Stream<L: LogName + SlotName> {
-    sender: Sender,
-    reader: LogReader<L>,
+    walsender: Walsender<L>,
     hold: Hold<L>,
+    latch: usize,
+    /// The greatest position that its client has flushed.
+    flushed: u64,
+    /// The position of the last keepalive, or its start.
+    told: u64,
 }
 
 impl<L: LogName + SlotName> Stream<L> {
-    /// The stream of what has begun, which has read nothing.
-    pub fn open(alloc: Global, begun: Begun<L>) -> Self
-        ensures sender { (result.sender.selection ≡ begun.selection) × (result.sender.start ≡ begun.start) × (result.sender.position ≡ FIRST_POSITION) }
-        ensures reader { result.reader ≡ begun.reader }
-        ensures hold { result.hold ≡ begun.hold }
+    /// The stream of a grant, which has read nothing.
+    pub fn open(alloc: Global, grant: StreamGrant<L>) -> Self
+        ensures asked { (result.walsender.sender.selection ≡ grant.selection) × (result.walsender.sender.start ≡ grant.start) }
+        ensures serves { (log : List Record) → Serves log [] result.walsender }
+        ensures hold { result.hold ≡ grant.hold }
     {
-        let Begun {
+        let StreamGrant {
             selection,
             start,
             reader,
             hold,
-        } = begun;
+            latch,
+        } = grant;
         Stream {
-            sender: Sender::start(alloc, selection, start, FIRST_POSITION).unwrap(),
-            reader,
+            walsender: Walsender::begin(alloc, reader, selection, start),
             hold,
+            latch,
+            flushed: start,
+            told: start,
         }
     }
 
     /// Up to where the log was read.
     pub fn position(&self) -> u64
-        ensures { result ≡ self.now.sender.position }
+        ensures { result ≡ self.now.walsender.sender.position }
     {
-        self.sender.position()
+        self.walsender.position()
+    }
+
+    /// Which latch wakes it.
+    pub fn latch(&self) -> usize {
+        self.latch
     }
 
     /// Its next turn sees the log with this commit.
-    pub fn learn(&mut self, news: &News<L>) {
-        news.tell(&mut self.reader);
-    }
-
-    /// Confirms what a client has flushed, as far as the stream has come.
-    pub fn confirm(&mut self, slots: &SlotTable<L>, flushed: u64) -> u64
-        ensures raised { (found : ℕ) × (result ≡ max found (min flushed self.old.sender.position)) × DidAt Raise self.old.hold.lease.place found result self.old.hold.seat self.new.hold.seat }
-        ensures same { (self.new.sender ≡ self.old.sender) × (self.new.hold.lease ≡ self.old.hold.lease) }
+    pub fn learn(&mut self, notice: &CommitNotice<L>)
+        ensures learnt { HasLearnt self.old.walsender self.new.walsender }
+        ensures hold { self.new.hold ≡ self.old.hold }
     {
-        let reached = flushed.min(self.sender.position());
-        self.hold.confirm(slots, reached)
+        notice.tell(&mut self.walsender.reader);
     }
 
-    /// Holds so many keepalives.
-    pub fn keep_alive(&mut self, count: u32) -> Result<(), SendFault> {
-        for _ in 0..count {
-            self.sender.keepalive(CLOCK, false)?;
+    /// Does what its inbox asks: confirms what was flushed, holds a keepalive for each status that asked and one that asks a
+    /// silent client, reads on, and writes all that is held. Where the connection is over, it only confirms.
+    pub fn go_on<W: Write>(
+        &mut self,
+        slots: &SlotTable<L>,
+        alloc: Global,
+        work: &Work,
+        to: &mut W,
+    ) -> Result<(), TurnFault>
+        ensures serves { StreamsOn self.old.walsender self.new.walsender (W.contents to.old) (W.contents to.new) }
+    {
+        self.confirm_any(slots, work.flushed);
+        if work.phase == Phase::Closed {
+            return Ok(());
+        }
+        self.answer_statuses(work.asked, to)?;
+        self.ask_if(work.is_silent)?;
+        self.walsender.turn(alloc, CLOCK, to)?;
+        self.tell_position(to)
+    }
+
+    /// Holds a keepalive that asks a silent client for an answer.
+    fn ask_if(&mut self, is_silent: bool) -> Result<(), SendFault>
+        ensures serves { StaysOn self.old.walsender self.new.walsender }
+        ensures reader { self.new.walsender.reader ≡ self.old.walsender.reader }
+    {
+        if is_silent {
+            self.walsender.keepalive(CLOCK, true)?;
         }
         Ok(())
     }
 
-    /// Reads on, and writes all that is held.
-    pub fn turn<W: Write>(&mut self, alloc: Global, to: &mut W) -> Result<usize, TurnFault>
-        ensures grows { IsPrefix (seen_of self.old.reader) (seen_of self.new.reader) }
-        ensures fresh { has_fetched result ≡ true → IsPrefix (settled self.new.reader.told) (seen_of self.new.reader) }
-        ensures sent { OnOk result ((given : List ℕ) × ReadAndGave CLOCK self.old.sender self.new.sender (fetched_from self.old.reader.place (seen_of self.new.reader)) given
-            × (self.new.sender.held ≡ []) × Appends (W.contents to.old) (W.contents to.new) given) }
-        ensures broken { (e : Error) → result ≡ Err (TurnFault.Write e) → (given : List ℕ) × ReadAndGave CLOCK self.old.sender self.new.sender (fetched_from self.old.reader.place (seen_of self.new.reader)) given
-            × (0 < length self.new.sender.held) × Appends (W.contents to.old) (W.contents to.new) given }
-        ensures silent { has_written result ≡ false → to.new ≡ to.old }
-        ensures hold { self.new.hold ≡ self.old.hold }
+    /// Writes a keepalive where the client has flushed less than was read and wasn't told of it yet: it may be of transactions
+    /// that aren't sent, and the client can confirm them all the same.
+    fn tell_position<W: Write>(&mut self, to: &mut W) -> Result<(), TurnFault>
+        ensures serves { StreamsOn self.old.walsender self.new.walsender (W.contents to.old) (W.contents to.new) }
     {
-        turn(alloc, &mut self.sender, &mut self.reader, CLOCK, to)
+        let position = self.walsender.position();
+        if position <= self.flushed || position <= self.told {
+            return Ok(());
+        }
+        self.walsender.keepalive(CLOCK, false)?;
+        self.walsender.write_held(to)?;
+        self.told = position;
+        Ok(())
+    }
+
+    /// Confirms what a client has flushed, if it told of any.
+    pub fn confirm_any(&mut self, slots: &SlotTable<L>, flushed: Option<u64>)
+        ensures { self.new.walsender ≡ self.old.walsender }
+    {
+        if let Some(flushed) = flushed {
+            self.flushed = self.flushed.max(flushed);
+            self.confirm(slots, flushed);
+        }
+    }
+
+    /// Confirms what a client has flushed, as far as the stream has come.
+    fn confirm(&mut self, slots: &SlotTable<L>, flushed: u64) -> u64
+        ensures raised { (found : ℕ) × (result ≡ max found (min flushed self.old.walsender.sender.position)) × DidAt Raise self.old.hold.lease.place found result self.old.hold.seat self.new.hold.seat }
+        ensures same { (self.new.walsender ≡ self.old.walsender) × (self.new.hold.lease ≡ self.old.hold.lease) }
+    {
+        let reached = self.walsender.confirmable(flushed);
+        self.hold.confirm(slots, reached)
+    }
+
+    /// Holds a keepalive for each of so many statuses that asked. What is held is written in between, so that few are held at
+    /// once.
+    fn answer_statuses<W: Write>(&mut self, count: u32, to: &mut W) -> Result<(), TurnFault>
+        ensures kept { OnOk result ((given : List ℕ) × (given ++ self.new.walsender.sender.held ≡ self.old.walsender.sender.held ++ keepalives self.old.walsender.sender.position count)
+            × Appends (W.contents to.old) (W.contents to.new) given) }
+        ensures serves { StreamsOn self.old.walsender self.new.walsender (W.contents to.old) (W.contents to.new) }
+    {
+        let mut due = count;
+        while MOST_KEEPALIVES < due {
+            self.keep_alive(MOST_KEEPALIVES)?;
+            self.walsender.write_held(to)?;
+            due -= MOST_KEEPALIVES;
+        }
+        self.keep_alive(due)?;
+        Ok(())
+    }
+
+    /// Holds so many keepalives behind all that is held.
+    fn keep_alive(&mut self, count: u32) -> Result<(), SendFault>
+        ensures held { OnOk result (self.new.walsender.sender.held ≡ self.old.walsender.sender.held ++ keepalives self.old.walsender.sender.position count) }
+        ensures position { self.new.walsender.sender.position ≡ self.old.walsender.sender.position }
+        ensures serves { StaysOn self.old.walsender self.new.walsender }
+        ensures reader { self.new.walsender.reader ≡ self.old.walsender.reader }
+    {
+        for _ in 0..count {
+            self.walsender.keepalive(CLOCK, false)?;
+        }
+        Ok(())
     }
 
     /// Writes what is held of what was read.
-    pub fn write_rest<W: Write>(&mut self, to: &mut W) -> io::Result<()> {
-        write_held(&mut self.sender, to)
+    pub fn write_rest<W: Write>(&mut self, to: &mut W) -> io::Result<()>
+        ensures ok { OnOk result (self.new.walsender.sender.held ≡ []) }
+        ensures serves { (given : List ℕ) × Gives given self.old.walsender self.new.walsender × Appends (W.contents to.old) (W.contents to.new) given }
+    {
+        self.walsender.write_held(to)
     }
 
     /// Makes the slot free, and gives reader and seat back.
     pub fn end(self, slots: &SlotTable<L>) -> Pair<L>
-        ensures reader { result.reader ≡ self.reader }
+        ensures reader { result.reader ≡ self.walsender.reader }
         ensures seat { result.seat ≡ with_step self.hold.seat (slot_step Release self.hold.lease.place (held_by self.hold.seat.number) 1) }
     {
         let Stream {
-            sender: _,
-            reader,
+            walsender,
             hold,
+            latch,
+            flushed: _,
+            told: _,
         } = self;
+        let (_, reader) = walsender.end();
         let seat = hold.release(slots);
-        Pair { reader, seat }
+        Pair {
+            reader,
+            seat,
+            latch,
+        }
     }
-}
-
-/// Writes all that a sender holds.
-fn write_held<W: Write>(sender: &mut Sender, to: &mut W) -> io::Result<()> {
-    let mut buffer = [0u8; MOST_WRITTEN];
-    while sender.holds_bytes() {
-        let count = sender.drain(&mut buffer);
-        to.write_all(&buffer[..count])?;
-    }
-    Ok(())
 }

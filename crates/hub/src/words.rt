@@ -1,6 +1,7 @@
-//! What a stream says of its own trouble.
+//! What the server says of its own trouble.
 
-ghost use Rattle.std.specs.Prelude.{◌≡◌, IfOk, length, ◌≤◌};
+ghost use Rattle.std.specs.Prelude.{◌≡◌, IfOk, List, OnOk, length, ◌≤◌, ℕ};
+ghost use Rattle.std.specs.Io.KnownBytes.{Appends};
 
 use bytes::BytesMut;
 use frames::{Back, ErrorField, ErrorResponse, write_back};
@@ -9,12 +10,14 @@ use std::alloc::{AllocError, Global};
 use std::io;
 use std::io::{ErrorKind, Write};
 
-/// Why a stream ends before its client asks for it.
+/// Why a stream ends before its client asks for it, or a connection before its client has said a word.
 #[derive(Clone, Copy, Debug, PartialEq, Eq)]
 pub(crate) enum Trouble {
     Memory,
     /// The log lets no reader in.
     NoEntry,
+    /// No threads are to be had for one more connection.
+    Crowd,
 }
 
 impl Trouble {
@@ -24,6 +27,7 @@ impl Trouble {
         match self {
             Trouble::Memory => "53200",
             Trouble::NoEntry => "53400",
+            Trouble::Crowd => "53300",
         }
     }
 
@@ -33,16 +37,24 @@ impl Trouble {
         match self {
             Trouble::Memory => "out of memory",
             Trouble::NoEntry => "log cannot be entered",
+            Trouble::Crowd => "sorry, too many clients already",
+        }
+    }
+
+    fn severity(self) -> &'static str
+        ensures { length result.now ≤ 40 }
+    {
+        match self {
+            Trouble::Memory | Trouble::NoEntry => "ERROR",
+            Trouble::Crowd => "FATAL",
         }
     }
 }
 
 /// Writes the ErrorResponse that tells it.
-pub(crate) fn write_trouble<W: Write>(
-    alloc: Global,
-    trouble: Trouble,
-    to: &mut W,
-) -> io::Result<()> {
+pub(crate) fn write_trouble<W: Write>(alloc: Global, trouble: Trouble, to: &mut W) -> io::Result<()>
+    ensures { OnOk result ((words : List ℕ) × Appends (W.contents to.old) (W.contents to.new) words) }
+{
     let mut frame = BytesMut::new(alloc);
     if say_trouble(alloc, trouble, &mut frame).is_err() {
         return Err(io::Error::from(ErrorKind::OutOfMemory));
@@ -51,8 +63,8 @@ pub(crate) fn write_trouble<W: Write>(
 }
 
 fn say_trouble(alloc: Global, trouble: Trouble, out: &mut BytesMut) -> Result<(), AllocError> {
-    let severity = field(alloc, b'S', "ERROR")?;
-    let untranslated = field(alloc, b'V', "ERROR")?;
+    let severity = field(alloc, b'S', trouble.severity())?;
+    let untranslated = field(alloc, b'V', trouble.severity())?;
     let code = field(alloc, b'C', trouble.code())?;
     let text = field(alloc, b'M', trouble.text())?;
     let fields = Items::new(Vec::from_array(alloc, [severity, untranslated, code, text])?);

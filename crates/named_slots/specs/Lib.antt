@@ -1,3 +1,4 @@
 pub mod State
 pub mod Keeping
 pub mod Leasing
+pub mod Words

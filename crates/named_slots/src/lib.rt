@@ -5,7 +5,9 @@ mod held;
 mod named;
 mod naming;
 mod slot;
+mod slot_word;
 
 pub use held::HeldSlots;
 pub use named::NamedSlots;
 pub use slot::Slot;
+pub use slot_word::{confirm, is_missing, let_go, slot_named, take};

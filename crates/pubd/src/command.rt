@@ -1,9 +1,11 @@
 //! The words of the command line.
 
 use crate::fault::Fault;
+use crate::timeout::timeout_of;
 use clap::{Arg, ArgAction, ArgMatches, Command, Error};
 use std::alloc::{AllocError, Global};
 use std::net::SocketAddr;
+use std::time::Duration;
 
 /// The most connections that one run serves.
 const MOST_CONNECTIONS: u32 = 1000;
@@ -66,15 +68,18 @@ pub struct Words<'a> {
     address: &'a str,
     connections: &'a str,
     awaited: Option<&'a str>,
+    timeout: Option<&'a str>,
     pub scripts: Vec<&'a str>,
 }
 
-/// Where it listens, how many connections it serves, and how many streams the scripts await.
+/// Where it listens, how many connections it serves, how many streams the scripts await, and for how long a stream's client may
+/// be silent, if that is told.
 #[derive(Clone, Copy)]
 pub struct Numbers {
     pub address: SocketAddr,
     pub connections: u32,
     pub awaited: u64,
+    pub wal_sender_timeout: Option<Duration>,
 }
 
 impl<'a> Words<'a> {
@@ -85,6 +90,7 @@ impl<'a> Words<'a> {
             address: address.map_err(|_| Fault::Address)?,
             connections: self.connections()?,
             awaited: self.awaited()?,
+            wal_sender_timeout: self.wal_sender_timeout()?,
         })
     }
 
@@ -102,6 +108,13 @@ impl<'a> Words<'a> {
         match count.parse::<u32>() {
             Ok(count) => Ok(u64::from(count)),
             Err(_) => Err(Fault::Awaited),
+        }
+    }
+
+    fn wal_sender_timeout(&self) -> Result<Option<Duration>, Fault> {
+        match self.timeout {
+            Some(text) => timeout_of(text).ok_or(Fault::Timeout).map(Some),
+            None => Ok(None),
         }
     }
 }
@@ -134,7 +147,8 @@ fn command_of<'a>(alloc: Global) -> Result<Command<'a>, AllocError> {
         .about(ABOUT)
         .after_help(AFTER_HELP)
         .bin_name("pubd")?
-        .arg(awaited(alloc))?;
+        .arg(awaited(alloc))?
+        .arg(timeout(alloc))?;
     for (name, help) in &REQUIRED {
         command = command.arg(required(alloc, *name, *help))?;
     }
@@ -147,6 +161,16 @@ fn awaited(alloc: Global) -> Arg<'static> {
         .value_name("N")
         .action(ArgAction::Set)
         .help("Run the scripts once N streams have begun, or no more connections come")
+}
+
+fn timeout(alloc: Global) -> Arg<'static> {
+    Arg::new(alloc, "wal-sender-timeout")
+        .long("wal-sender-timeout")
+        .value_name("TIME")
+        .action(ArgAction::Set)
+        .help(
+            "Close a stream's connection where its client is silent for so long: 60s unless it is given, 0 for never",
+        )
 }
 
 fn required<'a>(alloc: Global, name: &'a str, help: &'a str) -> Arg<'a> {
@@ -180,6 +204,7 @@ fn words_in<'a>(matches: &ArgMatches<'a>, scripts: Vec<&'a str>) -> Words<'a> {
         address: matches.get_str("ADDR").unwrap_or(""),
         connections: matches.get_str("CONNECTIONS").unwrap_or(""),
         awaited: matches.get_str("await-streams"),
+        timeout: matches.get_str("wal-sender-timeout"),
         scripts,
     }
 }

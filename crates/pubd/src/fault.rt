@@ -19,6 +19,8 @@ pub enum Fault {
     Connections,
     #[error("N of --await-streams is a number from 0 to 4294967295")]
     Awaited,
+    #[error("TIME of --wal-sender-timeout is a number, and ms, s, min, h or d behind it, as in 60s")]
+    Timeout,
     #[error("the configuration cannot be read: {0}")]
     ReadConfig(io::Error),
     #[error("in the configuration: {1}")]
@@ -55,7 +57,7 @@ impl Fault {
                 ErrorKind::OutOfMemory => 1,
                 _ => 2,
             },
-            Fault::Address | Fault::Connections | Fault::Awaited => 2,
+            Fault::Address | Fault::Connections | Fault::Awaited | Fault::Timeout => 2,
             // A file that is no text is a bad one, and no file that can't be read.
             Fault::ReadConfig(error) | Fault::ReadScript(_, error) => match error.kind() {
                 io::ErrorKind::InvalidData => 2,

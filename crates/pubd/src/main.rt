@@ -3,14 +3,17 @@
 
 mod command;
 mod fault;
+mod reports;
 mod scripts;
+mod timeout;
 
 ghost use Rattle.std.specs.Prelude.{◌≡◌};
 
 use command::{Numbers, Words, words_of};
 use configuration::{Config, explained};
 use fault::Fault;
-use hub::{Hub, OpenGate, OpenedHub, ServeFault, serve};
+use hub::{Hub, OpenedHub, ServeFault, serve};
+use reports::Reports;
 use scripts::{Script, run_all, scripts_of};
 use shared_log::LogName;
 use slots::SlotName;
@@ -20,6 +23,7 @@ use std::net::{Net, SocketAddr, TcpListener, TcpStream};
 use std::process::ExitCode;
 use std::sync::Wait;
 use std::thread::Threads;
+use std::time::{Clock, Duration};
 use std::{env, fs, thread};
 
 fn main(rt: HostRuntime) -> ExitCode {
@@ -35,7 +39,7 @@ fn main(rt: HostRuntime) -> ExitCode {
 /// The runtime has the words and the files, and `host` the threads and the sockets.
 fn run<R>(rt: &HostRuntime, host: &R) -> Result<(), Fault>
 where
-    R: Net<Listener = TcpListener, Stream = TcpStream> + Threads + Wait + Sync,
+    R: Net<Listener = TcpListener, Stream = TcpStream> + Threads + Wait + Clock + Sync,
 {
     let alloc = rt.alloc();
     let arguments: Vec<String> = env::args(rt).map_err(Fault::Arguments)?.collect(alloc)?;
@@ -46,7 +50,7 @@ where
 /// All that can be refused is judged before the first connection is taken.
 fn run_words<R>(rt: &HostRuntime, host: &R, words: &Words) -> Result<(), Fault>
 where
-    R: Net<Listener = TcpListener, Stream = TcpStream> + Threads + Wait + Sync,
+    R: Net<Listener = TcpListener, Stream = TcpStream> + Threads + Wait + Clock + Sync,
 {
     let numbers = words.numbers()?;
     let scripts = scripts_of(rt, words.scripts.as_slice())?;
@@ -61,7 +65,7 @@ fn listen<R>(
     scripts: &[Script],
 ) -> Result<(), Fault>
 where
-    R: Net<Listener = TcpListener, Stream = TcpStream> + Threads + Wait + Sync,
+    R: Net<Listener = TcpListener, Stream = TcpStream> + Threads + Wait + Clock + Sync,
 {
     let listener = TcpListener::bind(host, numbers.address).map_err(Fault::Listen)?;
     let service = Service {
@@ -71,12 +75,12 @@ where
         awaited: numbers.awaited,
         scripts,
     };
-    let opened = opened(rt, config)?;
+    let opened = opened(rt, config, numbers.wal_sender_timeout)?;
     served::<Brand, R, _, _>(host, opened, &service, &rt.stdout(), &rt.stderr())
 }
 
-/// A hub for the configuration at this path.
-fn opened(rt: &HostRuntime, path: &str) -> Result<OpenedHub, Fault> {
+/// A hub for the configuration at this path. The client of a stream may be silent for this time, if it is told.
+fn opened(rt: &HostRuntime, path: &str, timeout: Option<Duration>) -> Result<OpenedHub, Fault> {
     let alloc = rt.alloc();
     let text = fs::read_to_string(rt, path).map_err(Fault::ReadConfig)?;
     let config = match Config::from_toml(alloc, text.as_str()) {
@@ -87,14 +91,18 @@ fn opened(rt: &HostRuntime, path: &str) -> Result<OpenedHub, Fault> {
         }
     };
     let (catalog, publications, server) = config.into_parts();
-    OpenedHub::new(
+    let mut opened = OpenedHub::new(
         alloc,
         catalog,
         publications,
         server.systemid,
         server.records,
     )
-    .map_err(Fault::Hub)
+    .map_err(Fault::Hub)?;
+    if let Some(timeout) = timeout {
+        opened.wal_sender_timeout = timeout;
+    }
+    Ok(opened)
 }
 
 /// What is served, and what runs beside it.
@@ -117,7 +125,7 @@ fn served<L, R, O, E>(
 ) -> Result<(), Fault>
 where
     L: LogName + SlotName + Send + Sync,
-    R: Threads + Wait + Sync,
+    R: Threads + Wait + Clock + Sync,
     O: Print,
     E: Print + Sync,
     requires log { opened.log.history.seen.book ≡ L.book }
@@ -138,7 +146,7 @@ fn serve_beside_scripts<L, R, O, E>(
 ) -> Result<(), Fault>
 where
     L: LogName + SlotName + Send + Sync,
-    R: Threads + Wait + Sync,
+    R: Threads + Wait + Clock + Sync,
     O: Print,
     E: Print + Sync,
 {
@@ -146,7 +154,7 @@ where
     let (scripted, served) = thread::join(
         rt,
         || run_awaited(rt, hub, service, errors),
-        || serve_all(rt, hub, service),
+        || serve_all(rt, hub, service, errors),
     );
     served.map_err(Fault::Serve)?;
     scripted
@@ -156,19 +164,21 @@ where
 fn run_awaited<L, R, E>(rt: &R, hub: &Hub<L>, service: &Service, errors: &E) -> Result<(), Fault>
 where
     L: LogName + SlotName + Send + Sync,
-    R: Threads + Wait + Sync,
+    R: Threads + Wait + Clock + Sync,
     E: Print + Sync,
 {
     hub.await_streams(rt, service.awaited);
     run_all(rt, hub, service.scripts, errors)
 }
 
-fn serve_all<L, R>(rt: &R, hub: &Hub<L>, service: &Service) -> Result<(), ServeFault>
+fn serve_all<L, R, E>(rt: &R, hub: &Hub<L>, service: &Service, errors: &E) -> Result<(), ServeFault>
 where
     L: LogName + SlotName + Send + Sync,
-    R: Threads + Wait + Sync,
+    R: Threads + Wait + Clock + Sync,
+    E: Print + Sync,
 {
-    let served = serve(rt, service.listener, hub, service.connections, &OpenGate);
+    let reports = Reports { errors };
+    let served = serve(rt, service.listener, hub, service.connections, &reports);
     hub.end_awaiting(rt);
     served
 }

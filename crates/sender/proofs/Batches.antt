@@ -3,6 +3,8 @@ use Rattle.std.proofs.Common.{◌≡◌, ◌<◌, ◌+◌, zero, suc, take, get_
 use Rattle.std.proofs.lemmas.List.{append-nil, take_all}
 use Rattle.std.proofs.lemmas.Grind.{flat_map-append}
 use Rattle.std.specs.Global.{Global}
+use Rattle.std.specs.List.{AllByRecursion}
+use Rattle.stream.proofs.Lists.{all_of_both}
 use Rattle.std.specs.declared.sync.Arc.{Arc}
 use Rattle.wal.specs.Records.{shared}
 use Rattle.publication.specs.Publications.{PublicationSet}
@@ -16,7 +18,7 @@ use Rattle.publication.specs.Selection.{relation}
 use Rattle.pgoutput.specs.declared.relation.Relation.{Relation}
 use Rattle.stream.specs.declared.published.Published.{Published}
 use Rattle.stream.specs.Words.{word_bytes, frames_of}
-use Rattle.stream.specs.Items.{Block, words_of, item_words, spelled, relations_sent_by_all, relations_sent_through}
+use Rattle.stream.specs.Items.{Block, FitsPublished, words_of, item_words, spelled, relations_sent_by_all, relations_sent_through}
 use Rattle.sender.specs.Published.{published, published_as, published_from, has_message}
 use Rattle.sender.specs.Sending.{SenderState, MayFollow, HasRead, blocks, published_bytes, published_by_commit, ReadOne, ReadAll, RanOutOfMemory, OutputUnchanged, AddsPublished}
 
@@ -104,9 +106,12 @@ ReadOne-ReadAll clock old new r one = record {
       ∙ ap (λ sel. relations_sent_through [] (published sel (before ++ r ∷ []) old.start)) (sym one.selection) ∙ ap (λ s. relations_sent_through [] (published new.selection (before ++ r ∷ []) s)) (sym one.start)
 
   adds : (before : List Record) → HasRead old before → commits ≡ published_from old.selection old.start before (r ∷ []) → AddsPublished clock old new.held before (r ∷ [])
-  adds before has is =
-      one.held ∙ ap (λ ts. old.held ++ spelled (relation old.selection) old.relations_sent (blocks clock ts)) is
-      ∙ ap (λ n. old.held ++ spelled (relation old.selection) n (blocks clock (published_from old.selection old.start before (r ∷ [])))) has.relations_sent
+  adds before has is = record {
+    adds =
+        one.held ∙ ap (λ ts. old.held ++ spelled (relation old.selection) old.relations_sent (blocks clock ts)) is
+        ∙ ap (λ n. old.held ++ spelled (relation old.selection) n (blocks clock (published_from old.selection old.start before (r ∷ [])))) has.relations_sent;
+    fit = (let P : List Published → Type 0 = λ ts. AllByRecursion (FitsPublished (relation old.selection)) ts in subst P is one.fit);
+  }
 
 -- ---- batches
 
@@ -124,16 +129,21 @@ ReadAll-append clock a b c m n first second = record {
   both : (before : List Record) → AddsPublished clock a b.held before m → AddsPublished clock b c.held (before ++ m) n → AddsPublished clock a c.held before (m ++ n)
   both before adds_m adds_n =
       let P : PublicationSet → ℕ → Type 0 = λ sel s. c.held ≡ b.held ++ published_bytes sel clock (published sel (before ++ m) s) (published_from sel s (before ++ m) n) in
-      let later : P a.selection a.start = rw (← first.selection, ← first.start) adds_n in
+      let later : P a.selection a.start = rw (← first.selection, ← first.start) adds_n.adds in
+      let F : PublicationSet → ℕ → Type 0 = λ sel s. AllByRecursion (FitsPublished (relation sel)) (published_from sel s (before ++ m) n) in
+      let later_fit : F a.selection a.start = rw (← first.selection, ← first.start) adds_n.fit in
       let early = published a.selection before a.start in
       let one = published_from a.selection a.start before m in
       let two = published_from a.selection a.start (before ++ m) n in
       let through : relations_sent_through [] (published a.selection (before ++ m) a.start) ≡ relations_sent_through (relations_sent_through [] early) one =
       ap (relations_sent_through []) (published_from-append a.selection a.start [] before m) ∙ relations_sent_through-append [] early one in
-      later ∙ ap (λ (l : List ℕ). l ++ published_bytes a.selection clock (published a.selection (before ++ m) a.start) two) adds_m
+      let bytes : c.held ≡ a.held ++ published_bytes a.selection clock early (published_from a.selection a.start before (m ++ n)) =
+      later ∙ ap (λ (l : List ℕ). l ++ published_bytes a.selection clock (published a.selection (before ++ m) a.start) two) adds_m.adds
       ∙ ap (λ (relations_sent : List ℕ). (a.held ++ published_bytes a.selection clock early one) ++ spelled (relation a.selection) relations_sent (blocks clock two)) through
       ∙ append_assoc a.held (published_bytes a.selection clock early one) (spelled (relation a.selection) (relations_sent_through (relations_sent_through [] early) one) (blocks clock two))
-      ∙ ap (λ (l : List ℕ). a.held ++ l) (sym (spelled-blocks (relation a.selection) (relations_sent_through [] early) clock one two) ∙ ap (λ ts. spelled (relation a.selection) (relations_sent_through [] early) (blocks clock ts)) (sym (published_from-append a.selection a.start before m n)))
+      ∙ ap (λ (l : List ℕ). a.held ++ l) (sym (spelled-blocks (relation a.selection) (relations_sent_through [] early) clock one two) ∙ ap (λ ts. spelled (relation a.selection) (relations_sent_through [] early) (blocks clock ts)) (sym (published_from-append a.selection a.start before m n))) in
+      let A : List Published → Type 0 = λ ts. AllByRecursion (FitsPublished (relation a.selection)) ts in
+      record { adds = bytes; fit = subst A (sym (published_from-append a.selection a.start before m n)) (all_of_both (FitsPublished (relation a.selection)) one two adds_m.fit later_fit) }
 
 -- ---- a loop over a batch
 
@@ -166,6 +176,6 @@ stopped_at clock old mid stopped new records i lt front same selection start pos
       position = position ∙ same.position ∙ front.position ∙ ap (end_of old.position) taken;
       after =
           (let P : List Record → Type 0 = λ l. (before : List Record) → HasRead old before → MayFollow before l → AddsPublished clock old new.held before l in
-          subst P taken (λ before has may. held ∙ same.held ∙ (front.after before has may).1));
+          subst P taken (λ before has may. let front_adds = (front.after before has may).1 in record { adds = held ∙ same.held ∙ front_adds.adds; fit = front_adds.fit }));
       failed = failed;
     }

@@ -4,3 +4,4 @@ pub mod Batches
 pub mod Changes
 pub mod Sections
 pub mod Turns
+pub mod Fitting

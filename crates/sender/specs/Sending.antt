@@ -1,6 +1,7 @@
 -- A sender between its calls, and what reading records does to it. The records may be those of a whole log or of a section of
 -- one, which begins behind earlier records of its transactions.
 use Rattle.std.specs.Prelude.{◌≡◌, ◌<◌, ℕ, ℤ, Bool, true, List, [], ◌∷◌, ◌++◌, length, take, map, filter, nat_le, Option, Some, None, if◌then◌else◌}
+use Rattle.std.specs.List.{AllByRecursion}
 use Rattle.publication.specs.Publications.{PublicationSet}
 use Rattle.wal.specs.declared.record.Record.{Record}
 use Rattle.wal.specs.declared.record.Body.{Body}
@@ -9,7 +10,7 @@ use Rattle.wal.specs.Log.{Entry, Transaction, end_of}
 use Rattle.reorder.specs.Taking.{ReorderState, HasTaken, MayCome, StartsBehind, Takes}
 use Rattle.publication.specs.Selection.{relation}
 use Rattle.stream.specs.declared.published.Published.{Published}
-use Rattle.stream.specs.Items.{Item, Block, spelled, relations_sent_through}
+use Rattle.stream.specs.Items.{Item, Block, FitsPublished, spelled, relations_sent_through}
 use Rattle.sender.specs.Published.{published, published_as, published_from, has_message}
 
 -- what determines the bytes to come
@@ -40,10 +41,11 @@ blocks clock ts = map (Block clock) ts
 abbrev pub published_bytes : PublicationSet → ℤ → List Published → List Published → List ℕ
 published_bytes selection clock earlier ts = spelled (relation selection) (relations_sent_through [] earlier) (blocks clock ts)
 
--- What was held has grown by exactly the blocks of the transactions that these records publish, given those before them.
-abbrev pub AddsPublished : ℤ → SenderState → List ℕ → List Record → List Record → Type 0
-AddsPublished clock old held before rs =
-    held ≡ old.held ++ published_bytes old.selection clock (published old.selection before old.start) (published_from old.selection old.start before rs)
+-- What was held has grown by exactly the blocks of the transactions that these records publish, given those before them, and a
+-- stream has room for each of their fields.
+pub record AddsPublished (clock : ℤ) (old : SenderState) (held : List ℕ) (before rs : List Record) : Type 0 where
+  pub adds : held ≡ old.held ++ published_bytes old.selection clock (published old.selection before old.start) (published_from old.selection old.start before rs)
+  pub fit : AllByRecursion (FitsPublished (relation old.selection)) (published_from old.selection old.start before rs)
 
 -- All records were read: whatever was read before, if these may follow, they are read too, and what they publish is held.
 pub record ReadAll (clock : ℤ) (old new : SenderState) (rs : List Record) : Type 0 where
@@ -83,6 +85,7 @@ pub record ReadOne (clock : ℤ) (old new : SenderState) (r : Record) : Type 0 w
   pub start : new.start ≡ old.start
   pub position : new.position ≡ r.end
   pub held : new.held ≡ old.held ++ spelled (relation old.selection) old.relations_sent (blocks clock (published_by_commit old.selection old.start r ready))
+  pub fit : AllByRecursion (FitsPublished (relation old.selection)) (published_by_commit old.selection old.start r ready)
   pub relations_sent : new.relations_sent ≡ relations_sent_through old.relations_sent (published_by_commit old.selection old.start r ready)
 
 -- nothing that a drain or a reader of the position sees has changed

@@ -1,9 +1,10 @@
 //! Reading records one by one.
 
 ghost use Rattle.std.specs.Prelude.{◌≡◌, ◌++◌, Some, false, Err, IfErr, OnErr, OnOk};
+ghost use Rattle.std.specs.List.{AllByRecursion};
 ghost use Rattle.wal.specs.Records.{shared};
 ghost use Rattle.publication.specs.Selection.{relation};
-ghost use Rattle.stream.specs.Items.{spelled, relations_sent_through};
+ghost use Rattle.stream.specs.Items.{FitsPublished, spelled, relations_sent_through};
 ghost use Rattle.sender.specs.Sending.{ReadAll, RanOutOfMemory, OutputUnchanged, ReadOne, published_by_commit, blocks};
 
 use crate::fault::SendFault;
@@ -60,6 +61,7 @@ impl Sender {
             (blocks clock (published_by_commit self.old.selection self.old.start next.now (Some ready.now)))) }
         ensures relations_sent { OnOk result (self.new.relations_sent ≡ relations_sent_through self.old.relations_sent
             (published_by_commit self.old.selection self.old.start next.now (Some ready.now))) }
+        ensures fit { OnOk result (AllByRecursion (FitsPublished (relation self.old.selection)) (published_by_commit self.old.selection self.old.start next.now (Some ready.now))) }
         ensures err { OnErr result (self.new.held ≡ self.old.held) }
         ensures selection { self.new.selection ≡ self.old.selection }
         ensures start { self.new.start ≡ self.old.start }

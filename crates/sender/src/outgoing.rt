@@ -1,15 +1,15 @@
 //! What is on its way out: the bytes that are held, and the tables whose Relation was sent.
 #![tactic(auto, using(pqformat::proofs::Putting::in_place))]
 
-ghost use Rattle.std.specs.Prelude.{◌≡◌, ◌≤◌, ◌++◌, ◌∷◌, [], OnErr, OnOk, reverse, IsSome, min, take, drop, length};
+ghost use Rattle.std.specs.Prelude.{◌≡◌, ◌≤◌, ◌<◌, ◌^◌, ◌++◌, ◌∷◌, [], OnErr, OnOk, reverse, IsSome, min, take, drop, length};
 ghost use Rattle.std.specs.List.{AllByRecursion};
 ghost use Rattle.pqformat.specs.Putting.{Puts};
 ghost use Rattle.pgoutput.specs.Logical.{IsShort};
 ghost use Rattle.pgoutput.specs.declared.logical.Logical.TheVariants as logical;
 ghost use Rattle.publication.specs.Selection.{relation, selected_table};
-ghost use Rattle.publication.specs.Projection.{MessageFits};
 ghost use Rattle.stream.specs.Words.{frames_of, word_bytes};
 ghost use Rattle.stream.specs.Items.{IsShortMessage, begin_message, commit_message, is_relation_sent, relations_due, relations_sent_by, relations_sent_by_all, tables_of, xlogdata_word, relation_words, change_words, changes_words, block_words, keepalive_word};
+ghost use Rattle.sender.specs.Published.{CanBeTold};
 
 use crate::word::{put_keepalive, put_xlogdata};
 use bytes::{BufMut, BytesMut};
@@ -51,6 +51,7 @@ impl Outgoing {
         ensures ok { OnOk result (self.new.held.items ≡ self.old.held.items ++ word_bytes (keepalive_word position clock ask)) }
         ensures err { OnErr result (self.new.held.items ≡ self.old.held.items) }
         ensures relations_sent { self.new.relations_sent ≡ self.old.relations_sent }
+        ensures fits { position < 2 ^ 64 }
     {
         let length = self.held.len();
         let written = put_keepalive(&mut self.held, position, clock, ask);
@@ -95,7 +96,7 @@ impl Outgoing {
         clock: i64,
         transaction: &Published,
     ) -> Result<(), AllocError>
-        requires { AllByRecursion (λ c. MessageFits selection.now c.message) transaction.now.changes }
+        requires { AllByRecursion (CanBeTold selection.now) transaction.now.changes }
         ensures ok { OnOk result (self.new.held.items ≡ self.old.held.items
             ++ frames_of (block_words (relation selection.now) (reverse self.old.relations_sent.items) clock transaction.now)) }
         ensures relations_sent { OnOk result (reverse self.new.relations_sent.items ≡ relations_sent_by_all (reverse self.old.relations_sent.items) transaction.now.changes) }
@@ -191,7 +192,7 @@ impl Outgoing {
         clock: i64,
         change: &PublishedChange,
     ) -> Result<(), AllocError>
-        requires { MessageFits selection.now change.now.message }
+        requires { CanBeTold selection.now change.now }
         ensures held { Puts result self.old.held.items self.new.held.items
             (frames_of (change_words (relation selection.now) (reverse self.old.relations_sent.items) clock change.now)) }
         ensures relations_sent { OnOk result (reverse self.new.relations_sent.items ≡ relations_sent_by (reverse self.old.relations_sent.items) change.now) }
@@ -208,7 +209,7 @@ impl Outgoing {
         clock: i64,
         changes: &[PublishedChange],
     ) -> Result<(), AllocError>
-        requires { AllByRecursion (λ c. MessageFits selection.now c.message) changes.now }
+        requires { AllByRecursion (CanBeTold selection.now) changes.now }
         ensures held { Puts result self.old.held.items self.new.held.items
             (frames_of (changes_words (relation selection.now) (reverse self.old.relations_sent.items) clock changes.now)) }
         ensures relations_sent { OnOk result (reverse self.new.relations_sent.items ≡ relations_sent_by_all (reverse self.old.relations_sent.items) changes.now) }
@@ -227,7 +228,7 @@ impl Outgoing {
         clock: i64,
         transaction: &Published,
     ) -> Result<(), AllocError>
-        requires { AllByRecursion (λ c. MessageFits selection.now c.message) transaction.now.changes }
+        requires { AllByRecursion (CanBeTold selection.now) transaction.now.changes }
         ensures held { Puts result self.old.held.items self.new.held.items
             (frames_of (block_words (relation selection.now) (reverse self.old.relations_sent.items) clock transaction.now)) }
         ensures relations_sent { OnOk result (reverse self.new.relations_sent.items ≡ relations_sent_by_all (reverse self.old.relations_sent.items) transaction.now.changes) }

@@ -1,9 +1,12 @@
 //! What a commit publishes.
 
-ghost use Rattle.std.specs.Prelude.{◌≡◌, ◌+◌, ◌<◌, ◌++◌, [], IfOk, IfSome, OnOk, Some, length, option_to_list};
+ghost use Rattle.std.specs.Prelude.{◌≡◌, ◌+◌, ◌<◌, ◌++◌, ◌^◌, [], FitsSigned, IfOk, IfSome, OnOk, Some, length, option_to_list};
+ghost use Rattle.std.specs.Int.{w64};
 ghost use Rattle.std.specs.List.{AllByRecursion};
-ghost use Rattle.publication.specs.Projection.{MessageFits, message};
-ghost use Rattle.sender.specs.Published.{published_at, published_changes};
+ghost use Rattle.publication.specs.Projection.{message};
+ghost use Rattle.publication.specs.Selection.{relation};
+ghost use Rattle.stream.specs.Items.{FitsPublished};
+ghost use Rattle.sender.specs.Published.{CanBeTold, published_at, published_changes};
 ghost use Rattle.sender.specs.Sending.{published_by_commit};
 
 use pqformat::Items;
@@ -25,7 +28,8 @@ pub(crate) fn transaction_of(
     ready: &Ready,
 ) -> Result<Option<Published>, AllocError>
     ensures value { IfOk result (λ o. option_to_list o ≡ published_by_commit selection.now start next.now (Some ready.now)) }
-    ensures fits { IfOk result (λ o. IfSome o (λ t. AllByRecursion (λ c. MessageFits selection.now c.message) t.changes)) }
+    ensures told { IfOk result (λ o. IfSome o (λ t. AllByRecursion (CanBeTold selection.now) t.changes)) }
+    ensures fits { IfOk result (λ o. IfSome o (FitsPublished (relation selection.now))) }
 {
     let Body::Commit(xid, time) = next.body else {
         return Ok(None);
@@ -37,13 +41,26 @@ pub(crate) fn transaction_of(
     if changes.is_empty() {
         return Ok(None);
     }
-    Ok(Some(Published {
-        start: next.start,
-        end: next.end,
+    Ok(Some(published_of(next.start, next.end, time, xid, changes)))
+}
+
+fn published_of(
+    start: u64,
+    end: u64,
+    time: i64,
+    xid: u32,
+    changes: Vec<PublishedChange>,
+) -> Published
+    ensures value { result ≡ record { start = start; end = end; time = time; xid = xid; changes = changes.items } }
+    ensures numbers { (result.start < 2 ^ 64) × (result.end < 2 ^ 64) × FitsSigned w64 result.time × (result.xid < 2 ^ 32) }
+{
+    Published {
+        start,
+        end,
         time,
         xid,
         changes: Items::new(changes),
-    }))
+    }
 }
 
 fn changes_of(
@@ -53,7 +70,7 @@ fn changes_of(
     ready: &Ready,
 ) -> Result<Vec<PublishedChange>, AllocError>
     ensures value { IfOk result (λ v. v.items ≡ published_changes selection.now ready.now) }
-    ensures fits { IfOk result (λ v. AllByRecursion (λ c. MessageFits selection.now c.message) v.items) }
+    ensures told { IfOk result (λ v. AllByRecursion (CanBeTold selection.now) v.items) }
 {
     let mut changes = Vec::new(alloc);
     for k in 0..ready.count() {
@@ -71,7 +88,7 @@ fn add_published(
     change: &Change,
 ) -> Result<(), AllocError>
     ensures value { OnOk result (changes.new.items ≡ changes.old.items ++ published_at position (message selection.now change.now)) }
-    ensures fits { OnOk result (AllByRecursion (λ c. MessageFits selection.now c.message) (published_at position (message selection.now change.now))) }
+    ensures told { OnOk result (AllByRecursion (CanBeTold selection.now) (published_at position (message selection.now change.now))) }
 {
     match selection.project(change)? {
         Projected::Nothing => return Ok(()),

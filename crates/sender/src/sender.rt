@@ -1,6 +1,6 @@
 //! A sender: records in, the bytes of a stream out.
 
-ghost use Rattle.std.specs.Prelude.{◌≡◌, ◌≢◌, ◌↔◌, ◌++◌, ◌==◌, [], ℕ, false, true, not, min, take, drop, length, Err, IfOk, IsOk, OnErr, OnOk};
+ghost use Rattle.std.specs.Prelude.{◌≡◌, ◌≢◌, ◌↔◌, ◌++◌, ◌==◌, ◌<◌, ◌^◌, [], ℕ, false, true, not, min, take, drop, length, Err, IfOk, IsOk, OnErr, OnOk};
 ghost use Rattle.wal.specs.Log.{follows};
 ghost use Rattle.wal.specs.Records.{shared};
 ghost use Rattle.stream.specs.Words.{word_bytes};
@@ -116,6 +116,7 @@ impl Sender {
         ensures err { OnErr result (self.new ≡ self.old) }
         ensures failed { (result ≡ Err SendFault.Failed) ↔ (self.old.failed ≡ true) }
         ensures gap { result ≢ Err SendFault.Gap }
+        ensures fits { OnOk result (self.old.position < 2 ^ 64) }
     {
         if self.failed {
             return Err(SendFault::Failed);

@@ -53,7 +53,7 @@ pub fn turn<L: LogName, W: Write>(
 
 impl Sender {
     /// Writes what is held. Where the writer fails or takes no bytes, the rest is held still.
-    fn write_held<W: Write>(&mut self, out: &mut W) -> io::Result<()>
+    pub fn write_held<W: Write>(&mut self, out: &mut W) -> io::Result<()>
         ensures ok { OnOk result (self.new.held ≡ []) }
         ensures err { OnErr result (0 < length self.new.held) }
         ensures given { (given : List ℕ) × (self.old.held ≡ given ++ self.new.held) × Appends (W.contents out.old) (W.contents out.new) given }

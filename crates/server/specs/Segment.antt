@@ -1,6 +1,9 @@
 -- The part of a conversation that one call carries on, from the connection before it to the connection after it.
-use Rattle.std.specs.Prelude.{◌≡◌, ℕ, ◌<◌, ◌≤◌, ◌⊎◌, List, [], ◌++◌, length, take, Result, Ok, Err}
+use Rattle.std.specs.Prelude.{◌≡◌, ℕ, ◌+◌, ◌==◌, nat_le, ◌<◌, ◌≤◌, ◌⊎◌, Bool, ◌&&◌, false, List, [], ◌++◌, length, take, Option, Some, None, Result, Ok, Err}
+use Rattle.std.specs.Int.{w32}
 use Rattle.std.specs.List.{flat_map, AllByRecursion}
+use Rattle.pqformat.specs.Fields.{byte_at, number_at}
+use Rattle.frames.specs.declared.query.TheConstants.{QUERY}
 use Rattle.server.specs.declared.fault.ConnFault.{ConnFault}
 use Rattle.server.specs.declared.fault.ConnFault.TheVariants as faults
 use Rattle.server.specs.declared.connection.Phase.{Phase}
@@ -87,3 +90,23 @@ abbrev pub IsTurned : ℕ → Stage → List ℕ → Turned → Type 0 → ((Lis
 IsTurned number stage pending t Same Step =
     ((t.count ≡ 0) × (t.stage ≡ stage) × Waits stage pending × Same)
     ⊎ ((0 < t.count) × (t.count ≤ length pending) × Step (OneTurn number stage (take t.count pending) t.stage))
+
+-- ---- what is pending
+
+-- as many bytes as a length tells, which counts itself
+abbrev pub is_there : Option (ℕ × List ℕ) → Bool
+is_there None = false
+is_there (Some n) = nat_le n.0 (4 + length n.1)
+
+-- a frame of a query's type byte, whole
+abbrev pub has_query : Option (ℕ × List ℕ) → Bool
+has_query None = false
+has_query (Some front) = (front.0 == QUERY) && is_there (number_at w32 front.1)
+
+-- what is answered next is a query
+abbrev pub has_command : Stage → List ℕ → Bool
+has_command (Idle database) pending = has_query (byte_at pending)
+has_command Fresh pending = false
+has_command (Streaming database) pending = false
+has_command (Stopping database) pending = false
+has_command Closed pending = false

@@ -1,7 +1,8 @@
 //! A connection: what has come of it and isn't answered yet, and how far its conversation is.
 
-ghost use Rattle.std.specs.Prelude.{◌≡◌, ◌≢◌, ◌↔◌, ◌<◌, ℕ, length, OnOk, OnErr, IfOk, [], Err, false, true};
-ghost use Rattle.server.specs.Segment.{Went, HasText, Ended, UnlessMemory, phase_of};
+ghost use Rattle.std.specs.Prelude.{◌≡◌, ◌≢◌, ◌↔◌, ◌<◌, ◌++◌, ℕ, length, OnOk, OnErr, IfOk, [], Err, false, true};
+ghost use Rattle.pqformat.specs.Fields.{byte_at};
+ghost use Rattle.server.specs.Segment.{Went, HasText, Ended, UnlessMemory, has_command, has_query, phase_of};
 ghost use Rattle.server.specs.Turns.{IsTurn, Waits, end_turn};
 ghost use Rattle.server.specs.declared.stage.Stage.TheVariants.{Fresh, Closed};
 
@@ -11,6 +12,7 @@ use crate::say::say_ended;
 use crate::stage::{Stage, Turned};
 use crate::turn::turn;
 use bytes::BytesMut;
+use frames::{Cursor, QUERY};
 use std::alloc::{AllocError, Global};
 use std::mem;
 
@@ -31,7 +33,8 @@ pub enum Phase {
 
 /// The server's side of one connection, without its socket.
 ///
-/// `take` is given the bytes as they come, in any cuts, and a desk; it adds the answers to a buffer.
+/// `take` is given the bytes as they come, in any cuts, and a desk; it adds the answers to a buffer. Who wants to do something
+/// between two answers gives the bytes to `push`, and has them answered one by one by `answer`.
 #[derive(Debug, Drop)]
 pub struct Connection {
     pub(crate) alloc: Global,
@@ -66,6 +69,47 @@ impl Connection {
             Stage::Stopping(_) => Phase::Stopping,
             Stage::Closed => Phase::Closed,
         }
+    }
+
+    /// Whether what `answer` answers next is a query.
+    pub fn has_command(&self) -> bool
+        ensures { result ≡ has_command self.now.stage self.now.pending.items }
+    {
+        match &self.stage {
+            Stage::Idle(_) => has_query(self.pending.as_slice()),
+            Stage::Fresh | Stage::Streaming(_) | Stage::Stopping(_) | Stage::Closed => false,
+        }
+    }
+
+    /// More has come.
+    pub fn push(&mut self, bytes: &[u8]) -> Result<(), AllocError>
+        ensures came { OnOk result (self.new.pending.items ≡ self.old.pending.items ++ bytes.now) }
+        ensures err { OnErr result (self.new.pending.items ≡ self.old.pending.items) }
+        ensures same { (self.new.stage ≡ self.old.stage) × (self.new.number ≡ self.old.number) }
+    {
+        self.pending.extend_from_slice(bytes)
+    }
+
+    /// Answers one startup or frame of what has come, the next. False: it isn't there whole, or waits for the end of the stream
+    /// that stops.
+    ///
+    /// H1 is want of memory, and it closes the connection without a word. H2: it is closed, and what has come is passed over.
+    pub fn answer<D: Desk>(&mut self, desk: &mut D, out: &mut BytesMut) -> Result<bool, ConnFault>
+        ensures went { UnlessMemory result (Went D.told HasText [] self.old desk.old out.old.items self.new desk.new out.new.items) }
+        ensures less { IfOk result (λ more. more ≡ true → length self.new.pending.items < length self.old.pending.items) }
+        ensures waits { IfOk result (λ more. more ≡ false → Waits self.new.stage self.new.pending.items) }
+        ensures closed { OnErr result (self.new.stage ≡ Closed) }
+        ensures ended { (result ≡ Err ConnFault.Closed) ↔ (self.old.stage ≡ Closed) }
+    {
+        if self.is_closed() {
+            self.pending.clear();
+            return Err(ConnFault::Closed);
+        }
+        let Ok(more) = self.step(desk, out) else {
+            self.close();
+            return Err(ConnFault::Memory);
+        };
+        Ok(more)
     }
 
     /// Takes one turn; false: what is pending has to wait for more.
@@ -163,6 +207,20 @@ impl Connection {
         say_ended(self.alloc, out)?;
         self.stage = after_end(stage);
         Ok(Phase::Idle)
+    }
+}
+
+/// Whether a query stands at the front, whole.
+fn has_query(bytes: &[u8]) -> bool
+    ensures { result ≡ has_query (byte_at bytes.now) }
+{
+    let mut cursor = Cursor::new(bytes);
+    if cursor.u8() != Some(QUERY) {
+        return false;
+    }
+    match cursor.u32() {
+        Some(length) => length as usize <= 4 + cursor.rest().len(),
+        None => false,
     }
 }
 

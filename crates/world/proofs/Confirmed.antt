@@ -12,9 +12,12 @@ use Rattle.schedule.specs.declared.event.Event.{Event}
 use Rattle.schedule.specs.declared.event.Event.TheVariants as events
 use Rattle.schedule.specs.declared.answer.Answer.{Answer}
 use Rattle.schedule.specs.declared.answer.Answer.TheVariants as answers
-use Rattle.world.specs.State.{StartState, SubscriberState, WorldState, slot_of_connection, subscriber_of}
-use Rattle.world.specs.ConnectionLines.{IsStart, slot_named, taken}
-use Rattle.world.specs.Slots.{Acknowledges, Creates, confirmed_by, let_go}
+use Rattle.starts.specs.State.{StartState}
+use Rattle.world.specs.State.{SubscriberState, WorldState, slot_of_connection, subscriber_of}
+use Rattle.world.specs.ConnectionLines.{IsStart}
+use Rattle.named_slots.specs.Words.{slot_named, taken}
+use Rattle.world.specs.Slots.{Acknowledges, Creates}
+use Rattle.named_slots.specs.Words.{confirmed_by, let_go}
 use Rattle.world.specs.Steps.{IsRun, IsStep}
 use Rattle.world.specs.Confirming.{confirmed_after, confirmed_at, confirmed_through, raised_by, told_if, told_next, told_to}
 

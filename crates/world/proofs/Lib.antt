@@ -1,6 +1,3 @@
-pub mod Ranges
-pub mod Streams
-pub mod Sections
 pub mod Inside
 pub mod Openings
 pub mod Subscribing

@@ -12,27 +12,30 @@ use Rattle.schedule.specs.declared.answer.Answer.TheVariants as answers
 use Rattle.schedule.specs.declared.fault.WorldFault.{WorldFault}
 use Rattle.schedule.specs.declared.event.Event.{Event}
 use Rattle.schedule.specs.declared.event.Event.TheVariants as events
-use Rattle.world.specs.declared.action.Action.{Action}
-use Rattle.world.specs.declared.action.Action.TheVariants as actions
-use Rattle.world.specs.declared.start.Start.{Start}
-use Rattle.world.specs.declared.start.Walsender.{Walsender}
-use Rattle.world.specs.declared.start.Walsender.TheVariants as walsenders
+use Rattle.starts.specs.declared.action.Action.{Action}
+use Rattle.starts.specs.declared.action.Action.TheVariants as actions
+use Rattle.starts.specs.declared.start.Start.{Start}
+use Rattle.starts.specs.declared.start.Stage.{Stage}
+use Rattle.starts.specs.declared.start.Stage.TheVariants as stages
 use Rattle.world.specs.declared.machine.Machine.{Machine}
-use Rattle.world.specs.State.{StartState, SubscriberState, WorldState, running}
+use Rattle.starts.specs.State.{StartState, running}
+use Rattle.world.specs.State.{SubscriberState, WorldState}
 use Rattle.sessions.specs.SessionLines.{Ask, IsLine, ask_of, if_new, if_known}
 use Rattle.sessions.specs.Sessions.{Grows}
 use Rattle.named_slots.specs.State.{SlotsState}
-use Rattle.world.specs.ConnectionLines.{Acts, slots_after, subscribers_after}
+use Rattle.starts.specs.Acting.{Acts}
+use Rattle.world.specs.ConnectionLines.{slots_after, subscribers_after}
 use Rattle.world.specs.Steps.{IsStep, is_bad, session_state}
-use Rattle.world.specs.Machine.{IsServed, ActsIn, IsMachine, IsOpenAt, IsOpenStartAt, is_open, open_places, without_place, start_state, state_with, shown}
-use Rattle.world.proofs.Sections.{grown_served}
+use Rattle.starts.specs.Starts.{IsServed, is_open, start_state, state_with}
+use Rattle.world.specs.Machine.{ActsIn, IsMachine, IsOpenAt, IsOpenStartAt, open_places, without_place, shown}
+use Rattle.starts.proofs.Sections.{grown_served}
 use Rattle.world.proofs.Openings.{places_kept, places_less, places_with_one}
 use Rattle.world.proofs.Readers.{one_runs, running_with}
 use Rattle.world.proofs.Asking.{one_there}
 
 served_on : {L : Type 0} (log more : List Record) (cs : List (Start L)) → AllByRecursion (IsServed log) cs → AllByRecursion (IsServed (log ++ more)) cs
 served_on log more [] all = tt
-served_on log more (c ∷ cs) all = (grown_served log more c.produced.items c.walsender all.0, served_on log more cs all.1)
+served_on log more (c ∷ cs) all = (grown_served log more c.produced.items c.stage all.0, served_on log more cs all.1)
 
 pub all_grown : {L : Type 0} (old new : List Record) (cs : List (Start L)) → Grows old new → AllByRecursion (IsServed old) cs → AllByRecursion (IsServed new) cs
 all_grown old new cs grows all = let P : List Record → Type 0 = λ l. AllByRecursion (IsServed l) cs in subst P (sym grows.is) (served_on old grows.more cs all)
@@ -143,9 +146,9 @@ is_closed log old new (answers.Publication fault) acts = absurd acts
 is_closed log old new answers.NoReader acts = absurd acts
 is_closed log old new (answers.Subscriber fault) acts = absurd acts
 
-pub open_shown : {L : Type 0} (connection produced : List ℕ) (w : Walsender L) → is_open w ≡ true → (state_with connection produced w).is_open ≡ true
-open_shown connection produced (walsenders.Open s reader) is = refl
-open_shown connection produced (walsenders.Cut e) is = is
+pub open_shown : {L : Type 0} (connection produced : List ℕ) (w : Stage L) → is_open w ≡ true → (state_with connection produced w).is_open ≡ true
+open_shown connection produced (stages.Open s) is = refl
+open_shown connection produced (stages.Cut e) is = is
 
 pub found_on : {L : Type 0} (log : List Record) (place : ℕ) (action : Action) (cs new : List (Start L)) (places : List ℕ) (a : Answer) → is_cut action ≡ false → ActsIn log place action cs a new → places ≡ open_places 0 (map start_state cs)
     → places ≡ open_places 0 (map start_state new)
@@ -158,7 +161,7 @@ pub found_less : {L : Type 0} (log : List Record) (name : List ℕ) (place : ℕ
 found_less {L} log name place cs new places a at acts found =
     let there = slice_get-map start_state cs place ∙ ap (option_map start_state) acts.there in
     let same : at.start ≡ acts.before = one_there cs place at.start acts.before at.there acts.there in
-    let was : (start_state acts.before).is_open ≡ true = ap (λ (s : Start L). (start_state s).is_open) (sym same) ∙ open_shown at.start.connection at.start.produced.items at.start.walsender at.opened in
+    let was : (start_state acts.before).is_open ≡ true = ap (λ (s : Start L). (start_state s).is_open) (sym same) ∙ open_shown at.start.connection at.start.produced.items at.start.stage at.opened in
     ap (without_place place) found ∙ places_less 0 (map start_state cs) place place (start_state acts.before) acts.after (omega arith) there was (is_closed log (start_state acts.before) acts.after a acts.acts) ∙ ap (open_places 0) (sym acts.is)
 
 pub no_cut : (action : Action) → (action ≡ actions.Cut → ⊥) → is_cut action ≡ false
@@ -189,16 +192,16 @@ found_more cs new places more s n new_is more_is n_is opened found =
 
 -- ---- readers
 
-closed_shown : {L : Type 0} (connection produced : List ℕ) (w : Walsender L) → is_open w ≡ false → (state_with connection produced w).is_open ≡ false
-closed_shown connection produced (walsenders.Open s reader) is = is
-closed_shown connection produced (walsenders.Cut e) is = refl
+closed_shown : {L : Type 0} (connection produced : List ℕ) (w : Stage L) → is_open w ≡ false → (state_with connection produced w).is_open ≡ false
+closed_shown connection produced (stages.Open s) is = is
+closed_shown connection produced (stages.Cut e) is = refl
 
 -- an open start has a reader, and one that was cut has none
-pub one_running : {L : Type 0} (s : Start L) → is_open s.walsender ≡ true → running (start_state s ∷ []) ≡ 1
-one_running s is = rw (open_shown s.connection s.produced.items s.walsender is) refl
+pub one_running : {L : Type 0} (s : Start L) → is_open s.stage ≡ true → running (start_state s ∷ []) ≡ 1
+one_running s is = rw (open_shown s.connection s.produced.items s.stage is) refl
 
-pub none_running : {L : Type 0} (s : Start L) → is_open s.walsender ≡ false → running (start_state s ∷ []) ≡ 0
-none_running s is = rw (closed_shown s.connection s.produced.items s.walsender is) refl
+pub none_running : {L : Type 0} (s : Start L) → is_open s.stage ≡ false → running (start_state s ∷ []) ≡ 0
+none_running s is = rw (closed_shown s.connection s.produced.items s.stage is) refl
 
 -- what one start gives the pool, all starts give it
 pub pool_kept : {L : Type 0} (cs : List (Start L)) (place : ℕ) (c new : Start L) (old_len new_len : ℕ) → IsOpenAt place cs → c ≡ slice_index_or cs place c
@@ -213,5 +216,5 @@ pool_kept cs place c new old_len new_len at value one =
 pub pool_has_room : {L : Type 0} (name : List ℕ) (place : ℕ) (m : Machine L) → IsOpenStartAt name place m.starts.items → IsMachine m → vec_len m.readers < vec_capacity m.readers
 pool_has_room name place m at is =
     let there : slice_get (map start_state m.starts.items) place ≡ Some (start_state at.start) = slice_get-map start_state m.starts.items place ∙ ap (option_map start_state) at.there in
-    let runs = one_runs (map start_state m.starts.items) place (start_state at.start) there (open_shown at.start.connection at.start.produced.items at.start.walsender at.opened) in
+    let runs = one_runs (map start_state m.starts.items) place (start_state at.start) there (open_shown at.start.connection at.start.produced.items at.start.stage at.opened) in
     omega (arith, runs, is.readers, is.room)

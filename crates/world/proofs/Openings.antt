@@ -4,11 +4,13 @@ use Rattle.std.specs.Prelude.{IsNone, is_some, slice_get, slice_set}
 use Rattle.std.specs.Str.{bytes_eq}
 use Rattle.std.proofs.lemmas.Bool.{eq-eqb, ne_eqb}
 use Rattle.std.proofs.lemmas.List.{length-append}
-use Rattle.world.specs.declared.start.Start.{Start}
-use Rattle.world.specs.declared.start.Walsender.{Walsender}
-use Rattle.world.specs.declared.start.Walsender.TheVariants as walsenders
-use Rattle.world.specs.State.{StartState, is_open_for, open_start}
-use Rattle.world.specs.Machine.{start_state, state_with, is_open, start_place, open_places, is_for, place_among, without_place, IsOpenStartAt}
+use Rattle.starts.specs.declared.start.Start.{Start}
+use Rattle.starts.specs.declared.start.Stage.{Stage}
+use Rattle.starts.specs.declared.start.Stage.TheVariants as stages
+use Rattle.starts.specs.State.{StartState, is_open_for}
+use Rattle.world.specs.State.{open_start}
+use Rattle.starts.specs.Starts.{start_state, state_with, is_open}
+use Rattle.world.specs.Machine.{start_place, open_places, is_for, place_among, without_place, IsOpenStartAt}
 use Rattle.world.proofs.Inside.{same_inside, place_is}
 use Rattle.publication.proofs.Rows.{both_true}
 
@@ -22,16 +24,16 @@ no_sooner name (s ∷ starts) at p e = by_test (is_open_for name s) e (no_sooner
     by_test true e later = omega (arith, same_inside at p e)
     by_test false e later = omega (arith, later e)
 
-opened : {L : Type 0} (name n produced : List ℕ) (w : Walsender L) → is_open_for name (state_with n produced w) ≡ true → is_open w ≡ true
-opened name n produced (walsenders.Open s reader) e = refl
-opened name n produced (walsenders.Cut s) e = let closed = (both_true (bytes_eq n name) false e).1 in absurd cc
+opened : {L : Type 0} (name n produced : List ℕ) (w : Stage L) → is_open_for name (state_with n produced w) ≡ true → is_open w ≡ true
+opened name n produced (stages.Open s) e = refl
+opened name n produced (stages.Cut s) e = let closed = (both_true (bytes_eq n name) false e).1 in absurd cc
 
 found : {L : Type 0} (name : List ℕ) (cs : List (Start L)) (at k : ℕ) → start_place at name (map start_state cs) ≡ Some (at + k) → IsOpenStartAt name k cs
 found name [] at k e = absurd cc
 found name (c ∷ cs) at zero e = by_test (is_open_for name (start_state c)) refl e
   where
     by_test : (b : Bool) → is_open_for name (start_state c) ≡ b → cond b (Some at) (start_place (at + 1) name (map start_state cs)) ≡ Some (at + 0) → IsOpenStartAt name 0 (c ∷ cs)
-    by_test true is e = record { start = c; there = refl; opened = opened name c.connection c.produced.items c.walsender is; of = rw is refl; changed = λ after. rw is refl }
+    by_test true is e = record { start = c; there = refl; opened = opened name c.connection c.produced.items c.stage is; of = rw is refl; changed = λ after. rw is refl }
     by_test false is e = absurd (omega (arith, no_sooner name (map start_state cs) (at + 1) (at + 0) e))
 found name (c ∷ cs) at (suc k) e = by_test (is_open_for name (start_state c)) refl e (found name cs (at + 1) k)
   where

@@ -7,11 +7,13 @@ use Rattle.copyboth.specs.declared.status.Status.{Status}
 use Rattle.named_slots.specs.State.{SlotsState}
 use Rattle.schedule.specs.declared.answer.Answer.TheVariants as answers
 use Rattle.world.specs.declared.machine.Machine.{Machine}
-use Rattle.world.specs.declared.start.Start.{Start}
+use Rattle.starts.specs.declared.start.Start.{Start}
 use Rattle.world.specs.declared.subscriber.Subscriber.{Subscriber}
 use Rattle.world.specs.State.{SubscriberState, subscriber_of, with_subscriber}
-use Rattle.world.specs.Slots.{Acknowledges, PutsBack, confirmed_by, has_status, is_waiting, status_with}
-use Rattle.world.specs.Machine.{IsOpenStartAt, IsSubscriberAt, shown, start_state, subscriber_state}
+use Rattle.world.specs.Slots.{Acknowledges, PutsBack, has_status, is_waiting, status_with}
+use Rattle.named_slots.specs.Words.{confirmed_by}
+use Rattle.world.specs.Machine.{IsOpenStartAt, IsSubscriberAt, shown, subscriber_state}
+use Rattle.starts.specs.Starts.{start_state}
 use Rattle.world.proofs.Inside.{same_inside}
 use Rattle.world.proofs.Subscribing.{no_subscriber, placed, subscriber_at, the_one}
 use Rattle.world.specs.Machine.{subscriber_place}

@@ -1,31 +1,11 @@
--- What a reader gets is a part of the log as it is, and each reader serves an open start or none.
+-- Each reader serves an open start or none.
 use Rattle.std.proofs.Common.{◌≡◌, ◌+◌, ◌-◌, ◌≤◌, ℕ, zero, suc, Bool, true, false, cond, List, [], ◌∷◌, ◌++◌, length, take, drop, Some, refl, sym, ap, ◌∙◌, arith}
 use Rattle.std.specs.Prelude.{min, slice_get, slice_set}
 use Rattle.std.proofs.Math.Nat.{min-le_right}
 use Rattle.std.proofs.lemmas.List.{take_min, take-append-le, length-drop}
 use mathlib.Core.List.{IsPrefix}
-use Rattle.world.specs.State.{StartState, running}
+use Rattle.starts.specs.State.{StartState, running}
 use Rattle.world.proofs.Inside.{same_inside}
-
--- ---- what is read
-
-begins_later : {A : Type 0} (place : ℕ) (log more : List A) → IsPrefix (drop place log) (drop place (log ++ more))
-begins_later zero log more = (more, refl)
-begins_later (suc place) [] more = (drop (suc place) more, refl)
-begins_later (suc place) (r ∷ log) more = begins_later place log more
-
--- of a longer log no more is read than was counted
-pub read_to : {A : Type 0} (log seen : List A) (place max : ℕ) → IsPrefix log seen → take (min max (length log - place)) (drop place seen) ≡ take max (drop place log)
-read_to log seen place max begins =
-    let left = drop place log in
-    let later = begins_later place log begins.0 in
-    ap (λ l. take (min max (length log - place)) (drop place l)) (sym begins.1)
-    ∙ ap (take (min max (length log - place))) (sym later.1)
-    ∙ ap (λ (n : ℕ). take (min max n) (left ++ later.0)) (sym (length-drop place log))
-    ∙ take-append-le (min max (length left)) left later.0 (min-le_right max (length left))
-    ∙ take_min max left
-
--- ---- who reads
 
 -- one start in the place of another
 pub running_with : (starts : List StartState) (k : ℕ) (s new : StartState) → slice_get starts k ≡ Some s → running (slice_set starts k new) + running (s ∷ []) ≡ running starts + running (new ∷ [])

@@ -16,24 +16,28 @@ use Rattle.schedule.specs.declared.answer.Answer.{Answer}
 use Rattle.schedule.specs.declared.event.Event.{Event}
 use Rattle.schedule.specs.declared.fault.WorldFault.{WorldFault}
 use Rattle.schedule.specs.declared.fault.WorldFault.TheVariants as worlds
-use Rattle.world.specs.declared.start.Start.{Start}
-use Rattle.world.specs.declared.start.Walsender.{Walsender}
-use Rattle.world.specs.declared.start.Walsender.TheVariants as walsenders
+use Rattle.starts.specs.declared.start.Start.{Start}
+use Rattle.starts.specs.declared.start.Stage.{Stage}
+use Rattle.starts.specs.declared.start.Stage.TheVariants as stages
 use Rattle.world.specs.declared.machine.Machine.{Machine}
 use Rattle.world.specs.State.{WorldState}
-use Rattle.world.specs.Law.{read_by, IsExact, Headline}
+use Rattle.starts.specs.Acting.{read_by}
+use Rattle.world.specs.Law.{IsExact, Headline}
 use Rattle.world.specs.Steps.{IsStep, is_bad, IsRun, StopsAt}
-use Rattle.world.specs.Machine.{IsServed, IsServedBy, IsStreaming, IsMachine, state_with, start_state, shown}
-use Rattle.world.proofs.Streams.{read_by_place}
+use Rattle.walsender.specs.Serving.{IsStreaming}
+use Rattle.starts.specs.Starts.{IsServed, IsServedBy, state_with, start_state}
+use Rattle.world.specs.Machine.{IsMachine, shown}
+use Rattle.starts.proofs.Positions.{read_by_place}
 
 -- what was read up to a place is what was read by a position
-read_so_far : (log : List Record) (produced : List ℕ) (s : SenderState) → IsWellFormedLog log → (t : IsStreaming log produced s) → take t.place log ≡ read_by s.position log
-read_so_far log produced s good t = sym (read_by_place log t.place good) ∙ ap (λ (p : ℕ). read_by p log) (sym t.at)
+read_so_far : (log : List Record) (count : ℕ) (produced : List ℕ) (s : SenderState) → IsWellFormedLog log → IsStreaming log count produced s → take count log ≡ read_by s.position log
+read_so_far log count produced s good t = sym (read_by_place log count good) ∙ ap (λ (p : ℕ). read_by p log) (sym t.at)
 
-exact_by : {L : Type 0} (log : List Record) (connection produced : List ℕ) (w : Walsender L) → IsWellFormedLog log → IsServedBy log produced w → IsExact log (state_with connection produced w)
-exact_by log connection produced (walsenders.Open s reader) good served =
+exact_by : {L : Type 0} (log : List Record) (connection produced : List ℕ) (w : Stage L) → IsWellFormedLog log → IsServedBy log produced w → IsExact log (state_with connection produced w)
+exact_by log connection produced (stages.Open w) good served =
+    let s = w.sender in
     let t = served.streaming in
-    let read_is = read_so_far log produced s good t in
+    let read_is = read_so_far log served.count produced s good t in
     let P : List Record → Type 0 = λ l. IsStream (relation s.selection) (produced ++ s.held) (published s.selection l s.start) s.position in
     let stream = subst P read_is t.stream in
     record {
@@ -41,10 +45,10 @@ exact_by log connection produced (walsenders.Open s reader) good served =
       begins = record { rest = s.held; whole = stream };
       whole = λ _. stream;
     }
-exact_by log connection produced (walsenders.Cut e) good was =
+exact_by log connection produced (stages.Cut e) good was =
     let s = was.before in
     let t = was.streaming in
-    let read_is = read_so_far log produced s good t in
+    let read_is = read_so_far log was.count produced s good t in
     let P : List Record → Type 0 = λ l. IsStream (relation s.selection) (produced ++ s.held) (published s.selection l s.start) s.position in
     let stream = subst P read_is t.stream in
     let Q : PublicationSet → ℕ → ℕ → Type 0 = λ selection start position. IsStream (relation selection) (produced ++ s.held) (published selection (read_by position log) start) position in
@@ -56,7 +60,7 @@ exact_by log connection produced (walsenders.Cut e) good was =
 
 all_exact : {L : Type 0} (log : List Record) (cs : List (Start L)) → IsWellFormedLog log → AllByRecursion (IsServed log) cs → AllByRecursion (IsExact log) (map start_state cs)
 all_exact log [] good all = tt
-all_exact log (c ∷ cs) good all = (exact_by log c.connection c.produced.items c.walsender good all.0, all_exact log cs good all.1)
+all_exact log (c ∷ cs) good all = (exact_by log c.connection c.produced.items c.stage good all.0, all_exact log cs good all.1)
 
 pub headline : {L : Type 0} (m : Machine L) → IsMachine m → Headline (shown m)
 headline m is = all_exact m.publisher.log m.starts.items is.good is.served

@@ -7,11 +7,13 @@ use Rattle.std.proofs.lemmas.List.{map-set}
 use Rattle.std.proofs.lemmas.Option.{slice_get_read, slice_get_within}
 use Rattle.schedule.specs.declared.answer.Answer.{Answer}
 use Rattle.world.specs.declared.machine.Machine.{Machine}
-use Rattle.world.specs.declared.start.Start.{Start}
+use Rattle.starts.specs.declared.start.Start.{Start}
 use Rattle.world.specs.declared.subscriber.Subscriber.{Subscriber}
 use Rattle.world.specs.Delivering.{Gets, Delivers}
-use Rattle.world.specs.State.{StartState, SubscriberState, new_subscriber, subscriber_of, with_subscriber, if_there, with_one_for, again, if_known_again, reconnected, slot_in, slot_of_connection, is_open_for, open_start, with_open_start}
-use Rattle.world.specs.Machine.{shown, start_state, subscriber_state, subscriber_place, IsOpenStartAt, IsSubscriberAt, IsSubscribed}
+use Rattle.starts.specs.State.{StartState, is_open_for}
+use Rattle.world.specs.State.{SubscriberState, new_subscriber, subscriber_of, with_subscriber, if_there, with_one_for, again, if_known_again, reconnected, slot_in, slot_of_connection, open_start, with_open_start}
+use Rattle.world.specs.Machine.{shown, subscriber_state, subscriber_place, IsOpenStartAt, IsSubscriberAt, IsSubscribed}
+use Rattle.starts.specs.Starts.{start_state}
 use Rattle.std.proofs.lemmas.List.{append-nil}
 use Rattle.tables.proofs.Names.{bytes_eq-after}
 use Rattle.stream.proofs.Lists.{all_of_both}

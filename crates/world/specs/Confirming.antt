@@ -9,7 +9,8 @@ use Rattle.schedule.specs.declared.event.Event.{Event}
 use Rattle.schedule.specs.declared.event.Event.TheVariants as events
 use Rattle.schedule.specs.declared.answer.Answer.{Answer}
 use Rattle.schedule.specs.declared.answer.Answer.TheVariants as answers
-use Rattle.world.specs.State.{StartState, SubscriberState, WorldState, open_start, subscriber_of}
+use Rattle.starts.specs.State.{StartState}
+use Rattle.world.specs.State.{SubscriberState, WorldState, open_start, subscriber_of}
 use Rattle.world.specs.Steps.{IsRun}
 
 -- the confirmed position of the slot of this name, if there is one

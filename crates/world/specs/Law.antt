@@ -9,12 +9,9 @@ use Rattle.wal.specs.Log.{end_of}
 use Rattle.publication.specs.Selection.{relation}
 use Rattle.stream.specs.Stream.{IsStream}
 use Rattle.sender.specs.Published.{published}
-use Rattle.world.specs.State.{StartState, WorldState}
-
--- the records that end at a position or before it: what a sender at that position has read
-abbrev pub read_by : ℕ → List Record → List Record
-read_by position [] = []
-read_by position (r ∷ rs) = if nat_le r.end position then r ∷ read_by position rs else []
+use Rattle.starts.specs.State.{StartState}
+use Rattle.starts.specs.Acting.{read_by}
+use Rattle.world.specs.State.{WorldState}
 
 -- The bytes are a stream encoding of what the start publishes of the records that it has read.
 abbrev pub Streams : List Record → StartState → List ℕ → Type 0

@@ -3,81 +3,27 @@
 use Rattle.std.specs.Prelude.{◌≡◌, ◌<◌, ◌≤◌, ◌^◌, ℕ, ◌+◌, ◌==◌, Bool, true, false, List, [], ◌∷◌, ◌++◌, length, map, take, filter, not, Option, Some, None, is_some, vec_len, vec_capacity, slice_get, slice_set, remove, if◌then◌else◌}
 use Rattle.std.specs.Str.{bytes_eq}
 use Rattle.std.specs.List.{AllByRecursion}
-use Rattle.wal.specs.declared.record.TheConstants.{FIRST_POSITION}
 use Rattle.wal.specs.declared.record.Record.{Record}
-use Rattle.wal.specs.Log.{IsWellFormedLog, end_of}
+use Rattle.wal.specs.Log.{IsWellFormedLog}
 use Rattle.txlog.specs.declared.fault.SessionFault.{SessionFault}
 use Rattle.txlog.specs.Publishing.{PublisherState, IsRefusalOrMemory}
 use Rattle.publication.specs.Publications.{PublicationSet}
-use Rattle.publication.specs.Selection.{relation, FitTables}
-use Rattle.stream.specs.Stream.{IsStream}
-use Rattle.sender.specs.Published.{published}
-use Rattle.sender.specs.Sending.{SenderState, HasRead}
+use Rattle.sender.specs.Sending.{SenderState}
+use Rattle.walsender.specs.Serving.{IsStreaming, Serves}
 use Rattle.schedule.specs.declared.event.Event.{Event}
 use Rattle.schedule.specs.declared.answer.Answer.{Answer}
 use Rattle.schedule.specs.declared.answer.Answer.TheVariants as answers
-use Rattle.world.specs.declared.action.Action.{Action}
-use Rattle.world.specs.declared.start.Start.{Start}
+use Rattle.starts.specs.declared.action.Action.{Action}
+use Rattle.starts.specs.declared.start.Start.{Start}
 use Rattle.world.specs.declared.subscriber.Subscriber.{Subscriber}
-use Rattle.world.specs.declared.start.Walsender.{Walsender}
-use Rattle.world.specs.declared.start.Walsender.TheVariants as walsenders
+use Rattle.starts.specs.declared.start.Stage.{Stage}
+use Rattle.starts.specs.declared.start.Stage.TheVariants as stages
 use Rattle.world.specs.declared.machine.Machine.{Machine}
-use Rattle.world.specs.declared.reading.TheConstants.{MAX_SENDERS}
-use Rattle.world.specs.State.{StartState, SubscriberState, WorldState, is_open_for, open_start, with_open_start, running, subscriber_of, with_subscriber}
-use Rattle.world.specs.ConnectionLines.{Acts}
-
--- ---- Starts.
-
--- what a start shows while its sender is there, and once it was cut
-abbrev pub open_state : List ℕ → List ℕ → SenderState → StartState
-open_state connection produced s =
-    record { connection = connection; is_open = true; selection = s.selection; start = s.start; position = s.position; failed = s.failed; produced = produced; held = s.held }
-
-abbrev pub state_with : {L : Type 0} → List ℕ → List ℕ → Walsender L → StartState
-state_with connection produced (walsenders.Open s reader) = open_state connection produced s
-state_with connection produced (walsenders.Cut e) =
-    record { connection = connection; is_open = false; selection = e.selection; start = e.start; position = e.position; failed = false; produced = produced; held = [] }
-
-abbrev pub start_state : {L : Type 0} → Start L → StartState
-start_state s = state_with s.connection s.produced.items s.walsender
-
-abbrev pub is_open : {L : Type 0} → Walsender L → Bool
-is_open (walsenders.Open s reader) = true
-is_open (walsenders.Cut e) = false
-
--- what it produced and holds is the stream of the log up to some place, where its position is
-pub record IsStreaming (log : List Record) (produced : List ℕ) (s : SenderState) : Type 0 where
-  pub place : ℕ
-  pub within : place ≤ length log
-  pub at : s.position ≡ end_of FIRST_POSITION (take place log)
-  pub fits : s.position < 2 ^ 64
-  pub stream : IsStream (relation s.selection) (produced ++ s.held) (published s.selection (take place log) s.start) s.position
-
--- a sender that has not failed has read the log up to the place of its next record
-pub record IsReading (log : List Record) (place : ℕ) (s : SenderState) : Type 0 where
-  pub within : place ≤ length log
-  pub reads : HasRead s (take place log)
-  pub at : s.position ≡ end_of FIRST_POSITION (take place log)
-
-pub record IsServing (log : List Record) (place : ℕ) (produced : List ℕ) (s : SenderState) : Type 0 where
-  pub tables : FitTables s.selection
-  pub running : s.failed ≡ false → IsReading log place s
-  pub streaming : IsStreaming log produced s
-
--- what a sender that is no longer there was before it was cut
-pub record WasStreaming (log : List Record) (produced : List ℕ) (selection : PublicationSet) (start position : ℕ) : Type 0 where
-  pub before : SenderState
-  pub streaming : IsStreaming log produced before
-  pub selection_is : selection ≡ before.selection
-  pub start_is : start ≡ before.start
-  pub position_is : position ≡ before.position
-
-abbrev pub IsServedBy : {L : Type 0} → List Record → List ℕ → Walsender L → Type 0
-IsServedBy log produced (walsenders.Open s reader) = IsServing log reader.place produced s
-IsServedBy log produced (walsenders.Cut e) = WasStreaming log produced e.selection e.start e.position
-
-abbrev pub IsServed : {L : Type 0} → List Record → Start L → Type 0
-IsServed log s = IsServedBy log s.produced.items s.walsender
+use Rattle.world.specs.declared.limits.TheConstants.{MAX_SENDERS}
+use Rattle.starts.specs.State.{StartState, is_open_for, running}
+use Rattle.world.specs.State.{SubscriberState, WorldState, open_start, with_open_start, subscriber_of, with_subscriber}
+use Rattle.starts.specs.Acting.{Acts}
+use Rattle.starts.specs.Starts.{IsServed, is_open, start_state}
 
 -- ---- The open ones among them.
 
@@ -107,7 +53,7 @@ start_place at connection (s ∷ starts) = if is_open_for connection s then Some
 pub record IsOpenStartAt {L : Type 0} (connection : List ℕ) (place : ℕ) (starts : List (Start L)) : Type 0 where
   pub start : Start L
   pub there : slice_get starts place ≡ Some start
-  pub opened : is_open start.walsender ≡ true
+  pub opened : is_open start.stage ≡ true
   pub of : open_start connection (map start_state starts) ≡ Some (start_state start)
   pub changed : (after : StartState) → with_open_start connection after (map start_state starts) ≡ slice_set (map start_state starts) place after
 
@@ -115,7 +61,7 @@ pub record IsOpenStartAt {L : Type 0} (connection : List ℕ) (place : ℕ) (sta
 pub record IsOpenAt {L : Type 0} (place : ℕ) (starts : List (Start L)) : Type 0 where
   pub start : Start L
   pub there : slice_get starts place ≡ Some start
-  pub opened : is_open start.walsender ≡ true
+  pub opened : is_open start.stage ≡ true
 
 -- what is asked of the start at a place, and of no other
 pub record ActsIn {L : Type 0} (log : List Record) (place : ℕ) (action : Action) (old : List (Start L)) (answer : Answer) (new : List (Start L)) : Type 0 where

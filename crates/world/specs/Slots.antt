@@ -1,11 +1,13 @@
 -- Slots in a world: creating one, the statuses that subscribers send back, and what acknowledging one does.
 use Rattle.std.specs.Prelude.{◌≡◌, ◌∷◌, ◌++◌, ℕ, ℤ, [], true, false, min, Bool, List, Option, Some, None}
-use Rattle.named_slots.specs.State.{SlotsState, IsRefusalOrMemory, create_refusal, created, raised_for, refused, released_for}
+use Rattle.named_slots.specs.State.{IsRefusalOrMemory, create_refusal, created, refused}
+use Rattle.named_slots.specs.Words.{confirmed_by}
 use Rattle.txlog.specs.Publishing.{log_end}
 use Rattle.copyboth.specs.declared.status.Status.{Status}
 use Rattle.schedule.specs.declared.answer.Answer.{Answer}
 use Rattle.schedule.specs.declared.answer.Answer.TheVariants as answers
-use Rattle.world.specs.State.{StartState, SubscriberState, WorldState, open_start, subscriber_of, with_subscriber}
+use Rattle.starts.specs.State.{StartState}
+use Rattle.world.specs.State.{SubscriberState, WorldState, open_start, subscriber_of, with_subscriber}
 
 -- a slot is created at the end of the log
 abbrev pub Creates : List ℕ → WorldState → Answer → WorldState → Type 0
@@ -32,11 +34,6 @@ pub record PutsBack (connection : List ℕ) (status : ℕ → Status) (old : Wor
 
 -- ---- Acknowledging.
 
--- a start without a slot confirms nothing
-abbrev pub confirmed_by : Option (List ℕ) → ℕ → SlotsState → SlotsState
-confirmed_by None position slots = slots
-confirmed_by (Some name) position slots = raised_for name position slots
-
 -- The publisher takes the next status from the pipe back. Its flushed position is cut to what the sender has read.
 pub record Acknowledges (connection : List ℕ) (old : WorldState) (answer : Answer) (new : WorldState) : Type 0 where
   pub start : StartState
@@ -57,10 +54,3 @@ is_waiting (status ∷ rest) = true
 abbrev pub has_status : Option SubscriberState → Bool
 has_status None = false
 has_status (Some s) = is_waiting s.back
-
--- ---- Ending a stream.
-
--- the slot is free again
-abbrev pub let_go : Option (List ℕ) → SlotsState → SlotsState
-let_go None slots = slots
-let_go (Some name) slots = released_for name slots

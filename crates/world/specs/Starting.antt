@@ -4,9 +4,11 @@ use Rattle.publication.specs.Publications.{PublicationSet}
 use Rattle.slots.specs.declared.fault.SlotFault.TheVariants as slot_faults
 use Rattle.schedule.specs.declared.answer.Answer.{Answer}
 use Rattle.schedule.specs.declared.answer.Answer.TheVariants as answers
-use Rattle.world.specs.declared.reading.TheConstants.{MAX_SENDERS}
-use Rattle.world.specs.State.{WorldState, running, with_one_for}
-use Rattle.world.specs.ConnectionLines.{is_held, new_start, start_from, taken}
+use Rattle.world.specs.declared.limits.TheConstants.{MAX_SENDERS}
+use Rattle.world.specs.State.{WorldState, with_one_for}
+use Rattle.starts.specs.State.{running}
+use Rattle.named_slots.specs.Words.{is_held, start_from, taken}
+use Rattle.starts.specs.Acting.{new_start}
 
 -- what it leaves that isn't refused
 abbrev pub started_with : List ℕ → Option (List ℕ) → ℕ → PublicationSet → WorldState → WorldState

@@ -11,18 +11,7 @@ use Rattle.client.specs.Subscriber.{resting}
 use Rattle.client.specs.Taking.{ApplierState}
 use Rattle.schedule.specs.declared.answer.Answer.{Answer}
 use Rattle.configuration.specs.Setting.{Setting}
-
--- A start of a connection's sender: what it selects, from which position on, how far it has read the log, whether it has
--- failed, and which bytes it has produced and holds. It is open until it is cut; then it holds nothing any more.
-pub record StartState : Type 0 where
-  pub connection : List ℕ
-  pub is_open : Bool
-  pub selection : PublicationSet
-  pub start : ℕ
-  pub position : ℕ
-  pub failed : Bool
-  pub produced : List ℕ
-  pub held : List ℕ
+use Rattle.starts.specs.State.{StartState, is_open_for}
 
 -- The subscriber of a connection, which outlives the connection's starts: the slot that its open start streams from, if any,
 -- how many bytes of those that the open start has produced were delivered to it, whether ever a byte was, and the statuses in
@@ -53,10 +42,6 @@ pub record WorldView : Type 0 where
   pub state : WorldState
   pub answers : List Answer
 
--- whether this is the open start of the connection
-abbrev pub is_open_for : List ℕ → StartState → Bool
-is_open_for connection s = bytes_eq s.connection connection && s.is_open
-
 -- the open start of the connection
 abbrev pub open_start : List ℕ → List StartState → Option StartState
 open_start connection [] = None
@@ -66,11 +51,6 @@ open_start connection (s ∷ starts) = if is_open_for connection s then Some s e
 abbrev pub with_open_start : List ℕ → StartState → List StartState → List StartState
 with_open_start connection new [] = []
 with_open_start connection new (s ∷ starts) = if is_open_for connection s then new ∷ starts else s ∷ with_open_start connection new starts
-
--- how many senders are running: one for each open start, whether it has failed or not
-abbrev pub running : List StartState → ℕ
-running [] = 0
-running (s ∷ starts) = if s.is_open then running starts + 1 else running starts
 
 -- what a start has produced and its subscriber hasn't got yet
 abbrev pub in_pipe : StartState → SubscriberState → List ℕ

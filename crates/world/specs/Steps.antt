@@ -5,10 +5,11 @@ use Rattle.schedule.specs.declared.event.Event.TheVariants as events
 use Rattle.schedule.specs.declared.answer.Answer.{Answer}
 use Rattle.schedule.specs.declared.fault.WorldFault.{WorldFault}
 use Rattle.schedule.specs.declared.fault.WorldFault.TheVariants as worlds
-use Rattle.world.specs.declared.action.Action.{Action}
+use Rattle.starts.specs.declared.action.Action.{Action}
 use Rattle.world.specs.State.{WorldState, open_start, subscriber_of}
 use Rattle.sessions.specs.SessionLines.{Ask, SessionState, ask_of, IsCalled}
-use Rattle.world.specs.ConnectionLines.{action_of, slot_named, ActsAt, IsStart}
+use Rattle.world.specs.ConnectionLines.{action_of, ActsAt, IsStart}
+use Rattle.named_slots.specs.Words.{slot_named}
 use Rattle.world.specs.Slots.{Acknowledges, Creates, PutsBack, has_status, status_with}
 use Rattle.world.specs.Delivering.{Delivers}
 

@@ -5,21 +5,18 @@
 //! `World::starts` what each start of a sender produced.
 #![tactic(auto)]
 
-mod action;
+mod limits;
 mod machine;
 mod opening;
-mod reading;
-mod slot_word;
-mod start;
 mod statuses;
 mod subscriber;
 mod world;
 
+pub use limits::MAX_SENDERS;
 pub use named_slots::Slot;
-pub use reading::MAX_SENDERS;
 pub use schedule::{Answer, BadEvent, Event, LineFault, Literal, Schedule, WorldFault};
 pub use sessions::Sessions;
 pub use slots::SlotFault;
-pub use start::Start;
+pub use starts::Start;
 pub use subscriber::Subscriber;
 pub use world::{RunFault, World};

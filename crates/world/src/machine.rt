@@ -2,30 +2,31 @@
 
 ghost use Rattle.std.specs.Prelude.{◌≡◌, ◌≢◌, ◌≤◌, ◌<◌, ◌+◌, ◌++◌, ◌∷◌, [], map, is_some, false, true, Err, IfErr, IfOk, IsSome, IsNone, OnErr, OnOk, vec_capacity, vec_len};
 ghost use Rattle.std.specs.List.{AllByRecursion};
-ghost use Rattle.publication.specs.Selection.{FitTables};
 ghost use Rattle.txlog.specs.Publishing.{new_publisher};
-ghost use Rattle.world.specs.State.{new_subscriber, new_world, open_start, running, with_one_for};
-ghost use Rattle.world.specs.ConnectionLines.{ActsAt, IsStart, is_missing, new_start, slot_named};
+ghost use Rattle.world.specs.State.{new_subscriber, new_world, open_start, with_one_for};
+ghost use Rattle.starts.specs.State.{running};
+ghost use Rattle.world.specs.ConnectionLines.{ActsAt, IsStart};
+ghost use Rattle.named_slots.specs.Words.{is_missing, slot_named};
+ghost use Rattle.starts.specs.Acting.{new_start};
 ghost use Rattle.world.specs.Delivering.{Delivers};
 ghost use Rattle.world.specs.Starting.{StartsWith};
 ghost use Rattle.sessions.specs.SessionLines.{IsLine, ask_of};
 ghost use Rattle.world.specs.Steps.{IsStep, is_bad, session_state};
-ghost use Rattle.world.specs.Machine.{ActsIn, HasRoom, IsMachine, IsOpenAt, IsServed, shown, start_state, subscriber_state};
+ghost use Rattle.world.specs.Machine.{ActsIn, HasRoom, IsMachine, IsOpenAt, shown, subscriber_state};
+ghost use Rattle.starts.specs.Starts.{IsServed, start_state};
 
-use crate::action::Action;
+use crate::limits::MAX_SENDERS;
 use crate::opening::{close, place_among};
-use crate::reading::MAX_SENDERS;
-use crate::slot_word::{is_missing, let_go, slot_named, take};
-use crate::start::Start;
 use crate::subscriber::{Subscriber, place_of, reconnect, subscribe};
 use configuration::Config;
-use named_slots::HeldSlots;
+use named_slots::{HeldSlots, is_missing, let_go, slot_named, take};
 use pqformat::Text;
 use publication::{Publications, Selection};
 use schedule::{Answer, Event, WorldFault};
 use sessions::Sessions;
 use shared_log::{LogName, LogReader};
 use slots::{OpenedSlots, SlotFault, SlotName};
+use starts::{Action, Start};
 use std::alloc::{AllocError, Global};
 use std::sync::Wait;
 use tables::Catalog;
@@ -268,7 +269,6 @@ impl<L: LogName + SlotName> Machine<L> {
         requires machine { IsMachine self.old }
         requires room { HasRoom self.old }
         requires reader { 0 < vec_len self.old.readers }
-        requires tables { FitTables selection }
         requires subscriber { subscriber_state subscriber ≡ new_subscriber connection subscriber.slot }
         ensures added { shown self.new ≡ record (shown self.old) {
           starts = (shown self.old).starts ++ new_start connection selection position ∷ [];
@@ -279,8 +279,7 @@ impl<L: LogName + SlotName> Machine<L> {
         let Some(reader) = self.readers.pop() else {
             unreachable!();
         };
-        let publisher = &self.publisher;
-        let start = Start::new(alloc, publisher, reader, connection, selection, position);
+        let start = Start::new(alloc, reader, connection, selection, position);
         let place = self.starts.as_slice().len();
         self.opened.push_reserved(place);
         self.starts.push_reserved(start);

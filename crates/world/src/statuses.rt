@@ -7,8 +7,8 @@ ghost use Rattle.world.specs.Machine.{IsMachine, shown};
 
 use crate::machine::Machine;
 use crate::opening::place_among;
-use crate::slot_word::confirm;
 use crate::subscriber::{has_status, place_of};
+use named_slots::confirm;
 use pqformat::Text;
 use schedule::{Answer, WorldFault};
 use shared_log::LogName;

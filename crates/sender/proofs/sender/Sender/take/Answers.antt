@@ -32,6 +32,7 @@ returns-in-Ok-Ready-clause-ok c =
     let told = c.publish-published.ensures in
     let record_is = c.deref-in-Ok-Ready.ensures in
     let published = rw (to_z-of_z w64 c.args.clock c.ranges.clock, record_is) at c.in_ok-published-in-Ok-Ready.ensures.held in
+    let fit = rw record_is at c.in_ok-published-in-Ok-Ready.ensures.fit in
     let relations_sent = rw record_is at c.in_ok-published-in-Ok-Ready.ensures.relations_sent in
     let taken = rw c.in-Ok-Ready.field-0-is at c.in-Ok-Ready.ensures.ok in
     let P : SenderState → Type 0 = λ a. ReadOne c.args.clock a new c.args.next.now.value in
@@ -42,5 +43,6 @@ returns-in-Ok-Ready-clause-ok c =
       start = ap (λ (s : SenderState). s.start) e ∙ told.start;
       position = ap (λ (r : Record). r.end) c.deref-in-Ok-Ready-2.ensures;
       held = ap (λ (s : SenderState). s.held) e ∙ published;
+      fit = fit;
       relations_sent = ap (λ (s : SenderState). s.relations_sent) e ∙ relations_sent;
     })

@@ -3,8 +3,10 @@ use Rattle.std.specs.Prelude.{◌&&◌, is_some}
 use Rattle.std.specs.List.{AllByRecursion}
 use Rattle.std.proofs.lemmas.Option.{slice_get_within}
 use Rattle.world.specs.State.{SubscriberState, open_start, subscriber_of}
-use Rattle.world.specs.Slots.{confirmed_by, has_status, is_waiting}
-use Rattle.world.specs.Machine.{IsSubscribed, shown, start_state, subscriber_state}
+use Rattle.named_slots.specs.Words.{confirmed_by}
+use Rattle.world.specs.Slots.{has_status, is_waiting}
+use Rattle.world.specs.Machine.{IsSubscribed, shown, subscriber_state}
+use Rattle.starts.specs.Starts.{start_state}
 use Rattle.world.proofs.Openings.{none_open, open_at}
 use Rattle.world.proofs.PipesBack.{acknowledges, and_none, no_start, same_states, waits_there}
 use Rattle.world.proofs.Subscribing.{has_place, open_subscribed, still_subscribed, subscriber_at}

@@ -1,11 +1,12 @@
 use Rattle.std.proofs.Common.{◌≡◌, ℕ, List, Option, map, sym, ap, subst, ◌∙◌}
 use Rattle.std.specs.List.{AllByRecursion}
-use Rattle.world.specs.declared.action.Action.{Action}
+use Rattle.starts.specs.declared.action.Action.{Action}
 use Rattle.named_slots.specs.State.{SlotsState}
 use Rattle.world.specs.State.{SubscriberState, WorldState}
-use Rattle.world.specs.Slots.{let_go}
+use Rattle.named_slots.specs.Words.{let_go}
 use Rattle.world.specs.ConnectionLines.{ActsAt, slots_after, subscribers_after}
-use Rattle.world.specs.Machine.{ActsIn, IsSubscribed, shown, start_state, subscriber_state}
+use Rattle.world.specs.Machine.{ActsIn, IsSubscribed, shown, subscriber_state}
+use Rattle.starts.specs.Starts.{start_state}
 use Rattle.world.proofs.Openings.{open_at, none_open}
 use Rattle.world.proofs.Asking.{acted_at, subscribed_on}
 use Rattle.world.proofs.Subscribing.{all_reconnected}

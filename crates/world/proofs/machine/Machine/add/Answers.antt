@@ -1,9 +1,11 @@
 use Rattle.std.proofs.Common.{◌≡◌, ◌++◌, ◌∷◌, [], List, length, map, ap, sym, subst, arith, true, ◌∙◌}
 use Rattle.std.proofs.lemmas.List.{map-append}
 use Rattle.std.specs.List.{AllByRecursion}
-use Rattle.world.specs.declared.start.Start.{Start}
-use Rattle.world.specs.State.{StartState, SubscriberState, running, with_one_for}
-use Rattle.world.specs.Machine.{IsServed, IsSubscribed, start_state, subscriber_state}
+use Rattle.starts.specs.declared.start.Start.{Start}
+use Rattle.starts.specs.State.{StartState, running}
+use Rattle.world.specs.State.{SubscriberState, with_one_for}
+use Rattle.starts.specs.Starts.{IsServed, start_state}
+use Rattle.world.specs.Machine.{IsSubscribed, subscriber_state}
 use Rattle.stream.proofs.Lists.{all_of_both}
 use Rattle.world.proofs.Machines.{found_more}
 use Rattle.world.proofs.Readers.{running_more}
@@ -23,7 +25,7 @@ returns-clause-machine g c =
     let one_more = ap running states_is ∙ running_more (map start_state cs) (start_state start) opened in
     record {
       good = c.requires.machine.good;
-      served = subst (λ (l : List (Start _)). AllByRecursion (IsServed log) l) (sym starts_is) (all_of_both (IsServed log) cs (start ∷ []) c.requires.machine.served (c.new-start.ensures.served, tt));
+      served = subst (λ (l : List (Start _)). AllByRecursion (IsServed log) l) (sym starts_is) (all_of_both (IsServed log) cs (start ∷ []) c.requires.machine.served (c.new-start.ensures.served log, tt));
       found = found_more cs c.push_reserved-2.new.self.items c.args.self.now.opened.items c.push_reserved.new.self.items start (length c.as_slice-place.result.now) starts_is c.push_reserved.ensures.items
           (ap (λ (l : List (Start _)). length l) c.as_slice-place.ensures.value) opened c.requires.machine.found;
       subscribed = subst (λ (l : List StartState). AllByRecursion (IsSubscribed (map subscriber_state c.subscribe.new.subscribers.items)) l) (sym states_is)

@@ -1,7 +1,8 @@
 use Rattle.std.proofs.Common.{arith, length, map, sym, ap, ◌∙◌}
 use Rattle.std.proofs.lemmas.Option.{slice_get_within}
 use Rattle.world.specs.State.{SubscriberState}
-use Rattle.world.specs.Machine.{start_state, subscriber_state}
+use Rattle.starts.specs.Starts.{start_state}
+use Rattle.world.specs.Machine.{subscriber_state}
 use Rattle.world.proofs.Openings.{none_open, open_at}
 use Rattle.world.proofs.Subscribing.{delivered, has_place, open_subscribed, still_subscribed, subscriber_at}
 use Rattle.world.proofs.machine.Machine.deliver.Goals as goal

@@ -3,7 +3,8 @@ use Rattle.std.specs.List.{AllByRecursion}
 use Rattle.std.specs.Int.{w64}
 use Rattle.std.proofs.lemmas.Int.{to_z-of_z}
 use Rattle.world.specs.State.{SubscriberState}
-use Rattle.world.specs.Machine.{IsSubscribed, shown, start_state, subscriber_state}
+use Rattle.world.specs.Machine.{IsSubscribed, shown, subscriber_state}
+use Rattle.starts.specs.Starts.{start_state}
 use Rattle.world.proofs.Openings.{none_open, open_at}
 use Rattle.world.proofs.PipesBack.{on_err, puts_back, same_states}
 use Rattle.world.proofs.Subscribing.{has_place, open_subscribed, still_subscribed, subscriber_at}

@@ -1,0 +1,106 @@
+//! The service's own thread: each order is a transaction, and each article of it stands behind a savepoint.
+
+use crate::FOLLOWERS;
+use crate::fault::OrderFault;
+use crate::orders::{ORDERS, Order, STOCK};
+use crate::shop::{
+    LINE_TABLE, ORDER_TABLE, STOCK_TABLE, line_row, order_row, pieces_and_price, stock_key,
+    stock_row,
+};
+use hub::{Hub, Transaction};
+use shared_log::LogName;
+use slots::SlotName;
+use std::alloc::Global;
+use std::sync::Wait;
+
+/// Fills the stock and takes all orders, once both followers have their streams: what is committed before reaches nobody.
+pub(crate) fn take_orders<L, R>(rt: &R, alloc: Global, hub: &Hub<L>) -> Result<(), OrderFault>
+where
+    L: LogName + SlotName,
+    R: Wait,
+{
+    hub.await_streams(rt, u64::from(FOLLOWERS));
+    fill_stock(rt, alloc, hub)?;
+    for order in &ORDERS {
+        match take_order(rt, alloc, hub, order) {
+            Ok(()) | Err(OrderFault::SoldOut) => {}
+            Err(fault) => return Err(fault),
+        }
+    }
+    Ok(())
+}
+
+fn fill_stock<L, R>(rt: &R, alloc: Global, hub: &Hub<L>) -> Result<(), OrderFault>
+where
+    L: LogName + SlotName,
+    R: Wait,
+{
+    let mut tx = hub.transaction(rt)?;
+    let filled = insert_stock(alloc, &mut tx);
+    tx.end(0, filled)
+}
+
+fn take_order<L, R>(rt: &R, alloc: Global, hub: &Hub<L>, order: &Order) -> Result<(), OrderFault>
+where
+    L: LogName + SlotName,
+    R: Wait,
+{
+    let mut tx = hub.transaction(rt)?;
+    let placed = place(alloc, &mut tx, order);
+    tx.end(i64::from(order.id), placed)
+}
+
+fn insert_stock<L: LogName + SlotName, R: Wait>(
+    alloc: Global,
+    tx: &mut Transaction<'_, L, R>,
+) -> Result<(), OrderFault> {
+    for article in &STOCK {
+        let row = stock_row(alloc, article.name, article.pieces, article.price)?;
+        tx.insert(STOCK_TABLE, row)?;
+    }
+    Ok(())
+}
+
+/// Places an order of what is there. What was done for an article that is sold out reaches no follower.
+fn place<L: LogName + SlotName, R: Wait>(
+    alloc: Global,
+    tx: &mut Transaction<'_, L, R>,
+    order: &Order,
+) -> Result<(), OrderFault> {
+    let mut total: i64 = 0;
+    for article in order.articles {
+        let savepoint = tx.savepoint()?;
+        let placed = place_one(alloc, tx, order, article);
+        match tx.end_savepoint(savepoint, placed) {
+            Ok(price) => total = total.saturating_add(price),
+            Err(OrderFault::SoldOut) => {}
+            Err(fault) => return Err(fault),
+        }
+    }
+    if total == 0 {
+        return Err(OrderFault::SoldOut);
+    }
+    tx.insert(ORDER_TABLE, order_row(alloc, order, total)?)?;
+    Ok(())
+}
+
+/// Writes a line of the order, takes the piece for it out of the stock, and answers its price.
+fn place_one<L: LogName + SlotName, R: Wait>(
+    alloc: Global,
+    tx: &mut Transaction<'_, L, R>,
+    order: &Order,
+    article: &str,
+) -> Result<i64, OrderFault> {
+    tx.insert(LINE_TABLE, line_row(alloc, order, article)?)?;
+    let key = stock_key(alloc, article)?;
+    let (pieces, price) = tx
+        .get(STOCK_TABLE, &key)
+        .and_then(pieces_and_price)
+        .ok_or(OrderFault::SoldOut)?;
+    if pieces <= 0 {
+        return Err(OrderFault::SoldOut);
+    }
+    let row = stock_row(alloc, article, pieces - 1, price)?;
+    tx.update(STOCK_TABLE, &key, row)?;
+    Ok(price)
+}

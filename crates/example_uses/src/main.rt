@@ -1,0 +1,74 @@
+//! Short uses of the crates, each in a file of its own, to read and to time: `example_uses USE [then USE]..`. The first three are first
+//! steps; what a use prints is small, so that many turns of it measure its speed. `example_uses` alone says which there are.
+#![tactic(auto)]
+
+mod claims;
+mod connection;
+mod desk;
+mod filters;
+mod item;
+mod log;
+mod rows;
+mod sending;
+mod subscriber;
+
+use anyhow::{Context, Result, bail};
+use claims::work_on_slots;
+use connection::hold_conversations;
+use filters::work_on_filters;
+use log::work_on_log;
+use rows::work_on_store;
+use sending::bytes_sent;
+use std::alloc::Global;
+use std::env;
+use std::io::Print;
+use std::sync::Wait;
+use std::thread::Threads;
+use subscriber::follow_stream;
+
+const USAGE: &str = "usage: example_uses USE [then USE].., where a USE is one of
+  stream
+  connection TIMES LENGTH PIECE
+  subscriber TIMES INSERTS PIECE
+  store ROWS insert|update|delete|undo..
+  filter TURNS filter|hand|one|sixteen
+  slots slots|words|apart THREADS TURNS
+  log RECORDS READERS busy|yielding COMMITS FETCHES";
+
+/// The word between two uses.
+const THEN: &str = "then";
+
+fn main(rt: HostRuntime) -> Result<()> {
+    let alloc = rt.alloc();
+    let words: Vec<String> = env::args(&rt)?.skip(1).collect(alloc)?;
+    for one in words.as_slice().split(|word| word.as_str() == THEN) {
+        use_one(&rt, alloc, one)?;
+    }
+    Ok(())
+}
+
+fn use_one<R: Threads + Wait + Sync + Print>(
+    rt: &R,
+    alloc: Global,
+    words: &[String],
+) -> Result<()> {
+    let [name, words @ ..] = words else {
+        bail!("{USAGE}");
+    };
+    match name.as_str() {
+        "stream" => println!(rt; "{}", bytes_sent(rt, alloc)?).map_err(Into::into),
+        "connection" => hold_conversations(rt, alloc, words),
+        "subscriber" => follow_stream(rt, alloc, words),
+        "store" => work_on_store(alloc, words),
+        "filter" => work_on_filters(rt, alloc, words),
+        "slots" => work_on_slots(rt, alloc, words),
+        "log" => work_on_log(rt, alloc, words),
+        _ => bail!("{USAGE}"),
+    }
+}
+
+fn number(word: &String) -> Result<u32> {
+    word.as_str()
+        .parse::<u32>()
+        .context("a word that has to be a number is none")
+}

@@ -1,0 +1,102 @@
+-- A stream that goes on call by call.
+use Rattle.std.proofs.Common.{◌≡◌, ◌+◌, ℕ, zero, suc, false, List, [], ◌++◌, Result, Ok, Err, OnOk, inl, inr, refl, ap, sym, subst, ◌∙◌, append_assoc, arith}
+use Rattle.std.proofs.lemmas.List.{append-nil}
+use Rattle.std.specs.declared.option.Option.{Option}
+use Rattle.std.specs.Io.KnownBytes.{Appends}
+use Rattle.std.proofs.KnownBytes.{Appends-nil, Appends-trans}
+use Rattle.shared_log.specs.Readers.{seen_of}
+use Rattle.wal.specs.declared.record.Record.{Record}
+use Rattle.walsender.specs.declared.walsender.Walsender.{Walsender}
+use Rattle.stream.specs.Words.{word_bytes}
+use Rattle.stream.specs.Items.{keepalive_word}
+use Rattle.hub.specs.declared.streaming.TheConstants.{CLOCK}
+use Rattle.walsender.specs.Serving.{Gives, Serves}
+use Rattle.walsender.proofs.Serving.{nothing_given}
+use Rattle.hub.specs.Streams.{HasLearnt, StreamsOn, WordsBehind, keepalives}
+
+pub one_more : {L : Type 0} (a b c : Walsender L) (before between after : Option (List ℕ)) → StreamsOn a b before between → StreamsOn b c between after → StreamsOn a c before after
+one_more a b c before between after (g, first, p) (h, second, q) = (
+  g ++ h,
+  λ (written : List ℕ) serving.
+      let P : List ℕ → Type 0 = λ l. Serves (seen_of c.reader) l c in
+      subst P (append_assoc written g h) (second (written ++ g) (first written serving)),
+  Appends-trans before between after g h p q,
+)
+
+pub not_yet : {L : Type 0} (a b : Walsender L) (before : Option (List ℕ)) → ((written : List ℕ) → Serves (seen_of a.reader) written a → Serves (seen_of b.reader) written b) → StreamsOn a b before before
+not_yet a b before goes = ([], λ (written : List ℕ) serving. nothing_given (seen_of b.reader) b.reader.place written b.sender (goes written serving), Appends-nil before)
+
+-- nothing was read, and nothing written
+pub kept_on : {L : Type 0} (a b : Walsender L) (before : Option (List ℕ)) → b.reader ≡ a.reader → ((log : List Record) (written : List ℕ) → Serves log written a → Serves log written b) → StreamsOn a b before before
+kept_on a b before same serves =
+    not_yet a b before
+    (λ (written : List ℕ) serving. let P : List Record → Type 0 = λ log. Serves log written b in subst P (ap seen_of (sym same)) (serves (seen_of a.reader) written serving))
+
+pub same_on : {L : Type 0} (a b : Walsender L) (before : Option (List ℕ)) → b ≡ a → StreamsOn a b before before
+same_on a b before same = kept_on a b before (ap (λ (w : Walsender _). w.reader) same) (λ log written serving. let P : Walsender _ → Type 0 = λ w. Serves log written w in subst P (sym same) serving)
+
+pub learnt : {L : Type 0} (old new : Walsender L) (before : Option (List ℕ)) → HasLearnt old new → StreamsOn old new before before
+learnt old new before is = not_yet old new before (λ (written : List ℕ) serving. rw (is.sender, is.place, is.seen) serving)
+
+-- ---- keepalives
+
+keepalives_more : (position a b : ℕ) → keepalives position (a + b) ≡ keepalives position a ++ keepalives position b
+keepalives_more position a zero = let none : a + zero ≡ a = omega arith in ap (keepalives position) none ∙ sym (append-nil (keepalives position a))
+keepalives_more position a (suc b) =
+    let word = word_bytes (keepalive_word position CLOCK false) in
+    let one : a + suc b ≡ suc (a + b) = omega arith in
+    ap (keepalives position) one ∙ ap (λ (l : List ℕ). l ++ word) (keepalives_more position a b) ∙ append_assoc (keepalives position a) (keepalives position b) word
+
+-- of these bytes some were given, and the others are held
+abbrev pub Gave : List ℕ → List ℕ → Option (List ℕ) → Option (List ℕ) → Type 0
+Gave bytes held before after = (given : List ℕ) × (given ++ held ≡ bytes) × Appends before after given
+
+-- nothing is held yet
+pub nothing_kept : (held : List ℕ) (position : ℕ) (before : Option (List ℕ)) → Gave (held ++ keepalives position 0) held before before
+nothing_kept held position before = ([], sym (append-nil held), Appends-nil before)
+
+-- so many more are held, and what was held is written
+pub wrote_more : (old held_before held_then held_after given : List ℕ) (position a b : ℕ) (before between after : Option (List ℕ)) → Gave (old ++ keepalives position a) held_before before between
+    → held_then ≡ held_before ++ keepalives position b → held_then ≡ given ++ held_after → Appends between after given → Gave (old ++ keepalives position (a + b)) held_after before after
+wrote_more old held_before held_then held_after given position a b before between after (early, whole, p) held parts q = (
+  early ++ given,
+  append_assoc early given held_after ∙ ap (λ (l : List ℕ). early ++ l) (sym parts ∙ held) ∙ sym (append_assoc early held_before (keepalives position b)) ∙ ap (λ (l : List ℕ). l ++ keepalives position b) whole
+      ∙ append_assoc old (keepalives position a) (keepalives position b) ∙ ap (λ (l : List ℕ). old ++ l) (sym (keepalives_more position a b)),
+  Appends-trans before between after early given p q,
+)
+
+-- so many more are held, and nothing is written
+pub held_more : (old held_before held_after : List ℕ) (position a b : ℕ) (before after : Option (List ℕ)) → Gave (old ++ keepalives position a) held_before before after → held_after ≡ held_before ++ keepalives position b
+    → Gave (old ++ keepalives position (a + b)) held_after before after
+held_more old held_before held_after position a b before after (early, whole, p) held = (
+  early,
+  ap (λ (l : List ℕ). early ++ l) held ∙ sym (append_assoc early held_before (keepalives position b)) ∙ ap (λ (l : List ℕ). l ++ keepalives position b) whole ∙ append_assoc old (keepalives position a) (keepalives position b)
+      ∙ ap (λ (l : List ℕ). old ++ l) (sym (keepalives_more position a b)),
+  p,
+)
+
+-- what a walsender gave goes on with its stream
+pub gave_on : {L : Type 0} (a b : Walsender L) (before after : Option (List ℕ)) (given : List ℕ) → b.reader ≡ a.reader → Gives given a b → Appends before after given → StreamsOn a b before after
+gave_on a b before after given same gives appended = (
+  given,
+  λ (written : List ℕ) serving.
+      let P : List Record → Type 0 = λ log. Serves log (written ++ given) b in
+      subst P (ap seen_of (sym same)) (gives (seen_of a.reader) written serving),
+  appended,
+)
+
+-- ---- the end of a stream
+
+-- nothing is said
+pub nothing_behind : {L : Type 0} (a : Walsender L) (before : Option (List ℕ)) → WordsBehind a a before before
+nothing_behind a before = ([], [], λ (log : List Record) (written : List ℕ) serving. nothing_given log a.reader.place written a.sender serving, inl refl, Appends-nil before)
+
+-- all that was held was written, and then something else, if it could be
+pub words_behind : {L : Type 0} {T E : Type 0} (a b : Walsender L) (before between after : Option (List ℕ)) (given : List ℕ) (r : Result T E) → Gives given a b → b.sender.held ≡ [] → Appends before between given
+    → OnOk r ((words : List ℕ) × Appends between after words) → OnOk r (WordsBehind a b before after)
+words_behind a b before between after given (Ok done) gives empty p (words, q) = (given, words, gives, inr empty, Appends-trans before between after given words p q)
+words_behind a b before between after given (Err fault) gives empty p told = tt
+
+pub some_words : {T E : Type 0} (before after : Option (List ℕ)) (bytes : List ℕ) (r : Result T E) → OnOk r (Appends before after bytes) → OnOk r ((words : List ℕ) × Appends before after words)
+some_words before after bytes (Ok done) appended = (bytes, appended)
+some_words before after bytes (Err fault) appended = tt

@@ -1,0 +1,30 @@
+-- What a connection makes of its stream.
+use Rattle.std.specs.Prelude.{◌≡◌, ◌⊎◌, ℕ, zero, suc, List, [], ◌++◌, false}
+use Rattle.std.specs.declared.option.Option.{Option}
+use Rattle.std.specs.Io.KnownBytes.{Appends}
+use Rattle.stream.specs.Words.{word_bytes}
+use Rattle.stream.specs.Items.{keepalive_word}
+use Rattle.shared_log.specs.Readers.{seen_of}
+use Rattle.walsender.specs.declared.walsender.Walsender.{Walsender}
+use Rattle.walsender.specs.Serving.{Gives, GoesOn}
+use Rattle.hub.specs.declared.streaming.TheConstants.{CLOCK}
+
+-- so many keepalives, one behind the other, which don't ask for an answer
+abbrev pub keepalives : ℕ → ℕ → List ℕ
+keepalives position zero = []
+keepalives position (suc count) = keepalives position count ++ word_bytes (keepalive_word position CLOCK false)
+
+-- what a writer took goes on with the stream
+abbrev pub StreamsOn : {L : Type 0} → Walsender L → Walsender L → Option (List ℕ) → Option (List ℕ) → Type 0
+StreamsOn old new before after = (given : List ℕ) × GoesOn given old new × Appends before after given
+
+-- what was held was written, and other words, if there are any, only behind all of it
+abbrev pub WordsBehind : {L : Type 0} → Walsender L → Walsender L → Option (List ℕ) → Option (List ℕ) → Type 0
+WordsBehind old new before after =
+    (given words : List ℕ) × Gives given old new × ((words ≡ []) ⊎ (new.sender.held ≡ [])) × Appends before after (given ++ words)
+
+-- its reader was told of a commit, and nothing else has changed
+pub record HasLearnt {L : Type 0} (old new : Walsender L) : Type 0 where
+  pub sender : new.sender ≡ old.sender
+  pub place : new.reader.place ≡ old.reader.place
+  pub seen : seen_of new.reader ≡ seen_of old.reader

@@ -1,0 +1,75 @@
+//! A connection on its way to its two threads.
+
+use std::mem;
+use std::net::TcpStream;
+use std::sync::{Condvar, Mutex, MutexGuard, Wait};
+
+/// Where the thread that takes connections leaves one for the thread that reads it, and waits until both of its threads run.
+#[derive(Drop)]
+pub(crate) struct Arrival {
+    arriving: Mutex<Arriving>,
+    settled: Condvar,
+}
+
+#[derive(Drop)]
+struct Arriving {
+    socket: Option<TcpStream>,
+    /// Both of its threads run, or it has none and is still here.
+    is_settled: bool,
+}
+
+impl Arrival {
+    pub fn new() -> Self {
+        Arrival {
+            arriving: Mutex::new(Arriving {
+                socket: None,
+                is_settled: false,
+            }),
+            settled: Condvar::new(),
+        }
+    }
+
+    /// A connection came.
+    pub fn put<R: Wait>(&self, rt: &R, socket: TcpStream) {
+        let mut arriving = self.arriving.lock(rt);
+        arriving.socket = Some(socket);
+        arriving.is_settled = false;
+        drop(arriving);
+    }
+
+    /// The connection that came.
+    pub fn take<R: Wait>(&self, rt: &R) -> Option<TcpStream> {
+        let mut arriving = self.arriving.lock(rt);
+        let socket = mem::replace(&mut arriving.socket, None);
+        let _ = MutexGuard::unlock(arriving);
+        socket
+    }
+
+    /// It was taken and both of its threads run, or nobody takes it.
+    pub fn settle<R: Wait>(&self, rt: &R) {
+        let mut arriving = self.arriving.lock(rt);
+        arriving.is_settled = true;
+        drop(arriving);
+        self.settled.notify_all();
+    }
+
+    /// It was taken, and can't have its second thread.
+    pub fn give_back<R: Wait>(&self, rt: &R, socket: TcpStream) {
+        let mut arriving = self.arriving.lock(rt);
+        arriving.socket = Some(socket);
+        arriving.is_settled = true;
+        drop(arriving);
+        self.settled.notify_all();
+    }
+
+    /// Waits until both of its threads run, and answers the connection where it can't have them.
+    pub fn settled<R: Wait>(&self, rt: &R) -> Option<TcpStream> {
+        let arriving = self.arriving.lock(rt);
+        let mut arriving = self
+            .settled
+            .wait_while(rt, arriving, |arriving| !arriving.is_settled);
+        let socket = mem::replace(&mut arriving.socket, None);
+        let _ = MutexGuard::unlock(arriving);
+        socket
+    }
+}

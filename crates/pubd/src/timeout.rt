@@ -1,0 +1,35 @@
+//! A time as PostgreSQL's settings write it.
+
+use std::time::Duration;
+
+/// The most milliseconds of a setting.
+const MOST: u64 = 2_147_483_647;
+
+/// The units, and how many milliseconds each has.
+const UNITS: [(&str, u64); 5] = [
+    ("ms", 1),
+    ("min", 60_000),
+    ("s", 1_000),
+    ("h", 3_600_000),
+    ("d", 86_400_000),
+];
+
+/// The time of a text like `60s` or `1min`; a number alone is milliseconds.
+pub fn timeout_of(text: &str) -> Option<Duration> {
+    for (unit, milliseconds) in &UNITS {
+        if let Some(number) = text.strip_suffix(*unit) {
+            return times(number, *milliseconds);
+        }
+    }
+    times(text, 1)
+}
+
+fn times(number: &str, milliseconds: u64) -> Option<Duration> {
+    let count = number.trim_end().parse::<u32>().ok()?;
+    let total = u64::from(count).checked_mul(milliseconds)?;
+    if total <= MOST {
+        Some(Duration::from_millis(total))
+    } else {
+        None
+    }
+}

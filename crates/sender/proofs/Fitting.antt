@@ -1,0 +1,20 @@
+-- What can be told of a transaction fits a stream.
+use Rattle.std.proofs.Common.{◌<◌, ◌^◌, List, [], ◌∷◌}
+use Rattle.std.specs.Prelude.{FitsSigned}
+use Rattle.std.specs.Int.{w64}
+use Rattle.std.specs.List.{AllByRecursion}
+use Rattle.publication.specs.Publications.{PublicationSet}
+use Rattle.publication.specs.Selection.{relation}
+use Rattle.stream.specs.declared.published.Published.{Published}
+use Rattle.stream.specs.declared.published.PublishedChange.{PublishedChange}
+use Rattle.stream.specs.Items.{FitsChange, FitsPublished}
+use Rattle.sender.specs.Published.{CanBeTold}
+
+changes_fit : (selection : PublicationSet) (cs : List PublishedChange) → AllByRecursion (CanBeTold selection) cs → AllByRecursion (FitsChange (relation selection)) cs
+changes_fit selection [] all = tt
+changes_fit selection (c ∷ cs) all =
+    let f = all.0.1 in
+    (record { position = all.0.0; of_change = f.of_change; fits = f.fits; short = f.short; relations = f.relations }, changes_fit selection cs all.1)
+
+pub transaction_fits : (selection : PublicationSet) (t : Published) → (t.start < 2 ^ 64) × (t.end < 2 ^ 64) × FitsSigned w64 t.time × (t.xid < 2 ^ 32) → AllByRecursion (CanBeTold selection) t.changes → FitsPublished (relation selection) t
+transaction_fits selection t (start, end, time, xid) all = record { start = start; end = end; time = time; xid = xid; changes = changes_fit selection t.changes all }

@@ -1,0 +1,44 @@
+//! What a start reads of the publisher's log.
+
+ghost use Rattle.std.specs.Prelude.{◌≡◌, ◌-◌, List, ℕ, IfOk, OnErr, length};
+ghost use mathlib.Core.List.{IsPrefix};
+ghost use Rattle.shared_log.specs.Fronts.{settled};
+ghost use Rattle.shared_log.specs.Readers.{seen_of};
+ghost use Rattle.txlog.specs.Invariants.{IsPublisher};
+ghost use Rattle.walsender.specs.Serving.{Reads, Serves, next_records};
+
+use sender::SendFault;
+use shared_log::{LogName, LogReader, ReadFault};
+use std::alloc::Global;
+use txlog::Publisher;
+use walsender::Walsender;
+
+/// Reads up to `max` records of the log.
+pub(crate) fn read_on<L: LogName>(
+    alloc: Global,
+    publisher: &mut Publisher<L>,
+    walsender: &mut Walsender<L>,
+    max: usize,
+    clock: i64,
+) -> Result<Result<(), SendFault>, ReadFault>
+    ensures same { publisher.new ≡ publisher.old }
+    ensures reads { IfOk result (Reads clock walsender.old.sender walsender.new.sender (next_records max walsender.old.reader.place publisher.old.log)) }
+    ensures serves { (written : List ℕ) → Serves publisher.old.log written walsender.old → Serves publisher.old.log written walsender.new }
+    ensures unread { OnErr result (walsender.new.sender ≡ walsender.old.sender) }
+    ensures publisher { IsPublisher publisher.old }
+{
+    let unread = unread_of(publisher, &mut walsender.reader);
+    walsender.read(alloc, unread.min(max), clock)
+}
+
+/// Tells the reader of the whole log, and answers how many records of it stand before it.
+fn unread_of<L: LogName>(publisher: &mut Publisher<L>, reader: &mut LogReader<L>) -> usize
+    ensures same { publisher.new ≡ publisher.old }
+    ensures unread { result ≡ length publisher.old.log - reader.old.place }
+    ensures told { IsPrefix publisher.old.log (settled reader.new.told) }
+    ensures place { (seen_of reader.new ≡ seen_of reader.old) × (reader.new.place ≡ reader.old.place) }
+    ensures publisher { IsPublisher publisher.old }
+{
+    let count = publisher.tell(reader);
+    count.saturating_sub(reader.place())
+}

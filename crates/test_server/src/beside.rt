@@ -1,0 +1,39 @@
+//! A server, and beside it whoever talks to it.
+
+use hub::{Gate, Hub, serve};
+use shared_log::LogName;
+use slots::SlotName;
+use std::net::{Net, SocketAddr, TcpListener, TcpStream};
+use std::sync::Wait;
+use std::test::Fail;
+use std::thread::Threads;
+use std::time::Clock;
+use std::{io, thread};
+
+/// Serves so many connections, and calls the clients with the address meanwhile. It returns once all connections have ended.
+pub fn serve_beside<L, R, G, C, T>(
+    rt: &R,
+    hub: &Hub<L>,
+    connections: u32,
+    gate: &G,
+    clients: C,
+) -> Result<T, Fail>
+where
+    L: LogName + SlotName + Send + Sync,
+    R: Net<Listener = TcpListener, Stream = TcpStream> + Threads + Wait + Clock + Sync,
+    G: Gate + Sync,
+    C: FnOnce(SocketAddr) -> io::Result<T>,
+    T: Drop,
+    requires { C.IsAlwaysCallable clients }
+{
+    let listener = TcpListener::bind(rt, "127.0.0.1:0")?;
+    let address = listener.local_addr()?;
+    let bound = &listener;
+    let (served, answered) = thread::join(
+        rt,
+        || serve(rt, bound, hub, connections, gate),
+        || clients(address),
+    );
+    served?;
+    Ok(answered?)
+}

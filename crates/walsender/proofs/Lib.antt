@@ -1,0 +1,5 @@
+pub mod Late
+pub mod Streams
+pub mod Sections
+pub mod Serving
+pub mod Turns

@@ -1,0 +1,57 @@
+-- A walsender between its calls: what was written of its stream, what is held of it, and which records it has read.
+use Rattle.std.specs.Prelude.{◌≡◌, ◌≤◌, ℕ, ℤ, false, List, ◌++◌, length, take, drop, Result, Ok, Err}
+use Rattle.wal.specs.declared.record.TheConstants.{FIRST_POSITION}
+use Rattle.wal.specs.declared.record.Record.{Record}
+use Rattle.wal.specs.Log.{IsWellFormedLog, end_of}
+use Rattle.publication.specs.Selection.{relation}
+use Rattle.stream.specs.Stream.{IsStream}
+use Rattle.shared_log.specs.Readers.{seen_of}
+use Rattle.sender.specs.declared.fault.SendFault.{SendFault}
+use Rattle.sender.specs.Published.{published}
+use Rattle.sender.specs.Sending.{SenderState, HasRead, ReadAll}
+use Rattle.sender.specs.Turning.{IsRefused}
+use Rattle.walsender.specs.declared.walsender.Walsender.{Walsender}
+
+-- So many records of a log were read; what was written since the start, followed by what is held, is a stream encoding of
+-- exactly what they publish from the start position on, with safe keepalives.
+pub record IsStreaming (log : List Record) (count : ℕ) (written : List ℕ) (s : SenderState) : Type 0 where
+  pub within : count ≤ length log
+  pub at : s.position ≡ end_of FIRST_POSITION (take count log)
+  pub stream : IsStream (relation s.selection) (written ++ s.held) (published s.selection (take count log) s.start) s.position
+
+-- Unless it has failed, its reader stands behind those records, and it is as they leave a sender.
+pub record IsServing (log : List Record) (place : ℕ) (written : List ℕ) (s : SenderState) : Type 0 where
+  pub count : ℕ
+  pub streaming : IsStreaming log count written s
+  pub running : s.failed ≡ false → (count ≡ place) × HasRead s (take place log)
+
+abbrev pub Serves : {L : Type 0} → List Record → List ℕ → Walsender L → Type 0
+Serves log written w = IsServing log w.reader.place written w.sender
+
+-- ---- What calls do to it.
+
+-- it gave nothing, and read nothing
+abbrev pub StaysOn : {L : Type 0} → Walsender L → Walsender L → Type 0
+StaysOn old new = (log : List Record) (written : List ℕ) → Serves log written old → Serves log written new
+
+-- it gave these bytes, and read nothing
+abbrev pub Gives : {L : Type 0} → List ℕ → Walsender L → Walsender L → Type 0
+Gives given old new = (log : List Record) (written : List ℕ) → Serves log written old → Serves log (written ++ given) new
+
+-- it gave these bytes, and read on in what its reader sees of the log
+abbrev pub GoesOn : {L : Type 0} → List ℕ → Walsender L → Walsender L → Type 0
+GoesOn given old new = (written : List ℕ) → Serves (seen_of old.reader) written old → Serves (seen_of new.reader) (written ++ given) new
+
+-- the records from a place on, so many at most
+abbrev pub next_records : ℕ → ℕ → List Record → List Record
+next_records max place log = take max (drop place log)
+
+-- it read these records, of whichever log they are the next
+abbrev pub ReadsOn : {L : Type 0} → List Record → Walsender L → Walsender L → Type 0
+ReadsOn records old new =
+    (log : List Record) (written : List ℕ) (max : ℕ) → IsWellFormedLog log → records ≡ next_records max old.reader.place log → Serves log written old → Serves log written new
+
+-- what a sender made of the records that it was fed
+abbrev pub Reads : ℤ → SenderState → SenderState → List Record → Result (Unit {0}) SendFault → Type 0
+Reads clock old new records (Ok done) = (old.failed ≡ false) × ReadAll clock old new records × (new.failed ≡ false)
+Reads clock old new records (Err fault) = IsRefused clock old new records fault

@@ -1,0 +1,155 @@
+//! A sender and its reader.
+
+ghost use Rattle.std.specs.Prelude.{◌≡◌, ◌≢◌, ◌↔◌, ◌+◌, ◌<◌, ◌++◌, ◌==◌, [], ℕ, List, false, true, drop, length, min, not, take, Err, IfOk, OnErr, OnOk};
+ghost use Rattle.std.specs.Io.KnownBytes.{Appends};
+ghost use mathlib.Core.List.{IsPrefix};
+ghost use Rattle.std.specs.declared.io.Error.{Error};
+ghost use Rattle.wal.specs.declared.record.Record.{Record};
+ghost use Rattle.wal.specs.declared.record.TheConstants.{FIRST_POSITION};
+ghost use Rattle.wal.specs.Log.{IsWellFormedLog};
+ghost use Rattle.stream.specs.Words.{word_bytes};
+ghost use Rattle.stream.specs.Items.{keepalive_word};
+ghost use Rattle.shared_log.specs.Fronts.{settled};
+ghost use Rattle.shared_log.specs.Readers.{seen_of};
+ghost use Rattle.sender.specs.Faults.{has_fetched, has_written};
+ghost use Rattle.sender.specs.Turning.{ReadAndGave, fetched_from};
+ghost use Rattle.walsender.specs.Serving.{Gives, GoesOn, Reads, ReadsOn, Serves, StaysOn, next_records};
+
+use bytes::BytesMut;
+use publication::Selection;
+use sender::{Ended, SendFault, Sender, TurnFault, turn};
+use shared_log::{LogName, LogReader, ReadFault};
+use std::alloc::{AllocError, Global};
+use std::io;
+use std::io::Write;
+use wal::FIRST_POSITION;
+
+/// A sender, and the reader that feeds it. Whoever tells the reader of a commit has the next read see it.
+///
+/// What was written since its start, followed by what is held, is a stream encoding of exactly the transactions that its
+/// selection publishes of the records up to its reader's place, and that commit at its start position or later. After `Err` of
+/// the sender for memory, it is one of a beginning of these records, and nothing more is read.
+#[derive(Drop)]
+pub struct Walsender<L: LogName> {
+    pub(crate) sender: Sender,
+    pub reader: LogReader<L>,
+}
+
+impl<L: LogName> Walsender<L> {
+    /// A stream of what the selection publishes of transactions that commit at `start` or later. It reads the log from its first
+    /// record on.
+    pub fn begin(alloc: Global, mut reader: LogReader<L>, selection: Selection, start: u64) -> Self
+        ensures serves { (log : List Record) → Serves log [] result }
+        ensures asked { (result.sender.selection ≡ selection) × (result.sender.start ≡ start) }
+        ensures fresh { (result.sender.position ≡ FIRST_POSITION) × (result.sender.failed ≡ false) × (result.sender.held ≡ []) }
+        ensures reader { (result.reader.place ≡ 0) × (seen_of result.reader ≡ seen_of reader) × (result.reader.told ≡ reader.told) }
+    {
+        let Ok(sender) = Sender::start(alloc, selection, start, FIRST_POSITION) else {
+            unreachable!();
+        };
+        reader.seek(0);
+        Walsender { sender, reader }
+    }
+
+    /// The end of the last record that was read.
+    pub fn position(&self) -> u64
+        ensures { result ≡ self.now.sender.position }
+    {
+        self.sender.position()
+    }
+
+    /// How much of what a client has flushed can be confirmed: no more than was read.
+    pub fn confirmable(&self, flushed: u64) -> u64
+        ensures { result ≡ min flushed self.now.sender.position }
+    {
+        flushed.min(self.sender.position())
+    }
+
+    /// Whether any bytes are held.
+    pub fn holds_bytes(&self) -> bool
+        ensures { result ≡ not (length self.now.sender.held == 0) }
+    {
+        self.sender.holds_bytes()
+    }
+
+    /// Reads up to `max` records of the log, and answers what the sender made of them. Where the log gives none, nothing has
+    /// changed; where the sender refuses them, the reader stands behind them.
+    pub fn read(
+        &mut self,
+        alloc: Global,
+        max: usize,
+        clock: i64,
+    ) -> Result<Result<(), SendFault>, ReadFault>
+        ensures grows { IsPrefix (seen_of self.old.reader) (seen_of self.new.reader) }
+        ensures told { self.new.reader.told ≡ self.old.reader.told }
+        ensures sees { OnOk result (IsPrefix (settled self.new.reader.told) (seen_of self.new.reader) × IsWellFormedLog (seen_of self.new.reader)) }
+        ensures moved { OnOk result (self.new.reader.place ≡ self.old.reader.place + length (next_records max self.old.reader.place (seen_of self.new.reader))) }
+        ensures reads { IfOk result (Reads clock self.old.sender self.new.sender (next_records max self.old.reader.place (seen_of self.new.reader))) }
+        ensures serves { OnOk result (ReadsOn (next_records max self.old.reader.place (seen_of self.new.reader)) self.old self.new) }
+        ensures unread { OnErr result ((self.new.sender ≡ self.old.sender) × (self.new.reader.place ≡ self.old.reader.place)) }
+    {
+        let records = self.reader.fetch(alloc, max)?;
+        Ok(self.sender.feed(records.as_slice(), clock))
+    }
+
+    /// Reads on, and writes all that is held, as `sender::turn` does.
+    pub fn turn<W: Write>(
+        &mut self,
+        alloc: Global,
+        clock: i64,
+        to: &mut W,
+    ) -> Result<usize, TurnFault>
+        ensures grows { IsPrefix (seen_of self.old.reader) (seen_of self.new.reader) }
+        ensures told { self.new.reader.told ≡ self.old.reader.told }
+        ensures sees { has_fetched result ≡ true → IsPrefix (settled self.new.reader.told) (seen_of self.new.reader) }
+        ensures serves { (given : List ℕ) × GoesOn given self.old self.new × Appends (W.contents to.old) (W.contents to.new) given }
+        ensures sent { OnOk result (self.new.sender.held ≡ []) }
+        ensures broken { (e : Error) → result ≡ Err (TurnFault.Write e) → 0 < length self.new.sender.held }
+        ensures silent { has_written result ≡ false → to.new ≡ to.old }
+    {
+        turn(alloc, &mut self.sender, &mut self.reader, clock, to)
+    }
+
+    /// Holds a keepalive with the position up to which was read, behind all that is held.
+    pub fn keepalive(&mut self, clock: i64, ask: bool) -> Result<(), SendFault>
+        ensures ok { OnOk result (self.new.sender ≡ record self.old.sender { held = self.old.sender.held ++ word_bytes (keepalive_word self.old.sender.position clock ask) }) }
+        ensures err { OnErr result (self.new.sender ≡ self.old.sender) }
+        ensures failed { (result ≡ Err SendFault.Failed) ↔ (self.old.sender.failed ≡ true) }
+        ensures gap { result ≢ Err SendFault.Gap }
+        ensures reader { self.new.reader ≡ self.old.reader }
+        ensures serves { StaysOn self.old self.new }
+    {
+        self.sender.keepalive(clock, ask)
+    }
+
+    /// Writes what is held. Where the writer fails or takes no bytes, the rest is held still.
+    pub fn write_held<W: Write>(&mut self, to: &mut W) -> io::Result<()>
+        ensures ok { OnOk result (self.new.sender.held ≡ []) }
+        ensures err { OnErr result (0 < length self.new.sender.held) }
+        ensures serves { (given : List ℕ) × (self.old.sender.held ≡ given ++ self.new.sender.held) × Gives given self.old self.new × Appends (W.contents to.old) (W.contents to.new) given }
+        ensures rest { self.new.sender ≡ record self.old.sender { held = self.new.sender.held } }
+        ensures reader { self.new.reader ≡ self.old.reader }
+    {
+        self.sender.write_held(to)
+    }
+
+    /// Moves up to `max` held bytes to the end of `out`, or, where there is no memory for them, nothing.
+    pub fn drain_into(&mut self, max: usize, out: &mut BytesMut) -> Result<(), AllocError>
+        ensures moved { OnOk result (out.new.items ≡ out.old.items ++ take max self.old.sender.held) }
+        ensures rest { OnOk result (self.new.sender ≡ record self.old.sender { held = drop max self.old.sender.held }) }
+        ensures err { OnErr result ((self.new.sender ≡ self.old.sender) × (out.new.items ≡ out.old.items)) }
+        ensures reader { self.new.reader ≡ self.old.reader }
+        ensures serves { OnOk result (Gives (take max self.old.sender.held) self.old self.new) }
+    {
+        self.sender.drain_into(max, out)
+    }
+
+    /// Ends the stream: what was held is lost, and the reader can serve another.
+    pub fn end(self) -> (Ended, LogReader<L>)
+        ensures ended { result.0 ≡ record { selection = self.sender.selection; start = self.sender.start; position = self.sender.position } }
+        ensures reader { result.1 ≡ self.reader }
+    {
+        let Walsender { sender, reader } = self;
+        (sender.end(), reader)
+    }
+}
