@@ -3,12 +3,15 @@ import os
 import pathlib
 import random
 import subprocess
+import sys
 import time
 
 from connection import TERMINATE, Connection, Refused, keepalive, position, status
+from link import Link
 from server import NOBODY, Server, inserts
 
-CONVERSATION = pathlib.Path(__file__).resolve().parent / "conversation.frames"
+HERE = pathlib.Path(__file__).resolve().parent
+CONVERSATION = HERE / "conversation.frames"
 STREAMS = 16
 CONNECTIONS = 1000
 # How often each way to close is tried.
@@ -144,6 +147,34 @@ def a_silent_client_is_asked_and_then_lost(pubd, subcat):
         for client in (idle, silent, polite):
             client.close()
         return wrong + server.end()
+
+
+def a_client_whose_link_is_cut_is_lost(pubd, subcat):
+    """It streams from another host, and answers each question; then nothing of it comes, not even its end. Its slot can be claimed
+    once it was silent for long, and not before. Only root has other hosts."""
+    if not Link.can_be_had():
+        return []
+    with Link() as link, Server(pubd, 3, more=["--wal-sender-timeout", "1s"], host=link.here) as server:
+        client = link.run(sys.executable, HERE / "vanishing.py", link.here, str(server.port), "s")
+        wrong = ["a client of another host doesn't stream"] * (client.stdout.readline() != "streams\n")
+        time.sleep(1.5)
+        early, late = Connection(server.port, host=link.here), Connection(server.port, host=link.here)
+        wrong += ["a client that answers is lost"] * (not is_refused(early, "s", "55006"))
+        link.cut()
+        late.start_when_free("s")
+        for each in (early, late):
+            each.close()
+        client.kill()
+        client.communicate()
+        return wrong + server.end()
+
+
+def is_refused(connection, slot, code):
+    try:
+        connection.start(slot)
+        return False
+    except Refused as refused:
+        return refused.args[0] == code
 
 
 def statuses_that_ask_cost_no_memory(pubd, subcat):
@@ -342,6 +373,7 @@ ALL = [
     a_descriptor_that_is_not_to_be_had_costs_one_connection,
     a_thread_that_is_not_to_be_had_costs_one_connection,
     a_silent_client_is_asked_and_then_lost,
+    a_client_whose_link_is_cut_is_lost,
     statuses_that_ask_cost_no_memory,
     a_broken_connection_leaves_the_others,
     a_slow_reader_holds_up_nobody,

@@ -27,12 +27,12 @@ def position(text):
 
 
 class Connection:
-    def __init__(self, port, receives=None, says_nothing=False):
+    def __init__(self, port, receives=None, says_nothing=False, host="127.0.0.1"):
         self.socket = socket.socket()
         if receives:
             self.socket.setsockopt(socket.SOL_SOCKET, socket.SO_RCVBUF, receives)
         self.socket.settimeout(60)
-        self.socket.connect(("127.0.0.1", port))
+        self.socket.connect((host, port))
         self.bytes = self.socket.makefile("rb")
         if not says_nothing:
             self.begin()

@@ -26,11 +26,11 @@ class Server:
     """pubd, which serves so many connections, and runs the script once so many streams have begun. What it says of connections
     that it can't take is said apart."""
 
-    def __init__(self, pubd, connections, lines=(), awaited=0, more=(), user=None):
+    def __init__(self, pubd, connections, lines=(), awaited=0, more=(), user=None, host="127.0.0.1"):
         self.folder = tempfile.TemporaryDirectory()
         self.script = pathlib.Path(self.folder.name) / "script"
         self.script.write_text("".join(line + "\n" for line in lines))
-        words = [*more, "--await-streams", str(awaited), CONFIGURATION, "127.0.0.1:0", str(connections), self.script]
+        words = [*more, "--await-streams", str(awaited), CONFIGURATION, f"{host}:0", str(connections), self.script]
         if user is not None:
             pubd, words = self.opened_to(user, pubd, words)
         self.process = subprocess.Popen([pubd, *words], stdout=subprocess.PIPE, stderr=subprocess.PIPE, text=True, user=user)

@@ -153,17 +153,24 @@ def literals(row):
 
 def event(it):
     """A line of a schedule."""
-    name, *rest = it.inside
-    match it.word:
+    if it.word == "Slot":
+        return words("slot", *it.inside)
+    name, step = it.inside
+    return words(step.word.lower(), name, *asked(step))
+
+
+def asked(step):
+    """What a line asks behind the name of its transaction or connection."""
+    match step.word:
         case "Insert" | "Delete":
-            rest = [rest[0], literals(rest[1])]
+            return step.inside[0], literals(step.inside[1])
         case "Update":
-            rest = [rest[0], literals(rest[1]), "to", literals(rest[2])]
+            return step.inside[0], literals(step.inside[1]), "to", literals(step.inside[2])
         case "Truncate":
-            rest = rest[0]
+            return step.inside[0]
         case "Start":
-            rest = [rest[0], position(rest[1]), *rest[2]]
-    return words(it.word.lower(), name, *rest)
+            return step.inside[0], position(step.inside[1]), *step.inside[2]
+    return step.inside
 
 
 def table(it):

@@ -10,11 +10,12 @@ use crate::grant::StreamGrant;
 use crate::latch::Latch;
 use crate::names::Names;
 use crate::pool::{Pair, Pool};
-use crate::refusals::{of_publications, of_slot};
+use crate::refusals::{of_slot, of_start};
+use crate::starting::HubStart;
 use crate::streaming::Stream;
 use crate::system::SystemName;
 use pqformat::Text;
-use publication::{Publications, Selection};
+use publication::Publications;
 use replcmd::Name;
 use server::DeskFault;
 use shared_log::LogName;
@@ -25,6 +26,7 @@ use std::sync::{Condvar, Mutex, MutexGuard, Wait};
 use std::time::Duration;
 use tables::Catalog;
 use txlog::{Opened, Publisher, Receipt};
+use walsender::begin;
 
 /// How many streams may run at once.
 pub const MOST_STREAMS: usize = 16;
@@ -202,7 +204,7 @@ impl<L: LogName + SlotName> Hub<L> {
         names.drop_slot(&self.slots, name).map_err(of_slot)
     }
 
-    /// Begins a stream. L1, P1, P2, L6, L2 in this order.
+    /// Begins a stream, or answers the first of the refusals in the order of `walsender::begin`.
     pub(crate) fn begin<R: Wait>(
         &self,
         rt: &R,
@@ -210,24 +212,20 @@ impl<L: LogName + SlotName> Hub<L> {
         position: u64,
         publications: &[Name],
     ) -> Result<StreamGrant<L>, DeskFault> {
-        let Some(place) = self.place_of(rt, slot) else {
-            return Err(DeskFault::SlotMissing);
+        let Ok(names) = texts_of(self.alloc, publications) else {
+            return Err(DeskFault::Memory);
         };
-        let selection = self.select(publications)?;
-        let Some(pair) = self.take_pair(rt) else {
-            return Err(DeskFault::NoReader);
+        let mut start = HubStart {
+            rt,
+            hub: self,
+            slot,
+            names: names.as_slice(),
+            position,
         };
-        match StreamGrant::claim(&self.slots, pair, place, selection, position) {
-            Ok(grant) => {
-                self.streams_begun.fetch_add(1, Ordering::SeqCst);
-                self.signal(rt);
-                Ok(grant)
-            }
-            Err((pair, fault)) => {
-                self.give_back(rt, pair);
-                Err(fault)
-            }
-        }
+        let grant = begin(&mut start).map_err(of_start)?;
+        self.streams_begun.fetch_add(1, Ordering::SeqCst);
+        self.signal(rt);
+        Ok(grant)
     }
 
     /// Ends a stream: its slot is free, and its reader and seat go back to the pool.
@@ -242,26 +240,17 @@ impl<L: LogName + SlotName> Hub<L> {
         self.give_back(rt, pair);
     }
 
-    fn place_of<R: Wait>(&self, rt: &R, slot: &str) -> Option<usize>
+    pub(crate) fn place_of<R: Wait>(&self, rt: &R, slot: &str) -> Option<usize>
         ensures { IfSome result (λ place. place < 16) }
     {
         self.names.lock(rt).place_of(slot)
     }
 
-    fn select(&self, names: &[Name]) -> Result<Selection, DeskFault> {
-        let Ok(names) = texts_of(self.alloc, names) else {
-            return Err(DeskFault::Memory);
-        };
-        self.publications
-            .select(names.as_slice())
-            .map_err(of_publications)
-    }
-
-    fn take_pair<R: Wait>(&self, rt: &R) -> Option<Pair<L>> {
+    pub(crate) fn take_pair<R: Wait>(&self, rt: &R) -> Option<Pair<L>> {
         self.pool.lock(rt).take()
     }
 
-    fn give_back<R: Wait>(&self, rt: &R, pair: Pair<L>) {
+    pub(crate) fn give_back<R: Wait>(&self, rt: &R, pair: Pair<L>) {
         let _ = self.pool.lock(rt).give_back(pair);
     }
 

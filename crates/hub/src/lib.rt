@@ -19,6 +19,7 @@ mod pool;
 mod read_loop;
 mod refusals;
 mod serving;
+mod starting;
 mod streaming;
 mod system;
 mod transaction;

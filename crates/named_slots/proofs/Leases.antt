@@ -1,7 +1,7 @@
 -- The leases at their places: one is read, another stands there, and the rest are as they were.
 use Rattle.std.proofs.Common.{◌≡◌, ℕ, zero, suc, ◌<◌, true, false, List, [], ◌∷◌, ◌++◌, length, map, Option, Some, None, option_map, refl, sym, ap, subst, ◌∙◌, arith, ⊎_elim}
 use Rattle.std.specs.List.{AllByRecursion}
-use Rattle.std.specs.Prelude.{slice_get, slice_set, slice_index_or}
+use Rattle.std.specs.Prelude.{is_some, slice_get, slice_set, slice_index_or}
 use Rattle.std.proofs.lemmas.Bool.{cases_eq}
 use Rattle.std.proofs.lemmas.List.{length-map, map-append, map-set}
 use Rattle.std.proofs.lemmas.Option.{same_Some, slice_get-map, slice_get_read, slice_get_within}
@@ -47,6 +47,10 @@ module _ {A : Type 0} (place : A → ℕ) where
 
   pub no_lease : (s : SlotsState) (ls : List (Option A)) (p : ℕ) (o : Option A) → AreLeases s (leased ls) → p < length ls → o ≡ slice_index_or ls p o → o ≡ None → holds_at p s ≡ false
   no_lease s ls p o all low value is = subst (λ (y : Option A). IsLeasedAs s p (option_map place y)) is (read_lease s ls p o all low value)
+
+  pub has_lease : (s : SlotsState) (ls : List (Option A)) (p : ℕ) (o : Option A) → AreLeases s (leased ls) → p < length ls → o ≡ slice_index_or ls p o → is_some o ≡ holds_at p s
+  has_lease s ls p None all low value = sym (read_lease s ls p None all low value)
+  has_lease s ls p (Some x) all low value = sym ((read_lease s ls p (Some x) all low value).1)
 
   pub is_low : (n p : ℕ) (ls : List (Option A)) → n ≡ 16 → n ≡ length ls → p < 16 → p < length ls
   is_low n p ls all items low = omega (arith, all, items, low)

@@ -20,6 +20,10 @@ unnamed_same name change (s ∷ ss) none = ap₂ (λ (t : NamedSlot) (ts : List 
 
 -- ---- What is held.
 
+pub unnamed_free : (name : List ℕ) (ss : List NamedSlot) → IsUnnamed name ss → is_in_use (slot_of name ss) ≡ false
+unnamed_free name [] none = refl
+unnamed_free name (s ∷ ss) none = ap (λ (b : Bool). is_in_use (cond b (Some s) (slot_of name ss))) none.0 ∙ unnamed_free name ss none.1
+
 -- a change that leaves a slot at its place, of a slot elsewhere
 pub held_else : (q p : ℕ) (change : NamedSlot → NamedSlot) (ss : List NamedSlot) → ((s : NamedSlot) → (change s).place ≡ s.place) → (q ≡ p → ⊥) → is_in_use (slot_at q (map (if_at p change) ss)) ≡ is_in_use (slot_at q ss)
 held_else q p change [] stays not = refl

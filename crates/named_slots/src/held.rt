@@ -1,7 +1,7 @@
 //! Slots by name, with the leases of those that are held.
 
 ghost use Rattle.std.specs.Prelude.{◌≡◌, IfErr, IfOk, OnErr, OnOk, Some, false, is_some, map};
-ghost use Rattle.named_slots.specs.State.{IsHeldAs, IsOnlyAt, RefusedExactly, RefusedOrMemory, claim_refusal, claimed, confirmed_of, create_refusal, created, no_slots, place_of, raised_for, refused, released_for, slot_of};
+ghost use Rattle.named_slots.specs.State.{IsHeldAs, IsOnlyAt, RefusedExactly, RefusedOrMemory, claim_refusal, claimed, confirmed_of, create_refusal, created, is_in_use, no_slots, place_of, raised_for, refused, released_for, slot_of};
 ghost use Rattle.named_slots.specs.Keeping.{confirmed_slot};
 
 use crate::named::NamedSlots;
@@ -73,6 +73,16 @@ impl<L: SlotName> HeldSlots<L> {
         ensures { result ≡ is_some (slot_of name.now self.now.slots) }
     {
         self.slots.has(name)
+    }
+
+    /// Whether the slot of this name is held. It takes no memory.
+    pub fn is_held(&self, name: &str) -> bool
+        ensures { result ≡ is_in_use (slot_of name.now self.now.slots) }
+    {
+        let Some(place) = self.slots.place(name) else {
+            return false;
+        };
+        self.leases[place].is_some()
     }
 
     /// Takes the slot of this name, and answers its confirmed position. It takes no memory. L1 where there is none, L2 where it is in use.

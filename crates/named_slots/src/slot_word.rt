@@ -30,6 +30,13 @@ pub fn is_missing<L: SlotName>(slots: &HeldSlots<L>, word: &Text) -> bool
     word.as_str() != NO_SLOT && !slots.has(word.as_str())
 }
 
+/// Whether the word names a slot that is held.
+pub fn is_held<L: SlotName>(slots: &HeldSlots<L>, word: &Text) -> bool
+    ensures { result ≡ is_held (slot_named word.now) slots.now }
+{
+    word.as_str() != NO_SLOT && slots.is_held(word.as_str())
+}
+
 /// Takes the slot that the word names, if it names one, and answers where a stream begins that asked for this position. L2 where
 /// the slot is held.
 pub fn take<L: SlotName>(

@@ -2,9 +2,8 @@
 
 use crate::fault::Fault;
 use hub::Hub;
-use schedule::{LineFault, Schedule, WorldFault};
+use schedule::{Event, LineFault, Schedule, WorldFault};
 use scripting::run_script;
-use sessions::is_session_line;
 use shared_log::LogName;
 use slots::SlotName;
 use std::alloc::Global;
@@ -50,11 +49,14 @@ fn script_at(rt: &HostRuntime, path: &str) -> Result<Script, Fault> {
 fn session_lines(alloc: Global, text: &str) -> Result<Schedule, LineFault> {
     let script = Schedule::parse(alloc, text)?;
     for (line, event) in script.lines().iter().zip(script.events()) {
-        if !is_session_line(event) {
-            return Err(LineFault {
-                line: *line,
-                fault: WorldFault::BadEvent,
-            });
+        match event {
+            Event::Session(_, _) => {}
+            Event::Connection(_, _) | Event::Slot(_) => {
+                return Err(LineFault {
+                    line: *line,
+                    fault: WorldFault::BadEvent,
+                });
+            }
         }
     }
     Ok(script)

@@ -1,5 +1,5 @@
 -- What publications over a catalogue let pass, and those that names select (PostgreSQL 15, 31.1 to 31.4).
-use Rattle.std.specs.Prelude.{ℕ, ◌==◌, Bool, true, false, ◌&&◌, not, List, filter, Option, Some, None}
+use Rattle.std.specs.Prelude.{ℕ, ◌==◌, Bool, true, false, ◌&&◌, not, List, filter, if◌then◌else◌, Option, Some, None, Result, Ok, Err}
 use Rattle.std.specs.List.{list_any}
 use Rattle.std.specs.Str.{bytes_eq}
 use Rattle.tables.specs.declared.value.Value.{Value}
@@ -45,6 +45,10 @@ is_unknown s names = list_any (λ n. not (list_any (λ p. bytes_eq p.name n) s.p
 -- the publications of these names, each once however often it is named
 abbrev pub selected : PublicationSet → List (List ℕ) → PublicationSet
 selected s names = record s { publications = filter (λ p. list_any (λ n. bytes_eq p.name n) names) s.publications }
+
+-- why names select nothing: P1 where one is no publication's, else P2 where those that are named differ
+abbrev pub judged : PublicationSet → List (List ℕ) → Result (Unit {0}) PubFault
+judged s names = if is_unknown s names then Err Unknown else if conflicts (selected s names).publications then Err ListConflict else Ok tt
 
 -- the faults of select
 abbrev pub IsOfSelect : PubFault → Type 0

@@ -1,5 +1,5 @@
 -- The tuples of rows (PostgreSQL 15, 55.9): each value as a text, and which of an old row is sent.
-use Rattle.std.specs.Prelude.{◌&&◌, Bool, not, true, false, List, map, codes, Option, Some, None, if◌then◌else◌}
+use Rattle.std.specs.Prelude.{◌&&◌, ℕ, ℤ, Bool, not, true, false, List, map, codes, Option, Some, None, if◌then◌else◌}
 use Rattle.std.specs.Fmt.{signed_decimal}
 use Rattle.std.specs.List.{list_any, zip}
 use Rattle.std.specs.Ordering.{int_eq}
@@ -30,13 +30,33 @@ tuple_of row = map cell_of row
 abbrev pub key_tuple_of : List Column → List Value → List Cell
 key_tuple_of columns row = map (λ p. if p.0.is_key then cell_of p.1 else cells.Null) (zip columns row)
 
+abbrev pub is_null : Value → Bool
+is_null values.Null = true
+is_null value = false
+
+abbrev pub is_the_bool : Bool → Value → Bool
+is_the_bool a (values.Bool b) = if a then b else not b
+is_the_bool a value = false
+
+abbrev pub is_the_int4 : ℤ → Value → Bool
+is_the_int4 a (values.Int4 b) = int_eq a b
+is_the_int4 a value = false
+
+abbrev pub is_the_int8 : ℤ → Value → Bool
+is_the_int8 a (values.Int8 b) = int_eq a b
+is_the_int8 a value = false
+
+abbrev pub is_the_text : List ℕ → Value → Bool
+is_the_text a (values.Text b) = bytes_eq a b
+is_the_text a value = false
+
+-- values of two kinds are never the same
 abbrev pub same_value : Value → Value → Bool
-same_value values.Null values.Null = true
-same_value (values.Bool a) (values.Bool b) = if a then b else not b
-same_value (values.Int4 a) (values.Int4 b) = int_eq a b
-same_value (values.Int8 a) (values.Int8 b) = int_eq a b
-same_value (values.Text a) (values.Text b) = bytes_eq a b
-same_value a b = false
+same_value values.Null value = is_null value
+same_value (values.Bool a) value = is_the_bool a value
+same_value (values.Int4 a) value = is_the_int4 a value
+same_value (values.Int8 a) value = is_the_int8 a value
+same_value (values.Text a) value = is_the_text a value
 
 -- whether a column of the primary key has one value in the one row and another one in the other
 abbrev pub changes_key : List Column → (old new : List Value) → Bool

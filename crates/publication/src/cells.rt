@@ -100,13 +100,12 @@ fn has_other_key(columns: &[Column], listed: &[bool], old: &[Value], new: &[Valu
 fn is_same(a: &Value, b: &Value) -> bool
     ensures { result ≡ same_value a.now b.now }
 {
-    match (a, b) {
-        (Value::Null, Value::Null) => true,
-        (Value::Bool(a), Value::Bool(b)) => a == b,
-        (Value::Int4(a), Value::Int4(b)) => a == b,
-        (Value::Int8(a), Value::Int8(b)) => a == b,
-        (Value::Text(a), Value::Text(b)) => a.as_str() == b.as_str(),
-        _ => false,
+    match a {
+        Value::Null => matches!(b, Value::Null),
+        Value::Bool(a) => matches!(b, Value::Bool(b) if a == b),
+        Value::Int4(a) => matches!(b, Value::Int4(b) if a == b),
+        Value::Int8(a) => matches!(b, Value::Int8(b) if a == b),
+        Value::Text(a) => matches!(b, Value::Text(b) if a.as_str() == b.as_str()),
     }
 }
 

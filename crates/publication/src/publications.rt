@@ -8,11 +8,11 @@ ghost use Rattle.toml.specs.View.{view};
 ghost use Rattle.publication_config.specs.Config.{Configures, ReadsPublications, configured_by, publications_in};
 ghost use Rattle.publication.specs.Selection.{FitsTable};
 ghost use Rattle.publication_config.specs.Published.{conflicts};
-ghost use Rattle.publication.specs.Publications.{IsOfSelect, is_unknown, selected};
+ghost use Rattle.publication.specs.Publications.{IsOfSelect, is_unknown, judged, selected};
 
 use crate::selection::Selection;
 use pqformat::{Items, Text};
-use publication_config::{PubFault, Publication, configured_by, conflicts, named, publications_in};
+use publication_config::{PubFault, Publication, configured_by, conflict, named, publications_in};
 use std::alloc::{AllocError, Global};
 use std::marker::Model;
 use tables::{Catalog, Table};
@@ -86,18 +86,26 @@ impl Publications {
         ensures agree { IfOk result (λ s. conflicts s.publications ≡ false) }
         ensures unknown { result ≡ Err PubFault.Unknown → is_unknown self.now names.now ≡ true }
         ensures conflict { result ≡ Err PubFault.ListConflict → (is_unknown self.now names.now ≡ false) × (conflicts (selected self.now names.now).publications ≡ true) }
-        ensures memory { result ≡ Err PubFault.Memory → is_unknown self.now names.now ≡ false }
+        ensures memory { result ≡ Err PubFault.Memory → (is_unknown self.now names.now ≡ false) × (conflicts (selected self.now names.now).publications ≡ false) }
         ensures only { IfErr result IsOfSelect }
+    {
+        self.judge(names)?;
+        let publications = named(self.alloc, self.publications.as_slice(), names)?;
+        let tables = copies(self.alloc, self.tables.as_slice())?;
+        Ok(Selection::new(self.alloc, tables, publications)?)
+    }
+
+    /// Why these names select nothing, if they don't: P1, or else P2. It takes no memory.
+    pub fn judge(&self, names: &[Text]) -> Result<(), PubFault>
+        ensures { result ≡ judged self.now names.now }
     {
         if self.lacks_one(names) {
             return Err(PubFault::Unknown);
         }
-        let publications = named(self.alloc, self.publications.as_slice(), names)?;
-        if conflicts(publications.as_slice()) {
+        if conflict(self.publications.as_slice(), names) {
             return Err(PubFault::ListConflict);
         }
-        let tables = copies(self.alloc, self.tables.as_slice())?;
-        Ok(Selection::new(self.alloc, tables, publications)?)
+        Ok(())
     }
 
     /// Whether one of the names is no publication's.

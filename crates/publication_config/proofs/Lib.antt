@@ -1,3 +1,4 @@
 pub mod Configured
 pub mod Filtering
+pub mod Naming
 pub mod Reading

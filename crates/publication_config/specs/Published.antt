@@ -1,7 +1,8 @@
 -- Publications as values, over the tables of a catalogue (PostgreSQL 15, 31.1 to 31.4): the tables that each has, what it publishes of each,
 -- and where two of them differ.
-use Rattle.std.specs.Prelude.{ℕ, get_or, ◌==◌, Bool, true, false, ◌&&◌, not, List, find, length, replicate, if◌then◌else◌, Option, None}
+use Rattle.std.specs.Prelude.{ℕ, get_or, ◌==◌, Bool, true, false, ◌&&◌, not, List, filter, find, length, replicate, if◌then◌else◌, Option, None}
 use Rattle.std.specs.List.{list_all, list_any, zip}
+use Rattle.std.specs.Str.{bytes_eq}
 use Rattle.tables.specs.declared.identity.Identity.{Identity}
 use Rattle.tables.specs.declared.identity.Identity.TheVariants as identities
 use Rattle.tables.specs.declared.table.Table.{Table}
@@ -60,6 +61,14 @@ lists_otherwise t p = list_any (differs_from t) p.tables
 
 abbrev pub is_listed_otherwise : List Publication → PublishedTable → Bool
 is_listed_otherwise publications t = list_any (lists_otherwise t) publications
+
+-- whether one of the names is the publication's
+abbrev pub is_among : List (List ℕ) → Publication → Bool
+is_among names p = list_any (bytes_eq p.name) names
+
+-- the publications of these names, each once however often it is named
+abbrev pub named : List (List ℕ) → List Publication → List Publication
+named names publications = filter (is_among names) publications
 
 -- whether two of the publications have different column lists for one table
 abbrev pub conflicts : List Publication → Bool

@@ -18,5 +18,5 @@ pub use explaining::explained;
 pub use fault::PubFault;
 pub use judging::is_in_identity;
 pub use operations::{Operation, Operations};
-pub use publication::{Publication, conflicts, named};
+pub use publication::{Publication, conflict, named};
 pub use published_table::{PublishedTable, is_listed};

@@ -1,10 +1,9 @@
 //! One publication, and several beside each other.
 
-ghost use Rattle.std.specs.Prelude.{◌≡◌, ◌==◌, ◌&&◌, IfOk, filter, find};
+ghost use Rattle.std.specs.Prelude.{◌≡◌, ◌==◌, ◌&&◌, IfOk, find};
 ghost use Rattle.std.specs.List.{list_any};
 ghost use Rattle.std.specs.Option.{option_copied};
-ghost use Rattle.std.specs.Str.{bytes_eq};
-ghost use Rattle.publication_config.specs.Published.{conflicts, has, is_listed_otherwise, lists_otherwise, publishes, table_in};
+ghost use Rattle.publication_config.specs.Published.{conflicts, has, is_among, is_listed_otherwise, lists_otherwise, named, publishes, table_in};
 
 use crate::operations::{Operation, Operations};
 use crate::published_table::PublishedTable;
@@ -51,12 +50,12 @@ impl Publication {
         self.operations.has(operation) && self.has(oid)
     }
 
-    /// Whether one of the publications has another column list for one of its tables.
-    fn is_contradicted_by(&self, publications: &[Publication]) -> bool
-        ensures { result ≡ list_any (is_listed_otherwise publications.now) self.now.tables }
+    /// Whether one of the publications of these names has another column list for one of its tables.
+    fn is_contradicted_by(&self, publications: &[Publication], names: &[Text]) -> bool
+        ensures { result ≡ list_any (is_listed_otherwise (named names.now publications.now)) self.now.tables }
     {
         let mut tables = self.tables.as_slice().iter();
-        tables.any(|table| is_listed_otherwise(publications, table))
+        tables.any(|table| is_listed_otherwise(publications, names, table))
     }
 
     /// Whether it has another column list for the table.
@@ -69,26 +68,44 @@ impl Publication {
 
     /// Whether one of the names is its own.
     fn is_among(&self, names: &[Text]) -> bool
-        ensures { result ≡ list_any (λ n. bytes_eq self.now.name n) names.now }
+        ensures { result ≡ is_among names.now self.now }
     {
         names.iter().any(|name| self.name.as_str() == name.as_str())
     }
 }
 
-/// Whether two of the publications have different column lists for one table.
-pub fn conflicts(publications: &[Publication]) -> bool
-    ensures { result ≡ conflicts publications.now }
+/// Whether two of the publications of these names have different column lists for one table.
+pub fn conflict(publications: &[Publication], names: &[Text]) -> bool
+    ensures { result ≡ conflicts (named names.now publications.now) }
+{
+    has_contradicted(publications, names)
+}
+
+/// The same, asked of all publications.
+fn has_contradicted(publications: &[Publication], names: &[Text]) -> bool
+    ensures { result ≡ list_any (λ p. is_among names.now p && list_any (is_listed_otherwise (named names.now publications.now)) p.tables) publications.now }
+{
+    publications.iter().any(|p| p.is_among(names) && p.is_contradicted_by(publications, names))
+}
+
+/// Whether one of the publications of these names has another column list for the table.
+fn is_listed_otherwise(publications: &[Publication], names: &[Text], table: &PublishedTable) -> bool
+    ensures { result ≡ is_listed_otherwise (named names.now publications.now) table.now }
+{
+    has_listing_otherwise(publications, names, table)
+}
+
+/// The same, asked of all publications.
+fn has_listing_otherwise(
+    publications: &[Publication],
+    names: &[Text],
+    table: &PublishedTable,
+) -> bool
+    ensures { result ≡ list_any (λ p. is_among names.now p && lists_otherwise table.now p) publications.now }
 {
     publications
         .iter()
-        .any(|p| p.is_contradicted_by(publications))
-}
-
-/// Whether one of the publications has another column list for the table.
-fn is_listed_otherwise(publications: &[Publication], table: &PublishedTable) -> bool
-    ensures { result ≡ is_listed_otherwise publications.now table.now }
-{
-    publications.iter().any(|p| p.lists_otherwise(table))
+        .any(|p| p.is_among(names) && p.lists_otherwise(table))
 }
 
 /// Those of the publications that have one of the names.
@@ -97,7 +114,7 @@ pub fn named(
     publications: &[Publication],
     names: &[Text],
 ) -> Result<Items<Publication>, AllocError>
-    ensures { IfOk result (λ ps. ps ≡ filter (λ p. list_any (λ n. bytes_eq p.name n) names.now) publications.now) }
+    ensures { IfOk result (λ ps. ps ≡ named names.now publications.now) }
 {
     let mut named = Vec::new(alloc);
     for publication in publications {

@@ -3,7 +3,7 @@
 ghost use Rattle.std.specs.Prelude.{◌≡◌};
 ghost use Rattle.schedule.specs.declared.fault.WorldFault.TheVariants.{Memory};
 
-use crate::event::Event;
+use crate::event::{ConnectionStep, Event, SessionStep};
 use std::alloc::{AllocError, AllocFailed};
 use std::fmt;
 use std::fmt::{Display, Formatter, Write};
@@ -48,34 +48,24 @@ impl Display for BadEvent {
     fn fmt<W: Write>(&self, f: &mut Formatter<W>) -> Result<(), fmt::Error> {
         write!(f, "line {}: V1: ", self.line)?;
         match &self.event {
-            Event::Begin(name) => write!(f, "transaction {} is in progress", name.as_str()),
-            Event::Insert(name, _, _)
-            | Event::Update(name, _, _, _)
-            | Event::Delete(name, _, _)
-            | Event::Truncate(name, _)
-            | Event::Savepoint(name)
-            | Event::Rollback(name, _)
-            | Event::Release(name, _)
-            | Event::Commit(name, _)
-            | Event::Abort(name) => write!(f, "no transaction {}", name.as_str()),
-            Event::Slot(name) => write!(f, "{} is no name of a slot", name.as_str()),
-            Event::Start(name, _, _, _) => {
+            Event::Session(name, SessionStep::Begin) => {
+                write!(f, "transaction {} is in progress", name.as_str())
+            }
+            Event::Session(name, _) => write!(f, "no transaction {}", name.as_str()),
+            Event::Connection(name, ConnectionStep::Start(_, _, _)) => {
                 write!(f, "connection {} has a sender already", name.as_str())
             }
-            Event::Read(name, _, _)
-            | Event::Keepalive(name, _)
-            | Event::Drain(name, _)
-            | Event::Deliver(name, _)
-            | Event::Status(name, _)
-            | Event::Flushed(name, _)
-            | Event::Cut(name) => write!(f, "connection {} has no sender", name.as_str()),
-            Event::Ack(name) => {
+            Event::Connection(name, ConnectionStep::Ack) => {
                 write!(
                     f,
                     "connection {} has no sender, or no status waits",
                     name.as_str()
                 )
             }
+            Event::Connection(name, _) => {
+                write!(f, "connection {} has no sender", name.as_str())
+            }
+            Event::Slot(name) => write!(f, "{} is no name of a slot", name.as_str()),
         }
     }
 }

@@ -16,7 +16,7 @@ mod report;
 mod schedule;
 
 pub use answer::Answer;
-pub use event::{Event, Literal};
+pub use event::{ConnectionStep, Event, Literal, SessionStep};
 pub use fault::{BadEvent, WorldFault};
 pub use report::{write_refusals, write_slot, write_stream, write_subscriber};
 pub use schedule::{LineFault, Schedule};

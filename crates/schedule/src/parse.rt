@@ -1,9 +1,8 @@
 //! Lines of a schedule, read as events.
 
-use crate::event::Event;
+use crate::event::{ConnectionStep, Event, SessionStep};
 use crate::fault::WorldFault;
 use crate::fields::Fields;
-use pqformat::Text;
 use std::alloc::Global;
 
 impl Event {
@@ -18,128 +17,88 @@ impl Event {
     }
 }
 
-/// The event whose line begins with this word.
+/// The event whose line begins with this word. Each names a transaction or a connection next, but for a new slot's.
 fn event_of(alloc: Global, word: &str, fields: &mut Fields<'_>) -> Result<Event, WorldFault> {
-    match word {
-        "begin" => Ok(Event::Begin(fields.name(alloc)?)),
-        "insert" => insert(alloc, fields),
-        "update" => update(alloc, fields),
-        "delete" => delete(alloc, fields),
-        "truncate" => truncate(alloc, fields),
-        "savepoint" => Ok(Event::Savepoint(fields.name(alloc)?)),
-        "rollback" => {
-            let (name, depth) = name_and_count(alloc, fields)?;
-            Ok(Event::Rollback(name, depth))
-        }
-        "release" => {
-            let (name, depth) = name_and_count(alloc, fields)?;
-            Ok(Event::Release(name, depth))
-        }
-        "commit" => {
-            let (name, time) = name_and_time(alloc, fields)?;
-            Ok(Event::Commit(name, time))
-        }
-        "abort" => Ok(Event::Abort(fields.name(alloc)?)),
-        _ => connection_event_of(alloc, word, fields),
+    if word == "slot" {
+        return Ok(Event::Slot(fields.slot(alloc)?));
+    }
+    let name = fields.name(alloc)?;
+    match session_step_of(alloc, word, fields)? {
+        Some(step) => Ok(Event::Session(name, step)),
+        None => Ok(Event::Connection(name, connection_step_of(alloc, word, fields)?)),
     }
 }
 
-/// The same of the lines of a connection.
-fn connection_event_of(
+/// What the line of a session does behind its transaction's name. None: it is no session's.
+fn session_step_of(
     alloc: Global,
     word: &str,
     fields: &mut Fields<'_>,
-) -> Result<Event, WorldFault> {
+) -> Result<Option<SessionStep>, WorldFault> {
+    let step = match word {
+        "begin" => SessionStep::Begin,
+        "insert" => insert(alloc, fields)?,
+        "update" => update(alloc, fields)?,
+        "delete" => delete(alloc, fields)?,
+        "truncate" => SessionStep::Truncate(fields.texts(alloc)?),
+        "savepoint" => SessionStep::Savepoint,
+        "rollback" => SessionStep::Rollback(fields.count()?),
+        "release" => SessionStep::Release(fields.count()?),
+        "commit" => SessionStep::Commit(fields.integer()?),
+        "abort" => SessionStep::Abort,
+        _ => return Ok(None),
+    };
+    Ok(Some(step))
+}
+
+/// What the line of a connection does behind its name.
+fn connection_step_of(
+    alloc: Global,
+    word: &str,
+    fields: &mut Fields<'_>,
+) -> Result<ConnectionStep, WorldFault> {
     match word {
-        "slot" => Ok(Event::Slot(fields.slot(alloc)?)),
         "start" => start(alloc, fields),
-        "read" => read(alloc, fields),
-        "keepalive" => {
-            let (name, clock) = name_and_time(alloc, fields)?;
-            Ok(Event::Keepalive(name, clock))
-        }
-        "drain" => {
-            let (name, bytes) = name_and_count(alloc, fields)?;
-            Ok(Event::Drain(name, bytes))
-        }
-        "deliver" => {
-            let (name, bytes) = name_and_count(alloc, fields)?;
-            Ok(Event::Deliver(name, bytes))
-        }
-        "cut" => Ok(Event::Cut(fields.name(alloc)?)),
-        _ => status_event_of(alloc, word, fields),
-    }
-}
-
-/// The same of the lines of statuses.
-fn status_event_of(
-    alloc: Global,
-    word: &str,
-    fields: &mut Fields<'_>,
-) -> Result<Event, WorldFault> {
-    match word {
-        "status" => {
-            let (name, clock) = name_and_time(alloc, fields)?;
-            Ok(Event::Status(name, clock))
-        }
-        "flushed" => flushed(alloc, fields),
-        "ack" => Ok(Event::Ack(fields.name(alloc)?)),
+        "read" => read(fields),
+        "keepalive" => Ok(ConnectionStep::Keepalive(fields.integer()?)),
+        "drain" => Ok(ConnectionStep::Drain(fields.count()?)),
+        "deliver" => Ok(ConnectionStep::Deliver(fields.count()?)),
+        "status" => Ok(ConnectionStep::Status(fields.integer()?)),
+        "flushed" => Ok(ConnectionStep::Flushed(fields.number()?)),
+        "ack" => Ok(ConnectionStep::Ack),
+        "cut" => Ok(ConnectionStep::Cut),
         _ => Err(WorldFault::BadEvent),
     }
 }
 
-fn name_and_count(alloc: Global, fields: &mut Fields<'_>) -> Result<(Text, u32), WorldFault> {
-    Ok((fields.name(alloc)?, fields.count()?))
-}
-
-fn name_and_time(alloc: Global, fields: &mut Fields<'_>) -> Result<(Text, i64), WorldFault> {
-    Ok((fields.name(alloc)?, fields.integer()?))
-}
-
-fn insert(alloc: Global, fields: &mut Fields<'_>) -> Result<Event, WorldFault> {
-    let name = fields.name(alloc)?;
+fn insert(alloc: Global, fields: &mut Fields<'_>) -> Result<SessionStep, WorldFault> {
     let table = fields.text(alloc)?;
     let row = fields.row(alloc)?;
-    Ok(Event::Insert(name, table, row))
+    Ok(SessionStep::Insert(table, row))
 }
 
-fn update(alloc: Global, fields: &mut Fields<'_>) -> Result<Event, WorldFault> {
-    let name = fields.name(alloc)?;
+fn update(alloc: Global, fields: &mut Fields<'_>) -> Result<SessionStep, WorldFault> {
     let table = fields.text(alloc)?;
     let key = fields.row(alloc)?;
     let row = fields.row(alloc)?;
-    Ok(Event::Update(name, table, key, row))
+    Ok(SessionStep::Update(table, key, row))
 }
 
-fn delete(alloc: Global, fields: &mut Fields<'_>) -> Result<Event, WorldFault> {
-    let name = fields.name(alloc)?;
+fn delete(alloc: Global, fields: &mut Fields<'_>) -> Result<SessionStep, WorldFault> {
     let table = fields.text(alloc)?;
     let key = fields.row(alloc)?;
-    Ok(Event::Delete(name, table, key))
+    Ok(SessionStep::Delete(table, key))
 }
 
-fn truncate(alloc: Global, fields: &mut Fields<'_>) -> Result<Event, WorldFault> {
-    let name = fields.name(alloc)?;
-    let tables = fields.texts(alloc)?;
-    Ok(Event::Truncate(name, tables))
-}
-
-fn start(alloc: Global, fields: &mut Fields<'_>) -> Result<Event, WorldFault> {
-    let name = fields.name(alloc)?;
+fn start(alloc: Global, fields: &mut Fields<'_>) -> Result<ConnectionStep, WorldFault> {
     let slot = fields.text(alloc)?;
     let position = fields.position()?;
     let publications = fields.publications(alloc)?;
-    Ok(Event::Start(name, slot, position, publications))
+    Ok(ConnectionStep::Start(slot, position, publications))
 }
 
-fn flushed(alloc: Global, fields: &mut Fields<'_>) -> Result<Event, WorldFault> {
-    let name = fields.name(alloc)?;
-    let position = fields.number()?;
-    Ok(Event::Flushed(name, position))
-}
-
-fn read(alloc: Global, fields: &mut Fields<'_>) -> Result<Event, WorldFault> {
-    let (name, max) = name_and_count(alloc, fields)?;
+fn read(fields: &mut Fields<'_>) -> Result<ConnectionStep, WorldFault> {
+    let max = fields.count()?;
     let clock = fields.integer()?;
-    Ok(Event::Read(name, max, clock))
+    Ok(ConnectionStep::Read(max, clock))
 }

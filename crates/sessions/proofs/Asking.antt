@@ -1,6 +1,7 @@
 -- What was asked of a session in its place is asked of it by name.
-use Rattle.std.proofs.Common.{◌≡◌, ◌<◌, ℕ, suc, List, ◌∷◌, ◌++◌, map, take, drop, length, Option, Some, None, refl, sym, ap, subst, ◌∙◌, arith}
-use Rattle.std.specs.Prelude.{slice_get, slice_set, slice_index_or, remove, insert}
+use Rattle.std.proofs.Common.{◌≡◌, ◌<◌, ℕ, suc, true, false, List, ◌∷◌, ◌++◌, map, take, drop, length, Option, Some, None, refl, sym, ap, subst, ◌∙◌, arith}
+use Rattle.std.specs.Prelude.{Result, Ok, Err, IfOk, OnErr, is_some, slice_get, slice_set, slice_index_or, remove, insert}
+use Rattle.std.specs.declared.alloc.AllocError.{AllocError}
 use Rattle.std.proofs.lemmas.List.{take_at, drop_at, length-take, take-append-drop}
 use Rattle.std.proofs.lemmas.Option.{slice_get_read, slice_get_within}
 use Rattle.std.proofs.Math.Seq.{map-set_same, drop-cons}
@@ -11,13 +12,15 @@ use Rattle.tables.specs.Tables.{table_named}
 use Rattle.txlog.specs.declared.fault.SessionFault.{SessionFault}
 use Rattle.txlog.specs.Publishing.{PublisherState, IsRefusalOrMemory, insert_refusal, update_refusal, delete_refusal}
 use Rattle.schedule.specs.declared.event.Literal.{Literal}
+use Rattle.schedule.specs.declared.event.SessionStep.{SessionStep}
+use Rattle.schedule.specs.declared.event.SessionStep.TheVariants as steps
 use Rattle.schedule.specs.declared.answer.Answer.{Answer}
 use Rattle.schedule.specs.declared.answer.Answer.TheVariants as answers
 use Rattle.sessions.specs.declared.session.Session.{Session}
 use Rattle.sessions.specs.Transactions.{NamedTx, xid_of, without_name}
-use Rattle.sessions.specs.SessionLines.{IsCalled, IsAnswered, if_known, insert_refused, update_refused, delete_refused}
+use Rattle.sessions.specs.SessionLines.{Ask, IsCalled, IsAnswered, after_step, if_known, if_new, insert_refused, update_refused, delete_refused, step_ask, step_refusal}
 use Rattle.sessions.specs.Rows.{row_in, key_columns}
-use Rattle.sessions.specs.Sessions.{named_tx, sessions_state, IsNamedAt, Called}
+use Rattle.sessions.specs.Sessions.{named_tx, sessions_state, IsNamedAt, IsStepOf, Called, is_within}
 use Rattle.sessions.proofs.Names.{same_inside}
 
 -- ---- the same element of a list
@@ -48,6 +51,42 @@ asked name place ss p q s t a refusal done at value same called =
     let here : at.session ≡ s = one_there ss place at.session s at.there (slice_get_read ss (length ss) place s refl (slice_get_within ss place at.session at.there) value) in
     let P : Option ℕ → Type 0 = λ o. IsCalled (if_known o (λ x. record { refusal = refusal x; done = done x; transactions = map named_tx ss })) (sessions_state p ss) a (sessions_state q (slice_set ss place t)) in
     subst P (sym (at.xid ∙ ap (λ (x : Session). Option.Some x.tx) here)) (answered a (refusal s.tx) (done s.tx) p q (map named_tx ss) (map named_tx (slice_set ss place t)) (kept_names ss place s t value same) called)
+
+-- ---- steps
+
+-- a step within a transaction asks for a name that is known, and leaves the names as they are
+within_ask : (name : List ℕ) (step : SessionStep) (p : PublisherState) (ts : List NamedTx) → is_within step ≡ true
+    → step_ask name step p ts ≡ if_known (xid_of name ts) (λ x. record { refusal = step_refusal step x p; done = after_step step x p; transactions = ts })
+within_ask name steps.Begin p ts e = let never : false ≡ true = e in cc
+within_ask name (steps.Insert table row) p ts e = refl
+within_ask name (steps.Update table key row) p ts e = refl
+within_ask name (steps.Delete table key) p ts e = refl
+within_ask name (steps.Truncate names) p ts e = refl
+within_ask name steps.Savepoint p ts e = refl
+within_ask name (steps.Rollback depth) p ts e = refl
+within_ask name (steps.Release depth) p ts e = refl
+within_ask name (steps.Commit time) p ts e = let never : false ≡ true = e in cc
+within_ask name steps.Abort p ts e = let never : false ≡ true = e in cc
+
+pub acted : (name : List ℕ) (step : SessionStep) (place : ℕ) (ss : List Session) (p q : PublisherState) (s t : Session) (r : Result Answer AllocError) → is_within step ≡ true → IsNamedAt name place ss
+    → s ≡ slice_index_or ss place s → t ≡ s → IfOk r (λ a. Called (step_refusal step s.tx p) (after_step step s.tx p) p a q) → IfOk r (λ a. IsStepOf name step p ss a q (slice_set ss place t))
+acted name step place ss p q s t (Ok a) within at value same called =
+    let P : Option Ask → Type 0 = λ o. IsCalled o (sessions_state p ss) a (sessions_state q (slice_set ss place t)) in
+    subst P (sym (within_ask name step p (map named_tx ss) within)) (asked name place ss p q s t a (λ n. step_refusal step n p) (λ n. after_step step n p) at value same called)
+acted name step place ss p q s t (Err e) within at value same called = tt
+
+pub states_kept : (place : ℕ) (ss : List Session) (p q : PublisherState) (s t : Session) (r : Result Answer AllocError) → s ≡ slice_index_or ss place s → t ≡ s → OnErr r (q ≡ p) → OnErr r (sessions_state q (slice_set ss place t) ≡ sessions_state p ss)
+states_kept place ss p q s t (Ok a) value same kept = tt
+states_kept place ss p q s t (Err e) value same kept = rw (kept, kept_names ss place s t value same) refl
+
+-- what asks for a new name, or for a known one
+pub fresh_asked : (o : Option ℕ) (ask : Ask) → is_some (if_new o ask) ≡ true → is_some o ≡ false
+fresh_asked None ask e = refl
+fresh_asked (Some x) ask e = let never : false ≡ true = e in cc
+
+pub known_asked : (o : Option ℕ) (ask : ℕ → Ask) → is_some (if_known o ask) ≡ true → is_some o ≡ true
+known_asked None ask e = e
+known_asked (Some x) ask e = refl
 
 -- taken out, and put back in its place
 put_back : {A : Type 0} (xs : List A) (k : ℕ) (x : A) → k < length xs → x ≡ slice_index_or xs k x → insert (remove xs k) k x ≡ xs

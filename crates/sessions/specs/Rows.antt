@@ -15,12 +15,16 @@ is_int4 (negsuc n) = nat_lt n (2 ^ 31)
 
 abbrev pub integer_in : Kind → ℤ → Value
 integer_in kinds.Int4 n = if is_int4 n then values.Int4 n else values.Int8 n
-integer_in kind n = values.Int8 n
+integer_in kinds.Int8 n = values.Int8 n
+integer_in kinds.Bool n = values.Int8 n
+integer_in kinds.Text n = values.Int8 n
 
 -- an integer that no column holds
 abbrev pub huge_in : Kind → Value
 huge_in kinds.Bool = values.Int8 (pos 0)
-huge_in kind = values.Bool false
+huge_in kinds.Int4 = values.Bool false
+huge_in kinds.Int8 = values.Bool false
+huge_in kinds.Text = values.Bool false
 
 abbrev pub value_in : Kind → Literal → Value
 value_in kind literals.Null = values.Null

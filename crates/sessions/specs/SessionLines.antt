@@ -1,5 +1,5 @@
 -- What a session's line asks of the publisher: the one call that it names, with its refusal and what it leaves.
-use Rattle.std.specs.Prelude.{◌≡◌, ℕ, Bool, true, false, List, [], ◌∷◌, ◌++◌, Option, Some, None, option_map}
+use Rattle.std.specs.Prelude.{◌≡◌, ℕ, List, [], ◌∷◌, ◌++◌, Option, Some, None, option_map}
 use Rattle.tables.specs.declared.table.Table.{Table}
 use Rattle.tables.specs.declared.change.Change.TheVariants as changes
 use Rattle.tables.specs.Tables.{table_named}
@@ -10,6 +10,8 @@ use Rattle.txlog.specs.Publishing.{PublisherState, IsRefusalOrMemory, begun, cha
 use Rattle.txlog.specs.Receipts.{Committed}
 use Rattle.schedule.specs.declared.event.Event.{Event}
 use Rattle.schedule.specs.declared.event.Event.TheVariants as events
+use Rattle.schedule.specs.declared.event.SessionStep.{SessionStep}
+use Rattle.schedule.specs.declared.event.SessionStep.TheVariants as steps
 use Rattle.schedule.specs.declared.event.Literal.{Literal}
 use Rattle.schedule.specs.declared.answer.Answer.{Answer}
 use Rattle.schedule.specs.declared.answer.Answer.TheVariants as answers
@@ -78,19 +80,50 @@ abbrev pub if_new : Option ℕ → Ask → Option Ask
 if_new None ask = Some ask
 if_new (Some xid) ask = None
 
--- The call of a session's line, for the transaction of its name; none where that name is unknown, or is for a second time,
--- and none for other lines.
+-- Why the step of a transaction in progress is refused by the publisher, and what it leaves where it is done. `begin` has a
+-- transaction of its own.
+abbrev pub step_refusal : SessionStep → ℕ → PublisherState → Option SessionFault
+step_refusal steps.Begin xid p = begin_refusal p
+step_refusal (steps.Insert table row) xid p = insert_refused (table_named table p.tables) xid row p
+step_refusal (steps.Update table key row) xid p = update_refused (table_named table p.tables) xid key row p
+step_refusal (steps.Delete table key) xid p = delete_refused (table_named table p.tables) xid key p
+step_refusal (steps.Truncate names) xid p = truncate_refused (oids_named p.tables names) xid p
+step_refusal steps.Savepoint xid p = savepoint_refusal xid p
+step_refusal (steps.Rollback depth) xid p = rollback_refusal xid depth p
+step_refusal (steps.Release depth) xid p = release_refusal xid depth p
+step_refusal (steps.Commit time) xid p = end_refusal xid p
+step_refusal steps.Abort xid p = end_refusal xid p
+
+abbrev pub after_step : SessionStep → ℕ → PublisherState → PublisherState
+after_step steps.Begin xid p = begun p
+after_step (steps.Insert table row) xid p = inserted_in (table_named table p.tables) xid row p
+after_step (steps.Update table key row) xid p = updated_in (table_named table p.tables) xid key row p
+after_step (steps.Delete table key) xid p = deleted_in (table_named table p.tables) xid key p
+after_step (steps.Truncate names) xid p = truncated_in (oids_named p.tables names) xid p
+after_step steps.Savepoint xid p = saved xid p
+after_step (steps.Rollback depth) xid p = rolled_back xid depth p
+after_step (steps.Release depth) xid p = released xid depth p
+after_step (steps.Commit time) xid p = after_commit xid time p
+after_step steps.Abort xid p = after_abort xid p
+
+-- the names that it leaves: `begin` adds one, and the end of a transaction takes its name
+abbrev pub names_after : List ℕ → SessionStep → ℕ → List NamedTx → List NamedTx
+names_after t steps.Begin xid ts = ts ++ record { name = t; xid = xid } ∷ []
+names_after t (steps.Commit time) xid ts = without_name t ts
+names_after t steps.Abort xid ts = without_name t ts
+names_after t step xid ts = ts
+
+abbrev pub asks : List ℕ → SessionStep → PublisherState → List NamedTx → ℕ → Ask
+asks t step p ts xid = record { refusal = step_refusal step xid p; done = after_step step xid p; transactions = names_after t step xid ts }
+
+-- The call of a step, for the transaction of its name: none where that name is unknown, or begins a second time.
+abbrev pub step_ask : List ℕ → SessionStep → PublisherState → List NamedTx → Option Ask
+step_ask t steps.Begin p ts = if_new (xid_of t ts) (asks t steps.Begin p ts p.next_xid)
+step_ask t step p ts = if_known (xid_of t ts) (asks t step p ts)
+
+-- The call of a line: none for lines that aren't a session's.
 abbrev pub ask_of : Event → PublisherState → List NamedTx → Option Ask
-ask_of (events.Begin t) p ts = if_new (xid_of t ts) (record { refusal = begin_refusal p; done = begun p; transactions = ts ++ record { name = t; xid = p.next_xid } ∷ [] })
-ask_of (events.Insert t table row) p ts = if_known (xid_of t ts) (λ xid. record { refusal = insert_refused (table_named table p.tables) xid row p; done = inserted_in (table_named table p.tables) xid row p; transactions = ts })
-ask_of (events.Update t table key row) p ts = if_known (xid_of t ts) (λ xid. record { refusal = update_refused (table_named table p.tables) xid key row p; done = updated_in (table_named table p.tables) xid key row p; transactions = ts })
-ask_of (events.Delete t table key) p ts = if_known (xid_of t ts) (λ xid. record { refusal = delete_refused (table_named table p.tables) xid key p; done = deleted_in (table_named table p.tables) xid key p; transactions = ts })
-ask_of (events.Truncate t names) p ts = if_known (xid_of t ts) (λ xid. record { refusal = truncate_refused (oids_named p.tables names) xid p; done = truncated_in (oids_named p.tables names) xid p; transactions = ts })
-ask_of (events.Savepoint t) p ts = if_known (xid_of t ts) (λ xid. record { refusal = savepoint_refusal xid p; done = saved xid p; transactions = ts })
-ask_of (events.Rollback t depth) p ts = if_known (xid_of t ts) (λ xid. record { refusal = rollback_refusal xid depth p; done = rolled_back xid depth p; transactions = ts })
-ask_of (events.Release t depth) p ts = if_known (xid_of t ts) (λ xid. record { refusal = release_refusal xid depth p; done = released xid depth p; transactions = ts })
-ask_of (events.Commit t time) p ts = if_known (xid_of t ts) (λ xid. record { refusal = end_refusal xid p; done = after_commit xid time p; transactions = without_name t ts })
-ask_of (events.Abort t) p ts = if_known (xid_of t ts) (λ xid. record { refusal = end_refusal xid p; done = after_abort xid p; transactions = without_name t ts })
+ask_of (events.Session t step) p ts = step_ask t step p ts
 ask_of event p ts = None
 
 -- what session lines see and change
@@ -117,19 +150,5 @@ IsLine event old answer new = IsCalled (ask_of event old.publisher old.transacti
 
 -- a commit that is done tells of its record; nothing else does
 abbrev pub receipt_due : Event → SessionState → Answer → Option Committed
-receipt_due (events.Commit t time) old answers.Done = option_map (λ xid. receipt_of xid time old.publisher) (xid_of t old.transactions)
+receipt_due (events.Session t (steps.Commit time)) old answers.Done = option_map (λ xid. receipt_of xid time old.publisher) (xid_of t old.transactions)
 receipt_due event old answer = None
-
--- the lines of sessions; all others are those of slots and connections
-abbrev pub is_session_line : Event → Bool
-is_session_line (events.Slot name) = false
-is_session_line (events.Start c slot position names) = false
-is_session_line (events.Read c max clock) = false
-is_session_line (events.Keepalive c clock) = false
-is_session_line (events.Drain c n) = false
-is_session_line (events.Deliver c n) = false
-is_session_line (events.Status c clock) = false
-is_session_line (events.Flushed c number) = false
-is_session_line (events.Ack c) = false
-is_session_line (events.Cut c) = false
-is_session_line event = true

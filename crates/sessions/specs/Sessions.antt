@@ -1,17 +1,18 @@
 -- How sessions keep their transactions, and what a call of the publisher leaves. No promise is told here but by `Called`
 -- and `Grows`.
-use Rattle.std.specs.Prelude.{◌≡◌, ℕ, ◌+◌, List, [], ◌∷◌, ◌++◌, map, Option, Some, None, slice_get, remove, if◌then◌else◌}
+use Rattle.std.specs.Prelude.{◌≡◌, ℕ, ◌+◌, Bool, true, false, List, [], ◌∷◌, ◌++◌, map, Option, Some, None, slice_get, remove, if◌then◌else◌}
 use Rattle.std.specs.Str.{bytes_eq}
 use Rattle.wal.specs.declared.record.Record.{Record}
 use Rattle.wal.specs.Log.{IsWellFormedLog}
 use Rattle.txlog.specs.declared.fault.SessionFault.{SessionFault}
 use Rattle.txlog.specs.Publishing.{PublisherState, IsRefusalOrMemory}
-use Rattle.schedule.specs.declared.event.Event.{Event}
+use Rattle.schedule.specs.declared.event.SessionStep.{SessionStep}
+use Rattle.schedule.specs.declared.event.SessionStep.TheVariants as steps
 use Rattle.schedule.specs.declared.answer.Answer.{Answer}
 use Rattle.schedule.specs.declared.answer.Answer.TheVariants as answers
 use Rattle.sessions.specs.declared.session.Session.{Session}
 use Rattle.sessions.specs.Transactions.{NamedTx, xid_of, without_name}
-use Rattle.sessions.specs.SessionLines.{SessionState, IsCalled, ask_of}
+use Rattle.sessions.specs.SessionLines.{SessionState, IsCalled, step_ask}
 
 abbrev pub named_tx : Session → NamedTx
 named_tx s = record { name = s.name; xid = s.tx }
@@ -37,10 +38,17 @@ Called refusal done old answers.Done new = (refusal ≡ None) × (new ≡ done)
 Called refusal done old (answers.Session fault) new = IsRefusalOrMemory refusal fault × (new ≡ old)
 Called refusal done old answer new = ⊥
 
--- a session's line, for the sessions by name
-abbrev pub IsCallOf : Event → PublisherState → List Session → Answer → PublisherState → List Session → Type 0
-IsCallOf event publisher sessions answer new_publisher new_sessions =
-    IsCalled (ask_of event publisher (map named_tx sessions)) (sessions_state publisher sessions) answer (sessions_state new_publisher new_sessions)
+-- a step, for the sessions by name
+abbrev pub IsStepOf : List ℕ → SessionStep → PublisherState → List Session → Answer → PublisherState → List Session → Type 0
+IsStepOf name step publisher sessions answer new_publisher new_sessions =
+    IsCalled (step_ask name step publisher (map named_tx sessions)) (sessions_state publisher sessions) answer (sessions_state new_publisher new_sessions)
+
+-- a step within a transaction: it neither begins nor ends one
+abbrev pub is_within : SessionStep → Bool
+is_within steps.Begin = false
+is_within (steps.Commit time) = false
+is_within steps.Abort = false
+is_within step = true
 
 -- a log that has grown, or stayed as it was
 pub record Grows (old new : List Record) : Type 0 where

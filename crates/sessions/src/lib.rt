@@ -3,10 +3,8 @@
 #![tactic(auto)]
 
 mod calls;
-mod lines;
 mod rows;
 mod session;
 mod sessions;
 
-pub use lines::is_session_line;
 pub use sessions::Sessions;

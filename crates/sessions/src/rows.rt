@@ -82,6 +82,7 @@ fn value_of(alloc: Global, kind: Kind, literal: &Literal) -> Result<Value, Alloc
     })
 }
 
+/// Of the column's kind where it fits, else of one that the column doesn't take.
 fn integer_of(kind: Kind, n: i64) -> Value
     ensures { result ≡ integer_in kind n }
 {
@@ -90,15 +91,16 @@ fn integer_of(kind: Kind, n: i64) -> Value
             Ok(small) => Value::Int4(small),
             Err(_) => Value::Int8(n),
         },
-        _ => Value::Int8(n),
+        Kind::Bool | Kind::Int8 | Kind::Text => Value::Int8(n),
     }
 }
 
+/// A value of another kind, so that no table takes it.
 fn huge_of(kind: Kind) -> Value
     ensures { result ≡ huge_in kind }
 {
     match kind {
         Kind::Bool => Value::Int8(0),
-        _ => Value::Bool(false),
+        Kind::Int4 | Kind::Int8 | Kind::Text => Value::Bool(false),
     }
 }

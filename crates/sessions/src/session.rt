@@ -1,14 +1,14 @@
 //! A session: a transaction by its name.
 
-ghost use Rattle.std.specs.Prelude.{◌≡◌, ◌<◌, map, length, None, IfErr, IfOk, IfSome, OnErr, OnOk};
+ghost use Rattle.std.specs.Prelude.{◌≡◌, ◌<◌, map, length, None, IfErr, IfOk, IfSome, OnErr, OnOk, true};
 ghost use Rattle.tables.specs.Tables.{table_named};
 ghost use Rattle.txlog.specs.Publishing.{IsRefusalOrMemory, receipt_of, saved, rolled_back, released, after_commit, after_abort, savepoint_refusal, rollback_refusal, release_refusal, end_refusal};
-ghost use Rattle.sessions.specs.SessionLines.{delete_refused, deleted_in, insert_refused, inserted_in, oids_named, truncate_refused, truncated_in, update_refused, updated_in};
-ghost use Rattle.sessions.specs.Sessions.{Called, Grows, named_tx, place_from};
+ghost use Rattle.sessions.specs.SessionLines.{after_step, delete_refused, deleted_in, insert_refused, inserted_in, oids_named, step_refusal, truncate_refused, truncated_in, update_refused, updated_in};
+ghost use Rattle.sessions.specs.Sessions.{Called, Grows, is_within, named_tx, place_from};
 
 use crate::rows::{key_of, row_of};
 use pqformat::{Items, Text};
-use schedule::{Answer, Literal};
+use schedule::{Answer, Literal, SessionStep};
 use shared_log::LogName;
 use std::alloc::{AllocError, Global};
 use std::sync::Wait;
@@ -23,8 +23,40 @@ pub(crate) struct Session {
 }
 
 impl Session {
+    /// Does a step within the transaction.
+    pub(crate) fn act<L: LogName, R: Wait>(
+        &mut self,
+        rt: &R,
+        publisher: &mut Publisher<L>,
+        alloc: Global,
+        step: &SessionStep,
+    ) -> Result<Answer, AllocError>
+        requires within { is_within step.now ≡ true }
+        ensures called { IfOk result (λ a. Called (step_refusal step.now self.old.tx publisher.old) (after_step step.now self.old.tx publisher.old) publisher.old a publisher.new) }
+        ensures same { self.new ≡ self.old }
+        ensures err { OnErr result (publisher.new ≡ publisher.old) }
+        ensures grows { Grows publisher.old.log publisher.new.log }
+    {
+        match step {
+            SessionStep::Insert(table, row) => {
+                self.insert(rt, publisher, alloc, table, row.as_slice())
+            }
+            SessionStep::Update(table, key, row) => {
+                self.update(rt, publisher, alloc, table, key.as_slice(), row.as_slice())
+            }
+            SessionStep::Delete(table, key) => {
+                self.delete(rt, publisher, alloc, table, key.as_slice())
+            }
+            SessionStep::Truncate(names) => self.truncate(rt, publisher, alloc, names.as_slice()),
+            SessionStep::Savepoint => Ok(self.savepoint(rt, publisher)),
+            SessionStep::Rollback(depth) => Ok(self.rollback_to(rt, publisher, *depth)),
+            SessionStep::Release(depth) => Ok(self.release(publisher, *depth)),
+            SessionStep::Begin | SessionStep::Commit(_) | SessionStep::Abort => unreachable!(),
+        }
+    }
+
     /// Inserts a row. A table that is not known has no columns to read the row by.
-    pub(crate) fn insert<L: LogName, R: Wait>(
+    fn insert<L: LogName, R: Wait>(
         &mut self,
         rt: &R,
         publisher: &mut Publisher<L>,
@@ -49,7 +81,7 @@ impl Session {
     }
 
     /// Puts a row in the place of the one with this key.
-    pub(crate) fn update<L: LogName, R: Wait>(
+    fn update<L: LogName, R: Wait>(
         &mut self,
         rt: &R,
         publisher: &mut Publisher<L>,
@@ -75,7 +107,7 @@ impl Session {
         }
     }
 
-    pub(crate) fn delete<L: LogName, R: Wait>(
+    fn delete<L: LogName, R: Wait>(
         &mut self,
         rt: &R,
         publisher: &mut Publisher<L>,
@@ -99,7 +131,7 @@ impl Session {
         }
     }
 
-    pub(crate) fn truncate<L: LogName, R: Wait>(
+    fn truncate<L: LogName, R: Wait>(
         &mut self,
         rt: &R,
         publisher: &mut Publisher<L>,
@@ -120,11 +152,7 @@ impl Session {
         }
     }
 
-    pub(crate) fn savepoint<L: LogName, R: Wait>(
-        &mut self,
-        rt: &R,
-        publisher: &mut Publisher<L>,
-    ) -> Answer
+    fn savepoint<L: LogName, R: Wait>(&mut self, rt: &R, publisher: &mut Publisher<L>) -> Answer
         ensures called { Called (savepoint_refusal self.old.tx publisher.old) (saved self.old.tx publisher.old) publisher.old result publisher.new }
         ensures same { self.new ≡ self.old }
         ensures grows { Grows publisher.old.log publisher.new.log }
@@ -135,7 +163,7 @@ impl Session {
         }
     }
 
-    pub(crate) fn rollback_to<L: LogName, R: Wait>(
+    fn rollback_to<L: LogName, R: Wait>(
         &mut self,
         rt: &R,
         publisher: &mut Publisher<L>,
@@ -151,7 +179,7 @@ impl Session {
         }
     }
 
-    pub(crate) fn release<L: LogName>(&mut self, publisher: &mut Publisher<L>, depth: u32) -> Answer
+    fn release<L: LogName>(&mut self, publisher: &mut Publisher<L>, depth: u32) -> Answer
         ensures called { Called (release_refusal self.old.tx depth publisher.old) (released self.old.tx depth publisher.old) publisher.old result publisher.new }
         ensures same { self.new ≡ self.old }
         ensures grows { Grows publisher.old.log publisher.new.log }

@@ -1,14 +1,15 @@
 //! Sessions, which do the lines of a script.
 
-ghost use Rattle.std.specs.Prelude.{◌≡◌, [], Err, IfOk, IsNone, OnErr, is_some};
+ghost use Rattle.std.specs.Prelude.{◌≡◌, ◌≢◌, ◌↔◌, [], Err, IfOk, IsNone, OnErr, is_some, not};
+ghost use Rattle.txlog.specs.Publishing.{PublisherState};
 ghost use Rattle.sessions.specs.Transactions.{xid_of};
-ghost use Rattle.sessions.specs.SessionLines.{IsLine, ask_of, receipt_due, state_of};
+ghost use Rattle.sessions.specs.SessionLines.{IsCalled, IsLine, ask_of, receipt_due, state_of, step_ask};
 ghost use Rattle.sessions.specs.Sessions.{Grows};
 
 use crate::calls::{call, is_known};
 use crate::session::{Session, leave_all};
 use pqformat::Text;
-use schedule::{Answer, Event, WorldFault};
+use schedule::{Answer, Event, SessionStep, WorldFault};
 use shared_log::LogName;
 use std::alloc::Global;
 use std::marker::Model;
@@ -49,8 +50,26 @@ impl Sessions {
         is_known(self.live.as_slice(), name)
     }
 
-    /// Does a session's line, and answers what a commit tells too. A line of another kind, an unknown name and one that begins
-    /// a second time are V1, and change nothing.
+    /// Whether the step can't be done now: its transaction is unknown, or begins a second time.
+    pub fn refuses(&self, name: &Text, step: &SessionStep) -> bool
+        ensures { (publisher : PublisherState) → result ≡ not (is_some (step_ask name.now step.now publisher self.now)) }
+    {
+        match step {
+            SessionStep::Begin => self.has(name),
+            SessionStep::Insert(_, _)
+            | SessionStep::Update(_, _, _)
+            | SessionStep::Delete(_, _)
+            | SessionStep::Truncate(_)
+            | SessionStep::Savepoint
+            | SessionStep::Rollback(_)
+            | SessionStep::Release(_)
+            | SessionStep::Commit(_)
+            | SessionStep::Abort => !self.has(name),
+        }
+    }
+
+    /// Does a session's line, and answers what a commit tells too. V1 exactly where the line is of another kind, its name is
+    /// unknown, or it begins a second time; else V2 where memory is refused. Either changes nothing.
     pub fn line<L: LogName, R: Wait>(
         &mut self,
         rt: &R,
@@ -59,11 +78,35 @@ impl Sessions {
     ) -> Result<(Answer, Option<Receipt<L>>), WorldFault>
         ensures done { IfOk result (λ made. IsLine event.now (state_of publisher.old self.old) made.0 (state_of publisher.new self.new)) }
         ensures receipt { IfOk result (λ made. made.1 ≡ receipt_due event.now (state_of publisher.old self.old) made.0) }
-        ensures bad { result ≡ Err WorldFault.BadEvent → IsNone (ask_of event.now publisher.old self.old) }
+        ensures bad { (result ≡ Err WorldFault.BadEvent) ↔ IsNone (ask_of event.now publisher.old self.old) }
+        ensures entered { result ≢ Err WorldFault.NoEntry }
         ensures err { OnErr result (state_of publisher.new self.new ≡ state_of publisher.old self.old) }
         ensures grows { Grows publisher.old.log publisher.new.log }
     {
-        call(rt, publisher, &mut self.live, self.alloc, event)
+        match event {
+            Event::Session(name, step) => self.step(rt, publisher, name, step),
+            Event::Connection(_, _) | Event::Slot(_) => Err(WorldFault::BadEvent),
+        }
+    }
+
+    fn step<L: LogName, R: Wait>(
+        &mut self,
+        rt: &R,
+        publisher: &mut Publisher<L>,
+        name: &Text,
+        step: &SessionStep,
+    ) -> Result<(Answer, Option<Receipt<L>>), WorldFault>
+        ensures done { IfOk result (λ made. IsCalled (step_ask name.now step.now publisher.old self.old) (state_of publisher.old self.old) made.0 (state_of publisher.new self.new)) }
+        ensures receipt { IfOk result (λ made. made.1 ≡ receipt_due (Event.Session name.now step.now) (state_of publisher.old self.old) made.0) }
+        ensures bad { (result ≡ Err WorldFault.BadEvent) ↔ IsNone (step_ask name.now step.now publisher.old self.old) }
+        ensures entered { result ≢ Err WorldFault.NoEntry }
+        ensures err { OnErr result (state_of publisher.new self.new ≡ state_of publisher.old self.old) }
+        ensures grows { Grows publisher.old.log publisher.new.log }
+    {
+        if self.refuses(name, step) {
+            return Err(WorldFault::BadEvent);
+        }
+        Ok(call(rt, publisher, &mut self.live, self.alloc, name, step)?)
     }
 
     /// Leaves every transaction as it is: nothing of them commits.

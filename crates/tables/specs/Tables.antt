@@ -68,12 +68,28 @@ pub record IsTable (table : Table) : Type 0 where
   pub name : IsName table.name
   pub columns : AreColumns table.columns
 
+abbrev pub is_bool : Value → Bool
+is_bool (values.Bool b) = true
+is_bool value = false
+
+abbrev pub is_int4 : Value → Bool
+is_int4 (values.Int4 n) = true
+is_int4 value = false
+
+abbrev pub is_int8 : Value → Bool
+is_int8 (values.Int8 n) = true
+is_int8 value = false
+
+-- a text has no zero byte
+abbrev pub is_text : Value → Bool
+is_text (values.Text text) = has_no_zero text
+is_text value = false
+
 abbrev pub is_of_kind : Kind → Value → Bool
-is_of_kind kinds.Bool (values.Bool b) = true
-is_of_kind kinds.Int4 (values.Int4 n) = true
-is_of_kind kinds.Int8 (values.Int8 n) = true
-is_of_kind kinds.Text (values.Text text) = has_no_zero text
-is_of_kind kind value = false
+is_of_kind kinds.Bool value = is_bool value
+is_of_kind kinds.Int4 value = is_int4 value
+is_of_kind kinds.Int8 value = is_int8 value
+is_of_kind kinds.Text value = is_text value
 
 -- a column takes null, unless it belongs to the key, and values of its kind
 abbrev pub fits_column : Column → Value → Bool

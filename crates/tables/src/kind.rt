@@ -19,12 +19,11 @@ impl Kind {
     pub fn holds(self, value: &Value) -> bool
         ensures { result ≡ is_of_kind self value.now }
     {
-        match (self, value) {
-            (Kind::Bool, Value::Bool(_)) => true,
-            (Kind::Int4, Value::Int4(_)) => true,
-            (Kind::Int8, Value::Int8(_)) => true,
-            (Kind::Text, Value::Text(text)) => is_without_zero(text.as_str()),
-            _ => false,
+        match self {
+            Kind::Bool => matches!(value, Value::Bool(_)),
+            Kind::Int4 => matches!(value, Value::Int4(_)),
+            Kind::Int8 => matches!(value, Value::Int8(_)),
+            Kind::Text => matches!(value, Value::Text(text) if is_without_zero(text.as_str())),
         }
     }
 }

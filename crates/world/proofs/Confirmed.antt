@@ -10,6 +10,8 @@ use Rattle.txlog.specs.Publishing.{log_end}
 use Rattle.publication_config.specs.declared.fault.PubFault.TheVariants as pubs
 use Rattle.schedule.specs.declared.event.Event.{Event}
 use Rattle.schedule.specs.declared.event.Event.TheVariants as events
+use Rattle.schedule.specs.declared.event.ConnectionStep.{ConnectionStep}
+use Rattle.schedule.specs.declared.event.ConnectionStep.TheVariants as steps
 use Rattle.schedule.specs.declared.answer.Answer.{Answer}
 use Rattle.schedule.specs.declared.answer.Answer.TheVariants as answers
 use Rattle.starts.specs.State.{StartState}
@@ -18,7 +20,7 @@ use Rattle.world.specs.ConnectionLines.{IsStart}
 use Rattle.named_slots.specs.Words.{slot_named, taken}
 use Rattle.world.specs.Slots.{Acknowledges, Creates}
 use Rattle.named_slots.specs.Words.{confirmed_by, let_go}
-use Rattle.world.specs.Steps.{IsRun, IsStep}
+use Rattle.world.specs.Steps.{IsRun, IsStep, IsStepAt}
 use Rattle.world.specs.Confirming.{confirmed_after, confirmed_at, confirmed_through, raised_by, told_if, told_next, told_to}
 
 -- ---- Changes of one slot.
@@ -146,7 +148,7 @@ created_step name created old new (answers.Subscriber fault) step = absurd step
 
 started_step : (name c : List ℕ) (slot : Option (List ℕ)) (position : ℕ) (names : List (List ℕ)) (old new : WorldState) (a : Answer) → IsStart c slot position names old a new → confirmed_at name new.slots ≡ confirmed_at name old.slots
 started_step name c slot position names old new answers.Done step = ap (λ (w : WorldState). confirmed_at name w.slots) step.1 ∙ taken_same name slot old.slots
-started_step name c slot position names old new (answers.Publication pubs.Memory) step = ap (λ (w : WorldState). confirmed_at name w.slots) step.2
+started_step name c slot position names old new (answers.Publication pubs.Memory) step = ap (λ (w : WorldState). confirmed_at name w.slots) step.1
 started_step name c slot position names old new (answers.Publication pubs.Unknown) step = ap (λ (w : WorldState). confirmed_at name w.slots) step.1
 started_step name c slot position names old new (answers.Publication pubs.ListConflict) step = ap (λ (w : WorldState). confirmed_at name w.slots) step.1
 started_step name c slot position names old new (answers.Publication (pubs.FilterOutsideIdentity place)) step = ap (λ (w : WorldState). confirmed_at name w.slots) step.1
@@ -169,34 +171,28 @@ confirmed_once name None by s = same (confirmed_at name s)
     same (Some n) = refl
 confirmed_once name (Some other) by s = raised_there name other by s.slots
 
-acknowledged_step : (name c : List ℕ) (old new : WorldState) (a : Answer) → Acknowledges c old a new → confirmed_at name new.slots ≡ confirmed_after name old (events.Ack c) a (confirmed_at name old.slots)
+acknowledged_step : (name c : List ℕ) (old new : WorldState) (a : Answer) → Acknowledges c old a new → confirmed_at name new.slots ≡ confirmed_after name old (events.Connection c steps.Ack) a (confirmed_at name old.slots)
 acknowledged_step name c old new a step =
     ap (λ (w : WorldState). confirmed_at name w.slots) step.is
     ∙ confirmed_once name step.before.slot (min step.status.flushed step.start.position) old.slots
     ∙ ap (λ (told : Option ℕ). option_map (raised_by told) (confirmed_at name old.slots)) (ap (λ (back : List Status). told_if name step.before.slot (told_next step.start.position back)) (sym step.waits)
     ∙ ap (λ (o : Option SubscriberState). told_to name (Some step.start) o) (sym step.known) ∙ ap (λ (o : Option StartState). told_to name o (subscriber_of c old.subscribers)) (sym step.there))
 
+connection_confirms : (name c : List ℕ) (step : ConnectionStep) (old : WorldState) (a : Answer) (new : WorldState) → IsStepAt c step old a new → confirmed_at name new.slots ≡ confirmed_after name old (events.Connection c step) a (confirmed_at name old.slots)
+connection_confirms name c (steps.Start slot position names) old a new step = started_step name c (slot_named slot) position names old new a step.1
+connection_confirms name c (steps.Read max clock) old a new step = ap (λ (w : WorldState). confirmed_at name w.slots) step.is
+connection_confirms name c (steps.Keepalive clock) old a new step = ap (λ (w : WorldState). confirmed_at name w.slots) step.is
+connection_confirms name c (steps.Drain n) old a new step = ap (λ (w : WorldState). confirmed_at name w.slots) step.is
+connection_confirms name c (steps.Deliver n) old a new step = ap (λ (w : WorldState). confirmed_at name w.slots) step.is
+connection_confirms name c (steps.Status clock) old a new step = ap (λ (w : WorldState). confirmed_at name w.slots) step.is
+connection_confirms name c (steps.Flushed number) old a new step = ap (λ (w : WorldState). confirmed_at name w.slots) step.is
+connection_confirms name c steps.Ack old a new step = acknowledged_step name c old new a step
+connection_confirms name c steps.Cut old a new step = ap (λ (w : WorldState). confirmed_at name w.slots) step.is ∙ let_go_same name (slot_of_connection c old.subscribers) old.slots
+
 step_confirms : (name : List ℕ) (old : WorldState) (e : Event) (a : Answer) (new : WorldState) → IsStep old e a new → confirmed_at name new.slots ≡ confirmed_after name old e a (confirmed_at name old.slots)
-step_confirms name old (events.Begin t) a new step = ap (λ (w : WorldState). confirmed_at name w.slots) step.is
-step_confirms name old (events.Insert t table row) a new step = ap (λ (w : WorldState). confirmed_at name w.slots) step.is
-step_confirms name old (events.Update t table key row) a new step = ap (λ (w : WorldState). confirmed_at name w.slots) step.is
-step_confirms name old (events.Delete t table key) a new step = ap (λ (w : WorldState). confirmed_at name w.slots) step.is
-step_confirms name old (events.Truncate t names) a new step = ap (λ (w : WorldState). confirmed_at name w.slots) step.is
-step_confirms name old (events.Savepoint t) a new step = ap (λ (w : WorldState). confirmed_at name w.slots) step.is
-step_confirms name old (events.Rollback t depth) a new step = ap (λ (w : WorldState). confirmed_at name w.slots) step.is
-step_confirms name old (events.Release t depth) a new step = ap (λ (w : WorldState). confirmed_at name w.slots) step.is
-step_confirms name old (events.Commit t time) a new step = ap (λ (w : WorldState). confirmed_at name w.slots) step.is
-step_confirms name old (events.Abort t) a new step = ap (λ (w : WorldState). confirmed_at name w.slots) step.is
+step_confirms name old (events.Session t s) a new step = ap (λ (w : WorldState). confirmed_at name w.slots) step.is
+step_confirms name old (events.Connection c s) a new step = connection_confirms name c s old a new step
 step_confirms name old (events.Slot created) a new step = created_step name created old new a step
-step_confirms name old (events.Start c slot position names) a new step = started_step name c (slot_named slot) position names old new a step.1
-step_confirms name old (events.Read c max clock) a new step = ap (λ (w : WorldState). confirmed_at name w.slots) step.is
-step_confirms name old (events.Keepalive c clock) a new step = ap (λ (w : WorldState). confirmed_at name w.slots) step.is
-step_confirms name old (events.Drain c n) a new step = ap (λ (w : WorldState). confirmed_at name w.slots) step.is
-step_confirms name old (events.Deliver c n) a new step = ap (λ (w : WorldState). confirmed_at name w.slots) step.is
-step_confirms name old (events.Status c clock) a new step = ap (λ (w : WorldState). confirmed_at name w.slots) step.is
-step_confirms name old (events.Flushed c number) a new step = ap (λ (w : WorldState). confirmed_at name w.slots) step.is
-step_confirms name old (events.Ack c) a new step = acknowledged_step name c old new a step
-step_confirms name old (events.Cut c) a new step = ap (λ (w : WorldState). confirmed_at name w.slots) step.is ∙ let_go_same name (slot_of_connection c old.subscribers) old.slots
 
 pub run_confirms : (name : List ℕ) (old : WorldState) (es : List Event) (given : List Answer) (new : WorldState) (run : IsRun old es given new) → confirmed_at name new.slots ≡ confirmed_through name old es given new run (confirmed_at name old.slots)
 run_confirms name old [] [] new run = ap (λ (w : WorldState). confirmed_at name w.slots) run

@@ -1,6 +1,7 @@
 pub mod Inside
 pub mod Openings
 pub mod Subscribing
+pub mod Refusing
 pub mod Asking
 pub mod Runs
 pub mod Machines

@@ -1,17 +1,16 @@
 -- The machine between two events: a longer log leaves every start served, a call or an act is its event in the world.
-use Rattle.std.proofs.Common.{◌≡◌, ◌+◌, ◌<◌, length, ℕ, ℤ, Bool, true, false, List, [], ◌∷◌, ◌++◌, map, Option, Some, None, refl, sym, ap, subst, ◌∙◌, option_map, arith}
-use Rattle.std.specs.Prelude.{Result, Ok, Err, IfOk, OnErr, is_some, not, slice_get, slice_set, slice_index_or, vec_capacity, vec_len}
+use Rattle.std.proofs.Common.{◌≡◌, ◌+◌, ◌<◌, length, ℕ, Bool, true, false, List, [], ◌∷◌, ◌++◌, map, Some, refl, sym, ap, subst, ◌∙◌, option_map, arith}
+use Rattle.std.specs.Prelude.{Result, Ok, Err, IfOk, slice_get, slice_set, slice_index_or, vec_capacity, vec_len}
 use Rattle.std.specs.List.{AllByRecursion}
 use Rattle.std.proofs.lemmas.Option.{slice_get-map, slice_get_read, slice_get_within}
 use Rattle.std.proofs.lemmas.List.{length-map, map-append, map-set}
 use Rattle.wal.specs.declared.record.Record.{Record}
-use Rattle.txlog.specs.Publishing.{PublisherState}
 use Rattle.sender.specs.declared.fault.SendFault.TheVariants as sends
 use Rattle.schedule.specs.declared.answer.Answer.{Answer}
 use Rattle.schedule.specs.declared.answer.Answer.TheVariants as answers
 use Rattle.schedule.specs.declared.fault.WorldFault.{WorldFault}
-use Rattle.schedule.specs.declared.event.Event.{Event}
 use Rattle.schedule.specs.declared.event.Event.TheVariants as events
+use Rattle.schedule.specs.declared.event.SessionStep.{SessionStep}
 use Rattle.starts.specs.declared.action.Action.{Action}
 use Rattle.starts.specs.declared.action.Action.TheVariants as actions
 use Rattle.starts.specs.declared.start.Start.{Start}
@@ -20,14 +19,14 @@ use Rattle.starts.specs.declared.start.Stage.TheVariants as stages
 use Rattle.world.specs.declared.machine.Machine.{Machine}
 use Rattle.starts.specs.State.{StartState, running}
 use Rattle.world.specs.State.{SubscriberState, WorldState}
-use Rattle.sessions.specs.SessionLines.{Ask, IsLine, ask_of, if_new, if_known}
+use Rattle.sessions.specs.SessionLines.{IsLine}
 use Rattle.sessions.specs.Sessions.{Grows}
 use Rattle.named_slots.specs.State.{SlotsState}
 use Rattle.starts.specs.Acting.{Acts}
 use Rattle.world.specs.ConnectionLines.{slots_after, subscribers_after}
-use Rattle.world.specs.Steps.{IsStep, is_bad, session_state}
+use Rattle.world.specs.Steps.{IsStep, session_state}
 use Rattle.starts.specs.Starts.{IsServed, is_open, start_state, state_with}
-use Rattle.world.specs.Machine.{ActsIn, IsMachine, IsOpenAt, IsOpenStartAt, open_places, without_place, shown}
+use Rattle.world.specs.Machine.{ActsIn, IsMachine, IsOpenAt, IsOpenStartAt, open_places, without_place}
 use Rattle.starts.proofs.Sections.{grown_served}
 use Rattle.world.proofs.Openings.{places_kept, places_less, places_with_one}
 use Rattle.world.proofs.Readers.{one_runs, running_with}
@@ -43,75 +42,10 @@ all_grown old new cs grows all = let P : List Record → Type 0 = λ l. AllByRec
 -- ---- a session's line
 
 -- a line's call is its event, where nothing else has changed
-stepped : (e : Event) (old new : WorldState) (a : Answer) → IsLine e (session_state old) a (session_state new) → new ≡ record old { publisher = new.publisher; transactions = new.transactions } → IsStep old e a new
-stepped (events.Begin t) old new a calls is = record { called = calls; is = is }
-stepped (events.Insert t table row) old new a calls is = record { called = calls; is = is }
-stepped (events.Update t table key row) old new a calls is = record { called = calls; is = is }
-stepped (events.Delete t table key) old new a calls is = record { called = calls; is = is }
-stepped (events.Truncate t names) old new a calls is = record { called = calls; is = is }
-stepped (events.Savepoint t) old new a calls is = record { called = calls; is = is }
-stepped (events.Rollback t depth) old new a calls is = record { called = calls; is = is }
-stepped (events.Release t depth) old new a calls is = record { called = calls; is = is }
-stepped (events.Commit t time) old new a calls is = record { called = calls; is = is }
-stepped (events.Abort t) old new a calls is = record { called = calls; is = is }
-stepped (events.Start c slot position names) old new a calls is = absurd calls
-stepped (events.Read c max clock) old new a calls is = absurd calls
-stepped (events.Keepalive c clock) old new a calls is = absurd calls
-stepped (events.Drain c n) old new a calls is = absurd calls
-stepped (events.Deliver c n) old new a calls is = absurd calls
-stepped (events.Cut c) old new a calls is = absurd calls
-stepped (events.Slot name) old new a calls is = absurd calls
-stepped (events.Status c clock) old new a calls is = absurd calls
-stepped (events.Flushed c number) old new a calls is = absurd calls
-stepped (events.Ack c) old new a calls is = absurd calls
-
-pub all_stepped : (e : Event) (old new : WorldState) (r : Result Answer WorldFault) → IfOk r (λ a. IsLine e (session_state old) a (session_state new))
-    → new ≡ record old { publisher = new.publisher; transactions = new.transactions } → IfOk r (λ a. IsStep old e a new)
-all_stepped e old new (Ok a) calls is = stepped e old new a calls is
-all_stepped e old new (Err fault) calls is = tt
-
--- a line that is no session line is told apart before
-pub bad_call : (e : Event) (w : WorldState)
-    → ((c slot : List ℕ) (position : ℕ) (names : List (List ℕ)) → e ≡ events.Start c slot position names → ⊥)
-    → ((c : List ℕ) (max : ℕ) (clock : ℤ) → e ≡ events.Read c max clock → ⊥)
-    → ((c : List ℕ) (clock : ℤ) → e ≡ events.Keepalive c clock → ⊥)
-    → ((c : List ℕ) (n : ℕ) → e ≡ events.Drain c n → ⊥)
-    → ((c : List ℕ) (n : ℕ) → e ≡ events.Deliver c n → ⊥)
-    → ((c : List ℕ) → e ≡ events.Cut c → ⊥)
-    → ((name : List ℕ) → e ≡ events.Slot name → ⊥)
-    → ((c : List ℕ) (clock : ℤ) → e ≡ events.Status c clock → ⊥)
-    → ((c : List ℕ) (number : ℕ) → e ≡ events.Flushed c number → ⊥)
-    → ((c : List ℕ) → e ≡ events.Ack c → ⊥)
-    → is_some (ask_of e w.publisher w.transactions) ≡ false → is_bad e w ≡ true
-bad_call (events.Begin t) w start read keepalive drain deliver cut slot_line status flushed ack bad = ap not bad
-bad_call (events.Insert t table row) w start read keepalive drain deliver cut slot_line status flushed ack bad = ap not bad
-bad_call (events.Update t table key row) w start read keepalive drain deliver cut slot_line status flushed ack bad = ap not bad
-bad_call (events.Delete t table key) w start read keepalive drain deliver cut slot_line status flushed ack bad = ap not bad
-bad_call (events.Truncate t names) w start read keepalive drain deliver cut slot_line status flushed ack bad = ap not bad
-bad_call (events.Savepoint t) w start read keepalive drain deliver cut slot_line status flushed ack bad = ap not bad
-bad_call (events.Rollback t depth) w start read keepalive drain deliver cut slot_line status flushed ack bad = ap not bad
-bad_call (events.Release t depth) w start read keepalive drain deliver cut slot_line status flushed ack bad = ap not bad
-bad_call (events.Commit t time) w start read keepalive drain deliver cut slot_line status flushed ack bad = ap not bad
-bad_call (events.Abort t) w start read keepalive drain deliver cut slot_line status flushed ack bad = ap not bad
-bad_call (events.Start c slot position names) w start read keepalive drain deliver cut slot_line status flushed ack bad = absurd (start c slot position names refl)
-bad_call (events.Read c max clock) w start read keepalive drain deliver cut slot_line status flushed ack bad = absurd (read c max clock refl)
-bad_call (events.Keepalive c clock) w start read keepalive drain deliver cut slot_line status flushed ack bad = absurd (keepalive c clock refl)
-bad_call (events.Drain c n) w start read keepalive drain deliver cut slot_line status flushed ack bad = absurd (drain c n refl)
-bad_call (events.Deliver c n) w start read keepalive drain deliver cut slot_line status flushed ack bad = absurd (deliver c n refl)
-bad_call (events.Cut c) w start read keepalive drain deliver cut slot_line status flushed ack bad = absurd (cut c refl)
-bad_call (events.Slot name) w start read keepalive drain deliver cut slot_line status flushed ack bad = absurd (slot_line name refl)
-bad_call (events.Status c clock) w start read keepalive drain deliver cut slot_line status flushed ack bad = absurd (status c clock refl)
-bad_call (events.Flushed c number) w start read keepalive drain deliver cut slot_line status flushed ack bad = absurd (flushed c number refl)
-bad_call (events.Ack c) w start read keepalive drain deliver cut slot_line status flushed ack bad = absurd (ack c refl)
-
--- a name that is in use is bad where it is to be new, and one that is not where it is to be known
-pub bad_new : (o : Option ℕ) (ask : Ask) → is_some o ≡ not (is_some (if_new o ask))
-bad_new None ask = refl
-bad_new (Some xid) ask = refl
-
-pub bad_known : (o : Option ℕ) (ask : ℕ → Ask) → not (is_some o) ≡ not (is_some (if_known o ask))
-bad_known None ask = refl
-bad_known (Some xid) ask = refl
+pub called_step : (t : List ℕ) (s : SessionStep) (old new : WorldState) (r : Result Answer WorldFault) → IfOk r (λ a. IsLine (events.Session t s) (session_state old) a (session_state new))
+    → new ≡ record old { publisher = new.publisher; transactions = new.transactions } → IfOk r (λ a. IsStep old (events.Session t s) a new)
+called_step t s old new (Ok a) calls is = record { called = calls; is = is }
+called_step t s old new (Err fault) calls is = tt
 
 -- ---- a connection's line
 

@@ -7,6 +7,7 @@ use Rattle.named_slots.specs.State.{SlotsState, slot_of}
 use Rattle.txlog.specs.Publishing.{log_end}
 use Rattle.schedule.specs.declared.event.Event.{Event}
 use Rattle.schedule.specs.declared.event.Event.TheVariants as events
+use Rattle.schedule.specs.declared.event.ConnectionStep.TheVariants as steps
 use Rattle.schedule.specs.declared.answer.Answer.{Answer}
 use Rattle.schedule.specs.declared.answer.Answer.TheVariants as answers
 use Rattle.starts.specs.State.{StartState}
@@ -38,7 +39,7 @@ raised_by (Some told) confirmed = max confirmed told
 -- what an event makes of it: nothing but an acknowledgement raises it, and nothing sets it back
 abbrev pub confirmed_after : List ℕ → WorldState → Event → Answer → Option ℕ → Option ℕ
 confirmed_after name w (events.Slot created) answers.Done known = if bytes_eq created name then Some (log_end w.publisher) else known
-confirmed_after name w (events.Ack c) answer known = option_map (raised_by (told_to name (open_start c w.starts) (subscriber_of c w.subscribers))) known
+confirmed_after name w (events.Connection c steps.Ack) answer known = option_map (raised_by (told_to name (open_start c w.starts) (subscriber_of c w.subscribers))) known
 confirmed_after name w event answer known = known
 
 -- and what a run makes of it

@@ -1,37 +1,18 @@
 -- What a connection's line does to its sender.
-use Rattle.std.specs.Prelude.{◌≡◌, ◌<◌, ◌==◌, ℕ, ℤ, max, not, is_some, codes, true, false, List, [], ◌∷◌, ◌++◌, length, take, drop, nat_le, Option, Some, None, if◌then◌else◌, Bool, ◌&&◌}
-use Rattle.std.specs.Str.{bytes_eq}
-use Rattle.wal.specs.declared.record.TheConstants.{FIRST_POSITION}
-use Rattle.wal.specs.declared.record.Record.{Record}
-use Rattle.wal.specs.Log.{end_of}
+use Rattle.std.specs.Prelude.{◌≡◌, ◌==◌, ℕ, List, [], ◌∷◌, ◌++◌, Option, Some, None, if◌then◌else◌}
 use Rattle.publication_config.specs.declared.fault.PubFault.TheVariants as pubs
-use Rattle.publication.specs.Publications.{PublicationSet, conflicts, selected, is_unknown}
-use Rattle.stream.specs.Words.{word_bytes}
-use Rattle.stream.specs.Items.{keepalive_word}
-use Rattle.sender.specs.declared.fault.SendFault.TheVariants as sends
-use Rattle.sender.specs.Published.{published, published_from}
-use Rattle.sender.specs.Sending.{published_bytes}
-use Rattle.schedule.specs.declared.event.Event.{Event}
-use Rattle.schedule.specs.declared.event.Event.TheVariants as events
+use Rattle.publication.specs.Publications.{conflicts, selected, is_unknown}
 use Rattle.schedule.specs.declared.answer.Answer.{Answer}
 use Rattle.schedule.specs.declared.answer.Answer.TheVariants as answers
 use Rattle.starts.specs.declared.action.Action.{Action}
 use Rattle.starts.specs.declared.action.Action.TheVariants as actions
-use Rattle.named_slots.specs.State.{SlotsState, claimed, confirmed_of, is_in_use, slot_of}
+use Rattle.named_slots.specs.State.{SlotsState}
 use Rattle.slots.specs.declared.fault.SlotFault.TheVariants as slot_faults
 use Rattle.starts.specs.State.{StartState, running}
 use Rattle.world.specs.State.{SubscriberState, WorldState, open_start, with_open_start, with_one_for, reconnected, slot_of_connection}
 use Rattle.named_slots.specs.Words.{is_held, is_missing, let_go, start_from, taken}
 use Rattle.starts.specs.Acting.{Acts, new_start}
 use Rattle.world.specs.declared.limits.TheConstants.{MAX_SENDERS}
-
--- the connection that a line names, and what the line asks of its sender; none for the other lines
-abbrev pub action_of : Event → Option (List ℕ × Action)
-action_of (events.Read c max clock) = Some (c, actions.Read max clock)
-action_of (events.Keepalive c clock) = Some (c, actions.Keepalive clock)
-action_of (events.Drain c n) = Some (c, actions.Drain n)
-action_of (events.Cut c) = Some (c, actions.Cut)
-action_of event = None
 
 -- where the connection is cut, its subscriber reconnects
 abbrev pub subscribers_after : List ℕ → Action → List SubscriberState → List SubscriberState
@@ -75,8 +56,8 @@ started connection slot position names w = record w {
   subscribers = with_one_for connection slot w.subscribers;
 }
 
--- P7 where memory was refused for what the publications select
+-- P7 where memory was refused for what the publications select, and nothing else refuses the start
 abbrev pub IsStart : List ℕ → Option (List ℕ) → ℕ → List (List ℕ) → WorldState → Answer → WorldState → Type 0
 IsStart connection slot position names old answers.Done new = (start_refusal slot names old ≡ None) × (new ≡ started connection slot position names old)
-IsStart connection slot position names old (answers.Publication pubs.Memory) new = (is_missing slot old.slots ≡ false) × (is_unknown old.publications names ≡ false) × (new ≡ old)
+IsStart connection slot position names old (answers.Publication pubs.Memory) new = (start_refusal slot names old ≡ None) × (new ≡ old)
 IsStart connection slot position names old answer new = (start_refusal slot names old ≡ Some answer) × (new ≡ old)

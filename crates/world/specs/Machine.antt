@@ -1,23 +1,14 @@
 -- What a world shows of its parts, and what is true of them between events. No promise is told here but by `start_state`
 -- and `shown`, which say how the parts are seen.
-use Rattle.std.specs.Prelude.{◌≡◌, ◌<◌, ◌≤◌, ◌^◌, ℕ, ◌+◌, ◌==◌, Bool, true, false, List, [], ◌∷◌, ◌++◌, length, map, take, filter, not, Option, Some, None, is_some, vec_len, vec_capacity, slice_get, slice_set, remove, if◌then◌else◌}
+use Rattle.std.specs.Prelude.{◌≡◌, ◌<◌, ◌≤◌, ℕ, ◌+◌, ◌==◌, Bool, true, false, List, [], ◌∷◌, map, filter, not, Option, Some, None, is_some, vec_len, vec_capacity, slice_get, slice_set, if◌then◌else◌}
 use Rattle.std.specs.Str.{bytes_eq}
 use Rattle.std.specs.List.{AllByRecursion}
 use Rattle.wal.specs.declared.record.Record.{Record}
 use Rattle.wal.specs.Log.{IsWellFormedLog}
-use Rattle.txlog.specs.declared.fault.SessionFault.{SessionFault}
-use Rattle.txlog.specs.Publishing.{PublisherState, IsRefusalOrMemory}
-use Rattle.publication.specs.Publications.{PublicationSet}
-use Rattle.sender.specs.Sending.{SenderState}
-use Rattle.walsender.specs.Serving.{IsStreaming, Serves}
-use Rattle.schedule.specs.declared.event.Event.{Event}
 use Rattle.schedule.specs.declared.answer.Answer.{Answer}
-use Rattle.schedule.specs.declared.answer.Answer.TheVariants as answers
 use Rattle.starts.specs.declared.action.Action.{Action}
 use Rattle.starts.specs.declared.start.Start.{Start}
 use Rattle.world.specs.declared.subscriber.Subscriber.{Subscriber}
-use Rattle.starts.specs.declared.start.Stage.{Stage}
-use Rattle.starts.specs.declared.start.Stage.TheVariants as stages
 use Rattle.world.specs.declared.machine.Machine.{Machine}
 use Rattle.world.specs.declared.limits.TheConstants.{MAX_SENDERS}
 use Rattle.starts.specs.State.{StartState, is_open_for, running}

@@ -1,28 +1,35 @@
--- A start whose slot is there and whose publications agree, with what they select.
-use Rattle.std.specs.Prelude.{◌≡◌, ◌==◌, ℕ, true, false, List, [], ◌∷◌, ◌++◌, Option}
-use Rattle.publication.specs.Publications.{PublicationSet}
+-- What a start is judged by, and one that isn't refused, with what its publications select.
+use Rattle.std.specs.Prelude.{◌≡◌, ℕ, not, Bool, List, [], ◌∷◌, ◌++◌, Option, Some, None, if◌then◌else◌}
+use Rattle.publication.specs.Publications.{PublicationSet, judged}
 use Rattle.slots.specs.declared.fault.SlotFault.TheVariants as slot_faults
-use Rattle.schedule.specs.declared.answer.Answer.{Answer}
-use Rattle.schedule.specs.declared.answer.Answer.TheVariants as answers
-use Rattle.world.specs.declared.limits.TheConstants.{MAX_SENDERS}
+use Rattle.walsender.specs.declared.beginning.ClaimFault.{ClaimFault}
+use Rattle.walsender.specs.declared.beginning.ClaimFault.TheVariants as claims
+use Rattle.walsender.specs.Beginning.{Question, FindsSlot, Judges, TakesReader, Claims, fault_of}
+use Rattle.world.specs.declared.starting.StartFacts.{StartFacts}
 use Rattle.world.specs.State.{WorldState, with_one_for}
-use Rattle.starts.specs.State.{running}
-use Rattle.named_slots.specs.Words.{is_held, start_from, taken}
+use Rattle.named_slots.specs.Words.{is_held, is_missing, slot_named, start_from, taken}
 use Rattle.starts.specs.Acting.{new_start}
 
--- what it leaves that isn't refused
+-- ---- What it is judged by.
+
+abbrev pub if_held : Bool → Option ClaimFault
+if_held held = if held then Some (claims.Slot slot_faults.InUse) else None
+
+abbrev pub IsAnswer : {L : Type 0} → Question → StartFacts L → Type 0
+IsAnswer (FindsSlot there) f = there ≡ not (is_missing (slot_named f.slot.now) f.slots.now)
+IsAnswer (Judges refused) f = refused ≡ fault_of (judged f.publications.now f.names.now)
+IsAnswer (TakesReader taken) f = taken ≡ f.has_reader
+IsAnswer (Claims refused) f = refused ≡ if_held (is_held (slot_named f.slot.now) f.slots.now)
+
+-- a question changes nothing
+abbrev pub Told : {L : Type 0} → StartFacts L → Question → StartFacts L → Type 0
+Told old question new = (new ≡ old) × IsAnswer question old
+
+-- ---- What it leaves.
+
 abbrev pub started_with : List ℕ → Option (List ℕ) → ℕ → PublicationSet → WorldState → WorldState
 started_with connection slot position selection w = record w {
   slots = taken slot w.slots;
   starts = w.starts ++ new_start connection selection (start_from slot position w.slots) ∷ [];
   subscribers = with_one_for connection slot w.subscribers;
 }
-
--- L6 where as many senders are running as there may be, then L2 where the slot is held
-abbrev pub StartsWith : List ℕ → Option (List ℕ) → ℕ → PublicationSet → WorldState → Answer → WorldState → Type 0
-StartsWith connection slot position selection old answers.Done new =
-    ((running old.starts == MAX_SENDERS) ≡ false) × (is_held slot old.slots ≡ false) × (new ≡ started_with connection slot position selection old)
-StartsWith connection slot position selection old answers.NoReader new = ((running old.starts == MAX_SENDERS) ≡ true) × (new ≡ old)
-StartsWith connection slot position selection old (answers.Slot slot_faults.InUse) new =
-    ((running old.starts == MAX_SENDERS) ≡ false) × (is_held slot old.slots ≡ true) × (new ≡ old)
-StartsWith connection slot position selection old answer new = ⊥

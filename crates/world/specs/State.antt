@@ -1,6 +1,6 @@
 -- The world between two events: a publisher, its transactions in progress by name, the slots, every start of a sender with
 -- what came of it, and the subscribers.
-use Rattle.std.specs.Prelude.{ℕ, ◌+◌, Bool, false, ◌&&◌, List, [], ◌∷◌, ◌++◌, drop, Option, Some, None, if◌then◌else◌}
+use Rattle.std.specs.Prelude.{ℕ, Bool, false, List, [], ◌∷◌, ◌++◌, drop, Option, Some, None, if◌then◌else◌}
 use Rattle.std.specs.Str.{bytes_eq}
 use Rattle.txlog.specs.Publishing.{PublisherState, new_publisher}
 use Rattle.sessions.specs.Transactions.{NamedTx}

@@ -1,15 +1,18 @@
 -- What an event does to the world, exactly, and what a run of events is.
-use Rattle.std.specs.Prelude.{◌≡◌, ◌↔◌, ℕ, pos, Bool, true, false, ◌&&◌, not, is_some, List, [], ◌∷◌, take, slice_get, Option, Some, None, IsNone}
+use Rattle.std.specs.Prelude.{◌≡◌, ◌↔◌, ℕ, pos, Bool, true, ◌&&◌, not, is_some, List, [], ◌∷◌, take, slice_get, Option, Some, None, IsNone}
 use Rattle.schedule.specs.declared.event.Event.{Event}
 use Rattle.schedule.specs.declared.event.Event.TheVariants as events
+use Rattle.schedule.specs.declared.event.ConnectionStep.{ConnectionStep}
+use Rattle.schedule.specs.declared.event.ConnectionStep.TheVariants as steps
 use Rattle.schedule.specs.declared.answer.Answer.{Answer}
 use Rattle.schedule.specs.declared.fault.WorldFault.{WorldFault}
 use Rattle.schedule.specs.declared.fault.WorldFault.TheVariants as worlds
-use Rattle.starts.specs.declared.action.Action.{Action}
+use Rattle.starts.specs.declared.action.Action.TheVariants as actions
 use Rattle.world.specs.State.{WorldState, open_start, subscriber_of}
 use Rattle.sessions.specs.SessionLines.{Ask, SessionState, ask_of, IsCalled}
-use Rattle.world.specs.ConnectionLines.{action_of, ActsAt, IsStart}
+use Rattle.world.specs.ConnectionLines.{ActsAt, IsStart}
 use Rattle.named_slots.specs.Words.{slot_named}
+use Rattle.replcmd.specs.Words.{is_slot_name}
 use Rattle.world.specs.Slots.{Acknowledges, Creates, PutsBack, has_status, status_with}
 use Rattle.world.specs.Delivering.{Delivers}
 
@@ -21,34 +24,36 @@ pub record Calls (ask : Option Ask) (old : WorldState) (answer : Answer) (new : 
   pub called : IsCalled ask (session_state old) answer (session_state new)
   pub is : new ≡ record old { publisher = new.publisher; transactions = new.transactions }
 
--- a line that asks something of a connection's sender, or a session's line
-abbrev pub ActsOrCalls : Option (List ℕ × Action) → Event → WorldState → Answer → WorldState → Type 0
-ActsOrCalls (Some asked) event old answer new = ActsAt asked.0 asked.1 old answer new
-ActsOrCalls None event old answer new = Calls (ask_of event old.publisher old.transactions) old answer new
+-- A connection's line answers this and leaves that.
+abbrev pub IsStepAt : List ℕ → ConnectionStep → WorldState → Answer → WorldState → Type 0
+IsStepAt c (steps.Start slot position names) old answer new = IsNone (open_start c old.starts) × IsStart c (slot_named slot) position names old answer new
+IsStepAt c (steps.Read max clock) old answer new = ActsAt c (actions.Read max clock) old answer new
+IsStepAt c (steps.Keepalive clock) old answer new = ActsAt c (actions.Keepalive clock) old answer new
+IsStepAt c (steps.Drain n) old answer new = ActsAt c (actions.Drain n) old answer new
+IsStepAt c (steps.Deliver n) old answer new = Delivers c n old answer new
+IsStepAt c (steps.Status clock) old answer new = PutsBack c (status_with None clock) old answer new
+IsStepAt c (steps.Flushed number) old answer new = PutsBack c (status_with (Some number) (pos 0)) old answer new
+IsStepAt c steps.Ack old answer new = Acknowledges c old answer new
+IsStepAt c steps.Cut old answer new = ActsAt c actions.Cut old answer new
 
 -- The event answers this and leaves that.
 abbrev pub IsStep : WorldState → Event → Answer → WorldState → Type 0
-IsStep old (events.Start c slot position names) answer new = IsNone (open_start c old.starts) × IsStart c (slot_named slot) position names old answer new
-IsStep old (events.Deliver c n) answer new = Delivers c n old answer new
+IsStep old (events.Session t step) answer new = Calls (ask_of (events.Session t step) old.publisher old.transactions) old answer new
+IsStep old (events.Connection c step) answer new = IsStepAt c step old answer new
 IsStep old (events.Slot name) answer new = Creates name old answer new
-IsStep old (events.Status c clock) answer new = PutsBack c (status_with None clock) old answer new
-IsStep old (events.Flushed c number) answer new = PutsBack c (status_with (Some number) (pos 0)) old answer new
-IsStep old (events.Ack c) answer new = Acknowledges c old answer new
-IsStep old event answer new = ActsOrCalls (action_of event) event old answer new
 
-abbrev pub has_no_one : Option (List ℕ × Action) → Event → WorldState → Bool
-has_no_one (Some asked) event w = not (is_some (open_start asked.0 w.starts))
-has_no_one None event w = not (is_some (ask_of event w.publisher w.transactions))
+-- A line that can't happen now: a start where the connection has a sender already, an acknowledgement where no status waits, any
+-- other where the connection has no sender.
+abbrev pub is_bad_at : List ℕ → ConnectionStep → WorldState → Bool
+is_bad_at c (steps.Start slot position names) w = is_some (open_start c w.starts)
+is_bad_at c steps.Ack w = not (is_some (open_start c w.starts) && has_status (subscriber_of c w.subscribers))
+is_bad_at c step w = not (is_some (open_start c w.starts))
 
--- an event that can't happen now, since its name is unknown or wrongly repeated, or no status waits: V1
+-- an event that can't happen now, since a name is unknown, wrongly repeated or none, or no status waits: V1
 abbrev pub is_bad : Event → WorldState → Bool
-is_bad (events.Start c slot position names) w = is_some (open_start c w.starts)
-is_bad (events.Deliver c n) w = not (is_some (open_start c w.starts))
-is_bad (events.Slot name) w = false
-is_bad (events.Status c clock) w = not (is_some (open_start c w.starts))
-is_bad (events.Flushed c number) w = not (is_some (open_start c w.starts))
-is_bad (events.Ack c) w = not (is_some (open_start c w.starts) && has_status (subscriber_of c w.subscribers))
-is_bad event w = has_no_one (action_of event) event w
+is_bad (events.Session t step) w = not (is_some (ask_of (events.Session t step) w.publisher w.transactions))
+is_bad (events.Connection c step) w = is_bad_at c step w
+is_bad (events.Slot name) w = not (is_slot_name name)
 
 -- a run: the answers to the events in order, and where they lead
 abbrev pub IsRun : WorldState → List Event → List Answer → WorldState → Type 0

@@ -8,13 +8,16 @@
 mod limits;
 mod machine;
 mod opening;
+mod starting;
 mod statuses;
 mod subscriber;
 mod world;
 
 pub use limits::MAX_SENDERS;
 pub use named_slots::Slot;
-pub use schedule::{Answer, BadEvent, Event, LineFault, Literal, Schedule, WorldFault};
+pub use schedule::{
+    Answer, BadEvent, ConnectionStep, Event, LineFault, Literal, Schedule, SessionStep, WorldFault,
+};
 pub use sessions::Sessions;
 pub use slots::SlotFault;
 pub use starts::Start;

@@ -5,24 +5,26 @@ ghost use Rattle.std.specs.List.{AllByRecursion};
 ghost use Rattle.txlog.specs.Publishing.{new_publisher};
 ghost use Rattle.world.specs.State.{new_subscriber, new_world, open_start, with_one_for};
 ghost use Rattle.starts.specs.State.{running};
-ghost use Rattle.world.specs.ConnectionLines.{ActsAt, IsStart};
-ghost use Rattle.named_slots.specs.Words.{is_missing, slot_named};
+ghost use Rattle.world.specs.ConnectionLines.{ActsAt, IsStart, start_refusal};
+ghost use Rattle.named_slots.specs.Words.{is_held, is_missing, slot_named};
 ghost use Rattle.starts.specs.Acting.{new_start};
 ghost use Rattle.world.specs.Delivering.{Delivers};
-ghost use Rattle.world.specs.Starting.{StartsWith};
+ghost use Rattle.world.specs.Starting.{started_with};
 ghost use Rattle.sessions.specs.SessionLines.{IsLine, ask_of};
-ghost use Rattle.world.specs.Steps.{IsStep, is_bad, session_state};
+ghost use Rattle.world.specs.Steps.{IsStep, IsStepAt, is_bad, is_bad_at, session_state};
 ghost use Rattle.world.specs.Machine.{ActsIn, HasRoom, IsMachine, IsOpenAt, shown, subscriber_state};
 ghost use Rattle.starts.specs.Starts.{IsServed, start_state};
 
 use crate::limits::MAX_SENDERS;
 use crate::opening::{close, place_among};
+use crate::starting::StartFacts;
 use crate::subscriber::{Subscriber, place_of, reconnect, subscribe};
 use configuration::Config;
-use named_slots::{HeldSlots, is_missing, let_go, slot_named, take};
+use named_slots::{HeldSlots, let_go, slot_named, take};
 use pqformat::Text;
 use publication::{Publications, Selection};
-use schedule::{Answer, Event, WorldFault};
+use replcmd::is_slot_name;
+use schedule::{Answer, ConnectionStep, Event, WorldFault};
 use sessions::Sessions;
 use shared_log::{LogName, LogReader};
 use slots::{OpenedSlots, SlotFault, SlotName};
@@ -31,6 +33,7 @@ use std::alloc::{AllocError, Global};
 use std::sync::Wait;
 use tables::Catalog;
 use txlog::{MAX_RECORDS, Opened, Publisher, SessionFault};
+use walsender::{StartFault, begin};
 
 /// A publisher, its slots, its sessions by name, every start of a sender, where the open ones stand, in order, the readers that serve none
 /// of them, and the subscribers.
@@ -106,26 +109,26 @@ impl<L: LogName + SlotName> Machine<L> {
         ensures { result ≡ is_bad event.now (shown self.now) }
     {
         match event {
-            Event::Begin(name) => self.sessions.has(name),
-            Event::Insert(name, _, _)
-            | Event::Update(name, _, _, _)
-            | Event::Delete(name, _, _)
-            | Event::Truncate(name, _)
-            | Event::Savepoint(name)
-            | Event::Rollback(name, _)
-            | Event::Release(name, _)
-            | Event::Commit(name, _)
-            | Event::Abort(name) => !self.sessions.has(name),
-            Event::Start(name, _, _, _) => self.is_connected(name),
-            Event::Read(name, _, _)
-            | Event::Keepalive(name, _)
-            | Event::Drain(name, _)
-            | Event::Deliver(name, _)
-            | Event::Status(name, _)
-            | Event::Flushed(name, _)
-            | Event::Cut(name) => !self.is_connected(name),
-            Event::Ack(name) => !self.has_status(name),
-            Event::Slot(_) => false,
+            Event::Session(name, step) => self.sessions.refuses(name, step),
+            Event::Connection(name, step) => self.is_bad_at(name, step),
+            Event::Slot(name) => !is_slot_name(name.as_str()),
+        }
+    }
+
+    fn is_bad_at(&self, name: &Text, step: &ConnectionStep) -> bool
+        requires machine { IsMachine self.now }
+        ensures { result ≡ is_bad_at name.now step.now (shown self.now) }
+    {
+        match step {
+            ConnectionStep::Start(_, _, _) => self.is_connected(name),
+            ConnectionStep::Ack => !self.has_status(name),
+            ConnectionStep::Read(_, _)
+            | ConnectionStep::Keepalive(_)
+            | ConnectionStep::Drain(_)
+            | ConnectionStep::Deliver(_)
+            | ConnectionStep::Status(_)
+            | ConnectionStep::Flushed(_)
+            | ConnectionStep::Cut => !self.is_connected(name),
         }
     }
 
@@ -137,21 +140,34 @@ impl<L: LogName + SlotName> Machine<L> {
         ensures err { OnErr result (shown self.new ≡ shown self.old) }
         ensures machine { IsMachine self.new }
     {
-        let alloc = *self.starts.allocator();
         match event {
-            Event::Start(name, slot, position, names) => {
+            Event::Session(_, _) => self.call(rt, event),
+            Event::Connection(name, step) => self.step_at(name, step),
+            Event::Slot(name) => Ok(self.create(name)),
+        }
+    }
+
+    /// Does the line of a connection.
+    fn step_at(&mut self, name: &Text, step: &ConnectionStep) -> Result<Answer, WorldFault>
+        requires machine { IsMachine self.old }
+        ensures step { IfOk result (λ a. IsStepAt name.now step.now (shown self.old) a (shown self.new)) }
+        ensures bad { result ≡ Err WorldFault.BadEvent → is_bad_at name.now step.now (shown self.old) ≡ true }
+        ensures err { OnErr result (shown self.new ≡ shown self.old) }
+        ensures machine { IsMachine self.new }
+    {
+        let alloc = *self.starts.allocator();
+        match step {
+            ConnectionStep::Start(slot, position, names) => {
                 self.start(alloc, name, slot, *position, names.as_slice())
             }
-            Event::Read(name, max, clock) => self.act(alloc, name, Action::Read(*max, *clock)),
-            Event::Keepalive(name, clock) => self.act(alloc, name, Action::Keepalive(*clock)),
-            Event::Drain(name, max) => self.act(alloc, name, Action::Drain(*max)),
-            Event::Deliver(name, max) => self.deliver(name, *max),
-            Event::Cut(name) => self.act(alloc, name, Action::Cut),
-            Event::Slot(name) => Ok(self.create(name)),
-            Event::Status(name, clock) => self.put_back(name, None, *clock),
-            Event::Flushed(name, number) => self.put_back(name, Some(*number), 0),
-            Event::Ack(name) => self.acknowledge(name),
-            _ => self.call(rt, event),
+            ConnectionStep::Read(max, clock) => self.act(alloc, name, Action::Read(*max, *clock)),
+            ConnectionStep::Keepalive(clock) => self.act(alloc, name, Action::Keepalive(*clock)),
+            ConnectionStep::Drain(max) => self.act(alloc, name, Action::Drain(*max)),
+            ConnectionStep::Deliver(max) => self.deliver(name, *max),
+            ConnectionStep::Status(clock) => self.put_back(name, None, *clock),
+            ConnectionStep::Flushed(number) => self.put_back(name, Some(*number), 0),
+            ConnectionStep::Ack => self.acknowledge(name),
+            ConnectionStep::Cut => self.act(alloc, name, Action::Cut),
         }
     }
 
@@ -187,8 +203,8 @@ impl<L: LogName + SlotName> Machine<L> {
         if self.is_connected(name) {
             return Err(WorldFault::BadEvent);
         }
-        if is_missing(&self.slots, slot) {
-            return Ok(Answer::Slot(SlotFault::Missing));
+        if let Some(refusal) = self.start_refusal(slot, names) {
+            return Ok(refusal);
         }
         match self.publications.select(names) {
             Ok(selection) => self.start_with(alloc, name, slot, position, selection),
@@ -196,7 +212,28 @@ impl<L: LogName + SlotName> Machine<L> {
         }
     }
 
-    /// Starts a sender of this selection. L6 where no reader is left, then L2 where the slot is held.
+    /// Why a start is refused, if it is. It takes no memory.
+    fn start_refusal(&self, slot: &Text, names: &[Text]) -> Option<Answer>
+        requires machine { IsMachine self.now }
+        ensures { result ≡ start_refusal (slot_named slot.now) names.now (shown self.now) }
+    {
+        let mut facts = StartFacts {
+            publications: &self.publications,
+            slots: &self.slots,
+            has_reader: !self.readers.is_empty(),
+            slot,
+            names,
+        };
+        match begin(&mut facts) {
+            Ok(()) => None,
+            Err(StartFault::NoSlot) => Some(Answer::Slot(SlotFault::Missing)),
+            Err(StartFault::Publication(fault)) => Some(Answer::Publication(fault)),
+            Err(StartFault::NoReader) => Some(Answer::NoReader),
+            Err(StartFault::Claim(_)) => Some(Answer::Slot(SlotFault::InUse)),
+        }
+    }
+
+    /// Starts a sender of this selection, which nothing but want of memory refuses.
     fn start_with(
         &mut self,
         alloc: Global,
@@ -207,21 +244,20 @@ impl<L: LogName + SlotName> Machine<L> {
     ) -> Result<Answer, WorldFault>
         requires machine { IsMachine self.old }
         requires slot { is_missing (slot_named slot.now) (shown self.old).slots ≡ false }
-        ensures start { IfOk result (λ a. StartsWith name.now (slot_named slot.now) position selection (shown self.old) a (shown self.new)) }
+        requires free { is_held (slot_named slot.now) (shown self.old).slots ≡ false }
+        requires reader { 0 < vec_len self.old.readers }
+        ensures done { IfOk result (λ a. (a ≡ Answer.Done) × (shown self.new ≡ started_with name.now (slot_named slot.now) position selection (shown self.old))) }
         ensures happens { result ≢ Err WorldFault.BadEvent }
         ensures err { OnErr result (shown self.new ≡ shown self.old) }
         ensures machine { IsMachine self.new }
     {
-        if self.readers.is_empty() {
-            return Ok(Answer::NoReader);
-        }
         let (subscriber, connection) = self.reserve(alloc, name, slot)?;
         match take(&mut self.slots, slot, position) {
             Ok(position) => {
                 self.add(alloc, subscriber, connection, selection, position);
                 Ok(Answer::Done)
             }
-            Err(fault) => Ok(Answer::Slot(fault)),
+            Err(_) => unreachable!(),
         }
     }
 

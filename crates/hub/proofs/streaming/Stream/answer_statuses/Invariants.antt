@@ -1,5 +1,4 @@
-use Rattle.std.proofs.Common.{◌≡◌, ◌++◌, ◌+◌, ℕ, List}
-use Rattle.std.specs.Io.KnownBytes.{Appends}
+use Rattle.std.proofs.Common.{◌≡◌, ◌++◌, ◌+◌, ℕ}
 use Rattle.hub.specs.Streams.{StreamsOn, keepalives}
 use Rattle.hub.proofs.Streams.{Gave}
 use Rattle.hub.proofs.streaming.Stream.answer_statuses.Given as goal

@@ -1,0 +1,74 @@
+//! A START over the hub: where its slot, its publications and its reader come from.
+
+ghost use Rattle.std.specs.Prelude.{◌<◌};
+
+use crate::grant::StreamGrant;
+use crate::hub::Hub;
+use crate::pool::Pair;
+use pqformat::Text;
+use publication::PubFault;
+use shared_log::LogName;
+use slots::SlotName;
+use std::sync::Wait;
+use walsender::{ClaimFault, StartDesk};
+
+/// What a START asks for, and of which hub.
+#[derive(Drop)]
+pub(crate) struct HubStart<'h, L: LogName + SlotName, R: Wait> {
+    pub rt: &'h R,
+    pub hub: &'h Hub<L>,
+    pub slot: &'h str,
+    pub names: &'h [Text],
+    pub position: u64,
+}
+
+/// The place of a slot that was found by its name.
+#[derive(Clone, Copy, Drop)]
+pub(crate) struct FoundSlot {
+    place: usize,
+    ghost low: { place < 16 },
+}
+
+impl<'h, L: LogName + SlotName, R: Wait> StartDesk for HubStart<'h, L, R> {
+    type Slot = FoundSlot;
+
+    type Reader = Pair<L>;
+
+    type Grant = StreamGrant<L>;
+
+    // Other connections ask the same hub in between, so of a question nothing is told.
+    ghost told = { λ old question new. Unit {0} };
+
+    fn find_slot(&mut self) -> Option<FoundSlot> {
+        match self.hub.place_of(self.rt, self.slot) {
+            Some(place) => Some(FoundSlot { place }),
+            None => None,
+        }
+    }
+
+    fn judge(&mut self) -> Result<(), PubFault> {
+        self.hub.publications.judge(self.names)
+    }
+
+    fn take_reader(&mut self) -> Option<Pair<L>> {
+        self.hub.take_pair(self.rt)
+    }
+
+    fn claim(&mut self, slot: FoundSlot, pair: Pair<L>) -> Result<StreamGrant<L>, ClaimFault> {
+        let hub = self.hub;
+        match StreamGrant::claim(
+            &hub.slots,
+            pair,
+            slot.place,
+            &hub.publications,
+            self.names,
+            self.position,
+        ) {
+            Ok(grant) => Ok(grant),
+            Err((pair, fault)) => {
+                hub.give_back(self.rt, pair);
+                Err(fault)
+            }
+        }
+    }
+}

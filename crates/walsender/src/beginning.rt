@@ -1,0 +1,78 @@
+//! How a stream begins: what is asked for it, in which order, and why it is refused.
+
+ghost use Rattle.walsender.specs.Beginning.{AreAsked, questions};
+
+use publication::PubFault;
+use slots::SlotFault;
+
+/// Whoever has the slots, the publications and the readers of which a stream is made, for one START. `told` is what a question with
+/// its answer says of it before and after; who tells nothing says `Unit`.
+pub trait StartDesk {
+    ghost use Rattle.std.specs.Prelude.{is_some};
+    ghost use Rattle.walsender.specs.Beginning.{Question, FindsSlot, Judges, TakesReader, Claims, fault_of};
+
+    /// A slot that is there.
+    type Slot: Drop;
+    /// A reader of the log, with all else that so many streams can have at once.
+    type Reader: Drop;
+    /// What a stream is made of.
+    type Grant;
+
+    ghost told: { Self → Question → Self → Type 0 };
+
+    /// The slot that the stream is for, if it is there.
+    fn find_slot(&mut self) -> Option<Self::Slot>
+        ensures { told self.old (FindsSlot (is_some result)) self.new };
+
+    /// Whether its publications can be selected: P1 where one is unknown, P2 where their lists differ. It takes no memory.
+    fn judge(&mut self) -> Result<(), PubFault>
+        ensures { told self.old (Judges (fault_of result)) self.new };
+
+    /// A reader that no stream has.
+    fn take_reader(&mut self) -> Option<Self::Reader>
+        ensures { told self.old (TakesReader (is_some result)) self.new };
+
+    /// Claims the slot, and then makes what needs memory. Where it is refused, the reader is free again, and so is the slot.
+    fn claim(&mut self, slot: Self::Slot, reader: Self::Reader) -> Result<Self::Grant, ClaimFault>
+        ensures { told self.old (Claims (fault_of result)) self.new };
+}
+
+/// Why a slot isn't claimed for a stream.
+#[derive(Clone, Copy, Debug, PartialEq, Eq)]
+pub enum ClaimFault {
+    /// L2, or L1 where the slot was dropped meanwhile.
+    Slot(SlotFault),
+    Memory,
+}
+
+/// Why a stream doesn't begin.
+#[derive(Clone, Copy, Debug, PartialEq, Eq)]
+pub enum StartFault {
+    /// L1.
+    NoSlot,
+    /// P1 or P2.
+    Publication(PubFault),
+    /// L6.
+    NoReader,
+    Claim(ClaimFault),
+}
+
+/// Begins a stream, or answers the first of the refusals in their order: there is no such slot, a publication is unknown, lists
+/// differ, no reader is free, the slot is held; and want of memory last. Nothing is asked behind a refusal.
+pub fn begin<D: StartDesk>(desk: &mut D) -> Result<D::Grant, StartFault>
+    ensures { AreAsked D.told desk.old (questions result) desk.new }
+{
+    let Some(slot) = desk.find_slot() else {
+        return Err(StartFault::NoSlot);
+    };
+    if let Err(fault) = desk.judge() {
+        return Err(StartFault::Publication(fault));
+    }
+    let Some(reader) = desk.take_reader() else {
+        return Err(StartFault::NoReader);
+    };
+    match desk.claim(slot, reader) {
+        Ok(grant) => Ok(grant),
+        Err(fault) => Err(StartFault::Claim(fault)),
+    }
+}
