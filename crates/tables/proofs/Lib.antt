@@ -1,3 +1,4 @@
+pub mod Behind
 pub mod Catalogs
 pub mod ChangeBodies
 pub mod Lengths
