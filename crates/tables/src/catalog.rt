@@ -10,7 +10,7 @@ use pqformat::Items;
 use std::marker::Model;
 
 /// The tables of a publisher. Contracts see the list of them. Each is named, and has at most 64 columns.
-#[derive(Debug, Drop, PartialEq)]
+#[derive(Debug, Drop)]
 pub struct Catalog {
     tables: Items<Table>,
 }

@@ -8,7 +8,7 @@ use crate::value::Value;
 use pqformat::Text;
 use std::alloc::{AllocError, Global};
 
-#[derive(Debug, Drop, PartialEq)]
+#[derive(Debug, Drop)]
 pub struct Column {
     pub name: Text,
     pub kind: Kind,

@@ -29,7 +29,7 @@ const REQUIRED: usize = 5;
 pub const MAX_COLUMNS: usize = 64;
 
 /// Why no table was read.
-#[derive(Clone, Copy, Debug, PartialEq, Eq)]
+#[derive(Clone, Copy)]
 pub(crate) enum Unread {
     Wrong(Member),
     Memory,

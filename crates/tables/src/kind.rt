@@ -6,7 +6,7 @@ ghost use Rattle.tables.specs.Tables.{has_no_zero, is_of_kind};
 use crate::value::Value;
 
 /// The type of a column.
-#[derive(Clone, Copy, Debug, PartialEq, Eq)]
+#[derive(Clone, Copy, Debug)]
 pub enum Kind {
     Bool,
     Int4,

@@ -13,7 +13,7 @@ use pqformat::{Items, Text};
 use std::alloc::{AllocError, Global};
 
 /// A table that sessions write. Its columns stand in table order.
-#[derive(Debug, Drop, PartialEq)]
+#[derive(Debug, Drop)]
 pub struct Table {
     pub oid: u32,
     pub schema: Text,
@@ -58,7 +58,6 @@ impl Table {
     }
 
     /// Whether the name is the table's schema, a dot and its own name.
-    #[tactic(auto, using(crate::proofs::Names::split_at_schema, crate::proofs::Names::other_schema))]
     pub fn is_named(&self, name: &str) -> bool
         ensures { result ≡ bytes_eq (full_name self.now) name.now }
     {
