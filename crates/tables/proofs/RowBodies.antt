@@ -1,5 +1,5 @@
 -- A row that is read was spelled so, and one that was spelled is read again.
-use Rattle.std.proofs.Common.{◌≡◌, ℕ, zero, suc, ◌-◌, ◌^◌, ◌<◌, arith, Option, Bool, true, false, cond, eqb, List, [], ◌∷◌, ◌++◌, length, Some, None, Result, Ok, Err, refl, sym, subst}
+use Rattle.std.proofs.Common.{◌≡◌, ℕ, zero, suc, ◌-◌, ◌^◌, ◌<◌, arith, Option, Bool, true, false, cond, eqb, List, [], ◌∷◌, ◌++◌, length, Some, None, Result, Ok, Err, refl, sym, ap, subst}
 use Rattle.std.specs.Prelude.{IsSomeAnd, IsOk}
 use Rattle.std.specs.List.{flat_map, AllByRecursion}
 use Rattle.std.specs.Option.{ok_or}
@@ -92,6 +92,11 @@ fails_on Memory f front count i bytes total lt e so_far = tt
 pub first_read : (i : ℕ) (now initial : List ℕ) → (i ≡ 0 → now ≡ initial) → (0 < i → IsOk (value_at initial)) → IsOk (value_at now) → IsOk (value_at initial)
 first_read zero now initial first later read = subst (λ (bytes : List ℕ). IsOk (value_at bytes)) (first refl) read
 first_read (suc i) now initial first later read = later (omega arith)
+
+-- a fault that is passed on is memory only where it was before
+pub memory_before : {X Y : Type 0} (result : Result X BodyFault) (passed fault : BodyFault) → result ≡ Err passed → passed ≡ fault → result ≡ Err Memory →
+    ◌≡◌ {A = Result Y BodyFault} (Err fault) (Err Memory)
+memory_before result passed fault is same memory = let known : fault ≡ Memory = cc in ap Err known
 
 -- WHERE MEMORY IS WANTED
 
