@@ -33,9 +33,12 @@ pub returns-in_err-push : goal.returns-in_err-push
 returns-in_err-push c =
     let p = err_from_is_err_and c.from_residual-in_err-push.result c.from_residual-in_err-push.ensures.1 in
     rw (p.1, p.2) (record {
-        exact = tt;
-        memory = λ memory. (omega (arith, c.loop-test.true), first_read c.loop.counter c.loop.cursor c.args.cursor.now c.loop.invariant.1 c.loop.invariant.2
-            (rw c.in_ok-oid.ensures.exact refl))
+      exact = tt;
+      memory = λ memory. (
+        omega (arith, c.loop-test.true),
+        first_read c.loop.counter c.loop.cursor c.args.cursor.now c.loop.invariant.1 c.loop.invariant.2
+            (rw c.in_ok-oid.ensures.exact refl),
+      );
     })
 
 pub returns-clause-memory : goal.returns-clause-memory

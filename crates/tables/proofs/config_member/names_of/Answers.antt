@@ -9,7 +9,7 @@ loop-value-preserved c =
     let had = c.loop-value.names.items in
     let next = item_next (names_behind had) c.args.values.now c.loop-value.value-index c.value-item.result c.loop-value-test.true c.value-item.is in
     let read = name_read had (view c.value-item.result) (items_view (drop (c.loop-value.value-index + 1) c.args.values.now)) c.in-Some.name.now
-        (sym (rw c.as_slice.ensures.value at c.in-Some.ensures)) in
+    (sym (rw c.as_slice.ensures.value at c.in-Some.ensures)) in
     rw (c.in_ok-push.ensures.items, c.in_ok-copy_of.ensures) (sym read ∙ sym next ∙ c.loop-value.invariant)
 
 pub returns : goal.returns

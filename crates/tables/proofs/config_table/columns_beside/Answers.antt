@@ -26,7 +26,7 @@ fits P e (Some x) result is given = rw given is
 
 pub returns : goal.returns
 returns c = record {
-    value = found members.Columns (codes "columns") (columns_in c.args.key.now) (view c.args.table.now) (view c.in-Some.value.now) c.in_ok-columns.columns c.ok_or.result
-        c.in-Some.ensures c.in_ok-columns.ensures.value c.ok_or.ensures.value;
-    fits = fits AreColumns (Wrong members.Columns) c.in_ok-columns.columns c.ok_or.result c.in_ok-columns.ensures.fits c.ok_or.ensures.value
+  value = found members.Columns (codes "columns") (columns_in c.args.key.now) (view c.args.table.now) (view c.in-Some.value.now) c.in_ok-columns.columns c.ok_or.result
+      c.in-Some.ensures c.in_ok-columns.ensures.value c.ok_or.ensures.value;
+  fits = fits AreColumns (Wrong members.Columns) c.in_ok-columns.columns c.ok_or.result c.in_ok-columns.ensures.fits c.ok_or.ensures.value;
 }

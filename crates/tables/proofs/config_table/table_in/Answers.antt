@@ -18,7 +18,7 @@ read d oid schema name identity columns a b e f g h = rw (a, b, e, f, g, h) refl
 
 pub returns : goal.returns
 returns c = record {
-    value = read (view c.args.value.now) c.in_ok-oid.oid c.in_ok-schema.schema c.in_ok-name.name c.in_ok-identity.identity c.in_ok-columns.columns
-        c.in_ok-oid.ensures c.in_ok-schema.ensures.value c.in_ok-name.ensures.value c.in_ok-identity.ensures c.in_ok-columns.ensures.value (sym c.if-has_others.ensures);
-    fits = record { oid = search rules; schema = c.in_ok-schema.ensures.named; name = c.in_ok-name.ensures.named; columns = c.in_ok-columns.ensures.fits }
+  value = read (view c.args.value.now) c.in_ok-oid.oid c.in_ok-schema.schema c.in_ok-name.name c.in_ok-identity.identity c.in_ok-columns.columns
+      c.in_ok-oid.ensures c.in_ok-schema.ensures.value c.in_ok-name.ensures.value c.in_ok-identity.ensures c.in_ok-columns.ensures.value (sym c.if-has_others.ensures);
+  fits = record { oid = search rules; schema = c.in_ok-schema.ensures.named; name = c.in_ok-name.ensures.named; columns = c.in_ok-columns.ensures.fits };
 }

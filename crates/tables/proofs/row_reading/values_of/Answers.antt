@@ -26,16 +26,22 @@ returns-clause-exact c = rw c.new.ensures (is_done value_at c.loop.values.items 
 pub returns-in_err-value-clause-memory : goal.returns-in_err-value-clause-memory
 returns-in_err-value-clause-memory c =
     let p = err_from_is_err_and c.from_residual.result c.from_residual.ensures.1 in
-    λ memory. (omega (arith, c.loop-test.true), first_read c.loop.counter c.loop.cursor c.args.cursor.now c.loop.invariant.1 c.loop.invariant.2
-        (c.in_err-value.ensures.memory (memory_before c.from_residual.result p.0 c.in_err-value.field-0.0 p.1 p.2 memory)))
+    λ memory. (
+      omega (arith, c.loop-test.true),
+      first_read c.loop.counter c.loop.cursor c.args.cursor.now c.loop.invariant.1 c.loop.invariant.2
+          (c.in_err-value.ensures.memory (memory_before c.from_residual.result p.0 c.in_err-value.field-0.0 p.1 p.2 memory)),
+    )
 
 pub returns-in_err-push : goal.returns-in_err-push
 returns-in_err-push c =
     let p = err_from_is_err_and c.from_residual-in_err-push.result c.from_residual-in_err-push.ensures.1 in
     rw (p.1, p.2) (record {
-        exact = tt;
-        memory = λ memory. (omega (arith, c.loop-test.true), first_read c.loop.counter c.loop.cursor c.args.cursor.now c.loop.invariant.1 c.loop.invariant.2
-            (rw c.in_ok-value.ensures.exact refl))
+      exact = tt;
+      memory = λ memory. (
+        omega (arith, c.loop-test.true),
+        first_read c.loop.counter c.loop.cursor c.args.cursor.now c.loop.invariant.1 c.loop.invariant.2
+            (rw c.in_ok-value.ensures.exact refl),
+      );
     })
 
 pub returns-clause-memory : goal.returns-clause-memory
