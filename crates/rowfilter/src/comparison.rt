@@ -5,7 +5,7 @@ ghost use Rattle.rowfilter.specs.Truth.{holds};
 
 use std::cmp::Ordering;
 
-#[derive(Clone, Copy, Debug, PartialEq, Eq)]
+#[derive(Clone, Copy, Debug)]
 pub(crate) enum Comparison {
     Equal,
     NotEqual,

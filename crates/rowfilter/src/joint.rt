@@ -7,7 +7,7 @@ use crate::comparison::Comparison;
 use crate::tightness::{AND, COMPARISON, NOT, OPERAND, OR};
 
 /// AND, OR, or a comparison.
-#[derive(Clone, Copy, Debug, PartialEq, Eq)]
+#[derive(Clone, Copy)]
 pub(crate) enum Joint {
     Or,
     And,

@@ -16,7 +16,7 @@ use std::mem;
 use tables::{Column, Table};
 
 /// What is looked for among the words of a text.
-#[derive(Clone, Copy, Debug)]
+#[derive(Clone, Copy)]
 enum Sought {
     /// A word that can't stand where it does.
     Stranger,

@@ -12,7 +12,7 @@ use std::cmp::Ordering;
 use tables::Value;
 
 /// A value as conditions see it: numbers of both widths are alike, and a text is lent. Unknown is null.
-#[derive(Clone, Copy, Debug)]
+#[derive(Clone, Copy)]
 pub(crate) enum Operand<'a> {
     Null,
     Bool(bool),

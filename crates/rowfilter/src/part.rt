@@ -18,14 +18,14 @@ use std::alloc::{AllocError, Global};
 pub const MOST_LEVELS: usize = 64;
 
 /// A condition of at most 64 levels.
-#[derive(Debug, Drop)]
+#[derive(Drop)]
 pub(crate) struct Tree {
     pub(crate) expression: Expression,
     pub(crate) levels: usize,
 }
 
 /// How tight a part binds, and its condition, or why it has none: a number of over 64 bits in it, or too many levels.
-#[derive(Debug, Drop)]
+#[derive(Drop)]
 pub(crate) struct Part {
     pub(crate) tightness: usize,
     pub(crate) tree: Result<Tree, FilterFault>,

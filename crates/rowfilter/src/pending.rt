@@ -11,7 +11,7 @@ use crate::tightness::{NOT, OR};
 use std::alloc::{AllocError, Global};
 
 /// What was read and waits for what stands on its right.
-#[derive(Debug, Drop)]
+#[derive(Drop)]
 pub(crate) enum Pending {
     Parenthesis,
     Not,

@@ -14,7 +14,7 @@ use crate::word::Word;
 use std::alloc::Global;
 
 /// What the next word meets.
-#[derive(Debug, Drop)]
+#[derive(Drop)]
 pub(crate) enum Place {
     /// An operand is wanted.
     Wanting,

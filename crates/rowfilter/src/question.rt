@@ -1,6 +1,6 @@
 //! What IS asks.
 
-#[derive(Clone, Copy, Debug, PartialEq, Eq)]
+#[derive(Clone, Copy, Debug)]
 pub(crate) enum Question {
     Null,
     True,

@@ -9,7 +9,7 @@ use crate::question::Question;
 use tables::Kind;
 
 /// The kind of an operand. Numbers of both widths are one; null is of any.
-#[derive(Clone, Copy, Debug, PartialEq, Eq)]
+#[derive(Clone, Copy)]
 pub(crate) enum Sort {
     Any,
     Truths,

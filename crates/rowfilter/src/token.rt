@@ -10,7 +10,7 @@ pub(crate) const TEXT_QUOTE: u8 = b'\'';
 pub(crate) const MINUS: u8 = b'-';
 
 /// A token, as it's written. Texts in quotes are held as they are meant, with single quotes for doubled ones.
-#[derive(Debug, Drop)]
+#[derive(Drop)]
 pub(crate) enum Token {
     /// A keyword or a bare name.
     Word(Items<u8>),

@@ -25,7 +25,7 @@ use std::alloc::{AllocError, Global};
 use tables::Column;
 
 /// What a token says. NULL, TRUE, FALSE and a bare `unknown` are operands, and behind IS they are what it asks.
-#[derive(Debug, Drop)]
+#[derive(Drop)]
 pub(crate) enum Word {
     Joint(Joint),
     Not,
