@@ -11,7 +11,7 @@ use crate::comparison::Comparison;
 use crate::literal::Literal;
 use crate::operand::Operand;
 use crate::question::Question;
-use crate::sort::{Sort, truths_if};
+use crate::sort::{Sort, sort_asked, sort_compared, sort_denied, sort_joined};
 use crate::truth::Truth;
 use std::alloc::{AllocError, Global};
 use tables::{Column, Value};
@@ -161,15 +161,11 @@ impl Expression {
         match self {
             Expression::Column(place) => Some(Sort::of_kind(columns.get(*place)?.kind)),
             Expression::Literal(literal) => Some(Sort::of_literal(literal)),
-            Expression::Compare(_, a, b) => {
-                truths_if(a.sort(columns)?.is_compared(b.sort(columns)?))
-            }
-            Expression::Is(question, _, a) => truths_if(a.sort(columns)?.is_asked(*question)),
-            Expression::Not(a) => truths_if(a.sort(columns)?.is_truth()),
+            Expression::Compare(_, a, b) => sort_compared(a.sort(columns), b.sort(columns)),
+            Expression::Is(question, _, a) => sort_asked(*question, a.sort(columns)),
+            Expression::Not(a) => sort_denied(a.sort(columns)),
             Expression::And(a, b) | Expression::Or(a, b) => {
-                let left = a.sort(columns)?;
-                let right = b.sort(columns)?;
-                truths_if(left.is_truth() && right.is_truth())
+                sort_joined(a.sort(columns), b.sort(columns))
             }
         }
     }

@@ -1,7 +1,7 @@
 //! Which values can be compared, and which are true or false.
 
-ghost use Rattle.std.specs.Prelude.{◌≡◌};
-ghost use Rattle.rowfilter.specs.Kinds.{are_compared, is_asked, is_truth, sort_of_datum, sort_of_kind, truths_if};
+ghost use Rattle.std.specs.Prelude.{◌≡◌, ◌&&◌};
+ghost use Rattle.rowfilter.specs.Kinds.{are_compared, is_asked, is_truth, of_one, of_two, sort_of_datum, sort_of_kind, truths_if};
 ghost use Rattle.rowfilter.specs.Shapes.{literal_datum};
 
 use crate::literal::Literal;
@@ -72,8 +72,38 @@ impl Sort {
 }
 
 /// The kind of a condition, if its parts are of the kinds that it takes.
-pub(crate) fn truths_if(fits: bool) -> Option<Sort>
+fn truths_if(fits: bool) -> Option<Sort>
     ensures { result ≡ truths_if fits }
 {
     if fits { Some(Sort::Truths) } else { None }
+}
+
+/// The kind of a comparison of these two.
+pub(crate) fn sort_compared(left: Option<Sort>, right: Option<Sort>) -> Option<Sort>
+    ensures { result ≡ of_two are_compared left right }
+{
+    truths_if(left?.is_compared(right?))
+}
+
+/// The kind of AND and OR of these two.
+pub(crate) fn sort_joined(left: Option<Sort>, right: Option<Sort>) -> Option<Sort>
+    ensures { result ≡ of_two (λ s t. is_truth s && is_truth t) left right }
+{
+    let left = left?;
+    let right = right?;
+    truths_if(left.is_truth() && right.is_truth())
+}
+
+/// The kind of the question about this.
+pub(crate) fn sort_asked(question: Question, inner: Option<Sort>) -> Option<Sort>
+    ensures { result ≡ of_one (is_asked question) inner }
+{
+    truths_if(inner?.is_asked(question))
+}
+
+/// The kind of NOT before this.
+pub(crate) fn sort_denied(inner: Option<Sort>) -> Option<Sort>
+    ensures { result ≡ of_one is_truth inner }
+{
+    truths_if(inner?.is_truth())
 }
