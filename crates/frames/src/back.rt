@@ -31,7 +31,7 @@ use std::alloc::{AllocError, Global};
 ///
 /// `write_back` adds it to the bytes to be sent. `read_back` is its converse, for those who read a server: `None` is to
 /// wait for more bytes, and `Some` is a frame and the count of bytes to drop from the front.
-#[derive(Debug, Drop, PartialEq)]
+#[derive(Debug, Drop)]
 pub enum Back {
     AuthenticationOk,
     ParameterStatus(Parameter),

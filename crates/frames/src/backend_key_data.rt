@@ -21,7 +21,7 @@ pub const BACKEND_KEY_DATA: u8 = b'K';
 /// ```text
 /// Byte1('K') | Int32 12, itself counted | Int32 process | Int32 key
 /// ```
-#[derive(Debug, Drop, PartialEq)]
+#[derive(Debug, Drop)]
 pub struct BackendKeyData {
     pub process: u32,
     pub key: u32,

@@ -10,7 +10,7 @@ pub const COMMAND_COMPLETE: u8 = b'C';
 /// ```text
 /// Byte1('C') | Int32 length, itself counted | String tag
 /// ```
-#[derive(Debug, Drop, PartialEq)]
+#[derive(Debug, Drop)]
 pub struct CommandComplete {
     pub tag: Text,
 }

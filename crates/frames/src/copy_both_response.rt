@@ -23,7 +23,7 @@ pub const COPY_BOTH_RESPONSE: u8 = b'W';
 /// ```text
 /// Byte1('W') | Int32 length, itself counted | Int8 format | Int16 count | each: Int16 format
 /// ```
-#[derive(Debug, Drop, PartialEq)]
+#[derive(Debug, Drop)]
 pub struct CopyBothResponse {
     pub format: u8,
     pub formats: Items<u16>,

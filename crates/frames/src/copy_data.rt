@@ -21,7 +21,7 @@ pub const COPY_DATA: u8 = b'd';
 /// ```
 ///
 /// What the data mean is told by the replication protocol, not by the frame.
-#[derive(Debug, Drop, PartialEq)]
+#[derive(Debug, Drop)]
 pub struct CopyData {
     pub bytes: Items<u8>,
 }

@@ -10,7 +10,7 @@ pub const COPY_FAIL: u8 = b'f';
 /// ```text
 /// Byte1('f') | Int32 length, itself counted | String reason
 /// ```
-#[derive(Debug, Drop, PartialEq)]
+#[derive(Debug, Drop)]
 pub struct CopyFail {
     pub reason: Text,
 }

@@ -26,7 +26,7 @@ const NO_LENGTH: u32 = 4_294_967_295;
 /// ```text
 /// Byte1('D') | Int32 length, itself counted | Int16 count | each value
 /// ```
-#[derive(Debug, Drop, PartialEq)]
+#[derive(Debug, Drop)]
 pub struct DataRow {
     pub values: Items<DataValue>,
 }
@@ -36,7 +36,7 @@ pub struct DataRow {
 /// ```text
 /// Int32 -1 | or: Int32 length | Byten value
 /// ```
-#[derive(Debug, Drop, PartialEq)]
+#[derive(Debug, Drop)]
 pub enum DataValue {
     Null,
     Bytes(Items<u8>),

@@ -21,7 +21,7 @@ pub const ERROR_RESPONSE: u8 = b'E';
 /// ```text
 /// Byte1('E') | Int32 length, itself counted | each field | Byte1(0)
 /// ```
-#[derive(Debug, Drop, PartialEq)]
+#[derive(Debug, Drop)]
 pub struct ErrorResponse {
     pub fields: Items<ErrorField>,
 }
@@ -31,7 +31,7 @@ pub struct ErrorResponse {
 /// ```text
 /// Byte1 code | String text
 /// ```
-#[derive(Debug, Drop, PartialEq)]
+#[derive(Debug, Drop)]
 pub struct ErrorField {
     pub code: u8,
     pub text: Text,

@@ -21,7 +21,7 @@ use std::alloc::{AllocError, Global};
 ///
 /// `read_front` on the bytes that have come: `None` is to wait for more, `Some` is a frame and the count of bytes to drop
 /// from the front, and a fault is the connection's end. `write_front` is its converse.
-#[derive(Debug, Drop, PartialEq)]
+#[derive(Debug, Drop)]
 pub enum Front {
     Query(Query),
     Terminate,

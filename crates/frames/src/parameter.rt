@@ -16,7 +16,7 @@ use std::alloc::Global;
 /// ```text
 /// String name | String value
 /// ```
-#[derive(Debug, Drop, PartialEq)]
+#[derive(Debug, Drop)]
 pub struct Parameter {
     pub name: Text,
     pub value: Text,

@@ -13,7 +13,7 @@ pub const QUERY_LIMIT: u32 = 65_536;
 /// ```text
 /// Byte1('Q') | Int32 length, itself counted | String text
 /// ```
-#[derive(Debug, Drop, PartialEq)]
+#[derive(Debug, Drop)]
 pub struct Query {
     pub text: Text,
 }

@@ -21,7 +21,7 @@ pub const ROW_DESCRIPTION: u8 = b'T';
 /// ```text
 /// Byte1('T') | Int32 length, itself counted | Int16 count | each column
 /// ```
-#[derive(Debug, Drop, PartialEq)]
+#[derive(Debug, Drop)]
 pub struct RowDescription {
     pub columns: Items<ColumnDescription>,
 }
@@ -31,7 +31,7 @@ pub struct RowDescription {
 /// ```text
 /// String name | Int32 table | Int16 attribute | the type | Int16 format
 /// ```
-#[derive(Debug, Drop, PartialEq)]
+#[derive(Debug, Drop)]
 pub struct ColumnDescription {
     pub name: Text,
     pub table: u32,

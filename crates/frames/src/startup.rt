@@ -35,7 +35,7 @@ pub const GSS_REQUEST: u32 = 80_877_104;
 /// ```
 ///
 /// After `Ssl` and `Gss` have been answered, another startup follows.
-#[derive(Debug, Drop, PartialEq)]
+#[derive(Debug, Drop)]
 pub enum Startup {
     Session(Items<Parameter>),
     Ssl,
