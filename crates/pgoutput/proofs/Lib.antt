@@ -1,4 +1,5 @@
 pub mod Loops
+pub mod Writing
 pub mod Engine
 pub mod Plain
 pub mod Wires

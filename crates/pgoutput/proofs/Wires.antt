@@ -21,7 +21,6 @@ use Rattle.pgoutput.specs.declared.old_tuple.OldTuple.TheVariants as olds
 use Rattle.pgoutput.specs.declared.old_tuple.TheConstants.{KEY, OLD}
 use Rattle.pgoutput.specs.declared.update.TheConstants.{UPDATE}
 use Rattle.pgoutput.specs.declared.delete.TheConstants.{DELETE}
-use Rattle.pgoutput.specs.declared.truncate.TruncateOptions.{TruncateOptions}
 use Rattle.pgoutput.specs.declared.truncate.TheConstants.{TRUNCATE}
 use Rattle.pgoutput.specs.Begin.{begin, FitsBegin, begin_at}
 use Rattle.pgoutput.specs.Commit.{commit, FitsCommit, commit_at}

@@ -55,6 +55,5 @@ pub(crate) fn put_commit(out: &mut BytesMut, message: &Commit) -> Result<(), All
     put_byte(out, COMMIT_FLAGS)?;
     put_int64(out, message.position)?;
     put_int64(out, message.end)?;
-    put_signed64(out, message.time)?;
-    Ok(())
+    put_signed64(out, message.time)
 }

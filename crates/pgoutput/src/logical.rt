@@ -1,9 +1,9 @@
 //! A logical message, one kind byte and the fields of its kind: the enum over them, its reader and its writer.
 
-ghost use Rattle.std.specs.Prelude.{◌≡◌, ◌≢◌, ◌⊎◌, ℕ, List, [], ◌++◌, Ok, Err, IfOk, IfErr, OnOk, OnErr};
+ghost use Rattle.std.specs.Prelude.{◌≡◌, ◌≢◌, ◌⊎◌, ℕ, List, [], ◌++◌, Ok, Err, IfOk, IfErr, OnOk, OnErr, true};
 ghost use Rattle.pqformat.specs.Putting.{Puts};
 ghost use Rattle.pgoutput.specs.Reading.{Gives, Answers};
-ghost use Rattle.pgoutput.specs.Logical.{SpellsLogical, FitsLogical, IsShort, Stands, spell_logical, kind_byte, logical_at, whole_of};
+ghost use Rattle.pgoutput.specs.Logical.{SpellsLogical, FitsLogical, IsShort, Stands, spell_logical, kind_byte, logical_at, fields_at, needs_memory, whole_of};
 
 use crate::begin::{BEGIN, Begin, begin_of, put_begin};
 use crate::commit::{COMMIT, Commit, commit_of, put_commit};
@@ -72,7 +72,16 @@ fn logical_of(alloc: Global, cursor: &mut Cursor<'_>) -> Result<Logical, OutFaul
     ensures exact { Gives result cursor.new (logical_at cursor.old) }
     ensures memory { result ≡ Err OutFault.Memory → Stands OutFault.Memory cursor.old }
 {
-    match byte_of(cursor)? {
+    let kind = byte_of(cursor)?;
+    fields_of(alloc, kind, cursor)
+}
+
+/// The fields behind a kind byte.
+fn fields_of(alloc: Global, kind: u8, cursor: &mut Cursor<'_>) -> Result<Logical, OutFault>
+    ensures exact { Gives result cursor.new (fields_at kind cursor.old) }
+    ensures memory { result ≡ Err OutFault.Memory → needs_memory kind ≡ true }
+{
+    match kind {
         BEGIN => Ok(Logical::Begin(begin_of(cursor)?)),
         COMMIT => Ok(Logical::Commit(commit_of(cursor)?)),
         RELATION => Ok(Logical::Relation(relation_of(alloc, cursor)?)),

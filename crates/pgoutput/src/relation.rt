@@ -2,7 +2,7 @@
 
 ghost use Rattle.std.specs.Prelude.{◌≡◌};
 ghost use Rattle.pqformat.specs.Putting.{Puts};
-ghost use Rattle.pgoutput.specs.Reading.{Gives};
+ghost use Rattle.pgoutput.specs.Reading.{Gives, one_of};
 ghost use Rattle.pgoutput.specs.Relation.{identity_letter, identity_of, is_key_of, column_at, columns_at, relation, relation_at, IsShortRelation};
 
 use crate::fault::OutFault;
@@ -73,8 +73,7 @@ pub(crate) fn relation_of(alloc: Global, cursor: &mut Cursor<'_>) -> Result<Rela
     let oid = number32_of(cursor)?;
     let namespace = name_of(alloc, cursor)?;
     let name = name_of(alloc, cursor)?;
-    let letter = byte_of(cursor)?;
-    let identity = identity_by(letter).ok_or(OutFault::BadMark)?;
+    let identity = identity_of(cursor)?;
     let columns = columns_of(alloc, cursor)?;
     Ok(Relation {
         oid,
@@ -83,6 +82,13 @@ pub(crate) fn relation_of(alloc: Global, cursor: &mut Cursor<'_>) -> Result<Rela
         identity,
         columns,
     })
+}
+
+fn identity_of(cursor: &mut Cursor<'_>) -> Result<Identity, OutFault>
+    ensures { Gives result cursor.new (one_of identity_of cursor.old) }
+{
+    let letter = byte_of(cursor)?;
+    identity_by(letter).ok_or(OutFault::BadMark)
 }
 
 fn identity_by(letter: u8) -> Option<Identity>
@@ -109,8 +115,7 @@ fn columns_of(alloc: Global, cursor: &mut Cursor<'_>) -> Result<Items<Column>, O
 fn column_of(alloc: Global, cursor: &mut Cursor<'_>) -> Result<Column, OutFault>
     ensures { Gives result cursor.new (column_at cursor.old) }
 {
-    let flags = byte_of(cursor)?;
-    let is_key = is_key_by(flags).ok_or(OutFault::BadMark)?;
+    let is_key = is_key_of(cursor)?;
     let name = name_of(alloc, cursor)?;
     let kind = number32_of(cursor)?;
     let modifier = signed32_of(cursor)?;
@@ -120,6 +125,13 @@ fn column_of(alloc: Global, cursor: &mut Cursor<'_>) -> Result<Column, OutFault>
         kind,
         modifier,
     })
+}
+
+fn is_key_of(cursor: &mut Cursor<'_>) -> Result<bool, OutFault>
+    ensures { Gives result cursor.new (one_of is_key_of cursor.old) }
+{
+    let flags = byte_of(cursor)?;
+    is_key_by(flags).ok_or(OutFault::BadMark)
 }
 
 fn is_key_by(flags: u8) -> Option<bool>

@@ -4,7 +4,7 @@ ghost use Rattle.std.specs.Prelude.{◌≡◌};
 ghost use Rattle.pqformat.specs.Fields.{int32};
 ghost use Rattle.pqformat.specs.Putting.{Puts};
 ghost use Rattle.std.specs.List.{flat_map};
-ghost use Rattle.pgoutput.specs.Reading.{Gives};
+ghost use Rattle.pgoutput.specs.Reading.{Gives, one_of};
 ghost use Rattle.pgoutput.specs.Truncate.{truncate, truncate_at, options_letter, options_of, IsShortTruncate};
 
 use crate::fault::OutFault;
@@ -50,10 +50,16 @@ pub(crate) fn truncate_of(alloc: Global, cursor: &mut Cursor<'_>) -> Result<Trun
     ensures { Gives result cursor.new (truncate_at cursor.old) }
 {
     let count = count32_of(cursor)?;
-    let letter = byte_of(cursor)?;
-    let options = options_by(letter).ok_or(OutFault::BadMark)?;
+    let options = options_of(cursor)?;
     let oids = items_of(alloc, cursor, count as usize)?;
     Ok(Truncate { options, oids })
+}
+
+fn options_of(cursor: &mut Cursor<'_>) -> Result<TruncateOptions, OutFault>
+    ensures { Gives result cursor.new (one_of options_of cursor.old) }
+{
+    let letter = byte_of(cursor)?;
+    options_by(letter).ok_or(OutFault::BadMark)
 }
 
 fn options_by(letter: u8) -> Option<TruncateOptions>

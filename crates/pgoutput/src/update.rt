@@ -83,8 +83,7 @@ pub(crate) fn put_update(out: &mut BytesMut, message: &Update) -> Result<(), All
     put_int32(out, message.oid)?;
     put_if_any(out, &message.old)?;
     put_byte(out, NEW)?;
-    put_tuple(out, &message.new)?;
-    Ok(())
+    put_tuple(out, &message.new)
 }
 
 fn put_if_any(out: &mut BytesMut, old: &Option<OldTuple>) -> Result<(), AllocError>
