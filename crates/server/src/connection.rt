@@ -35,7 +35,7 @@ pub enum Phase {
 ///
 /// `take` is given the bytes as they come, in any cuts, and a desk; it adds the answers to a buffer. Who wants to do something
 /// between two answers gives the bytes to `push`, and has them answered one by one by `answer`.
-#[derive(Debug, Drop)]
+#[derive(Drop)]
 pub struct Connection {
     pub(crate) alloc: Global,
     pub(crate) number: u32,

@@ -9,7 +9,7 @@ use std::marker::Model;
 pub const MOST_DATABASE_BYTES: usize = 10_000;
 
 /// The name of the database that a client asked for. Contracts see its bytes.
-#[derive(Debug, Drop)]
+#[derive(Drop)]
 pub struct Database {
     name: Text,
 }

@@ -12,7 +12,7 @@ use frames::FrameFault;
 use std::alloc::{AllocError, Global};
 
 /// How far a conversation is.
-#[derive(Debug, Drop)]
+#[derive(Drop)]
 pub enum Stage {
     /// The startup is waited for.
     Fresh,
