@@ -1,11 +1,11 @@
 //! What the server says, at the end of a buffer.
 
-ghost use Rattle.std.specs.Prelude.{◌≡◌, ◌<◌, ◌≤◌, ◌^◌, ◌++◌, length, OnOk, IfOk};
+ghost use Rattle.std.specs.Prelude.{◌≡◌, ◌<◌, ◌≤◌, ◌^◌, ◌++◌, ◌∷◌, [], length, OnOk, IfOk};
 ghost use Rattle.std.specs.List.{AllByRecursion};
 ghost use Rattle.frames.specs.declared.data_row.DataValue.TheVariants.{Bytes};
-ghost use Rattle.frames.specs.declared.back.Back.TheVariants.{AuthenticationOk, CopyDone};
+ghost use Rattle.frames.specs.declared.back.Back.TheVariants.{AuthenticationOk, ErrorResponse as ErrorFrame, CopyDone};
 ghost use Rattle.replcmd.specs.Position.{printed};
-ghost use Rattle.server.specs.Said.{said, refused, refused_ready, ready, greeting, completed, status, shown, text_type, int4_type, IsSmall, identity_columns, identity_values, slot_columns, slot_values, key_frame, columns_frame, values_frame, slot_made, identified, created, dropped, started, ended};
+ghost use Rattle.server.specs.Said.{said, error_frame, refused, refused_ready, ready, greeting, completed, status, shown, text_type, int4_type, IsSmall, identity_columns, identity_values, slot_columns, slot_values, key_frame, columns_frame, values_frame, slot_made, identified, created, dropped, started, ended};
 
 use crate::fault::DeskFault;
 use crate::refusal::Refusal;
@@ -48,6 +48,30 @@ fn error_field(alloc: Global, code: u8, text: &str) -> Result<ErrorField, AllocE
     })
 }
 
+fn push_field(
+    alloc: Global,
+    fields: &mut Vec<ErrorField>,
+    code: u8,
+    text: &str,
+) -> Result<(), AllocError>
+    ensures { OnOk result (fields.new.items ≡ fields.old.items ++ (record { code = code; text = text.now } ∷ [])) }
+{
+    let field = error_field(alloc, code, text)?;
+    fields.push(field)?;
+    Ok(())
+}
+
+fn error_fields(alloc: Global, code: &str, text: &str) -> Result<Items<ErrorField>, AllocError>
+    ensures { IfOk result (λ fields. ErrorFrame (record { fields = fields }) ≡ error_frame code.now text.now) }
+{
+    let mut fields = Vec::new(alloc);
+    push_field(alloc, &mut fields, b'S', "ERROR")?;
+    push_field(alloc, &mut fields, b'V', "ERROR")?;
+    push_field(alloc, &mut fields, b'C', code)?;
+    push_field(alloc, &mut fields, b'M', text)?;
+    Ok(Items::new(fields))
+}
+
 #[tactic(auto, unfolding(crate::specs::Said::refused, crate::specs::Said::said))]
 pub(crate) fn say_refused(
     alloc: Global,
@@ -56,11 +80,7 @@ pub(crate) fn say_refused(
 ) -> Result<(), AllocError>
     ensures { OnOk result (out.new.items ≡ out.old.items ++ refused refusal) }
 {
-    let severity = error_field(alloc, b'S', "ERROR")?;
-    let untranslated = error_field(alloc, b'V', "ERROR")?;
-    let code = error_field(alloc, b'C', refusal.code())?;
-    let text = error_field(alloc, b'M', refusal.text())?;
-    let fields = Items::new(Vec::from_array(alloc, [severity, untranslated, code, text])?);
+    let fields = error_fields(alloc, refusal.code(), refusal.text())?;
     write_back(&Back::ErrorResponse(ErrorResponse { fields }), out)
 }
 
