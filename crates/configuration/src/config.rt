@@ -13,7 +13,7 @@ use tables::{Catalog, read_document};
 use toml::Value;
 
 /// What a publisher is configured with: its tables, its publications, and its server.
-#[derive(Debug, Drop)]
+#[derive(Drop)]
 pub struct Config {
     catalog: Catalog,
     publications: Publications,

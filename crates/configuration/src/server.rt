@@ -30,7 +30,7 @@ pub struct Server {
 }
 
 /// Why no server was read.
-#[derive(Clone, Copy, Debug, PartialEq, Eq)]
+#[derive(Clone, Copy, PartialEq, Eq)]
 pub(crate) enum Unread {
     Wrong(ServerMisfit),
     Memory,

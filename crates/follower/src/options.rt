@@ -1,7 +1,7 @@
 //! What is followed.
 
 /// Which slot is followed, from where on, and for how long.
-#[derive(Clone, Copy, Debug)]
+#[derive(Clone, Copy)]
 pub struct Options<'a> {
     /// Whether the slot is created first.
     pub create: bool,

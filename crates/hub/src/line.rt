@@ -22,7 +22,7 @@ pub(crate) struct Line<L: LogName + SlotName> {
 }
 
 /// The connection is over.
-#[derive(Clone, Copy, Debug, PartialEq, Eq)]
+#[derive(Clone, Copy, PartialEq, Eq)]
 pub(crate) struct Over;
 
 impl From<AllocError> for Over {

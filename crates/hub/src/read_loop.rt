@@ -35,7 +35,7 @@ struct ReadState {
 }
 
 /// Whether a read brought anything.
-#[derive(Clone, Copy, Debug, PartialEq, Eq)]
+#[derive(Clone, Copy, PartialEq, Eq)]
 enum Came {
     Bytes,
     /// It gave up.

@@ -11,7 +11,7 @@ use std::io;
 use std::io::{ErrorKind, Write};
 
 /// Why a stream ends before its client asks for it, or a connection before its client has said a word.
-#[derive(Clone, Copy, Debug, PartialEq, Eq)]
+#[derive(Clone, Copy, PartialEq, Eq)]
 pub(crate) enum Trouble {
     Memory,
     /// The log lets no reader in.

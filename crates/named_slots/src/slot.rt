@@ -5,7 +5,7 @@ ghost use Rattle.std.specs.Prelude.{◌≡◌};
 use pqformat::Text;
 
 /// What is kept of a slot beside its place in the table.
-#[derive(Debug, Drop)]
+#[derive(Drop)]
 pub struct Slot {
     pub(crate) name: Text,
     pub(crate) place: usize,

@@ -88,7 +88,7 @@ schedule are refused, and with 1 where a file cannot be read, the report cannot 
 or memory runs out.";
 
 /// What the program is asked to run.
-#[derive(Clone, Copy, Debug)]
+#[derive(Clone, Copy)]
 pub struct Words<'a> {
     pub config: &'a str,
     pub schedule: &'a str,

@@ -11,7 +11,7 @@ use crate::tokens::Tokens;
 use std::alloc::Global;
 
 /// An option, with what its value says.
-#[derive(Debug, Drop)]
+#[derive(Drop)]
 pub(crate) enum Setting {
     /// Version 1 of the protocol.
     Version,

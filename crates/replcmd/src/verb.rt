@@ -6,7 +6,7 @@ ghost use Rattle.replcmd.specs.Reading.{verb_of, is_left_out};
 use crate::words::is_keyword;
 
 /// Which command it is.
-#[derive(Clone, Copy, Debug, PartialEq, Eq)]
+#[derive(Clone, Copy, PartialEq, Eq)]
 pub(crate) enum Verb {
     Identify,
     Create,

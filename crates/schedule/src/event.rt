@@ -3,7 +3,7 @@
 use pqformat::{Items, Text};
 
 /// One line of a schedule.
-#[derive(Debug, Drop, PartialEq)]
+#[derive(Debug, Drop)]
 pub enum Event {
     /// What a session does in the transaction of this name.
     Session(Text, SessionStep),
@@ -14,7 +14,7 @@ pub enum Event {
 }
 
 /// What a session does in a transaction T.
-#[derive(Debug, Drop, PartialEq)]
+#[derive(Debug, Drop)]
 pub enum SessionStep {
     /// `begin T`: the transaction begins.
     Begin,
@@ -39,7 +39,7 @@ pub enum SessionStep {
 }
 
 /// What happens at a connection C, which has a sender, and a subscriber at its other end.
-#[derive(Debug, Drop, PartialEq)]
+#[derive(Debug, Drop)]
 pub enum ConnectionStep {
     /// `start C SLOT POSITION PUB,PUB`: a sender starts. The slot `-` is none.
     Start(Text, u64, Items<Text>),
@@ -62,7 +62,7 @@ pub enum ConnectionStep {
 }
 
 /// A value of a row as a schedule writes it. An integer takes the kind of its column.
-#[derive(Debug, Drop, PartialEq)]
+#[derive(Debug, Drop)]
 pub enum Literal {
     Null,
     Bool(bool),

@@ -11,7 +11,7 @@ use std::alloc::Global;
 const NAME_LIMIT: usize = 32;
 
 /// The fields of a line that are still to be read: none behind its last one.
-#[derive(Debug, Drop)]
+#[derive(Drop)]
 pub(crate) struct Fields<'a> {
     rest: Option<&'a str>,
 }

@@ -8,7 +8,7 @@ use std::alloc::Global;
 use thiserror::Error;
 
 /// The events of a schedule and, at the same place, the number of the line on which each stands, from 1.
-#[derive(Debug, Drop)]
+#[derive(Drop)]
 pub struct Schedule {
     events: Vec<Event>,
     lines: Vec<usize>,

@@ -3,7 +3,7 @@
 use publication::Selection;
 
 /// What a sender published and how far it had read when it ended. What it still held is lost.
-#[derive(Debug, Drop)]
+#[derive(Drop)]
 pub struct Ended {
     pub selection: Selection,
     /// The position from which on transactions were sent.

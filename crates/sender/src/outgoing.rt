@@ -20,7 +20,7 @@ use std::slice;
 use stream::{Published, PublishedChange};
 
 /// Bytes on their way out. Where a call is refused, what was held before still stands at the front.
-#[derive(Debug, Drop)]
+#[derive(Drop)]
 pub(crate) struct Outgoing {
     pub(crate) held: BytesMut,
     /// One message, before its frame is made.

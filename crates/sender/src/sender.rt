@@ -28,7 +28,7 @@ use wal::Record;
 /// was read, and the right ones may come next. G2 is want of memory: the records up to `position()` were read, and the sender
 /// has failed. A failed sender can still be drained; its `feed` and its `keepalive` are G3. A `keepalive` that is G2 has added
 /// nothing, and may be called again.
-#[derive(Debug, Drop)]
+#[derive(Drop)]
 pub struct Sender {
     pub(crate) selection: Selection,
     pub(crate) start: u64,

@@ -16,7 +16,6 @@ use tables::Catalog;
 use txlog::{Publisher, Receipt, SessionFault, Tx};
 
 /// A transaction in progress, by the name that a line gives it.
-#[derive(Debug)]
 pub(crate) struct Session {
     pub(crate) name: Text,
     pub(crate) tx: Tx,

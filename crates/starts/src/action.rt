@@ -1,7 +1,7 @@
 //! What the lines of connections ask.
 
 /// What a line does to a connection's sender.
-#[derive(Clone, Copy, Debug)]
+#[derive(Clone, Copy)]
 pub enum Action {
     /// Up to so many records are fetched and fed under this clock.
     Read(u32, i64),

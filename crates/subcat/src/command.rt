@@ -26,7 +26,7 @@ where the connection, the server, the output or memory fails. What the server re
 as server: CODE text.";
 
 /// What the program is asked to follow.
-#[derive(Clone, Copy, Debug)]
+#[derive(Clone, Copy)]
 pub struct Words<'a> {
     pub create: bool,
     pub address: &'a str,

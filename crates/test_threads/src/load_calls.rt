@@ -1,9 +1,9 @@
 //! Sessions and readers of one log.
 
 use crate::follower::{Follower, followers, see_all};
-use crate::log_fixture::{all_of, ends_of, log_of};
+use crate::log_fixture::{all_of, ends_of, has_commit_of, log_of};
 use crate::numbers::Numbers;
-use crate::session::{Load, Session, TIME, Told};
+use crate::session::{Load, Session, Told};
 use crate::work::{Work, do_work};
 use shared_log::{LogName, LogReader, ReadFault};
 use std::alloc::{AllocError, Global};
@@ -120,7 +120,7 @@ fn see_whole<L: LogName, R: Wait + Abort>(
     load: Load,
 ) -> Result<Vec<(u64, u64)>, Fail> {
     let log = log_of(rt, alloc, desk, last)?;
-    see_log(rt, log.as_slice(), told)?;
+    assert!(rt; has_all(log.as_slice(), told));
     assert!(rt; !load.is_plain || log.len() == load.sessions.saturating_mul(100));
     Ok(ends_of(alloc, log.as_slice())?)
 }
@@ -176,19 +176,12 @@ fn told_by<L: LogName>(alloc: Global, sessions: Vec<Session<L>>) -> Result<Told<
     Ok(told)
 }
 
-/// The log has what the sessions wrote, and the Commit of each receipt at its place.
-fn see_log<L: LogName, R: Abort>(rt: &R, log: &[Arc<Record>], told: &Told<L>) -> Result<(), Fail> {
-    assert_eq!(rt; log.len(), told.records);
-    assert_eq!(rt; commits_and_aborts(log), (told.receipts.len(), told.aborts));
-    for receipt in told.receipts.as_slice() {
-        let found = log.get(receipt.place()).ok_or("the record")?;
-        assert_eq!(rt; (found.start, found.end), (receipt.start(), receipt.end()));
-        let Body::Commit(xid, time) = found.body else {
-            return Err(Fail::from("another record"));
-        };
-        assert_eq!(rt; (xid, time), (receipt.xid(), TIME));
-    }
-    Ok(())
+/// Whether the log has what the sessions wrote, and the Commit of each receipt at its place.
+fn has_all<L: LogName>(log: &[Arc<Record>], told: &Told<L>) -> bool {
+    let receipts = told.receipts.as_slice();
+    log.len() == told.records
+        && commits_and_aborts(log) == (receipts.len(), told.aborts)
+        && receipts.iter().all(|receipt| has_commit_of(log, receipt))
 }
 
 fn commits_and_aborts(log: &[Arc<Record>]) -> (usize, usize) {

@@ -11,7 +11,7 @@ use std::test::Fail;
 use std::thread::{Threads, join};
 use tables::{Catalog, Row, Value};
 use txlog::{Opened, Publisher, Receipt, SessionFault};
-use wal::{FIRST_POSITION, Record};
+use wal::{Body, FIRST_POSITION, Record};
 
 /// One table, and a publication of it.
 const CONFIGURATION: &str = "\
@@ -28,6 +28,9 @@ tables = [{ name = 'public.item' }]
 
 pub const ITEM: u32 = 16384;
 
+/// When each transaction commits.
+pub const TIME: i64 = 5;
+
 /// What a publisher of the table, with room for 4,000 records, is opened with.
 pub fn opened(alloc: Global, readers: usize) -> Result<Opened, Fail> {
     let catalog = Catalog::from_toml(alloc, CONFIGURATION)?;
@@ -42,6 +45,10 @@ pub fn sender_of_p(alloc: Global) -> Result<Sender, Fail> {
 
 fn selection_of_p(alloc: Global) -> Result<Selection, Fail> {
     let publications = publications(alloc)?;
+    p_of(alloc, &publications)
+}
+
+fn p_of(alloc: Global, publications: &Publications) -> Result<Selection, Fail> {
     let name = Text::copy_of(alloc, "p")?;
     Ok(publications.select(&[name])?)
 }
@@ -96,13 +103,29 @@ fn commit_one<L: LogName, R: Wait>(
 ) -> Result<Receipt<L>, SessionFault> {
     let mut tx = publisher.begin()?;
     let inserted = publisher.insert(rt, &mut tx, ITEM, row);
-    match publisher.commit(rt, tx, 5) {
+    match publisher.commit(rt, tx, TIME) {
         Ok(receipt) => inserted.map(|()| receipt),
         Err((tx, fault)) => {
             publisher.leave(tx);
             Err(fault)
         }
     }
+}
+
+/// Whether the Commit of the receipt stands at its place.
+pub fn has_commit_of<L: LogName>(log: &[Arc<Record>], receipt: &Receipt<L>) -> bool {
+    match log.get(receipt.place()) {
+        Some(found) => {
+            found.start == receipt.start()
+                && found.end == receipt.end()
+                && is_commit_of(&found.body, receipt.xid())
+        }
+        None => false,
+    }
+}
+
+fn is_commit_of(body: &Body, top: u32) -> bool {
+    matches!(body, Body::Commit(xid, time) if *xid == top && *time == TIME)
 }
 
 /// Where the records start and end.

@@ -1,6 +1,6 @@
 //! A receipt that is learnt of on another thread than the one that committed.
 
-use crate::log_fixture::commit_elsewhere;
+use crate::log_fixture::{commit_elsewhere, has_commit_of};
 use crate::work::{Work, do_work};
 use shared_log::{LogName, LogReader, ReadFault};
 use std::alloc::Global;
@@ -9,7 +9,7 @@ use std::sync::{Arc, Mutex, Wait};
 use std::test::Fail;
 use std::thread::{Threads, join};
 use txlog::{Publisher, Receipt};
-use wal::{Body, Record};
+use wal::Record;
 
 #[test]
 fn a_receipt_on_another_thread(rt: HostRuntime) -> Result<(), Fail> {
@@ -38,7 +38,8 @@ fn learn_by<L: LogName + Send + Sync, R: Threads + Wait + Abort + Sync>(
 ) -> Result<(), Fail> {
     let receipt = commit_elsewhere(rt, alloc, desk, (1, "ab", 7))?;
     let fetched = fetched_elsewhere(rt, alloc, reader, &receipt)?;
-    see_commit(rt, fetched.as_slice(), &receipt)
+    assert!(rt; receipt.xid() == 700 && has_commit_of(fetched.as_slice(), &receipt));
+    Ok(())
 }
 
 /// What the reader fetches on another thread, once it has learnt of the receipt.
@@ -50,18 +51,6 @@ fn fetched_elsewhere<L: LogName + Send + Sync, R: Threads + Sync>(
 ) -> Result<Vec<Arc<Record>>, ReadFault> {
     let (fetched, ()) = join(rt, || learnt(alloc, reader, receipt), || ());
     fetched
-}
-
-/// The record of the receipt stands at its place.
-fn see_commit<L: LogName, R: Abort>(
-    rt: &R,
-    fetched: &[Arc<Record>],
-    receipt: &Receipt<L>,
-) -> Result<(), Fail> {
-    let found = fetched.get(receipt.place()).ok_or("the record")?;
-    assert_eq!(rt; (found.start, found.end), (receipt.start(), receipt.end()));
-    assert!(rt; matches!(found.body, Body::Commit(700, 5)) && receipt.xid() == 700);
-    Ok(())
 }
 
 fn learnt<L: LogName>(

@@ -1,15 +1,12 @@
 //! A session whose load follows from a seed.
 
-use crate::log_fixture::{ITEM, item};
+use crate::log_fixture::{ITEM, TIME, item};
 use crate::numbers::Numbers;
 use shared_log::LogName;
 use std::alloc::{AllocError, Global};
 use std::sync::{Mutex, MutexGuard, Wait};
 use std::thread;
 use txlog::{Publisher, Receipt, SessionFault, Tx};
-
-/// When each of them commits.
-pub const TIME: i64 = 5;
 
 /// What sessions and readers of a log do beside one another.
 #[derive(Clone, Copy, Drop)]

@@ -2,11 +2,11 @@
 
 ghost use Rattle.std.specs.Prelude.{Some};
 
-use crate::log_fixture::{commit_elsewhere, commit_under_lock, ends_of, sender_of_p};
+use crate::log_fixture::{TIME, commit_elsewhere, commit_under_lock, ends_of, sender_of_p};
 use crate::work::{Work, do_work};
 use sender::{Sender, TurnFault, turn};
 use shared_log::{LogName, LogReader};
-use std::alloc::Global;
+use std::alloc::{AllocError, Global};
 use std::io;
 use std::io::{ErrorKind, Write};
 use std::process::Abort;
@@ -137,32 +137,25 @@ fn look_behind<L: LogName + Send + Sync, R: Threads + Wait + Abort + Sync>(
 ) -> Result<(), Fail> {
     commit_elsewhere(rt, alloc, desk, sample.row)?;
     let got = subscriber.look(alloc)?;
-    see_records(rt, alloc, got.records.as_slice(), &sample.ends)?;
-    assert_eq!(rt; got.turned, 2);
-    see_bytes(rt, alloc, got.bytes.as_slice(), sample.block)
+    see_got(rt, alloc, &got, sample)
 }
 
-/// Records that start and end so, with a Commit as the last.
-fn see_records<R: Abort>(
-    rt: &R,
-    alloc: Global,
-    records: &[Arc<Record>],
-    behind: &[(u64, u64)],
-) -> Result<(), Fail> {
+/// The records of the sample, with a Commit as the last, and its block.
+fn see_got<R: Abort>(rt: &R, alloc: Global, got: &Got, sample: &Sample) -> Result<(), Fail> {
+    let records = got.records.as_slice();
+    assert!(rt; got.turned == 2 && ends_with_commit(records));
     let ends = ends_of(alloc, records)?;
-    assert_eq!(rt; ends.as_slice(), behind);
-    assert!(rt;
-        records
-            .last()
-            .is_some_and(|last| matches!(last.body, Body::Commit(_, 5)))
-    );
+    assert!(rt; ends.as_slice() == sample.ends.as_slice());
+    let text = hex::encode(alloc, got.bytes.as_slice())?;
+    assert!(rt; text.as_str() == sample.block);
     Ok(())
 }
 
-fn see_bytes<R: Abort>(rt: &R, alloc: Global, bytes: &[u8], block: &str) -> Result<(), Fail> {
-    let text = hex::encode(alloc, bytes)?;
-    assert_eq!(rt; text.as_str(), block);
-    Ok(())
+fn ends_with_commit(records: &[Arc<Record>]) -> bool {
+    match records.last() {
+        Some(last) => matches!(last.body, Body::Commit(_, TIME)),
+        None => false,
+    }
 }
 
 /// Takes so many bytes, at most 100 at once, and then fails.
@@ -243,25 +236,23 @@ fn turn_into<L: LogName, R: Abort>(
         taken: Vec::new(alloc),
     };
     reader.seek(0);
-    let turned = turn(alloc, sender, reader, 9, &mut out);
-    see_turned(rt, turned, left)?;
-    see_taken(rt, alloc, out.taken.as_slice(), left)
+    let is_due = is_due(turn(alloc, sender, reader, 9, &mut out), left);
+    let is_front = is_front(alloc, out.taken.as_slice(), left)?;
+    assert!(rt; is_due && is_front);
+    Ok(())
 }
 
 /// A writer that takes fewer bytes than the block has makes the turn fail.
-fn see_turned<R: Abort>(rt: &R, turned: Result<usize, TurnFault>, left: usize) -> Result<(), Fail> {
+fn is_due(turned: Result<usize, TurnFault>, left: usize) -> bool {
     match turned {
-        Ok(count) => assert!(rt; count == 2 && left == LENGTH),
-        Err(TurnFault::Write(_)) => assert!(rt; left < LENGTH),
-        Err(_) => return Err(Fail::from("another fault")),
+        Ok(count) => count == 2 && left == LENGTH,
+        Err(TurnFault::Write(_)) => left < LENGTH,
+        Err(_) => false,
     }
-    Ok(())
 }
 
-/// The writer took what it could, from the front of the block.
-fn see_taken<R: Abort>(rt: &R, alloc: Global, taken: &[u8], left: usize) -> Result<(), Fail> {
-    assert_eq!(rt; taken.len(), left);
+/// Whether the writer took what it could, from the front of the block.
+fn is_front(alloc: Global, taken: &[u8], left: usize) -> Result<bool, AllocError> {
     let text = hex::encode(alloc, taken)?;
-    assert!(rt; FIRST_BLOCK.starts_with(text.as_str()));
-    Ok(())
+    Ok(taken.len() == left && FIRST_BLOCK.starts_with(text.as_str()))
 }

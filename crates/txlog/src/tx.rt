@@ -6,7 +6,6 @@ use std::marker::Model;
 
 /// A session's hold on a transaction, from `Publisher::begin`. It can't be copied or dropped: `commit` and `abort` end the
 /// transaction, and give it back where they are refused; `leave` lets it live on. Contracts see the transaction's xid.
-#[derive(Debug)]
 pub struct Tx {
     xid: u32,
 }

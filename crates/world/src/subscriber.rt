@@ -16,7 +16,7 @@ use stream::Published;
 use wal::part;
 
 /// The subscriber of a connection, for the whole run: each start of the connection's sender sends to it.
-#[derive(Debug, Drop)]
+#[derive(Drop)]
 pub struct Subscriber {
     pub(crate) connection: Text,
     /// The slot that its open start streams from.

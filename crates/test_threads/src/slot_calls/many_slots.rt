@@ -44,20 +44,26 @@ fn work_all<L: SlotName + Send + Sync, R: Threads + Abort + Sync>(
     requires name { opened.first.table_id ≡ L.table }
 {
     let (table, mut seats) = opened.open::<L>(WORKERS + 1)?;
-    let marks = marks(alloc)?;
     match seats.pop() {
         Some(mut seat) => {
-            let workers = worked(
-                rt,
-                alloc,
-                &table,
-                marks.as_slice(),
-                workers(alloc, seats, seed)?,
-            )?;
-            see_slots(rt, &table, &mut seat, marks.as_slice(), workers.as_slice())
+            let workers = workers(alloc, seats, seed)?;
+            work_and_see(rt, alloc, &table, &mut seat, workers)
         }
         None => Err(Fail::from("a seat")),
     }
+}
+
+fn work_and_see<L: SlotName + Send + Sync, R: Threads + Abort + Sync>(
+    rt: &R,
+    alloc: Global,
+    table: &SlotTable<L>,
+    seat: &mut SlotSeat<L>,
+    workers: Vec<Worker<L>>,
+) -> Result<(), Fail> {
+    let marks = marks(alloc)?;
+    let workers = worked(rt, alloc, table, marks.as_slice(), workers)?;
+    see_slots(rt, table, seat, marks.as_slice(), workers.as_slice());
+    Ok(())
 }
 
 /// Lets all workers work, each on a thread of its own.
@@ -83,12 +89,11 @@ fn see_slots<L: SlotName, R: Abort>(
     seat: &mut SlotSeat<L>,
     marks: &[Mark],
     workers: &[Worker<L>],
-) -> Result<(), Fail> {
+) {
     see_creates(rt, workers);
     for (place, mark) in marks.iter().enumerate() {
-        see_place(rt, table, seat, place, mark, workers)?;
+        see_place(rt, table, seat, place, mark, workers);
     }
-    Ok(())
 }
 
 fn workers<L: SlotName>(
@@ -137,8 +142,7 @@ fn see_creates<L: SlotName, R: Abort>(rt: &R, workers: &[Worker<L>]) {
         creates = creates.saturating_add(worker.creates);
         refused = refused.saturating_add(worker.refused_creates);
     }
-    assert_eq!(rt; creates, PLACES);
-    assert!(rt; refused > 0);
+    assert!(rt; creates == PLACES && refused > 0);
 }
 
 /// A place was made once. If it was dropped it is gone; else it is free, at the greatest position that any worker saw.
@@ -149,10 +153,9 @@ fn see_place<L: SlotName, R: Abort>(
     place: usize,
     mark: &Mark,
     workers: &[Worker<L>],
-) -> Result<(), Fail> {
+) {
     assert!(rt; place < PLACES);
-    assert_eq!(rt; mark.makes.load(Ordering::SeqCst), 1);
-    assert_eq!(rt; mark.holder.load(Ordering::SeqCst), 0);
+    assert!(rt; mark.makes.load(Ordering::SeqCst) == 1 && mark.holder.load(Ordering::SeqCst) == 0);
     let is_dropped = mark.drops.load(Ordering::SeqCst) != 0;
     let (greatest, is_gone) = seen_by_all(workers, place);
     assert!(rt; is_dropped || !is_gone);
@@ -160,12 +163,10 @@ fn see_place<L: SlotName, R: Abort>(
         Ok(lease) => {
             let confirmed = table.confirmed(seat, &lease);
             table.release(seat, lease);
-            assert!(rt; !is_dropped);
-            assert_eq!(rt; confirmed, greatest);
+            assert!(rt; !is_dropped && confirmed == greatest);
         }
         Err(fault) => assert!(rt; is_dropped && fault == SlotFault::Missing),
     }
-    Ok(())
 }
 
 /// The greatest position that any worker saw at the place, and whether any saw that it is gone.
