@@ -24,7 +24,7 @@ use Rattle.server.specs.declared.stage.Turned.{Turned}
 use Rattle.server.specs.Calls.{Call}
 use Rattle.server.specs.Conversation.{Gave}
 use Rattle.server.specs.Said.{refused}
-use Rattle.server.specs.Turns.{Turn, IsTurn, IsFrameTurn, Hears, Streams, refusal_of}
+use Rattle.server.specs.Turns.{Turn, IsTurn, IsFrameTurn, Hears, Opens, Streams, refusal_of}
 use Rattle.server.specs.Segment.{Went, HasText, Said, IsTurned}
 use Rattle.server.proofs.Segments.{went-none, went-one}
 
@@ -95,6 +95,15 @@ front_refused told number stage Answers pending fault Same desk out out' turn ot
         says = says;
       },
     )
+
+pub startup_turned : (number : ℕ) (pending : List ℕ) (count : ℕ) (startup : Startup) (next : Stage) (Same : Type 0) (out out' : List ℕ)
+    → count ≤ length pending → SpellsStartup (take count pending) startup → Said (λ asked said. Opens number startup asked said next) out out'
+    → IsTurned number Fresh pending (record { stage = next; count = count }) Same (λ fact. Said fact out out')
+startup_turned number pending count startup next Same out out' le spells said = inr (
+  front_of_some count pending le (startup_has (take count pending) startup spells),
+  le,
+  record { text = said.text; fact = inl (startup, spells, said.fact); says = said.says },
+)
 
 pub startup_refused : (number : ℕ) (pending : List ℕ) (fault : FrameFault) (Same : Type 0) (out out' : List ℕ)
     → fault ≢ Memory → Gives (Err fault) (framed_startup pending) → out' ≡ out ++ refused (refusal_of fault)
