@@ -20,4 +20,4 @@ pub returns : goal.returns
 returns g c =
     let all = take_all c.loop-event.event-index c.args.events.now c.loop-event-test.false in
     conversed g.D.Desk.told c.args.number (flat_map heard c.args.events.now) c.args.desk.now c.args.out.now.items c.loop-event.connection c.loop-event.desk c.loop-event.out.items
-      (rw all at c.loop-event.invariant)
+    (rw all at c.loop-event.invariant)
