@@ -25,7 +25,7 @@ use stream::Published;
 /// whose connection was lost may call `reconnect` and ask for the stream again from its position or below.
 ///
 /// After a fault `take` answers it again until `reconnect`. What stood whole before the fault counts.
-#[derive(Debug, Drop)]
+#[derive(Drop)]
 pub struct Applier {
     alloc: Global,
     progress: Progress,

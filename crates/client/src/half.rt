@@ -9,7 +9,7 @@ use std::alloc::{AllocError, Global};
 use std::marker::Model;
 use stream::{Published, PublishedChange};
 
-#[derive(Debug, Drop)]
+#[derive(Drop)]
 pub(crate) struct Half {
     begin: Begin,
     changes: Vec<PublishedChange>,

@@ -13,7 +13,7 @@ use std::marker::Model;
 use stream::{Keepalive, Published, Word};
 
 /// A subscriber: what it has applied, and what it knows since it connected.
-#[derive(Debug, Drop)]
+#[derive(Drop)]
 pub(crate) struct Progress {
     alloc: Global,
     position: u64,

@@ -3,7 +3,7 @@
 use pgoutput::Logical;
 
 /// What a change becomes: nothing, where it isn't published, or one message.
-#[derive(Debug, Drop, PartialEq)]
+#[derive(Debug, Drop)]
 pub enum Projected {
     Nothing,
     Message(Logical),

@@ -22,7 +22,7 @@ use toml::Value;
 ///
 /// A configuration names them, and `select` may be called any number of times. Its P1 says that a name is no publication's, P2 that two of
 /// the publications list other columns of one table, and P7 is want of memory; none changes anything.
-#[derive(Debug, Drop)]
+#[derive(Drop)]
 pub struct Publications {
     alloc: Global,
     tables: Items<Table>,

@@ -30,7 +30,7 @@ use tables::{Change, MAX_TRUNCATED, Row, Table, repeats};
 /// `Publications::select` makes it. For each change of a commit `project` answers its message, or `Projected::Nothing` where it
 /// isn't published; `relation` answers the Relation that goes before the first message of a table. Neither changes anything,
 /// and their only error is want of memory.
-#[derive(Debug, Drop)]
+#[derive(Drop)]
 pub struct Selection {
     alloc: Global,
     /// All tables of the catalogue.

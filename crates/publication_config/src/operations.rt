@@ -5,7 +5,7 @@ ghost use Rattle.publication_config.specs.Config.{with_operation};
 ghost use Rattle.publication_config.specs.Published.{publishes};
 
 /// What a session does to rows or tables.
-#[derive(Clone, Copy, Debug, PartialEq, Eq)]
+#[derive(Clone, Copy, PartialEq, Eq)]
 pub enum Operation {
     Insert,
     Update,
@@ -14,7 +14,7 @@ pub enum Operation {
 }
 
 /// The operations that a publication publishes (PostgreSQL 15, CREATE PUBLICATION, `publish`).
-#[derive(Clone, Copy, Debug, PartialEq, Eq)]
+#[derive(Clone, Copy, PartialEq, Eq)]
 pub struct Operations {
     pub insert: bool,
     pub update: bool,

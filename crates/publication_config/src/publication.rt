@@ -11,7 +11,7 @@ use pqformat::{Items, Text};
 use std::alloc::{AllocError, Global};
 
 /// A publication: its tables, and the operations that it publishes.
-#[derive(Debug, Drop)]
+#[derive(Drop)]
 pub struct Publication {
     pub name: Text,
     pub operations: Operations,

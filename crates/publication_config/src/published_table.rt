@@ -10,7 +10,7 @@ use std::alloc::{AllocError, Global};
 use tables::Table;
 
 /// A table of a publication, with what of it is published.
-#[derive(Debug, Drop)]
+#[derive(Drop)]
 pub struct PublishedTable {
     pub oid: u32,
     /// Without a filter every row passes.

@@ -6,7 +6,7 @@ use std::alloc::{AllocError, Global};
 use std::marker::Model;
 
 /// A transaction's own xid, and those of its subtransactions in the order in which they came.
-#[derive(Debug, Drop)]
+#[derive(Drop)]
 pub(crate) struct Members {
     xids: Vec<u32>,
 }

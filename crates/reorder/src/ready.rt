@@ -10,7 +10,7 @@ use tables::Change;
 use wal::{Body, Record};
 
 /// A change that is kept until its transaction ends, by the record that made it.
-#[derive(Debug, Drop)]
+#[derive(Drop)]
 pub(crate) struct Kept {
     record: Arc<Record>,
 }
@@ -68,7 +68,6 @@ impl Kept {
 
 /// The changes that a committed transaction keeps, in log order, those of rolled-back subtransactions left out. There are
 /// `count()` of them, maybe none; `Reorder::entry` lends each by its place, and `Reorder::finish` takes them back.
-#[derive(Debug)]
 pub struct Ready {
     changes: Vec<Kept>,
 }
@@ -112,7 +111,6 @@ impl Ready {
 }
 
 /// What a record brings.
-#[derive(Debug)]
 pub enum Step {
     /// Nothing to publish yet: the record is no Commit.
     Quiet,

@@ -22,7 +22,7 @@ use wal::{Body, Record};
 /// known. A subtransaction of it that began earlier counts as a transaction of its own, which never commits.
 ///
 /// An error is the end: Q2 is want of memory, and every `take` after it is Q3.
-#[derive(Debug, Drop)]
+#[derive(Drop)]
 pub struct Reorder {
     strands: Strands,
     failed: bool,

@@ -8,7 +8,7 @@ use std::alloc::{AllocError, Global};
 use std::marker::Model;
 
 /// The changes of a transaction's or subtransaction's own xid, unless it is rolled back.
-#[derive(Debug, Drop)]
+#[derive(Drop)]
 pub(crate) struct Strand {
     above: Vec<u32>,
     undone: bool,

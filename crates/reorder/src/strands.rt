@@ -20,7 +20,7 @@ use std::collections::HashMap;
 use std::marker::Model;
 
 /// The strands of all xids of the transactions in progress.
-#[derive(Debug, Drop)]
+#[derive(Drop)]
 pub(crate) struct Strands {
     alloc: Global,
     strands: HashMap<u32, Strand>,

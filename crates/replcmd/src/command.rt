@@ -17,7 +17,7 @@ use crate::verb::Verb;
 use std::alloc::Global;
 
 /// A command of the streaming replication protocol (PostgreSQL 15, 55.4).
-#[derive(Debug, Drop, PartialEq)]
+#[derive(Debug, Drop)]
 pub enum Command {
     /// `IDENTIFY_SYSTEM`
     Identify,

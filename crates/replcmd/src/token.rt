@@ -17,7 +17,7 @@ pub(crate) const COMMA: u8 = b',';
 pub(crate) const SEMICOLON: u8 = b';';
 
 /// A token. Quoted texts are held as they are meant, with single quotes for doubled ones.
-#[derive(Debug, Drop, PartialEq)]
+#[derive(Drop)]
 pub(crate) enum Token {
     /// A keyword, a bare name or a position.
     Word(Name),

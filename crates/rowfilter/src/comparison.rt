@@ -5,7 +5,7 @@ ghost use Rattle.rowfilter.specs.Truth.{holds};
 
 use std::cmp::Ordering;
 
-#[derive(Clone, Copy, Debug)]
+#[derive(Clone, Copy)]
 pub(crate) enum Comparison {
     Equal,
     NotEqual,

@@ -17,7 +17,7 @@ use std::alloc::{AllocError, Global};
 use tables::{Column, Value};
 
 /// A condition, or an operand of one.
-#[derive(Debug, Drop)]
+#[derive(Drop)]
 pub(crate) enum Expression {
     /// The column at this place of its table.
     Column(usize),

@@ -13,7 +13,7 @@ use std::marker::Model;
 use tables::Row;
 
 /// A condition over the rows of a table. Contracts see it as the tree that it is.
-#[derive(Debug, Drop)]
+#[derive(Drop)]
 pub struct Filter {
     expression: Expression,
     columns: Items<usize>,

@@ -6,7 +6,7 @@ use pqformat::Items;
 use std::alloc::{AllocError, Global};
 
 /// A value as it stands in a filter. A text is held as its bytes, by which it is compared.
-#[derive(Debug, Drop)]
+#[derive(Drop)]
 pub(crate) enum Literal {
     Null,
     Bool(bool),

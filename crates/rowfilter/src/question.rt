@@ -1,6 +1,6 @@
 //! What IS asks.
 
-#[derive(Clone, Copy, Debug)]
+#[derive(Clone, Copy)]
 pub(crate) enum Question {
     Null,
     True,

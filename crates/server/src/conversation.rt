@@ -13,7 +13,7 @@ use bytes::BytesMut;
 use std::alloc::{AllocError, Global};
 
 /// What happens on a connection.
-#[derive(Debug, Drop)]
+#[derive(Drop)]
 pub enum Event {
     /// Bytes of the client come.
     Came(Vec<u8>),

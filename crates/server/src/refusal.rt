@@ -7,7 +7,7 @@ use crate::fault::DeskFault;
 use replcmd::CmdFault;
 
 /// A cause with a code of its own (PostgreSQL 15, appendix A) and a text.
-#[derive(Clone, Copy, Debug, PartialEq, Eq)]
+#[derive(Clone, Copy, PartialEq, Eq)]
 pub enum Refusal {
     /// A frame that can't be read, or that is out of its place.
     Violation,

@@ -11,7 +11,7 @@ use std::alloc::{AllocError, Global};
 use std::marker::Model;
 
 /// The changes of a transaction, the oldest first, each with what stood at its places before.
-#[derive(Debug, Drop)]
+#[derive(Drop)]
 pub struct Journal {
     changes: Vec<Items<Undo>>,
 }

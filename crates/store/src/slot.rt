@@ -9,14 +9,14 @@ use pqformat::Items;
 use tables::Row;
 
 /// What stands at a place: the row, if there is one, and the live transaction that holds the place, if there is one.
-#[derive(Debug, Drop)]
+#[derive(Drop)]
 pub struct Slot {
     pub row: Option<Row>,
     pub owner: Option<u32>,
 }
 
 /// A place that was changed, and what stood there before.
-#[derive(Debug, Drop)]
+#[derive(Drop)]
 pub struct Undo {
     pub key: Items<u8>,
     pub before: Slot,

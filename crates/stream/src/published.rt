@@ -4,7 +4,7 @@ use pgoutput::Logical;
 use pqformat::Items;
 
 /// A transaction as it is published.
-#[derive(Debug, Drop, PartialEq)]
+#[derive(Debug, Drop)]
 pub struct Published {
     /// The position at which the commit record starts.
     pub start: u64,
@@ -17,7 +17,7 @@ pub struct Published {
 }
 
 /// A change as it is published.
-#[derive(Debug, Drop, PartialEq)]
+#[derive(Debug, Drop)]
 pub struct PublishedChange {
     /// The position at which the change's record starts.
     pub position: u64,

@@ -3,14 +3,14 @@
 use pgoutput::Logical;
 
 /// What one CopyData frame of the stream says (PostgreSQL 15, 55.4).
-#[derive(Debug, Drop, PartialEq)]
+#[derive(Debug, Drop)]
 pub enum Word {
     Keepalive(Keepalive),
     XLogData(XLogData),
 }
 
 /// A primary keepalive: `Byte1('k') | Int64 position | Int64 clock | Byte1 ask`.
-#[derive(Clone, Copy, Debug, PartialEq)]
+#[derive(Clone, Copy, Debug)]
 pub struct Keepalive {
     /// The end of what the server has read of the log.
     pub position: u64,
@@ -21,7 +21,7 @@ pub struct Keepalive {
 }
 
 /// A logical message in its XLogData: `Byte1('w') | Int64 start | Int64 end | Int64 clock | message`.
-#[derive(Debug, Drop, PartialEq)]
+#[derive(Debug, Drop)]
 pub struct XLogData {
     /// The position of the message.
     pub start: u64,

@@ -4,7 +4,7 @@ use crate::row::Row;
 use pqformat::Items;
 
 /// A change of tables, by their OIDs.
-#[derive(Debug, Drop, PartialEq)]
+#[derive(Debug, Drop)]
 pub enum Change {
     /// The table and its new row.
     Insert(u32, Row),

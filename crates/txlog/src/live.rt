@@ -10,7 +10,7 @@ use std::alloc::{AllocError, Global};
 use std::marker::Model;
 
 /// The live transactions in the order of their xids.
-#[derive(Debug, Drop)]
+#[derive(Drop)]
 pub(crate) struct Live {
     running: Vec<Running>,
 }

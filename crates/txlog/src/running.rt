@@ -7,7 +7,7 @@ use std::alloc::{AllocError, Global};
 use std::marker::Model;
 
 /// A live transaction: its xid, and its open savepoints, the outermost first.
-#[derive(Debug, Drop)]
+#[derive(Drop)]
 pub(crate) struct Running {
     xid: u32,
     savepoints: Vec<Savepoint>,

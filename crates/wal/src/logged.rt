@@ -10,7 +10,7 @@ use tables::{Change, MAX_TRUNCATED, body_len};
 
 /// A change whose rows are at most 8,000 bytes long, and which truncates at most 256 tables, so that its body is of at most
 /// 16,005 bytes. Contracts see the change.
-#[derive(Debug, Drop, PartialEq)]
+#[derive(Debug, Drop)]
 pub struct LoggedChange {
     change: Change,
 }

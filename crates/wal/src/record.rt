@@ -14,7 +14,7 @@ pub const FIRST_XID: u32 = 700;
 
 /// A record of the log. It starts where the one before it ends; both are byte positions of the log. Its size is 16, and its
 /// payload rounded up to a multiple of 8. In a payload an xid has 4 bytes and a time 8.
-#[derive(Debug, Drop, PartialEq)]
+#[derive(Debug, Drop)]
 pub struct Record {
     pub start: u64,
     pub end: u64,
@@ -22,7 +22,7 @@ pub struct Record {
 }
 
 /// What happened, and under which xid.
-#[derive(Debug, Drop, PartialEq)]
+#[derive(Debug, Drop)]
 pub enum Body {
     /// A subtransaction, from a savepoint on, and its parent.
     Assign(u32, u32),
