@@ -1,2 +1,4 @@
 pub mod Crossing
+pub mod Dropping
 pub mod Streams
+pub mod Turns

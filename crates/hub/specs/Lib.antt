@@ -2,3 +2,4 @@ pub mod Inboxes
 pub mod Notices
 pub mod Refusals
 pub mod Streams
+pub mod Turns

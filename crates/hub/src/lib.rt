@@ -20,10 +20,12 @@ mod read_loop;
 mod refusals;
 mod serving;
 mod starting;
+mod stream_loop;
 mod streaming;
 mod system;
 mod transaction;
 mod words;
+mod work_desk;
 mod write_loop;
 
 pub use fault::{HubFault, ServeFault, Untaken};

@@ -2,7 +2,8 @@
 
 ghost use Rattle.std.specs.Prelude.{◌≡◌, ℕ, ◌<◌, Err, None, Some, IfSome, IsSome, OnErr, OnOk};
 ghost use Rattle.slots.specs.Directories.{AreSame, ChangesOnly, place_of};
-ghost use Rattle.slots.specs.Seats.{Created, Did};
+ghost use Rattle.slots.specs.Seats.{Created, Did, NoneLeft};
+ghost use Rattle.slots.specs.declared.step.View.{View};
 ghost use Rattle.slots.specs.declared.step.SlotKind.TheVariants.{Retire};
 
 use slots::{Directory, PLACES, SlotFault, SlotName, SlotSeat, SlotTable};
@@ -46,6 +47,9 @@ impl<L: SlotName> Names<L> {
         ensures exists { result ≡ Err SlotFault.Exists → IsSome (place_of self.old.directory name.now) }
         ensures ok { OnOk result ((place : ℕ) × Created self.old.seat position place self.new.seat × ChangesOnly self.old.directory self.new.directory name.now (Some place)) }
         ensures err { OnErr result (AreSame self.old.directory self.new.directory) }
+        ensures untouched { result ≡ Err SlotFault.Exists → self.new.seat ≡ self.old.seat }
+        ensures full { result ≡ Err SlotFault.NoPlace → NoneLeft self.old.seat self.new.seat }
+        ensures dropped { result ≡ Err SlotFault.Memory → (place found left : ℕ) × (made : View) × Created self.old.seat position place made × Did Retire place found left made self.new.seat }
     {
         if self.directory.find(name).is_some() {
             return Err(SlotFault::Exists);

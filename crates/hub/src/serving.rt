@@ -166,11 +166,11 @@ fn read<L: LogName + SlotName, G: Gate, R: Wait>(
 }
 
 fn write<L: LogName + SlotName, R: Wait>(rt: &R, hub: &Hub<L>, line: &Line<L>, socket: &TcpStream) {
-    let write = WriteLoop {
+    let mut write = WriteLoop {
         rt,
         hub,
         line,
         socket,
     };
-    write_line(&write);
+    write_line(&mut write);
 }

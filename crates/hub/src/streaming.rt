@@ -10,6 +10,7 @@ ghost use Rattle.wal.specs.declared.record.Record.{Record};
 ghost use Rattle.walsender.specs.Serving.{Gives, Serves, StaysOn};
 ghost use Rattle.hub.specs.declared.streaming.TheConstants.{CLOCK};
 ghost use Rattle.hub.specs.Streams.{HasLearnt, StreamsOn, keepalives};
+ghost use Rattle.hub.specs.Turns.{Confirms};
 
 use crate::commit_notice::CommitNotice;
 use crate::grant::StreamGrant;
@@ -33,6 +34,7 @@ const MOST_KEEPALIVES: u32 = 256;
 
 /// A walsender, and the slot that it confirms. It isn't `Drop`: `end` ends it.
 pub(crate) struct Stream<L: LogName + SlotName> {
+    alloc: Global,
     walsender: Walsender<L>,
     hold: Hold<L>,
     latch: usize,
@@ -57,12 +59,18 @@ impl<L: LogName + SlotName> Stream<L> {
             latch,
         } = grant;
         Stream {
+            alloc,
             walsender: Walsender::begin(alloc, reader, selection, start),
             hold,
             latch,
             flushed: start,
             told: start,
         }
+    }
+
+    /// Where its memory comes from.
+    pub fn alloc(&self) -> Global {
+        self.alloc
     }
 
     /// Up to where the log was read.
@@ -90,11 +98,12 @@ impl<L: LogName + SlotName> Stream<L> {
     pub fn go_on<W: Write>(
         &mut self,
         slots: &SlotTable<L>,
-        alloc: Global,
         work: &Work,
         to: &mut W,
     ) -> Result<(), TurnFault>
         ensures serves { StreamsOn self.old.walsender self.new.walsender (W.contents to.old) (W.contents to.new) }
+        ensures confirms { Confirms work.now.flushed self.old.walsender.sender.position self.old.hold.lease.place self.old.hold.seat self.new.hold.seat }
+        ensures lease { self.new.hold.lease ≡ self.old.hold.lease }
     {
         self.confirm_any(slots, work.flushed);
         if work.phase == Phase::Closed {
@@ -102,7 +111,7 @@ impl<L: LogName + SlotName> Stream<L> {
         }
         self.answer_statuses(work.asked, to)?;
         self.ask_if(work.is_silent)?;
-        self.walsender.turn(alloc, CLOCK, to)?;
+        self.walsender.turn(self.alloc, CLOCK, to)?;
         self.tell_position(to)
     }
 
@@ -110,6 +119,7 @@ impl<L: LogName + SlotName> Stream<L> {
     fn ask_if(&mut self, is_silent: bool) -> Result<(), SendFault>
         ensures serves { StaysOn self.old.walsender self.new.walsender }
         ensures reader { self.new.walsender.reader ≡ self.old.walsender.reader }
+        ensures hold { self.new.hold ≡ self.old.hold }
     {
         if is_silent {
             self.walsender.keepalive(CLOCK, true)?;
@@ -121,6 +131,7 @@ impl<L: LogName + SlotName> Stream<L> {
     /// that aren't sent, and the client can confirm them all the same.
     fn tell_position<W: Write>(&mut self, to: &mut W) -> Result<(), TurnFault>
         ensures serves { StreamsOn self.old.walsender self.new.walsender (W.contents to.old) (W.contents to.new) }
+        ensures hold { self.new.hold ≡ self.old.hold }
     {
         let position = self.walsender.position();
         if position <= self.flushed || position <= self.told {
@@ -134,7 +145,8 @@ impl<L: LogName + SlotName> Stream<L> {
 
     /// Confirms what a client has flushed, if it told of any.
     pub fn confirm_any(&mut self, slots: &SlotTable<L>, flushed: Option<u64>)
-        ensures { self.new.walsender ≡ self.old.walsender }
+        ensures confirms { Confirms flushed self.old.walsender.sender.position self.old.hold.lease.place self.old.hold.seat self.new.hold.seat }
+        ensures same { (self.new.walsender ≡ self.old.walsender) × (self.new.hold.lease ≡ self.old.hold.lease) }
     {
         if let Some(flushed) = flushed {
             self.flushed = self.flushed.max(flushed);
@@ -157,6 +169,7 @@ impl<L: LogName + SlotName> Stream<L> {
         ensures kept { OnOk result ((given : List ℕ) × (given ++ self.new.walsender.sender.held ≡ self.old.walsender.sender.held ++ keepalives self.old.walsender.sender.position count)
             × Appends (W.contents to.old) (W.contents to.new) given) }
         ensures serves { StreamsOn self.old.walsender self.new.walsender (W.contents to.old) (W.contents to.new) }
+        ensures hold { self.new.hold ≡ self.old.hold }
     {
         let mut due = count;
         while MOST_KEEPALIVES < due {
@@ -174,6 +187,7 @@ impl<L: LogName + SlotName> Stream<L> {
         ensures position { self.new.walsender.sender.position ≡ self.old.walsender.sender.position }
         ensures serves { StaysOn self.old.walsender self.new.walsender }
         ensures reader { self.new.walsender.reader ≡ self.old.walsender.reader }
+        ensures hold { self.new.hold ≡ self.old.hold }
     {
         for _ in 0..count {
             self.walsender.keepalive(CLOCK, false)?;
@@ -185,6 +199,8 @@ impl<L: LogName + SlotName> Stream<L> {
     pub fn write_rest<W: Write>(&mut self, to: &mut W) -> io::Result<()>
         ensures ok { OnOk result (self.new.walsender.sender.held ≡ []) }
         ensures serves { (given : List ℕ) × Gives given self.old.walsender self.new.walsender × Appends (W.contents to.old) (W.contents to.new) given }
+        ensures position { self.new.walsender.sender.position ≡ self.old.walsender.sender.position }
+        ensures hold { self.new.hold ≡ self.old.hold }
     {
         self.walsender.write_held(to)
     }
@@ -195,6 +211,7 @@ impl<L: LogName + SlotName> Stream<L> {
         ensures seat { result.seat ≡ with_step self.hold.seat (slot_step Release self.hold.lease.place (held_by self.hold.seat.number) 1) }
     {
         let Stream {
+            alloc: _,
             walsender,
             hold,
             latch,

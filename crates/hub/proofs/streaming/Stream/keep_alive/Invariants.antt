@@ -9,5 +9,6 @@ invariant-loop g l = record {
   held : l.self.walsender.sender.held ≡ l.fn.self.walsender.sender.held ++ keepalives l.fn.self.walsender.sender.position l.counter;
   position : l.self.walsender.sender.position ≡ l.fn.self.walsender.sender.position;
   reader : l.self.walsender.reader ≡ l.fn.self.walsender.reader;
+  hold : l.self.hold ≡ l.fn.self.hold;
   serves : (log : List Record) (written : List ℕ) → Serves log written l.fn.self.walsender → Serves log written l.self.walsender;
 }

@@ -1,0 +1,125 @@
+//! How a stream is written: turn by turn, as work comes, until something else is to be said or the connection is over.
+
+ghost use Rattle.std.specs.Prelude.{◌≡◌, OnOk};
+ghost use Rattle.hub.specs.Streams.{StreamsOn, WordsBehind};
+ghost use Rattle.hub.specs.Turns.{EndsTurns, LeavesSlot, TakesTurns, standing};
+
+use crate::inbox::Work;
+use crate::line::Over;
+use crate::streaming::Stream;
+use crate::words::{Trouble, write_trouble};
+use crate::work_desk::WorkDesk;
+use sender::TurnFault;
+use server::Phase;
+use shared_log::LogName;
+use slots::{SlotName, SlotTable};
+use std::io;
+use std::io::Write;
+use std::sync::Wait;
+
+/// Writes a stream, and behind it what is said at its end. Where its client did not ask for that, the connection is over, and
+/// what the client flushed last is confirmed too: all that it sent has been read by then.
+pub(crate) fn write_stream<L: LogName + SlotName, R: Wait, D: WorkDesk<L>, W: Write>(
+    rt: &R,
+    desk: &mut D,
+    slots: &SlotTable<L>,
+    stream: &mut Stream<L>,
+    first: Work,
+    to: &mut W,
+) -> Result<(), Over>
+    ensures slot { LeavesSlot D.told stream.old.hold.lease.place first result desk.old (standing stream.old.walsender stream.old.hold.seat (W.contents to.old)) desk.new stream.new.hold.seat }
+{
+    let ended = write_to_end(rt, desk, slots, stream, first, to);
+    if ended.is_err() {
+        let last = desk.last();
+        stream.confirm_any(slots, last.flushed);
+    }
+    ended
+}
+
+/// Writes a stream, and behind it what is said at its end, or why it ends.
+fn write_to_end<L: LogName + SlotName, R: Wait, D: WorkDesk<L>, W: Write>(
+    rt: &R,
+    desk: &mut D,
+    slots: &SlotTable<L>,
+    stream: &mut Stream<L>,
+    first: Work,
+    to: &mut W,
+) -> Result<(), Over>
+    ensures turns { EndsTurns D.told stream.old.hold.lease.place first desk.old (standing stream.old.walsender stream.old.hold.seat (W.contents to.old)) desk.new stream.new.walsender.sender.position stream.new.hold.seat }
+    ensures lease { stream.new.hold.lease ≡ stream.old.hold.lease }
+{
+    match run(rt, desk, slots, stream, first, to) {
+        Ok(last) => {
+            say(&last, to)?;
+            if last.phase == Phase::Stopping {
+                Ok(())
+            } else {
+                Err(Over)
+            }
+        }
+        Err(fault) => {
+            let _ = tell(stream, fault, to);
+            Err(Over)
+        }
+    }
+}
+
+/// Takes turns of a stream until something else is to be said than the stream, and answers that.
+fn run<L: LogName + SlotName, R: Wait, D: WorkDesk<L>, W: Write>(
+    rt: &R,
+    desk: &mut D,
+    slots: &SlotTable<L>,
+    stream: &mut Stream<L>,
+    first: Work,
+    to: &mut W,
+) -> Result<Work, TurnFault>
+    ensures serves { StreamsOn stream.old.walsender stream.new.walsender (W.contents to.old) (W.contents to.new) }
+    ensures turns { TakesTurns D.told stream.old.hold.lease.place first desk.old (standing stream.old.walsender stream.old.hold.seat (W.contents to.old)) desk.new (standing stream.new.walsender stream.new.hold.seat (W.contents to.new)) }
+    ensures lease { stream.new.hold.lease ≡ stream.old.hold.lease }
+{
+    stream.go_on(slots, &first, to)?;
+    let mut work = first;
+    for _ in rt.forever() {
+        if !work.lets_stream() {
+            break;
+        }
+        work = desk.next(stream);
+        stream.go_on(slots, &work, to)?;
+    }
+    Ok(work)
+}
+
+/// Writes the words of what was taken. The connection may be over behind them.
+pub(crate) fn say<W: Write>(work: &Work, to: &mut W) -> Result<(), Over> {
+    if to.write_all(work.said.as_slice()).is_err() || work.phase == Phase::Closed {
+        return Err(Over);
+    }
+    Ok(())
+}
+
+/// Tells the client why its stream ends, behind what is held.
+fn tell<L: LogName + SlotName, W: Write>(
+    stream: &mut Stream<L>,
+    fault: TurnFault,
+    to: &mut W,
+) -> io::Result<()>
+    ensures behind { OnOk result (WordsBehind stream.old.walsender stream.new.walsender (W.contents to.old) (W.contents to.new)) }
+    ensures position { stream.new.walsender.sender.position ≡ stream.old.walsender.sender.position }
+    ensures hold { stream.new.hold ≡ stream.old.hold }
+{
+    let Some(trouble) = trouble_of(fault) else {
+        return Ok(());
+    };
+    stream.write_rest(to)?;
+    write_trouble(stream.alloc(), trouble, to)
+}
+
+/// What the client is told, if it can still be.
+fn trouble_of(fault: TurnFault) -> Option<Trouble> {
+    match fault {
+        TurnFault::Write(_) => None,
+        TurnFault::Memory | TurnFault::Sender(_) => Some(Trouble::Memory),
+        TurnFault::NoEntry => Some(Trouble::NoEntry),
+    }
+}
