@@ -10,7 +10,7 @@ use Rattle.walsender.specs.declared.walsender.Walsender.{Walsender}
 use Rattle.stream.specs.Words.{word_bytes}
 use Rattle.stream.specs.Items.{keepalive_word}
 use Rattle.hub.specs.declared.streaming.TheConstants.{CLOCK}
-use Rattle.walsender.specs.Serving.{Gives, Serves}
+use Rattle.walsender.specs.Serving.{Gives, Serves, WritesFirst}
 use Rattle.walsender.proofs.Serving.{nothing_given}
 use Rattle.hub.specs.Streams.{HasLearnt, StreamsOn, WordsBehind, keepalives}
 
@@ -74,6 +74,23 @@ held_more old held_before held_after position a b before after (early, whole, p)
       ∙ ap (λ (l : List ℕ). old ++ l) (sym (keepalives_more position a b)),
   p,
 )
+
+-- what was promised was written first: a part of it while it was held, and the rest by the turn behind that
+pub promised_first : {L : Type 0} (old answered asked : Walsender L) (before between turned after : Option (List ℕ)) (promised : List ℕ) → Gave promised answered.sender.held before between → StreamsOn old asked before between
+    → (more : List ℕ) × (asked.sender.held ≡ answered.sender.held ++ more) → WritesFirst asked.sender.held asked between turned → (given : List ℕ) × Appends turned after given → WritesFirst promised old before after
+promised_first old answered asked before between turned after promised (early, whole, p) (given, goes, q) (more, held) first (late, r) =
+    λ written serving.
+    let (new, s) = first (written ++ given) (goes written serving) in
+    let kept = answered.sender.held in
+    let regrouped : early ++ (((kept ++ more) ++ new) ++ late) ≡ (early ++ kept) ++ (more ++ (new ++ late)) = simp append_assoc in
+    let all : early ++ ((asked.sender.held ++ new) ++ late) ≡ promised ++ (more ++ (new ++ late)) =
+    ap (λ (l : List ℕ). early ++ ((l ++ new) ++ late)) held ∙ regrouped ∙ ap (λ (l : List ℕ). l ++ (more ++ (new ++ late))) whole in
+    let P : List ℕ → Type 0 = λ l. Appends before after l in
+    (more ++ (new ++ late), subst P all (Appends-trans before between after early ((asked.sender.held ++ new) ++ late) p (Appends-trans between turned after (asked.sender.held ++ new) late s r)))
+
+pub if_ok : {T E : Type 0} (P : Type 0) (r : Result T E) → P → OnOk r P
+if_ok P (Ok done) is = is
+if_ok P (Err fault) is = tt
 
 -- what a walsender gave goes on with its stream
 pub gave_on : {L : Type 0} (a b : Walsender L) (before after : Option (List ℕ)) (given : List ℕ) → b.reader ≡ a.reader → Gives given a b → Appends before after given → StreamsOn a b before after

@@ -1,13 +1,13 @@
 //! A stream that is written, with all that goes back at its end.
 
-ghost use Rattle.std.specs.Prelude.{◌≡◌, ◌++◌, [], ℕ, List, max, min, OnOk};
+ghost use Rattle.std.specs.Prelude.{◌≡◌, ◌⊎◌, ◌++◌, [], ℕ, List, max, min, OnOk};
 ghost use Rattle.std.specs.Io.KnownBytes.{Appends};
 ghost use Rattle.slots.specs.Rule.{slot_step, with_step};
 ghost use Rattle.slots.specs.Seats.{DidAt};
 ghost use Rattle.slots.specs.Standings.{held_by};
 ghost use Rattle.slots.specs.declared.step.SlotKind.TheVariants.{Raise, Release};
 ghost use Rattle.wal.specs.declared.record.Record.{Record};
-ghost use Rattle.walsender.specs.Serving.{Gives, Serves, StaysOn};
+ghost use Rattle.walsender.specs.Serving.{Gives, Serves, StaysOn, WritesFirst};
 ghost use Rattle.hub.specs.declared.streaming.TheConstants.{CLOCK};
 ghost use Rattle.hub.specs.Streams.{HasLearnt, StreamsOn, keepalives};
 ghost use Rattle.hub.specs.Turns.{Confirms};
@@ -104,6 +104,7 @@ impl<L: LogName + SlotName> Stream<L> {
         ensures serves { StreamsOn self.old.walsender self.new.walsender (W.contents to.old) (W.contents to.new) }
         ensures confirms { Confirms work.now.flushed self.old.walsender.sender.position self.old.hold.lease.place self.old.hold.seat self.new.hold.seat }
         ensures lease { self.new.hold.lease ≡ self.old.hold.lease }
+        ensures answers { OnOk result ((work.now.phase ≡ Phase.Closed) ⊎ WritesFirst (self.old.walsender.sender.held ++ keepalives self.old.walsender.sender.position work.now.asked) self.old.walsender (W.contents to.old) (W.contents to.new)) }
     {
         self.confirm_any(slots, work.flushed);
         if work.phase == Phase::Closed {
@@ -120,6 +121,7 @@ impl<L: LogName + SlotName> Stream<L> {
         ensures serves { StaysOn self.old.walsender self.new.walsender }
         ensures reader { self.new.walsender.reader ≡ self.old.walsender.reader }
         ensures hold { self.new.hold ≡ self.old.hold }
+        ensures held { (more : List ℕ) × (self.new.walsender.sender.held ≡ self.old.walsender.sender.held ++ more) }
     {
         if is_silent {
             self.walsender.keepalive(CLOCK, true)?;

@@ -1,5 +1,6 @@
 -- A turn of a walsender, however it ends.
-use Rattle.std.proofs.Common.{◌≡◌, ◌+◌, ◌<◌, ℕ, ℤ, true, false, List, [], ◌++◌, length, refl, sym, subst}
+use Rattle.std.proofs.Common.{◌≡◌, ◌+◌, ◌<◌, ℕ, ℤ, true, false, List, [], ◌++◌, length, take, refl, ap, sym, subst, ◌∙◌}
+use Rattle.std.proofs.lemmas.List.{append-nil}
 use Rattle.std.specs.Prelude.{FitsSigned, Result, Ok, Err, OnOk}
 use Rattle.std.specs.Int.{w64}
 use Rattle.std.specs.Io.KnownBytes.{Appends}
@@ -13,11 +14,13 @@ use Rattle.sender.specs.declared.fault.SendFault.{SendFault}
 use Rattle.sender.specs.declared.turn_fault.TurnFault.{TurnFault}
 use Rattle.sender.specs.declared.turn_fault.TurnFault.TheVariants as turns
 use Rattle.sender.specs.Faults.{has_fetched, has_written}
-use Rattle.sender.specs.Sending.{SenderState}
+use Rattle.sender.specs.Published.{published, published_from}
+use Rattle.sender.specs.Sending.{SenderState, published_bytes}
 use Rattle.sender.specs.Turning.{IsRefused, ReadAndGave, fetched_from}
 use Rattle.sender.specs.declared.limits.TheConstants.{TURN_RECORDS}
 use Rattle.walsender.specs.Serving.{IsServing}
-use Rattle.walsender.proofs.Serving.{given, grown_to, nothing_given, read_on}
+use Rattle.walsender.proofs.Sections.{next_part, section_of}
+use Rattle.walsender.proofs.Serving.{given, grown_to, nothing_given, read_on, reading}
 
 -- bytes that were given of these records, and those taken by the writer
 abbrev pub Gave : ℤ → SenderState → SenderState → List Record → Option (List ℕ) → Option (List ℕ) → Type 0
@@ -32,6 +35,26 @@ pub record Turns (clock : ℤ) (old new : SenderState) (place moved_to : ℕ) (s
   pub broken : (e : Error) → r ≡ Err (turns.Write e) → (bytes : List ℕ) × ReadAndGave clock old new (fetched_from place seen) bytes × (0 < length new.held) × Appends before after bytes
   pub refused : (e : SendFault) → r ≡ Err (turns.Sender e) → IsRefused clock old new (fetched_from place seen) e
   pub silent : has_written r ≡ false → after ≡ before
+
+-- a turn that went well wrote what was held before all that it read
+pub held_first : (clock : ℤ) (old new : SenderState) (place : ℕ) (early seen : List Record) (before after : Option (List ℕ)) (written bytes : List ℕ) → IsPrefix early seen → IsWellFormedLog seen
+    → ReadAndGave clock old new (fetched_from place seen) bytes → new.held ≡ [] → Appends before after bytes → IsServing early place written old → (more : List ℕ) × Appends before after (old.held ++ more)
+held_first clock old new place early seen before after written bytes begins good read empty appended serving =
+    let r = reading seen place written old (grown_to early seen place written old begins serving) read.running in
+    let part = section_of seen place TURN_RECORDS r.0.within good in
+    let added = (read.read.after (take place seen) r.1 (next_part seen place (fetched_from place seen) part).may).1 in
+    let more = published_bytes old.selection clock (published old.selection (take place seen) old.start) (published_from old.selection old.start (take place seen) (fetched_from place seen)) in
+    let whole : bytes ≡ old.held ++ more = sym (append-nil bytes) ∙ ap (λ (l : List ℕ). bytes ++ l) (sym empty) ∙ sym read.parts ∙ added.adds in
+    let P : List ℕ → Type 0 = λ l. Appends before after l in
+    (more, subst P whole appended)
+
+pub first : (clock : ℤ) (old new : SenderState) (place moved_to : ℕ) (early seen : List Record) (before after : Option (List ℕ)) (r : Result ℕ TurnFault) → IsPrefix early seen → Turns clock old new place moved_to seen before after r
+    → OnOk r ((written : List ℕ) → IsServing early place written old → (more : List ℕ) × Appends before after (old.held ++ more))
+first clock old new place moved_to early seen before after (Ok n) begins t =
+    λ written serving.
+    let (bytes, read, empty, appended) = t.sent in
+    held_first clock old new place early seen before after written bytes begins (t.good refl) read empty appended serving
+first clock old new place moved_to early seen before after (Err e) begins t = tt
 
 abbrev pub GoesFrom : List Record → List Record → ℕ → ℕ → SenderState → SenderState → Option (List ℕ) → Option (List ℕ) → Type 0
 GoesFrom early seen place moved_to old new before after =

@@ -1,5 +1,6 @@
 -- A walsender between its calls: what was written of its stream, what is held of it, and which records it has read.
-use Rattle.std.specs.Prelude.{◌≡◌, ◌≤◌, ℕ, ℤ, false, List, ◌++◌, length, take, drop, Result, Ok, Err}
+use Rattle.std.specs.Prelude.{◌≡◌, ◌≤◌, ℕ, ℤ, false, List, ◌++◌, length, take, drop, Option, Result, Ok, Err}
+use Rattle.std.specs.Io.KnownBytes.{Appends}
 use Rattle.wal.specs.declared.record.TheConstants.{FIRST_POSITION}
 use Rattle.wal.specs.declared.record.Record.{Record}
 use Rattle.wal.specs.Log.{IsWellFormedLog, end_of}
@@ -41,6 +42,10 @@ Gives given old new = (log : List Record) (written : List ℕ) → Serves log wr
 -- it gave these bytes, and read on in what its reader sees of the log
 abbrev pub GoesOn : {L : Type 0} → List ℕ → Walsender L → Walsender L → Type 0
 GoesOn given old new = (written : List ℕ) → Serves (seen_of old.reader) written old → Serves (seen_of new.reader) (written ++ given) new
+
+-- a writer took these bytes of it before all others
+abbrev pub WritesFirst : {L : Type 0} → List ℕ → Walsender L → Option (List ℕ) → Option (List ℕ) → Type 0
+WritesFirst bytes old before after = (written : List ℕ) → Serves (seen_of old.reader) written old → (more : List ℕ) × Appends before after (bytes ++ more)
 
 -- the records from a place on, so many at most
 abbrev pub next_records : ℕ → ℕ → List Record → List Record

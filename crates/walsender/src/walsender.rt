@@ -13,7 +13,7 @@ ghost use Rattle.shared_log.specs.Fronts.{settled};
 ghost use Rattle.shared_log.specs.Readers.{seen_of};
 ghost use Rattle.sender.specs.Faults.{has_fetched, has_written};
 ghost use Rattle.sender.specs.Turning.{ReadAndGave, fetched_from};
-ghost use Rattle.walsender.specs.Serving.{Gives, GoesOn, Reads, ReadsOn, Serves, StaysOn, next_records};
+ghost use Rattle.walsender.specs.Serving.{Gives, GoesOn, Reads, ReadsOn, Serves, StaysOn, WritesFirst, next_records};
 
 use bytes::BytesMut;
 use publication::Selection;
@@ -104,6 +104,7 @@ impl<L: LogName> Walsender<L> {
         ensures sees { has_fetched result ≡ true → IsPrefix (settled self.new.reader.told) (seen_of self.new.reader) }
         ensures serves { (given : List ℕ) × GoesOn given self.old self.new × Appends (W.contents to.old) (W.contents to.new) given }
         ensures sent { OnOk result (self.new.sender.held ≡ []) }
+        ensures first { OnOk result (WritesFirst self.old.sender.held self.old (W.contents to.old) (W.contents to.new)) }
         ensures broken { (e : Error) → result ≡ Err (TurnFault.Write e) → 0 < length self.new.sender.held }
         ensures silent { has_written result ≡ false → to.new ≡ to.old }
     {

@@ -1,4 +1,3 @@
-use Rattle.std.proofs.Common.{refl}
 use Rattle.hub.specs.Turns.{standing}
 use Rattle.hub.proofs.Turns.{left_at_close, left_at_end}
 use Rattle.hub.proofs.stream_loop.write_stream.Goals as goal

@@ -1,4 +1,3 @@
-use Rattle.std.proofs.Common.{refl}
 use Rattle.hub.specs.Turns.{standing}
 use Rattle.hub.proofs.stream_loop.write_to_end.Goals as goal
 
