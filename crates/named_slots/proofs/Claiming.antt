@@ -90,7 +90,7 @@ module _ {A : Type 0} (place : A → ℕ) (v w : View) (d : Directory) (ss : Lis
   })
 
   pub claim_stands : (r : Result A SlotFault) → IsClaim r → StandsIn w ss places
-  claim_stands (Ok lease) is = still_stands v w p _ (won is.2) ss ss places stands (named.below name p found) (λ e. omega (arith, e))
+  claim_stands (Ok lease) is = still_stands v w p _ (won is.2) ss ss places stands (named.below name p found) refl (λ e. let f = is.2.1.alone stands.alone in omega (arith, e, f))
       (each_held v w p _ (won is.2) true refl refl refl ss stands.each)
   claim_stands (Err e) is = stands_same v w (ap (λ (z : View). z.number) is.2.0) (ap (λ (z : View). z.seats) is.2.0) (lost e is.0 is.1 is.2) ss places stands
 

@@ -1,15 +1,15 @@
 -- What reading and raising a position find, and leave.
-use Rattle.std.proofs.Common.{◌≡◌, ℕ, max, Bool, true, false, cond, eqb, List, [], ◌∷◌, map, Option, Some, option_map, refl, sym, ap, ◌∙◌, arith}
+use Rattle.std.proofs.Common.{◌≡◌, ℕ, max, Bool, true, false, cond, eqb, List, [], ◌∷◌, map, Option, Some, option_map, refl, sym, ap, ◌∙◌}
 use Rattle.slots.specs.declared.step.SlotKind.TheVariants.{Raise, Read}
 use Rattle.slots.specs.declared.step.View.{View}
 use Rattle.slots.specs.Facts.{facts, facts_after}
 use Rattle.slots.specs.Rule.{slot_step}
 use Rattle.slots.specs.Seats.{DidAt}
-use Rattle.slots.specs.Standings.{held_by}
 use Rattle.named_slots.specs.declared.slot.Slot.{Slot}
 use Rattle.named_slots.specs.State.{NamedSlot, confirmed_of, confirming, if_at, slot_at}
 use Rattle.named_slots.specs.Keeping.{StandsIn, noted, shown_slot}
 use Rattle.named_slots.proofs.Facts.{Alike, Changes, one_step}
+use Rattle.named_slots.proofs.Listing.{places_noted}
 use Rattle.named_slots.proofs.Standing.{IsHeldAt, all_alike, all_shown_noted, each_noted, is_made, still_stands}
 
 -- where the seat is alone it finds what it has left
@@ -36,8 +36,7 @@ module _ (v w : View) (p by to : ℕ) (ss : List Slot) (places : ℕ) (stands : 
   is_to = raised.1 ∙ ap (λ (x : ℕ). max x by) (raised.2.1.alone stands.alone)
 
   pub raised_stands : StandsIn w (map (noted p to) ss) places
-  raised_stands = still_stands v w p _ changes ss (map (noted p to) ss) places stands (is_made v p ss places stands is)
-      (λ zero. let s = is.at.fits.1 ∙ ap (λ (b : Bool). cond b (held_by v.number) 1) is.held in omega (arith, s, zero))
+  raised_stands = still_stands v w p _ changes ss (map (noted p to) ss) places stands (is_made v p ss places stands is) (places_noted p to ss) (λ gone. gone)
       (each_noted v w p _ changes to by is_to refl refl refl ss stands.each)
 
   pub raised_shown : map (shown_slot w) (map (noted p to) ss) ≡ map (if_at p (confirming by)) (map (shown_slot v) ss)

@@ -12,6 +12,7 @@ use Rattle.slots.proofs.Facts.{facts_here, facts_there}
 use Rattle.named_slots.specs.declared.slot.Slot.{Slot}
 use Rattle.named_slots.specs.Keeping.{StandsIn}
 use Rattle.named_slots.proofs.Facts.{Alike, Changes, alike, alike_then}
+use Rattle.named_slots.proofs.Standing.{used_made}
 
 module _ (v : View) (one : v.seats ≡ 1) where
   -- places that were found taken are as they were
@@ -45,7 +46,7 @@ module _ (v w : View) (position p : ℕ) (ss : List Slot) (places : ℕ) (stands
   -- the place is the first one that was never made
   pub is_next : p ≡ places
   is_next = ⊎_elim
-      (λ low. absurd (stands.used p low (sym (made.never.alone stands.alone))))
+      (λ low. absurd (used_made v ss places stands p low (sym (made.never.alone stands.alone))))
       (λ high. ⊎_elim
       (λ more. let n = made.count in absurd (was_taken v stands.alone made.founds made.taken places (omega (arith, n, more)) (stands.unused places (let e : places ≤ places = omega arith in e)).0))
       (λ less. omega (arith, high, less))

@@ -33,6 +33,15 @@ one_step v w s is = record {
   there = λ q not. alike _ _ (ap (λ (z : View). facts q z.steps) is ∙ facts_there q v.steps s (λ e. not (sym e)));
 }
 
+-- two steps at one place
+pub changes_then : (u v w : View) (p : ℕ) (f g : Facts) → Changes u v p f → Changes v w p g → Changes u w p g
+changes_then u v w p f g a b = record {
+  number = b.number ∙ a.number;
+  seats = b.seats ∙ a.seats;
+  here = b.here;
+  there = λ q not. alike_then (facts q u.steps) (facts q v.steps) (facts q w.steps) (a.there q not) (b.there q not);
+}
+
 pub at_place : (v w : View) (p q : ℕ) (g : Facts) → p ≡ q → Changes v w p g → Changes v w q g
 at_place v w p q g e c = record {
   number = c.number;

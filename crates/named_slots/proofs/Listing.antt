@@ -7,7 +7,7 @@ use Rattle.std.proofs.lemmas.Slice.Eq.{bytes_eq-Decides}
 use Rattle.slots.specs.declared.directory.Directory.{Directory}
 use Rattle.slots.specs.Directories as names
 use Rattle.named_slots.specs.declared.slot.Slot.{Slot}
-use Rattle.named_slots.specs.Keeping.{IsNamed, noted, place_in}
+use Rattle.named_slots.specs.Keeping.{IsNamed, noted, place_in, places_in}
 
 -- ---- Noting, slot by slot.
 
@@ -55,6 +55,10 @@ places_kept : (p to : ℕ) (name : List ℕ) (ss : List Slot) → place_in name 
 places_kept p to name [] = refl
 places_kept p to name (s ∷ ss) = ap₂ (λ (b : Bool) (o : Option ℕ). cond b (Some (noted p to s).place) o) (ap (λ (n : List ℕ). bytes_eq n name) (kept_name p to s)) (places_kept p to name ss)
     ∙ ap (λ (q : ℕ). cond (bytes_eq s.name name) (Some q) (place_in name ss)) (kept_place p to s)
+
+pub places_noted : (p to : ℕ) (ss : List Slot) → places_in (map (noted p to) ss) ≡ places_in ss
+places_noted p to [] = refl
+places_noted p to (s ∷ ss) = ap₂ (λ (q : ℕ) (l : List ℕ). q ∷ l) (kept_place p to s) (places_noted p to ss)
 
 pub still_named : (d : Directory) (ss : List Slot) (places p to : ℕ) → IsNamed d ss places → IsNamed d (map (noted p to) ss) places
 still_named d ss places p to named = record {

@@ -1,32 +1,33 @@
 -- A place that was made, and its name or what is left without one.
-use Rattle.std.proofs.Common.{◌≡◌, ℕ, ◌+◌, ◌<◌, Bool, true, false, cond, eqb, List, [], ◌∷◌, ◌++◌, map, Option, Some, None, Result, Ok, Err, MatchResult, IfErr, refl, sym, ap, ap₂, subst, ◌∙◌, arith, ⊎_elim, ne_eqb}
-use Rattle.std.specs.List.{AllByRecursion}
+use Rattle.std.proofs.Common.{◌≡◌, ℕ, ◌+◌, ◌<◌, inl, inr, Bool, true, false, cond, eqb, List, [], ◌∷◌, ◌++◌, map, Option, Some, None, Result, Ok, Err, MatchResult, IfErr, refl, sym, ap, ap₂, subst, ◌∙◌, arith, ⊎_elim, ne_eqb}
+use Rattle.std.specs.List.{AllByRecursion, Contains}
 use Rattle.std.specs.Prelude.{is_some}
 use Rattle.std.specs.Result.{IsErrAnd}
 use Rattle.std.proofs.lemmas.Bool.{cases_eq}
+use Rattle.std.proofs.lemmas.List.Elements.{Contains-append_left, Contains-push}
 use Rattle.slots.specs.declared.directory.Directory.{Directory}
 use Rattle.slots.specs.declared.fault.SlotFault.{SlotFault}
 use Rattle.slots.specs.declared.fault.SlotFault.TheVariants as faults
 use Rattle.slots.specs.declared.step.SlotKind.TheVariants.{Retire}
 use Rattle.slots.specs.declared.step.View.{View}
 use Rattle.slots.specs.Directories as names
-use Rattle.slots.specs.Facts.{facts, facts_after}
+use Rattle.slots.specs.Facts.{Facts, facts, facts_after}
 use Rattle.slots.specs.Rule.{slot_step}
 use Rattle.slots.specs.Seats.{Created, Did, IsRefusal}
 use Rattle.slots.specs.Standings.{held_by}
 use Rattle.named_slots.specs.declared.slot.Slot.{Slot}
 use Rattle.named_slots.specs.State.{IsRefusalOrMemory, NamedSlot, RefusedOrMemory, create_refusal}
-use Rattle.named_slots.specs.Keeping.{IsNamed, Stands, StandsIn, shown, shown_slot}
-use Rattle.named_slots.proofs.Facts.{Changes, one_step}
+use Rattle.named_slots.specs.Keeping.{IsNamed, IsUsedUp, Stands, StandsIn, places_in, shown, shown_slot}
+use Rattle.named_slots.proofs.Facts.{Changes, changes_then, one_step}
 use Rattle.named_slots.proofs.Names.{there_shown}
-use Rattle.named_slots.proofs.Standing.{all_shown_else, each_else, still_stands}
+use Rattle.named_slots.proofs.Standing.{all_shown_else, each_else, still_used}
 use Rattle.named_slots.proofs.Listing.{all_snoc}
 use Rattle.named_slots.proofs.Creating.{created_changes, is_next, left, left_position}
 use Rattle.named_slots.proofs.Claiming.{not_free}
 
-map_snoc : (f : Slot → NamedSlot) (ss : List Slot) (s : Slot) → map f (ss ++ s ∷ []) ≡ map f ss ++ f s ∷ []
+map_snoc : {A : Type 0} (f : Slot → A) (ss : List Slot) (s : Slot) → map f (ss ++ s ∷ []) ≡ map f ss ++ f s ∷ []
 map_snoc f [] s = refl
-map_snoc f (t ∷ ss) s = ap (λ (l : List NamedSlot). f t ∷ l) (map_snoc f ss s)
+map_snoc f (t ∷ ss) s = ap (λ l. f t ∷ l) (map_snoc f ss s)
 
 module _ (v w : View) (position p : ℕ) (d : Directory) (ss : List Slot) (places : ℕ) (named : IsNamed d ss places) (stands : StandsIn v ss places) (low : p < 16) (made : Created v position p w) where
   next : p ≡ places
@@ -42,17 +43,19 @@ module _ (v w : View) (position p : ℕ) (d : Directory) (ss : List Slot) (place
   elsewhere : AllByRecursion (λ (s : Slot). s.place ≡ p → ⊥) ss
   elsewhere = elsewhere_in ss named.listed
 
-  stands_with : (ts : List Slot) → AllByRecursion (Stands w) ts → StandsIn w ts (places + 1)
-  stands_with ts all = record {
-    alone = changes.seats ∙ stands.alone;
-    few = let n = next in omega (arith, n, low);
-    used = λ q lower. ⊎_elim
-        (λ is zero. let h = changes.here.state in let z = ap (λ (r : ℕ). (facts r w.steps).state) (sym is) ∙ zero in omega (arith, h, z))
-        (λ not zero. let n = next in stands.used q (omega (arith, n, not, lower)) (sym (changes.there q not).state ∙ zero))
-        (cases_eq q p);
-    unused = λ q high. let n = next in let a = changes.there q (λ is. omega (arith, is, n, high)) in let u = stands.unused q (omega (arith, high)) in (a.state ∙ u.0, a.position ∙ u.1);
-    each = all;
-  }
+  -- the place is used up: it is a slot's, or was dropped
+  module _ (z : View) (g : Facts) (at_last : Changes v z p g) where
+    stands_with : (ts : List Slot) → ((q : ℕ) → Contains (places_in ss) q → Contains (places_in ts) q) → IsUsedUp z ts p → AllByRecursion (Stands z) ts → StandsIn z ts (places + 1)
+    stands_with ts kept here all = record {
+      alone = at_last.seats ∙ stands.alone;
+      few = let n = next in omega (arith, n, low);
+      used = λ q lower. ⊎_elim
+          (λ is. subst (IsUsedUp z ts) (sym is) here)
+          (λ not. let n = next in still_used v z p g at_last ss ts q (kept q) (λ is. absurd (not is)) (stands.used q (omega (arith, n, not, lower))))
+          (cases_eq q p);
+      unused = λ q high. let n = next in let a = at_last.there q (λ is. omega (arith, is, n, high)) in let u = stands.unused q (omega (arith, high)) in (a.state ∙ u.0, a.position ∙ u.1);
+      each = all;
+    }
 
   each_still : AllByRecursion (Stands w) ss
   each_still = each_else v w p _ changes ss elsewhere stands.each
@@ -68,7 +71,10 @@ module _ (v w : View) (position p : ℕ) (d : Directory) (ss : List Slot) (place
 
   -- the place was given its name
   pub named_stands : (s : Slot) → s.place ≡ p → s.confirmed ≡ position → StandsIn w (ss ++ s ∷ []) (places + 1)
-  named_stands s is at = stands_with (ss ++ s ∷ []) (all_snoc (Stands w) ss s each_still (stands_new s is at))
+  named_stands s is at = stands_with w _ changes (ss ++ s ∷ [])
+      (λ q there. subst (λ (l : List ℕ). Contains l q) (sym (map_snoc (λ (t : Slot). t.place) ss s)) (Contains-append_left (places_in ss) (s.place ∷ []) q there))
+      (inl (subst (λ (l : List ℕ). Contains l p) (sym (map_snoc (λ (t : Slot). t.place) ss s)) (subst (Contains (places_in ss ++ s.place ∷ [])) is (Contains-push (places_in ss) s.place))))
+      (all_snoc (Stands w) ss s each_still (stands_new s is at))
 
   pub named_shown : (s : Slot) → s.place ≡ p → map (shown_slot w) (ss ++ s ∷ []) ≡ map (shown_slot v) ss ++ record { name = s.name; place = places; confirmed = s.confirmed; is_held = false } ∷ []
   named_shown s is = map_snoc (shown_slot w) ss s
@@ -88,8 +94,8 @@ module _ (v w : View) (position p : ℕ) (d : Directory) (ss : List Slot) (place
     gone did = one_step w z (slot_step Retire p 1 2) did.0
 
     pub dropped_stands : (r : Result (Unit {0}) SlotFault) → IsDrop r → StandsIn z ss (places + 1)
-    dropped_stands r is = still_stands w z p _ (gone (dropped r is)) ss ss (places + 1) (stands_with ss each_still) (let n = next in omega (arith, n)) (λ e. omega (arith, e))
-        (each_else w z p _ (gone (dropped r is)) ss elsewhere each_still)
+    dropped_stands r is = let after = gone (dropped r is) in
+        stands_with z _ (changes_then v w z p _ _ changes after) ss (λ q there. there) (inr after.here.state) (each_else w z p _ after ss elsewhere each_still)
 
     pub dropped_shown : (r : Result (Unit {0}) SlotFault) → IsDrop r → map (shown_slot z) ss ≡ map (shown_slot v) ss
     dropped_shown r is = all_shown_else w z p _ (gone (dropped r is)) ss elsewhere ∙ made_shown

@@ -1,13 +1,14 @@
 -- What a change at one place leaves of the slots.
-use Rattle.std.proofs.Common.{◌≡◌, ℕ, ◌<◌, max, Bool, true, cond, List, [], ◌∷◌, map, Option, Some, None, refl, sym, ap, ap₂, subst, ◌∙◌, arith, ⊎_elim, eq-eqb, ne_eqb}
-use Rattle.std.specs.List.{AllByRecursion}
+use Rattle.std.proofs.Common.{◌≡◌, ℕ, ◌<◌, inl, inr, max, Bool, true, false, cond, List, [], ◌∷◌, map, Option, Some, None, refl, sym, ap, ap₂, subst, ◌∙◌, arith, ⊎_elim, eq-eqb, ne_eqb}
+use Rattle.std.specs.List.{AllByRecursion, Contains}
 use Rattle.std.proofs.lemmas.Bool.{cases_eq, cases_lt}
+use Rattle.std.proofs.lemmas.List.Elements.{All-contains, All-from_recursion}
 use Rattle.slots.specs.declared.step.View.{View}
 use Rattle.slots.specs.Facts.{Facts, facts}
 use Rattle.slots.specs.Standings.{held_by}
 use Rattle.named_slots.specs.declared.slot.Slot.{Slot}
 use Rattle.named_slots.specs.State.{NamedSlot, if_at, slot_at, is_in_use, holding, confirming}
-use Rattle.named_slots.specs.Keeping.{Stands, StandsIn, shown_slot, noted}
+use Rattle.named_slots.specs.Keeping.{IsUsedUp, Stands, StandsIn, noted, places_in, shown_slot}
 use Rattle.named_slots.proofs.Facts.{Alike, Changes, alike_then}
 
 -- how the facts of a place stand with the position that is noted of it
@@ -125,24 +126,53 @@ module _ (v w : View) (p : ℕ) (g : Facts) (changes : Changes v w p g) where
     all_shown_noted [] all = refl
     all_shown_noted (s ∷ ss) all = ap₂ (λ (t : NamedSlot) (ts : List NamedSlot). t ∷ ts) (shown_noted s all.0) (all_shown_noted ss all.1)
 
-  -- the places that were made are still made, and the others aren't
-  pub still_stands : (ss ts : List Slot) (places : ℕ) → StandsIn v ss places → p < places → (g.state ≡ 0 → ⊥) → AllByRecursion (Stands w) ts → StandsIn w ts places
-  still_stands ss ts places s low made all = record {
+  -- what is used up stays so: the others stand as they did, and a dropped place isn't made again
+  pub still_used : (ss ts : List Slot) (q : ℕ) → (Contains (places_in ss) q → Contains (places_in ts) q) → (q ≡ p → (facts p v.steps).state ≡ 2 → g.state ≡ 2) → IsUsedUp v ss q → IsUsedUp w ts q
+  still_used ss ts q kept dropped is = ⊎_elim
+      (λ there. inl (kept there))
+      (λ gone. inr (⊎_elim
+      (λ here. ap (λ (r : ℕ). (facts r w.steps).state) here ∙ changes.here.state ∙ dropped here (ap (λ (r : ℕ). (facts r v.steps).state) (sym here) ∙ gone))
+      (λ not. (changes.there q not).state ∙ gone)
+      (cases_eq q p)))
+      is
+
+  -- the slots are at the places where they were, and the places that were never made still aren't
+  pub still_stands : (ss ts : List Slot) (places : ℕ) → StandsIn v ss places → p < places → places_in ts ≡ places_in ss → ((facts p v.steps).state ≡ 2 → g.state ≡ 2) → AllByRecursion (Stands w) ts → StandsIn w ts places
+  still_stands ss ts places s low same dropped all = record {
     alone = changes.seats ∙ s.alone;
     few = s.few;
-    used = λ q lower. ⊎_elim
-        (λ is zero. made (sym changes.here.state ∙ ap (λ (r : ℕ). (facts r w.steps).state) (sym is) ∙ zero))
-        (λ not zero. s.used q lower (sym (changes.there q not).state ∙ zero))
-        (cases_eq q p);
+    used = λ q lower. still_used ss ts q (subst (λ (l : List ℕ). Contains l q) (sym same)) (λ _. dropped) (s.used q lower);
     unused = λ q high. let a = changes.there q (λ is. omega (arith, is, high, low)) in let u = s.unused q high in (a.state ∙ u.0, a.position ∙ u.1);
     each = all;
   }
 
--- a place that is held was made
+-- a slot's place was made
+stands_made : (number state : ℕ) (b : Bool) → state ≡ cond b (held_by number) 1 → state ≡ 0 → ⊥
+stands_made number state true is zero = omega (arith, is, zero)
+stands_made number state false is zero = omega (arith, is, zero)
+
+abbrev IsMade : View → ℕ → Type 0
+IsMade v p = (facts p v.steps).state ≡ 0 → ⊥
+
+all_made : (v : View) (ss : List Slot) → AllByRecursion (Stands v) ss → AllByRecursion (IsMade v) (places_in ss)
+all_made v [] all = tt
+all_made v (s ∷ ss) all = (stands_made v.number (facts s.place v.steps).state (facts s.place v.steps).held all.0.1, all_made v ss all.1)
+
+-- a place that is used up was made
+pub used_made : (v : View) (ss : List Slot) (places : ℕ) → StandsIn v ss places → (p : ℕ) → p < places → (facts p v.steps).state ≡ 0 → ⊥
+used_made v ss places s p low = ⊎_elim
+    (λ there. All-contains (IsMade v) (places_in ss) p (All-from_recursion (IsMade v) (places_in ss) (all_made v ss s.each)) there)
+    (λ gone zero. omega (arith, gone, zero))
+    (s.used p low)
+
+-- a place that is held has the word of its seat, and so it was made
+pub held_word : (v : View) (p : ℕ) (ss : List Slot) → IsHeldAt p v ss → (facts p v.steps).state ≡ held_by v.number
+held_word v p ss is = is.at.fits.1 ∙ ap (λ (b : Bool). cond b (held_by v.number) 1) is.held
+
 pub is_made : (v : View) (p : ℕ) (ss : List Slot) (places : ℕ) → StandsIn v ss places → IsHeldAt p v ss → p < places
 is_made v p ss places s is = ⊎_elim
     (λ low. low)
-    (λ high. let none = (s.unused p high).0 in let fits = is.at.fits.1 ∙ ap (λ (b : Bool). cond b (held_by v.number) 1) is.held in absurd (omega (arith, none, fits)))
+    (λ high. let none = (s.unused p high).0 in let word = held_word v p ss is in absurd (omega (arith, none, word)))
     (cases_lt p places)
 
 -- ---- After steps that change nothing.
@@ -160,7 +190,7 @@ module _ (v w : View) (number : w.number ≡ v.number) (seats : w.seats ≡ v.se
   stands_same ss places s = record {
     alone = seats ∙ s.alone;
     few = s.few;
-    used = λ q low zero. s.used q low (sym (same q).state ∙ zero);
+    used = λ q low. ⊎_elim (λ there. inl there) (λ gone. inr ((same q).state ∙ gone)) (s.used q low);
     unused = λ q high. ((same q).state ∙ (s.unused q high).0, (same q).position ∙ (s.unused q high).1);
     each = each_same ss s.each;
   }

@@ -1,12 +1,13 @@
 -- How the slots are kept: each name with its place in a directory, and in a list with its confirmed position; whether a place is held stands in the steps of the seat.
-use Rattle.std.specs.Prelude.{◌≡◌, ℕ, ◌<◌, ◌≤◌, ◌==◌, ◌≢◌, cond, List, [], ◌∷◌, map, Option, Some, None, if◌then◌else◌}
-use Rattle.std.specs.List.{AllByRecursion}
+use Rattle.std.specs.Prelude.{◌≡◌, ℕ, ◌<◌, ◌≤◌, ◌==◌, ◌⊎◌, cond, List, [], ◌∷◌, map, Option, Some, None, if◌then◌else◌}
+use Rattle.std.specs.List.{AllByRecursion, Contains}
 use Rattle.std.specs.Str.{bytes_eq}
 use Rattle.slots.specs.declared.directory.Directory.{Directory}
+use Rattle.slots.specs.declared.standing.Standing.TheVariants.{Dropped}
 use Rattle.slots.specs.declared.step.View.{View}
 use Rattle.slots.specs.Directories as names
 use Rattle.slots.specs.Facts.{facts}
-use Rattle.slots.specs.Standings.{held_by}
+use Rattle.slots.specs.Standings.{held_by, word_of}
 use Rattle.named_slots.specs.declared.slot.Slot.{Slot}
 use Rattle.slots.specs.declared.table.TheConstants.{PLACES}
 use Rattle.named_slots.specs.State.{NamedSlot, SlotsState}
@@ -40,10 +41,17 @@ pub record IsNamed (d : Directory) (slots : List Slot) (places : ℕ) : Type 0 w
 abbrev pub Stands : View → Slot → Type 0
 Stands v s = (s.confirmed ≡ (facts s.place v.steps).position) × ((facts s.place v.steps).state ≡ cond (facts s.place v.steps).held (held_by v.number) 1)
 
+abbrev pub places_in : List Slot → List ℕ
+places_in slots = map (λ (s : Slot). s.place) slots
+
+-- a place that is used up is a slot's, or was dropped
+abbrev pub IsUsedUp : View → List Slot → ℕ → Type 0
+IsUsedUp v slots place = Contains (places_in slots) place ⊎ ((facts place v.steps).state ≡ word_of Dropped)
+
 -- What the only seat of a table has left: the places were made one after the other, and each slot stands at one of them.
 pub record StandsIn (v : View) (slots : List Slot) (places : ℕ) : Type 0 where
   pub alone : v.seats ≡ 1
   pub few : places ≤ PLACES
-  pub used : (p : ℕ) → p < places → (facts p v.steps).state ≢ 0
+  pub used : (p : ℕ) → p < places → IsUsedUp v slots p
   pub unused : (p : ℕ) → places ≤ p → ((facts p v.steps).state ≡ 0) × ((facts p v.steps).position ≡ 0)
   pub each : AllByRecursion (Stands v) slots

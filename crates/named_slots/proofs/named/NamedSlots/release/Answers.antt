@@ -1,7 +1,7 @@
 use Rattle.std.proofs.Common.{false, refl, ap, ◌∙◌, arith}
 use Rattle.named_slots.specs.State.{holding, holds_at, released}
 use Rattle.named_slots.proofs.Claiming.{done_by_name}
-use Rattle.named_slots.proofs.Standing.{held_at, each_held, all_shown_held, still_stands, is_made}
+use Rattle.named_slots.proofs.Standing.{held_at, each_held, all_shown_held, still_stands, held_word, is_made}
 use Rattle.named_slots.proofs.Facts.{one_step}
 use Rattle.named_slots.proofs.named.NamedSlots.release.Goals as goal
 
@@ -17,7 +17,7 @@ invariant_of-self g c =
     let is = held_at v p ss stands.each (ap (holds_at p) c.self.view_is ∙ c.requires) in
     let changes = one_step v c.release.new.seat _ c.release.ensures in (
       c.self.invariant.0,
-      still_stands v c.release.new.seat p _ changes ss ss c.self.inside.places stands (is_made v p ss c.self.inside.places stands is) (λ e. omega (arith, e))
+      still_stands v c.release.new.seat p _ changes ss ss c.self.inside.places stands (is_made v p ss c.self.inside.places stands is) refl (λ gone. let word = held_word v p ss is in absurd (omega (arith, gone, word)))
           (each_held v c.release.new.seat p _ changes false refl refl refl ss stands.each),
     )
 
