@@ -2,6 +2,8 @@
 import os
 import pathlib
 import random
+import socket
+import struct
 import subprocess
 import sys
 import time
@@ -346,6 +348,30 @@ def restarts_lose_and_repeat_nothing(pubd, subcat):
         return wrong
 
 
+def a_refusal_without_a_reason_is_one_all_the_same(pubd, subcat):
+    """A server whose ErrorResponse has neither a code nor a text."""
+    with socket.create_server(("127.0.0.1", 0)) as listener:
+        words = [subcat, f"127.0.0.1:{listener.getsockname()[1]}", "s", "0/0", "p", "1"]
+        follower = subprocess.Popen(words, stdout=subprocess.DEVNULL, stderr=subprocess.PIPE, text=True)
+        client = listener.accept()[0]
+        client.sendall(b"E" + struct.pack(">I", 12) + b"SERROR\0\0")
+        said = follower.communicate(timeout=60)[1]
+        client.close()
+        return wrong_of(follower.returncode, said, "subcat: K4: ")
+
+
+def quotes_stand_in_names_and_end_none(pubd, subcat):
+    """A name with a quote is one that no slot may have, and not two words that are no command."""
+    with Server(pubd, 1) as server:
+        words = [subcat, "--create", f"127.0.0.1:{server.port}", 'a"b', "0/0", "p", "1"]
+        follower = subprocess.run(words, stdout=subprocess.DEVNULL, stderr=subprocess.PIPE, text=True, timeout=60)
+        return wrong_of(follower.returncode, follower.stderr, "server: 42602 ") + server.end()
+
+
+def wrong_of(status, said, due):
+    return [f"it ended with {status}, and said {said!r}"] * (status != 1 or not said.startswith(due))
+
+
 def follow(words, rows, at, kill_behind):
     """Keeps the rows of each transaction that comes whole and was not there; answers where the last one ends."""
     follower = subprocess.Popen(words, stdout=subprocess.PIPE, stderr=subprocess.DEVNULL, text=True)
@@ -381,4 +407,6 @@ ALL = [
     an_acknowledgement_holds_over_a_close,
     an_acknowledgement_holds_over_a_blocked_write,
     restarts_lose_and_repeat_nothing,
+    a_refusal_without_a_reason_is_one_all_the_same,
+    quotes_stand_in_names_and_end_none,
 ]

@@ -78,7 +78,7 @@ fn push_quoted(text: &mut String, word: &str, quote: char) -> Result<(), AllocEr
 
 fn send_query<S: Write>(alloc: Global, socket: &mut S, text: String) -> Result<(), FollowFault> {
     if text.len() > MOST_TEXT_BYTES {
-        return Err(FollowFault::Client(ClientFault::Memory));
+        return Err(FollowFault::LongCommand);
     }
     let query = Front::Query(Query {
         text: Text::new(text),

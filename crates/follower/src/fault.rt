@@ -25,12 +25,15 @@ impl fmt::Display for ServerError {
 /// Why a stream was not followed to its end.
 #[derive(Debug, Drop, Error)]
 pub enum FollowFault {
-    /// K1 to K3, and K5.
+    /// K1 to K3, and K5. K4 where the server gave no reason.
     #[error("{0}")]
     Client(ClientFault),
     /// K4.
     #[error("server: {0}")]
     Server(ServerError),
+    /// K6 where a command with these names is longer than a server reads.
+    #[error("K6: the command is too long to be sent")]
+    LongCommand,
     /// K6 where reading from the server or writing to it failed.
     #[error("K6: the connection failed: {0}")]
     Connection(io::Error),
@@ -63,7 +66,7 @@ impl From<FrameFault> for FollowFault {
     }
 }
 
-/// The fault that an ErrorResponse tells. One without a code and a text is no frame of a server.
+/// The fault that an ErrorResponse tells.
 pub(crate) fn told(error: ErrorResponse) -> FollowFault {
     let mut code = None;
     let mut text = None;
@@ -76,6 +79,6 @@ pub(crate) fn told(error: ErrorResponse) -> FollowFault {
     }
     match (code, text) {
         (Some(code), Some(text)) => FollowFault::Server(ServerError { code, text }),
-        _ => FollowFault::Client(ClientFault::Frame),
+        _ => FollowFault::Client(ClientFault::Server),
     }
 }
