@@ -16,7 +16,7 @@ use std::sync::Wait;
 /// tells the server its position, and once it has as many Commits as it should it ends the stream, and reads no more.
 ///
 /// K4 is what the server refused. K1 to K3 and K5 are those of an applier. K6 comes where the connection or the output failed,
-/// or the connection ended early.
+/// where the connection ended early, or where a command with these names is too long to be sent.
 pub fn follow<R: Wait, S: Read + Write, W: Write>(
     rt: &R,
     alloc: Global,
