@@ -1,0 +1,75 @@
+//! One region of raw memory. The functions of this file alone hold a pointer into it.
+
+ghost use Rattle.std.specs.Prelude.{◌≡◌, ℕ, ◌+◌, ◌<◌, ◌≤◌, ◌^◌, IfSome, List, None, Option, Some, drop, length, map, replicate, slice_set, take};
+ghost use Rattle.chgarena.specs.Places.{bytes, places_lent, places_own};
+ghost use denote.RawPtr.{Ptr};
+
+use std::alloc::Allocator;
+use std::marker::{Model, PhantomData};
+
+/// The bytes of a region, of which each is written or not.
+pub(crate) struct Memory {
+    ptr: *mut u8,
+    ghost places: { List (Option ℕ) },
+    ghost small: { length places < 2 ^ 60 },
+}
+
+impl Model for Memory {
+    ghost also_owns = { λ m. places_own m.ptr m.places };
+
+    ghost also_shares = { λ m _ κ. places_lent m.ptr m.places κ };
+}
+
+/// The right to give a region back to where it came from.
+pub(crate) struct Lease<A: Allocator> {
+    of: PhantomData<A>,
+    ghost alloc: { A },
+    ghost ptr: { Ptr },
+    ghost size: { ℕ },
+}
+
+impl<A: Allocator> Model for Lease<A> {
+    ghost also_owns = { λ l. A.dealloc_token l.alloc (bytes l.size) l.ptr };
+}
+
+impl Memory {
+    /// Asks for a region of this many bytes, none of them written.
+    pub(crate) fn make<A: Allocator>(alloc: &A, size: usize) -> Option<(Memory, Lease<A>)>
+        requires { size < 2 ^ 60 }
+        ensures { IfSome result (λ m. (m.0.places ≡ replicate size None) × (m.1.alloc ≡ alloc.now) × (m.1.ptr ≡ m.0.ptr) × (m.1.size ≡ size)) }
+    {
+        match alloc.allocate(size, 1) {
+            Ok(ptr) => {
+                let of = PhantomData;
+                Some((Memory { ptr }, Lease { of }))
+            }
+            Err(_) => None,
+        }
+    }
+
+    /// Writes one byte.
+    pub(crate) fn put(&mut self, at: usize, byte: u8)
+        requires { at < length self.old.places }
+        ensures { (self.new.places ≡ slice_set self.old.places at (Some byte)) × (self.new.ptr ≡ self.old.ptr) }
+    {
+        unsafe { *self.ptr.add(at) = byte };
+    }
+
+    /// Lends bytes that are written.
+    pub(crate) fn lend(&self, from: usize, len: usize) -> &[u8]
+        requires within { from + len ≤ length self.now.places }
+        requires written { (bytes : List ℕ) × (take len (drop from self.now.places) ≡ map Some bytes) }
+        ensures { take len (drop from self.now.places) ≡ map Some result.now }
+    {
+        unsafe { std::slice::from_raw_parts(self.ptr.add(from), len) }
+    }
+
+    /// Gives the region back.
+    pub(crate) fn give_back<A: Allocator>(self, lease: Lease<A>, alloc: &A, size: usize)
+        requires { (lease.alloc ≡ alloc.now) × (lease.ptr ≡ self.ptr) × (lease.size ≡ size) × (length self.places ≡ size) }
+    {
+        let Memory { ptr } = self;
+        let Lease { of: _ } = lease;
+        unsafe { alloc.deallocate(ptr, size, 1) }
+    }
+}

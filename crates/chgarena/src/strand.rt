@@ -1,0 +1,16 @@
+//! A list of entries in an arena.
+
+use std::marker::Model;
+
+/// A list of entries in an arena. It goes by its first chunk, which it gets with its first entry, and must be given back.
+pub struct Strand {
+    pub(crate) head: Option<usize>,
+}
+
+impl Model for Strand {
+    ghost use Rattle.std.specs.Prelude.{ℕ, Option};
+
+    ghost Value = { Option ℕ };
+
+    ghost view = { λ s. s.head };
+}
