@@ -76,11 +76,11 @@ bytes_of n = record {
 }
 
 -- how many bytes stand before the first zero byte, by recursion
-before_zero : List ℕ → ℕ
+pub before_zero : List ℕ → ℕ
 before_zero [] = 0
 before_zero (b ∷ bytes) = cond (eqb b 0) 0 (1 + before_zero bytes)
 
-before_zero-is : (bytes : List ℕ) → before_zero bytes ≡ position_or_len (λ b. eqb b 0) bytes
+pub before_zero-is : (bytes : List ℕ) → before_zero bytes ≡ position_or_len (λ b. eqb b 0) bytes
 unfolding before_zero
 before_zero-is bytes = is_position_or_len before_zero (λ b. eqb b 0) refl (λ b bytes. refl) bytes
 
@@ -93,8 +93,18 @@ all_before (b ∷ bytes) none = by_test (eqb b 0) (λ none. all_before bytes non
     by_test true inner none = absurd cc
     by_test false inner none = omega (arith, inner none)
 
+-- and where none is found, none is
+pub zero_free : (bytes : List ℕ) → length bytes ≤ before_zero bytes → has_zero bytes ≡ false
+unfolding before_zero
+zero_free [] all = refl
+zero_free (b ∷ bytes) all = by_test (eqb b 0) all (λ all. zero_free bytes all)
+  where
+    by_test : (t : Bool) → length (b ∷ bytes) ≤ cond t 0 (1 + before_zero bytes) → (length bytes ≤ before_zero bytes → has_zero bytes ≡ false) → (t || has_zero bytes) ≡ false
+    by_test true all inner = absurd (omega arith)
+    by_test false all inner = inner (omega arith)
+
 -- no zero byte is found where none is
-none_there : (bytes : List ℕ) → has_zero bytes ≡ false → string_at bytes ≡ None
+pub none_there : (bytes : List ℕ) → has_zero bytes ≡ false → string_at bytes ≡ None
 none_there bytes none =
     let far : length bytes ≤ position_or_len (λ b. eqb b 0) bytes = rw (← before_zero-is bytes) (all_before bytes none) in
     rw (le-ltb (position_or_len (λ b. eqb b 0) bytes) (length bytes) far) refl
@@ -132,7 +142,7 @@ list_wire {A} {read} {t} {F} c = counted count16 length _ (flat_map t) (AllByRec
 
 -- ---- letters
 
-abbrev lettered : {X : Type 0} → List ℕ → Option X → Result (X × List ℕ) OutFault
+abbrev pub lettered : {X : Type 0} → List ℕ → Option X → Result (X × List ℕ) OutFault
 lettered rest found = ok_or found BadMark >>= λ x. Ok (x, rest)
 
 no_letter : {X : Type 0} (rest : List ℕ) (found : Option X) (e : OutFault) → lettered rest found ≡ Err e → IsFieldFault e
@@ -154,7 +164,7 @@ letter_wire {X} of letter there back = record {
   cut x zero lt = refl
   cut x (suc n) lt = absurd (omega arith)
 
-abbrev marked : Bool → List ℕ → Result (Unit {0} × List ℕ) OutFault
+abbrev pub marked : Bool → List ℕ → Result (Unit {0} × List ℕ) OutFault
 marked same rest = cond same (Ok (tt, rest)) (Err BadMark)
 
 no_mark : (same : Bool) (rest : List ℕ) (e : OutFault) → marked same rest ≡ Err e → IsFieldFault e

@@ -8,8 +8,10 @@ use Rattle.pgoutput.specs.declared.fault.OutFault.TheVariants.{Short, UnknownKin
 use Rattle.pgoutput.specs.declared.logical.Logical.{Logical}
 use Rattle.pgoutput.specs.Reading.{Answers}
 use Rattle.pgoutput.specs.Logical.{logical_at, alone, whole_of, spell_logical, FitsLogical, SpellsLogical, Stands}
+use Rattle.pgoutput.specs.Layout.{StopsIn}
 use Rattle.pgoutput.proofs.Engine.{bind_err, IsFieldFault}
 use Rattle.pgoutput.proofs.Wires.{logical_chosen, logical_codec, logical_ends}
+use Rattle.pgoutput.proofs.StoppedRows.{logical_stops, logical_stands}
 
 -- ---- what is read and what is spelled
 
@@ -118,6 +120,36 @@ refused_so bytes result e a is = elim (answered result (whole_of bytes) a) [
 pub is_refused : (bytes : List ℕ) (result : Result Logical OutFault) → Answers result (whole_of bytes) → (e : OutFault) → e ≢ Memory → Stands e bytes
     → (result ≡ Err e) ⊎ (result ≡ Err Memory)
 is_refused bytes result a e some s = refused_so bytes result e a (whole_stands bytes e some s)
+
+-- ---- where the fields of a message stop
+
+stops_so : (bytes : List ℕ) (e : OutFault) → IsBytes bytes → whole_of bytes ≡ Err e → StopsIn e bytes ⊎ ((e ≡ UnknownKind) ⊎ (e ≡ Trailing))
+stops_so bytes e fits is =
+    elim (bind_err (logical_at bytes) (λ a. alone a.0 a.1) e is) [
+      | inl here ↦ elim (logical_stops bytes e fits here) [ inl s ↦ inl s | inr kind ↦ inr (inl kind) ]
+      | inr a ↦ inr (inr (behind_message a.0.0 a.0.1 e a.2).0)
+    ]
+
+failed_so : (bytes : List ℕ) (result : Result Logical OutFault) (e : OutFault) → IsFieldFault e → Answers result (whole_of bytes) → result ≡ Err e → whole_of bytes ≡ Err e
+failed_so bytes result Short own a is = subst (λ (r : Result Logical OutFault). Answers r (whole_of bytes)) is a
+failed_so bytes result BadMark own a is = subst (λ (r : Result Logical OutFault). Answers r (whole_of bytes)) is a
+failed_so bytes result BadText own a is = subst (λ (r : Result Logical OutFault). Answers r (whole_of bytes)) is a
+failed_so bytes result UnknownKind own a is = absurd own
+failed_so bytes result Trailing own a is = absurd own
+failed_so bytes result Memory own a is = absurd own
+
+pub is_at_fault : (bytes : List ℕ) (result : Result Logical OutFault) (e : OutFault) → IsFieldFault e → IsBytes bytes → Answers result (whole_of bytes) → result ≡ Err e → StopsIn e bytes
+is_at_fault bytes result e own fits a is =
+    elim (stops_so bytes e fits (failed_so bytes result e own a is)) [
+      | inl s ↦ s
+      | inr other ↦ elim other [
+        | inl kind ↦ absurd (subst IsFieldFault kind own)
+        | inr over ↦ absurd (subst IsFieldFault over own)
+      ]
+    ]
+
+pub is_stopped : (bytes : List ℕ) (result : Result Logical OutFault) → Answers result (whole_of bytes) → (e : OutFault) → StopsIn e bytes → (result ≡ Err e) ⊎ (result ≡ Err Memory)
+is_stopped bytes result a e s = refused_so bytes result e a (rw (logical_stands bytes e s) refl)
 
 -- ---- a message that ends too soon
 

@@ -1,9 +1,12 @@
 -- Each message is read as it is spelled, with its faults.
-use Rattle.std.proofs.Common.{◌≡◌, ℕ, suc, ◌<◌, ◌^◌, Bool, true, false, List, [], ◌∷◌, ◌++◌, length, take, Option, Some, None, Ok, Err, refl, arith}
+use Rattle.std.proofs.Common.{◌≡◌, ℕ, suc, ◌<◌, ◌^◌, Bool, true, false, List, [], ◌∷◌, ◌++◌, length, take, Option, Some, None, Result, Ok, Err, refl, arith}
 use Rattle.std.specs.List.{flat_map, AllByRecursion}
 use Rattle.pqformat.specs.Fields.{int16, int32}
 use Rattle.std.proofs.lemmas.Bool.Decides.{nat_tests}
+use Rattle.pqformat.specs.Steps.{◌>>=◌, repeat_at}
+use Rattle.pgoutput.specs.declared.fault.OutFault.{OutFault}
 use Rattle.pgoutput.specs.declared.fault.OutFault.TheVariants.{Short, UnknownKind, BadMark}
+use Rattle.pgoutput.specs.declared.truncate.Truncate.{Truncate}
 use Rattle.pgoutput.specs.Reading.{one_of}
 use Rattle.pgoutput.specs.declared.tuple.Cell.{Cell}
 use Rattle.pgoutput.specs.declared.tuple.Cell.TheVariants as cells
@@ -30,13 +33,13 @@ use Rattle.pgoutput.specs.Insert.{insert, FitsInsert, insert_at}
 use Rattle.pgoutput.specs.OldTuple.{old_tuple, FitsOldTuple, old_tuple_at}
 use Rattle.pgoutput.specs.Update.{old_if_any, update, FitsIfAny, FitsUpdate, tuples_at, rows_at, update_at}
 use Rattle.pgoutput.specs.Delete.{delete, FitsDelete, delete_at}
-use Rattle.pgoutput.specs.Truncate.{letter_of, options, options_letter, options_of, truncate, FitsTruncate, truncate_at}
+use Rattle.pgoutput.specs.Truncate.{letter_of, options, options_letter, options_of, oid_at, truncate, FitsTruncate, truncate_at}
 use Rattle.pgoutput.specs.Logical.{logical_at, fields_at, is_kind, spell_logical, FitsLogical}
 use Rattle.pqformat.proofs.Codec.{Codec, choice_codec}
 use Rattle.pgoutput.proofs.Engine.{Wire, field, last_field, free_field, wire_of, counted, repeated, Chosen, choice, no_choice, choice_wire, choice_cut}
 use Rattle.pgoutput.proofs.Plain.{number32, number64, count32, signed32, signed64, name_wire, text_wire, list_wire, letter_wire, expected_wire, nothing}
 
-begin_wire : Wire begin_at begin FitsBegin
+pub begin_wire : Wire begin_at begin FitsBegin
 unfolding begin_at
 begin_wire = wire_of (
     field number64 (λ m. m.position) _ _ _ _ (λ position.
@@ -44,7 +47,7 @@ begin_wire = wire_of (
     last_field number32 (λ m. m.xid) _ (λ xid. record { position = position; time = time; xid = xid })
     (λ _. refl) (λ _ _. (refl, (refl, tt))) (λ m known. rw (← known.0, ← known.1.0) refl))))
 
-commit_wire : Wire commit_at commit FitsCommit
+pub commit_wire : Wire commit_at commit FitsCommit
 unfolding commit_at
 commit_wire = wire_of (
     free_field (expected_wire COMMIT_FLAGS) (λ _. tt) (λ _. tt) _ _ _ _ (λ flags.
@@ -61,10 +64,13 @@ is_key_back : (x : Bool) → is_key_of (key_flag x) ≡ Some x
 is_key_back true = refl
 is_key_back false = refl
 
-column_wire : Wire column_at column FitsColumn
+pub flag_wire : Wire (one_of is_key_of) (λ b. key_flag b ∷ []) (λ _. Unit {0})
+flag_wire = letter_wire is_key_of key_flag is_key_there is_key_back
+
+pub column_wire : Wire column_at column FitsColumn
 unfolding column_at
 column_wire = wire_of (
-    free_field (letter_wire is_key_of key_flag is_key_there is_key_back) (λ _. tt) (λ m. m.is_key) _ _ _ _ (λ is_key.
+    free_field flag_wire (λ _. tt) (λ m. m.is_key) _ _ _ _ (λ is_key.
     field name_wire (λ m. m.name) _ _ _ _ (λ name.
     field number32 (λ m. m.kind) _ _ _ _ (λ kind.
     last_field signed32 (λ m. m.modifier) _ (λ modifier. record { is_key = is_key; name = name; kind = kind; modifier = modifier })
@@ -86,13 +92,16 @@ identity_back Nothing = refl
 identity_back Full = refl
 identity_back Index = refl
 
-relation_wire : Wire relation_at relation FitsRelation
+pub identity_wire : Wire (one_of identity_of) (λ i. identity_letter i ∷ []) (λ _. Unit {0})
+identity_wire = letter_wire identity_of identity_letter identity_there identity_back
+
+pub relation_wire : Wire relation_at relation FitsRelation
 unfolding relation_at
 relation_wire = wire_of (
     field number32 (λ m. m.oid) _ _ _ _ (λ oid.
     field name_wire (λ m. m.namespace) _ _ _ _ (λ namespace.
     field name_wire (λ m. m.name) _ _ _ _ (λ name.
-    free_field (letter_wire identity_of identity_letter identity_there identity_back) (λ _. tt) (λ m. m.identity) _ _ _ _ (λ identity.
+    free_field identity_wire (λ _. tt) (λ m. m.identity) _ _ _ _ (λ identity.
     last_field columns_wire (λ m. m.columns) _ (λ columns. record { oid = oid; namespace = namespace; name = name; identity = identity; columns = columns })
     (λ _. refl) (λ _ _. (refl, (refl, (refl, (refl, tt))))) (λ m known. rw (← known.0, ← known.1.0, ← known.1.1.0, ← known.1.1.1.0) refl))))))
 
@@ -108,7 +117,7 @@ cell_cut cells.Null n fits lt = absurd (omega arith)
 cell_cut cells.Unchanged n fits lt = absurd (omega arith)
 cell_cut (cells.Text t) n fits lt = rw (text_wire.cut t n fits (omega arith)) refl
 
-cell_wire : Wire cell_at cell FitsCell
+pub cell_wire : Wire cell_at cell FitsCell
 unfolding cell_at
 cell_wire = choice_wire (
     choice NULL nothing (λ _. cells.Null) cell FitsCell (λ _. refl) (λ _ fits. fits) (
@@ -120,7 +129,7 @@ tuple_wire : Wire tuple_at tuple FitsTuple
 unfolding tuple_at
 tuple_wire = list_wire cell_wire
 
-insert_wire : Wire insert_at insert FitsInsert
+pub insert_wire : Wire insert_at insert FitsInsert
 unfolding insert_at
 insert_wire = wire_of (
     field number32 (λ m. m.oid) _ _ _ _ (λ oid.
@@ -140,14 +149,14 @@ unfolding old_tuple_at
 old_tuple_cut (olds.Key cells) n fits lt = rw (tuple_wire.cut cells n fits (omega arith)) refl
 old_tuple_cut (olds.Full cells) n fits lt = rw (tuple_wire.cut cells n fits (omega arith)) refl
 
-old_tuple_wire : Wire old_tuple_at old_tuple FitsOldTuple
+pub old_tuple_wire : Wire old_tuple_at old_tuple FitsOldTuple
 unfolding old_tuple_at
 old_tuple_wire = choice_wire (
     choice KEY tuple_wire (λ cells. olds.Key cells) old_tuple FitsOldTuple (λ _. refl) (λ _ fits. fits) (
     choice OLD tuple_wire (λ cells. olds.Full cells) old_tuple FitsOldTuple (λ _. refl) (λ _ fits. fits) (
     no_choice BadMark old_tuple FitsOldTuple))) tt old_tuple_again old_tuple_cut
 
-delete_wire : Wire delete_at delete FitsDelete
+pub delete_wire : Wire delete_at delete FitsDelete
 unfolding delete_at
 delete_wire = wire_of (
     field number32 (λ m. m.oid) _ _ _ _ (λ oid.
@@ -156,16 +165,16 @@ delete_wire = wire_of (
 
 -- ---- old and new rows
 
-abbrev Tuples : Type 0
+abbrev pub Tuples : Type 0
 Tuples = List Cell × List Cell
 
-abbrev tuples : Tuples → List ℕ
+abbrev pub tuples : Tuples → List ℕ
 tuples t = tuple t.0 ++ ((NEW ∷ []) ++ tuple t.1)
 
-abbrev FitTuples : Tuples → Type 0
+abbrev pub FitTuples : Tuples → Type 0
 FitTuples t = FitsTuple t.0 × FitsTuple t.1
 
-tuples_wire : Wire tuples_at tuples FitTuples
+pub tuples_wire : Wire tuples_at tuples FitTuples
 unfolding tuples_at
 tuples_wire = wire_of (
     field tuple_wire (λ t. t.0) _ _ _ _ (λ old.
@@ -173,13 +182,13 @@ tuples_wire = wire_of (
     last_field tuple_wire (λ t. t.1) _ (λ new. (old, new))
     (λ _. refl) (λ _ _. (refl, (refl, tt))) (λ t known. rw (← known.1.0) refl))))
 
-abbrev Rows : Type 0
+abbrev pub Rows : Type 0
 Rows = Option OldTuple × List Cell
 
-abbrev rows : Rows → List ℕ
+abbrev pub rows : Rows → List ℕ
 rows r = old_if_any r.0 ++ ((NEW ∷ []) ++ tuple r.1)
 
-abbrev FitRows : Rows → Type 0
+abbrev pub FitRows : Rows → Type 0
 FitRows r = FitsIfAny r.0 × FitsTuple r.1
 
 rows_again : (old : Option OldTuple) (new : List Cell) (rest : List ℕ) → FitRows (old, new) → rows_at (rows (old, new) ++ rest) ≡ Ok ((old, new), rest)
@@ -194,7 +203,7 @@ rows_cut None new n fits lt = rw (tuple_wire.cut new n fits.1 (omega arith)) ref
 rows_cut (Some (olds.Key old)) new n fits lt = rw (tuples_wire.cut (old, new) n fits (omega arith)) refl
 rows_cut (Some (olds.Full old)) new n fits lt = rw (tuples_wire.cut (old, new) n fits (omega arith)) refl
 
-rows_wire : Wire rows_at rows FitRows
+pub rows_wire : Wire rows_at rows FitRows
 unfolding rows_at
 rows_wire = choice_wire (
     choice NEW tuple_wire (λ new. (None, new)) rows FitRows (λ _. refl) (λ _ fits. (tt, fits)) (
@@ -202,7 +211,7 @@ rows_wire = choice_wire (
     choice OLD tuples_wire (λ t. (Some (olds.Full t.0), t.1)) rows FitRows (λ _. refl) (λ _ fits. fits) (
     no_choice BadMark rows FitRows)))) tt (λ r. rows_again r.0 r.1) (λ r. rows_cut r.0 r.1)
 
-update_wire : Wire update_at update FitsUpdate
+pub update_wire : Wire update_at update FitsUpdate
 unfolding update_at
 update_wire = wire_of (
     field number32 (λ m. m.oid) _ _ _ _ (λ oid.
@@ -223,16 +232,27 @@ options_back true false = refl
 options_back false true = refl
 options_back true true = refl
 
-options_wire : Wire (one_of options_of) (λ o. options_letter o ∷ []) (λ _. Unit {0})
+pub options_wire : Wire (one_of options_of) (λ o. options_letter o ∷ []) (λ _. Unit {0})
 options_wire = letter_wire options_of options_letter (λ b o. options_there b o.cascade o.restart_identity) (λ o. options_back o.cascade o.restart_identity)
 
-truncate_wire : Wire truncate_at truncate FitsTruncate
-unfolding truncate_at
-truncate_wire = counted count32 (λ m. length m.oids) _ (λ m. (options_letter m.options ∷ []) ++ flat_map int32 m.oids) (λ m. AllByRecursion (λ oid. oid < 2 ^ 32) m.oids) (λ n.
-    wire_of (
+abbrev Counted : ℕ → Truncate → Type 0
+Counted n m = (length m.oids ≡ n) × AllByRecursion (λ oid. oid < 2 ^ 32) m.oids
+
+abbrev oids_behind : ℕ → List ℕ → Result (Truncate × List ℕ) OutFault
+oids_behind n bytes = do
+  options ← one_of options_of bytes
+  oids ← repeat_at oid_at n options.1
+  Ok (record { options = options.0; oids = oids.0 }, oids.1)
+
+pub oids_wire : (n : ℕ) → Wire (oids_behind n) (λ m. (options_letter m.options ∷ []) ++ flat_map int32 m.oids) (Counted n)
+oids_wire n = wire_of (
     free_field options_wire (λ _. tt) (λ m. m.options) _ _ _ _ (λ options.
     last_field (repeated number32 n) (λ m. m.oids) _ (λ oids. record { options = options; oids = oids })
-    (λ _. refl) (λ _ _. (refl, tt)) (λ m known. rw (← known.0) refl))))
+    (λ _. refl) (λ _ _. (refl, tt)) (λ m known. rw (← known.0) refl)))
+
+pub truncate_wire : Wire truncate_at truncate FitsTruncate
+unfolding truncate_at
+truncate_wire = counted count32 (λ m. length m.oids) _ (λ m. (options_letter m.options ∷ []) ++ flat_map int32 m.oids) (λ m. AllByRecursion (λ oid. oid < 2 ^ 32) m.oids) oids_wire
 
 -- ---- any message
 

@@ -9,3 +9,4 @@ pub mod Update
 pub mod Delete
 pub mod Truncate
 pub mod Logical
+pub mod Layout

@@ -21,7 +21,10 @@ pub use commit::{COMMIT, COMMIT_FLAGS, Commit};
 pub use delete::{DELETE, Delete};
 pub use fault::OutFault;
 pub use insert::{INSERT, Insert, NEW};
-pub use logical::{Logical, no_message_has_two_spellings, read_logical, write_logical};
+pub use logical::{
+    Logical, a_message_is_its_fields, no_message_goes_on, no_message_has_two_spellings,
+    read_logical, write_logical,
+};
 pub use old_tuple::{KEY, OLD, OldTuple};
 pub use relation::{
     Column, IDENTITY_DEFAULT, IDENTITY_FULL, IDENTITY_INDEX, IDENTITY_NOTHING, Identity, KEY_FLAG,
