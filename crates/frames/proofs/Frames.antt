@@ -11,10 +11,11 @@ use Rattle.pqformat.specs.Steps.{◌>>=◌}
 use Rattle.frames.specs.declared.fault.FrameFault.{FrameFault}
 use Rattle.frames.specs.declared.fault.FrameFault.TheVariants.{BadLength, BadVersion, UnknownType, BadBody, NotUtf8, TooLong, Memory}
 use Rattle.frames.specs.Body.{checked}
-use Rattle.frames.specs.Frame.{frame, FitsLength, with_size, with_kind, Fits, SpellsFrame, IsShort, Fails, Gives, sized_at, body_at, raw_at, whole_of, framed_at, IsWhole, HasBody, BeginsWith, HoldsBody, StandsAt}
+use Rattle.frames.specs.Frame.{frame, FitsLength, with_size, with_kind, Fits, SpellsFrame, IsShort, Fails, Gives, sized_at, body_at, raw_at, whole_of, framed_at, IsWhole, IsKept, HasBody, BeginsWith, StandsAt}
 use Rattle.pqformat.proofs.Codec.{IsBytes, IsBytes-take, IsBytes-rest, bind_ok, found_some, some_is, done, ok_is}
 use Rattle.pqformat.proofs.Numbers.{number32, bytes_codec, length-int32}
 use Rattle.frames.proofs.Cases.{Cases}
+use Rattle.frames.proofs.Steps.{kept_is_whole, kept_body}
 
 -- ---- steps
 
@@ -199,16 +200,6 @@ raw_faults limit (kind ∷ bytes) e fits is = by_limit (limit kind) refl (unmapp
         subst P same (kind, bytes, refl, none)
     by_limit (Some most) allowed is = unsized limit kind most bytes e allowed (IsBytes-rest kind bytes fits) is
 
-pub raw_whole : (limit : ℕ → Option ℕ) (bytes : List ℕ) → IsBytes bytes → IsWhole (raw_at limit bytes) → HoldsBody limit bytes (λ kind body. Unit {0})
-raw_whole limit bytes fits whole = by_raw (raw_at limit bytes) refl whole
-  where
-    by_raw : (r : Result (Option ((ℕ × List ℕ) × ℕ)) FrameFault) → raw_at limit bytes ≡ r → IsWhole r → HoldsBody limit bytes (λ kind body. Unit {0})
-    by_raw (Ok (Some raw)) is whole =
-        let t = raw_takes limit bytes raw.0.0 raw.0.1 raw.1 fits is in
-        (raw.0.0, t.most, raw.0.1, t.rest, t.allowed, t.within, t.text, tt)
-    by_raw (Ok None) is whole = absurd whole
-    by_raw (Err e) is whole = absurd whole
-
 -- ---- one frame and another
 
 pub frame_begins : (k l : ℕ) (a b x y : List ℕ) → FitsLength a → FitsLength b → frame k a ++ x ≡ frame l b ++ y → (k ≡ l) × (a ≡ b) × (x ≡ y)
@@ -322,10 +313,10 @@ still_waits {F} raw of r given memory nothing none = by_answer r given memory
         by_fault e (subst P read given) memory
 
 pub is_waiting : {F : Type 0} {limit : ℕ → Option ℕ} {kind_of : F → ℕ} {body_of : F → List ℕ} {Shaped : F → Type 0} {is_text : F → Bool} {of : ℕ → List ℕ → Result F FrameFault} → AreBodies limit kind_of body_of Shaped is_text of
-    → (bytes : List ℕ) (r : Result (Option (F × ℕ)) FrameFault) → Gives r (framed_at limit of bytes) → (r ≡ Err Memory → IsWhole (raw_at limit bytes))
+    → (needs_memory : F → Bool) (bytes : List ℕ) (r : Result (Option (F × ℕ)) FrameFault) → Gives r (framed_at limit of bytes) → (r ≡ Err Memory → IsKept needs_memory (framed_at limit of bytes))
     → (text more : List ℕ) (f : F) → SpellsFrame kind_of body_of (Fits Shaped is_text) text f → IsShort limit kind_of body_of f → text ≡ bytes ++ more → length bytes < length text → r ≡ Ok None
-is_waiting {F} {limit} {kind_of} {body_of} {Shaped} {is_text} {of} bodies bytes r given memory text more f spells short parts less =
-    still_waits (raw_at limit bytes) (λ raw. whole_of of raw) r given memory refl (by_limit (limit (kind_of f)) refl short)
+is_waiting {F} {limit} {kind_of} {body_of} {Shaped} {is_text} {of} bodies needs_memory bytes r given memory text more f spells short parts less =
+    still_waits (raw_at limit bytes) (λ raw. whole_of of raw) r given (λ h. kept_is_whole needs_memory of (raw_at limit bytes) (memory h)) refl (by_limit (limit (kind_of f)) refl short)
   where
     by_limit : (o : Option ℕ) → limit (kind_of f) ≡ o → IsSomeAnd o (λ most. 4 + length (body_of f) ≤ most) → raw_at limit bytes ≡ Ok None
     by_limit None none short = absurd short
@@ -334,13 +325,13 @@ is_waiting {F} {limit} {kind_of} {body_of} {Shaped} {is_text} {of} bodies bytes 
         (omega (arith, length-frame (kind_of f) (body_of f), ap length spells.text))
 
 pub is_fault : {F : Type 0} {limit : ℕ → Option ℕ} {kind_of : F → ℕ} {body_of : F → List ℕ} {Shaped : F → Type 0} {is_text : F → Bool} {of : ℕ → List ℕ → Result F FrameFault} → AreBodies limit kind_of body_of Shaped is_text of
-    → (bytes : List ℕ) (r : Result (Option (F × ℕ)) FrameFault) → IsBytes bytes → Gives r (framed_at limit of bytes) → (r ≡ Err Memory → IsWhole (raw_at limit bytes))
-    → IfErr r (λ e. StandsAt limit kind_of body_of Shaped is_text e bytes)
-is_fault {F} {limit} {kind_of} {body_of} {Shaped} {is_text} {of} bodies bytes (Ok o) fits given memory = tt
-is_fault {F} {limit} {kind_of} {body_of} {Shaped} {is_text} {of} bodies bytes (Err e) fits given memory = by_fault e given memory
+    → (needs_memory : F → Bool) (bytes : List ℕ) (r : Result (Option (F × ℕ)) FrameFault) → IsBytes bytes → Gives r (framed_at limit of bytes) → (r ≡ Err Memory → IsKept needs_memory (framed_at limit of bytes))
+    → IfErr r (λ e. StandsAt limit kind_of body_of Shaped is_text needs_memory e bytes)
+is_fault {F} {limit} {kind_of} {body_of} {Shaped} {is_text} {of} bodies needs_memory bytes (Ok o) fits given memory = tt
+is_fault {F} {limit} {kind_of} {body_of} {Shaped} {is_text} {of} bodies needs_memory bytes (Err e) fits given memory = by_fault e given memory
   where
     Stands : FrameFault → Type 0
-    Stands e = StandsAt limit kind_of body_of Shaped is_text e bytes
+    Stands e = StandsAt limit kind_of body_of Shaped is_text needs_memory e bytes
 
     before : (e : FrameFault) → StandsBefore limit e bytes → Stands e
     before BadLength is = is
@@ -390,14 +381,23 @@ is_fault {F} {limit} {kind_of} {body_of} {Shaped} {is_text} {of} bodies bytes (E
         let refused = alone raw.1 e (of raw.0.0 raw.0.1) read in
         by_body raw e t refused (bodies.cases.fails raw.0.0 t.most raw.0.1 e t.body_fits t.allowed refused)
 
-    by_fault : (e : FrameFault) → Fails e (framed_at limit of bytes) → (failed F e ≡ Err Memory → IsWhole (raw_at limit bytes)) → Stands e
+    by_kept : (x : Result (Option ((ℕ × List ℕ) × ℕ)) FrameFault) → raw_at limit bytes ≡ x → IsKept needs_memory (x >>= λ raw. whole_of of raw) → Stands Memory
+    by_kept (Ok (Some raw)) is kept =
+        let t = raw_takes limit bytes raw.0.0 raw.0.1 raw.1 fits is in
+        let f = kept_body needs_memory (of raw.0.0 raw.0.1) raw.1 kept in
+        let b = bodies.cases.takes raw.0.0 raw.0.1 f.0 t.body_fits f.1 in
+        (raw.0.0, t.most, raw.0.1, t.rest, t.allowed, t.within, t.text, (f.0, b.0, b.1, f.2))
+    by_kept (Ok None) is kept = absurd kept
+    by_kept (Err d) is kept = absurd kept
+
+    by_fault : (e : FrameFault) → Fails e (framed_at limit of bytes) → (failed F e ≡ Err Memory → IsKept needs_memory (framed_at limit of bytes)) → Stands e
     by_fault BadLength given memory = by_raw BadLength (raw_at limit bytes) refl given
     by_fault BadVersion given memory = by_raw BadVersion (raw_at limit bytes) refl given
     by_fault UnknownType given memory = by_raw UnknownType (raw_at limit bytes) refl given
     by_fault BadBody given memory = by_raw BadBody (raw_at limit bytes) refl given
     by_fault NotUtf8 given memory = by_raw NotUtf8 (raw_at limit bytes) refl given
     by_fault TooLong given memory = by_raw TooLong (raw_at limit bytes) refl given
-    by_fault Memory given memory = raw_whole limit bytes fits (memory refl)
+    by_fault Memory given memory = by_kept (raw_at limit bytes) refl (memory refl)
 
 -- of two frames that begin the same bytes one is the other
 pub same_frame : {F : Type 0} {limit : ℕ → Option ℕ} {kind_of : F → ℕ} {body_of : F → List ℕ} {Shaped : F → Type 0} {is_text : F → Bool} {of : ℕ → List ℕ → Result F FrameFault} → AreBodies limit kind_of body_of Shaped is_text of

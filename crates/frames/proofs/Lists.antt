@@ -6,7 +6,7 @@ use Rattle.std.proofs.lemmas.Bool.{eqb-true}
 use Rattle.std.proofs.lemmas.List.{length-append}
 use Rattle.std.proofs.lemmas.List.Concat.{flat_map-cons}
 use Rattle.pqformat.specs.Steps.{◌>>=◌, repeat_at, next_at, go_on, until_at, closed}
-use Rattle.frames.specs.Body.{ended, checked, checked_at, passed, passed_over, whole, always, starts, GivesAt}
+use Rattle.frames.specs.Body.{ended, checked, checked_at, passed, whole, always, starts, GivesAt}
 use Rattle.frames.specs.Frame.{Fails, Gives}
 use Rattle.frames.specs.declared.fault.FrameFault.{FrameFault}
 use Rattle.frames.specs.declared.fault.FrameFault.TheVariants.{BadLength, BadVersion, UnknownType, BadBody, NotUtf8, TooLong, Memory}
@@ -138,30 +138,17 @@ goes_on {A} f limit i bytes rest total lt more so_far =
         rw same (longer x (until_at tt f (limit - (i + 1)) rest))
     by_next (Err u) is = absurd cc
 
-pub fails : {A : Type 0} (d : FrameFault) (f : Reader A) (limit i : ℕ) (bytes : List ℕ) (total : Result (ℕ × List ℕ) FrameFault) → i < limit → Fails d (passed is_none (next_at tt f bytes))
-    → counted_on i (until_at tt f (limit - i) bytes) ≡ total → Fails d total
+pub fails : {A : Type 0} (d : FrameFault) (f : Reader A) (limit i : ℕ) (bytes : List ℕ) (total : Result (ℕ × List ℕ) FrameFault) → i < limit → passed is_none (next_at tt f bytes) ≡ Err d
+    → counted_on i (until_at tt f (limit - i) bytes) ≡ total → total ≡ Err d
 unfolding until_at
 fails {A} d f limit i bytes total lt failed so_far =
-    let P : Result (ℕ × List ℕ) FrameFault → Type 0 = λ r. Fails d r in
     let k = one_less limit i lt in
-    let one : Fails d (counted_on i (until_at tt f (limit - i) bytes)) = rw k (by_next d (next_at tt f bytes) failed) in
-    subst P so_far one
+    let one : counted_on i (until_at tt f (limit - i) bytes) ≡ Err d = rw k (by_next (next_at tt f bytes) failed) in
+    sym so_far ∙ one
   where
-    by_next : (d : FrameFault) (r : Result (Option A × List ℕ) (Unit {0})) → Fails d (passed is_none r) → Fails d (counted_on i (r >>= λ x. go_on x.0 x.1 (until_at tt f (limit - (i + 1)) x.1)))
-    by_next BadLength (Ok x) is = absurd cc
-    by_next BadVersion (Ok x) is = absurd cc
-    by_next UnknownType (Ok x) is = absurd cc
-    by_next BadBody (Ok x) is = absurd cc
-    by_next NotUtf8 (Ok x) is = absurd cc
-    by_next TooLong (Ok x) is = absurd cc
-    by_next Memory (Ok x) is = tt
-    by_next BadLength (Err u) is = absurd cc
-    by_next BadVersion (Err u) is = absurd cc
-    by_next UnknownType (Err u) is = absurd cc
-    by_next BadBody (Err u) is = refl
-    by_next NotUtf8 (Err u) is = absurd cc
-    by_next TooLong (Err u) is = absurd cc
-    by_next Memory (Err u) is = tt
+    by_next : (r : Result (Option A × List ℕ) (Unit {0})) → passed is_none r ≡ Err d → counted_on i (r >>= λ x. go_on x.0 x.1 (until_at tt f (limit - (i + 1)) x.1)) ≡ Err d
+    by_next (Ok x) is = absurd cc
+    by_next (Err u) is = cc
 
 pub runs_out : {A : Type 0} (f : Reader A) (limit i : ℕ) (bytes : List ℕ) (total : Result (ℕ × List ℕ) FrameFault) → limit ≤ i
     → counted_on i (until_at tt f (limit - i) bytes) ≡ total → total ≡ Err BadBody
@@ -188,27 +175,29 @@ first_and_others {A} is_text f n bytes x rest xs after first others = rw first (
     by_test true false others = rw others refl
     by_test false u others = refl
 
-pub until_repeats : {A : Type 0} (is_text : A → Bool) (f : Reader A) (n : ℕ) (bytes : List ℕ) (xs : List A) (rest : List ℕ) → until_at tt f n bytes ≡ Ok (xs, rest)
-    → repeat_at (Judged is_text f) (length xs) bytes ≡ checked_at (list_all is_text) (Ok (xs, 0 ∷ rest))
+pub until_repeats : {A : Type 0} (f : Reader A) (n : ℕ) (bytes : List ℕ) (xs : List A) (rest : List ℕ) → until_at tt f n bytes ≡ Ok (xs, rest) → repeat_at f (length xs) bytes ≡ Ok (xs, 0 ∷ rest)
 unfolding until_at repeat_at
-until_repeats is_text f zero bytes xs rest e = absurd cc
-until_repeats {A} is_text f (suc n) bytes xs rest e =
+until_repeats f zero bytes xs rest e = absurd cc
+until_repeats {A} f (suc n) bytes xs rest e =
     let a = bind_ok (next_at tt f bytes) (λ x. go_on x.0 x.1 (until_at tt f n x.1)) (xs, rest) e in
-    by_next a.0.0 a.0.1 a.1 (λ ys after. until_repeats is_text f n a.0.1 ys after) a.2
+    by_next a.0.0 a.0.1 a.1 (λ ys after. until_repeats f n a.0.1 ys after) a.2
   where
+    Again : List A × List ℕ → Type 0
+    Again y = repeat_at f (length y.0) bytes ≡ Ok (y.0, 0 ∷ y.1)
+
     by_next : (o : Option A) (after : List ℕ) → next_at tt f bytes ≡ Ok (o, after)
-        → ((ys : List A) (rest : List ℕ) → until_at tt f n after ≡ Ok (ys, rest) → repeat_at (Judged is_text f) (length ys) after ≡ checked_at (list_all is_text) (Ok (ys, 0 ∷ rest)))
-        → go_on o after (until_at tt f n after) ≡ Ok (xs, rest) → repeat_at (Judged is_text f) (length xs) bytes ≡ checked_at (list_all is_text) (Ok (xs, 0 ∷ rest))
+        → ((ys : List A) (rest : List ℕ) → until_at tt f n after ≡ Ok (ys, rest) → repeat_at f (length ys) after ≡ Ok (ys, 0 ∷ rest))
+        → go_on o after (until_at tt f n after) ≡ Ok (xs, rest) → Again (xs, rest)
     by_next None after next inner e =
         let read : List A × List ℕ = ([], after) in
-        let P : List A × List ℕ → Type 0 = λ y. repeat_at (Judged is_text f) (length y.0) bytes ≡ checked_at (list_all is_text) (Ok (y.0, 0 ∷ y.1)) in
-        let here : repeat_at (Judged is_text f) 0 bytes ≡ Ok ([], 0 ∷ after) = ap (λ (l : List ℕ). Ok ([], l)) (next_none f bytes after next) in
-        subst P (ok_is (Unit {0}) read (xs, rest) e) here
+        let here : repeat_at f 0 bytes ≡ Ok ([], 0 ∷ after) = ap (λ (l : List ℕ). Ok ([], l)) (next_none f bytes after next) in
+        subst Again (ok_is (Unit {0}) read (xs, rest) e) here
     by_next (Some x) after next inner e =
         let b = bind_ok (until_at tt f n after) (λ y. Ok (x ∷ y.0, y.1)) (xs, rest) e in
         let made : List A × List ℕ = (x ∷ b.0.0, b.0.1) in
-        let P : List A × List ℕ → Type 0 = λ y. repeat_at (Judged is_text f) (length y.0) bytes ≡ checked_at (list_all is_text) (Ok (y.0, 0 ∷ y.1)) in
-        subst P (ok_is (Unit {0}) made (xs, rest) b.2) (first_and_others is_text f (length b.0.0) bytes x after b.0.0 (0 ∷ b.0.1) (next_some f bytes x after next).0 (inner b.0.0 b.0.1 b.1))
+        let first = (next_some f bytes x after next).0 in
+        let others = inner b.0.0 b.0.1 b.1 in
+        subst Again (ok_is (Unit {0}) made (xs, rest) b.2) (rw (first, others) refl)
 
 pub repeat_repeats : {A : Type 0} (is_text : A → Bool) (f : Reader A) (n : ℕ) (bytes : List ℕ) (xs : List A) (rest : List ℕ) → repeat_at f n bytes ≡ Ok (xs, rest)
     → repeat_at (Judged is_text f) n bytes ≡ checked_at (list_all is_text) (Ok (xs, rest))
@@ -254,88 +243,114 @@ forget_place {X} is_text r x place after given = by_test (is_text x) r given
     by_test false (Ok y) is = absurd cc
     by_test false (Err e) is = same_fault e is
 
-pub are_listed : {A : Type 0} (is_text : A → Bool) (f : Reader A) (n count : ℕ) (bytes rest place : List ℕ) (r : Result (List A) FrameFault)
-    → passed length (until_at tt f n bytes) ≡ Ok (count, rest) → ended rest ≡ Ok tt → GivesAt r place (repeat_at (Judged is_text f) count bytes) → Gives r (whole (list_all is_text) (until_at tt f n bytes))
-are_listed {A} is_text f n count bytes rest place r counted end given = by_read (until_at tt f n bytes) refl counted
-  where
-    at_end : (rest : List ℕ) → ended rest ≡ Ok tt → rest ≡ []
-    at_end [] is = refl
-    at_end (b ∷ bytes) is = absurd cc
+-- ---- a list whose shape is right
 
-    by_read : (u : Result (List A × List ℕ) (Unit {0})) → until_at tt f n bytes ≡ u → passed length u ≡ Ok (count, rest) → Gives r (whole (list_all is_text) u)
+-- it is there as so many items, with nothing left over
+pub record IsListed {A : Type 0} (f : Reader A) (count : ℕ) (bytes : List ℕ) (read : Result (List A × List ℕ) (Unit {0})) : Type 0 where
+  pub items : List A
+  pub after : List ℕ
+  pub all : read ≡ Ok (items, [])
+  pub again : repeat_at f count bytes ≡ Ok (items, after)
+
+at_end : (rest : List ℕ) → ended rest ≡ Ok tt → rest ≡ []
+at_end [] is = refl
+at_end (b ∷ bytes) is = absurd cc
+
+pub are_listed : {A : Type 0} (f : Reader A) (n count : ℕ) (bytes rest : List ℕ) → passed length (until_at tt f n bytes) ≡ Ok (count, rest) → ended rest ≡ Ok tt → IsListed f count bytes (until_at tt f n bytes)
+are_listed {A} f n count bytes rest counted end = by_read (until_at tt f n bytes) refl counted
+  where
+    by_read : (u : Result (List A × List ℕ) (Unit {0})) → until_at tt f n bytes ≡ u → passed length u ≡ Ok (count, rest) → IsListed f count bytes u
     by_read (Ok (xs, tail)) is counted =
-        let read : ℕ × List ℕ = (length xs, tail) in
-        let same = ok_is FrameFault read (count, rest) counted in
-        let many : length xs ≡ count = ap (λ (p : ℕ × List ℕ). p.0) same in
-        let no_more : tail ≡ [] = ap (λ (p : ℕ × List ℕ). p.1) same ∙ at_end rest end in
-        let again : repeat_at (Judged is_text f) count bytes ≡ checked_at (list_all is_text) (Ok (xs, 0 ∷ tail)) = rw (← many) (until_repeats is_text f n bytes xs tail is) in
-        let P : Result (List A × List ℕ) FrameFault → Type 0 = λ read. GivesAt r place read in
-        rw no_more (forget_place (list_all is_text) r xs place (0 ∷ tail) (subst P again given))
+        let same = same_pair (length xs) count tail rest counted in
+        let no_more : tail ≡ [] = same.1 ∙ at_end rest end in
+        record { items = xs; after = 0 ∷ tail; all = rw no_more refl; again = rw (← same.0) (until_repeats f n bytes xs tail is) }
     by_read (Err u) is counted = absurd cc
 
-pub are_counted : {A : Type 0} (is_text : A → Bool) (f : Reader A) (n : ℕ) (bytes rest place : List ℕ) (r : Result (List A) FrameFault)
-    → passed_over (repeat_at f n bytes) ≡ Ok (tt, rest) → ended rest ≡ Ok tt → GivesAt r place (repeat_at (Judged is_text f) n bytes) → Gives r (whole (list_all is_text) (repeat_at f n bytes))
-are_counted {A} is_text f n bytes rest place r over end given = by_read (repeat_at f n bytes) refl over
+pub are_counted : {A B : Type 0} (told : List A → B) (f : Reader A) (n : ℕ) (bytes rest : List ℕ) (answer : B) → passed told (repeat_at f n bytes) ≡ Ok (answer, rest) → ended rest ≡ Ok tt
+    → IsListed f n bytes (repeat_at f n bytes)
+are_counted {A} {B} told f n bytes rest answer over end = by_read (repeat_at f n bytes) refl over
   where
-    at_end : (rest : List ℕ) → ended rest ≡ Ok tt → rest ≡ []
-    at_end [] is = refl
-    at_end (b ∷ bytes) is = absurd cc
-
-    by_read : (u : Result (List A × List ℕ) (Unit {0})) → repeat_at f n bytes ≡ u → passed_over u ≡ Ok (tt, rest) → Gives r (whole (list_all is_text) u)
+    by_read : (u : Result (List A × List ℕ) (Unit {0})) → repeat_at f n bytes ≡ u → passed told u ≡ Ok (answer, rest) → IsListed f n bytes u
     by_read (Ok (xs, tail)) is over =
-        let no_more : tail ≡ [] = (same_pair tt tt tail rest over).1 ∙ at_end rest end in
-        let P : Result (List A × List ℕ) FrameFault → Type 0 = λ read. GivesAt r place read in
-        rw no_more (forget_place (list_all is_text) r xs place tail (subst P (repeat_repeats is_text f n bytes xs tail is) given))
+        let no_more : tail ≡ [] = (same_pair (told xs) answer tail rest over).1 ∙ at_end rest end in
+        record { items = xs; after = tail; all = rw no_more refl; again = is }
     by_read (Err u) is over = absurd cc
+
+-- so passing over it doesn't fail
+pub passes : {A B : Type 0} {f : Reader A} {count : ℕ} {bytes : List ℕ} {read : Result (List A × List ℕ) (Unit {0})} → IsListed f count bytes read → (told : List A → B) (e : FrameFault)
+    → passed told (repeat_at f count bytes) ≡ Err e → ⊥
+passes {A} {B} {f} {count} {bytes} {read} l told e failed =
+    let read_again : passed told (repeat_at f count bytes) ≡ Ok (told l.items, l.after) = ap (λ (r : Result (List A × List ℕ) (Unit {0})). passed told r) l.again in
+    absurd cc
+
+-- and tells its texts
+pub judges : {A : Type 0} (is_text : A → Bool) {f : Reader A} {count : ℕ} {bytes : List ℕ} {read : Result (List A × List ℕ) (Unit {0})} → (l : IsListed f count bytes read) → (t : Bool) (rest : List ℕ)
+    → passed (list_all is_text) (repeat_at f count bytes) ≡ Ok (t, rest) → whole (list_all is_text) read ≡ cond t (Ok l.items) (Err NotUtf8)
+judges {A} is_text {f} {count} {bytes} {read} l t rest over =
+    let read_again : passed (list_all is_text) (repeat_at f count bytes) ≡ Ok (list_all is_text l.items, l.after) = ap (λ (r : Result (List A × List ℕ) (Unit {0})). passed (list_all is_text) r) l.again in
+    let told : list_all is_text l.items ≡ t = (same_pair (list_all is_text l.items) t l.after rest (sym read_again ∙ over)).0 in
+    rw (l.all, told) refl
+
+pub are_items : {A : Type 0} (is_text : A → Bool) {f : Reader A} {count : ℕ} {bytes : List ℕ} {read : Result (List A × List ℕ) (Unit {0})} → (l : IsListed f count bytes read) → (place : List ℕ) (r : Result (List A) FrameFault)
+    → GivesAt r place (repeat_at (Judged is_text f) count bytes) → Gives r (whole (list_all is_text) read)
+are_items {A} is_text {f} {count} {bytes} {read} l place r given =
+    let P : Result (List A × List ℕ) FrameFault → Type 0 = λ read. GivesAt r place read in
+    let Q : Result (List A × List ℕ) (Unit {0}) → Type 0 = λ read. Gives r (whole (list_all is_text) read) in
+    subst Q (sym l.all) (forget_place (list_all is_text) r l.items place l.after (subst P (repeat_repeats is_text f count bytes l.items l.after l.again) given))
 
 -- ---- one more passed over
 
-pub passes_on : {A : Type 0} (f : Reader A) (count i : ℕ) (bytes rest : List ℕ) (total : Result (Unit {0} × List ℕ) FrameFault) → i < count → passed_over (f bytes) ≡ Ok (tt, rest)
-    → passed_over (repeat_at f (count - i) bytes) ≡ total → passed_over (repeat_at f (count - (i + 1)) rest) ≡ total
+-- so far t, and then whether all the others' texts are right
+abbrev pub judged_on : {A : Type 0} → (A → Bool) → Bool → Result (List A × List ℕ) (Unit {0}) → Result (Bool × List ℕ) FrameFault
+judged_on is_text t read = passed (λ xs. t && list_all is_text xs) read
+
+pub passes_on : {A : Type 0} (is_text : A → Bool) (f : Reader A) (t u : Bool) (count i : ℕ) (bytes rest : List ℕ) (total : Result (Bool × List ℕ) FrameFault) → i < count → passed is_text (f bytes) ≡ Ok (u, rest)
+    → judged_on is_text t (repeat_at f (count - i) bytes) ≡ total → judged_on is_text (t && u) (repeat_at f (count - (i + 1)) rest) ≡ total
 unfolding repeat_at
-passes_on {A} f count i bytes rest total lt over so_far =
+passes_on {A} is_text f t u count i bytes rest total lt over so_far =
     let k = one_less count i lt in
-    let one : passed_over (repeat_at f (count - i) bytes) ≡ passed_over (repeat_at f (count - (i + 1)) rest) = rw k (by_first (f bytes) over) in
+    let one : judged_on is_text t (repeat_at f (count - i) bytes) ≡ judged_on is_text (t && u) (repeat_at f (count - (i + 1)) rest) = rw k (by_first (f bytes) over) in
     sym one ∙ so_far
   where
-    longer : (x : A) (r : Result (List A × List ℕ) (Unit {0})) → passed_over (r >>= λ others. Ok (x ∷ others.0, others.1)) ≡ passed_over r
-    longer x (Ok y) = refl
+    regrouped : (t u v : Bool) → (t && (u && v)) ≡ ((t && u) && v)
+    regrouped true u v = refl
+    regrouped false u v = refl
+
+    longer : (x : A) (r : Result (List A × List ℕ) (Unit {0})) → judged_on is_text t (r >>= λ others. Ok (x ∷ others.0, others.1)) ≡ judged_on is_text (t && is_text x) r
+    longer x (Ok y) = ap (λ (b : Bool). Ok (b, y.1)) (regrouped t (is_text x) (list_all is_text y.0))
     longer x (Err u) = refl
 
-    by_first : (r : Result (A × List ℕ) (Unit {0})) → passed_over r ≡ Ok (tt, rest)
-        → passed_over (r >>= λ first. repeat_at f (count - (i + 1)) first.1 >>= λ others. Ok (first.0 ∷ others.0, others.1)) ≡ passed_over (repeat_at f (count - (i + 1)) rest)
+    by_first : (r : Result (A × List ℕ) (Unit {0})) → passed is_text r ≡ Ok (u, rest)
+        → judged_on is_text t (r >>= λ first. repeat_at f (count - (i + 1)) first.1 >>= λ others. Ok (first.0 ∷ others.0, others.1)) ≡ judged_on is_text (t && u) (repeat_at f (count - (i + 1)) rest)
     by_first (Ok (x, tail)) is =
-        let same : tail ≡ rest = (same_pair tt tt tail rest is).1 in
-        rw same (longer x (repeat_at f (count - (i + 1)) rest))
-    by_first (Err u) is = absurd cc
+        let same = same_pair (is_text x) u tail rest is in
+        rw (← same.0, same.1) (longer x (repeat_at f (count - (i + 1)) rest))
+    by_first (Err e) is = absurd cc
 
-pub passing_fails : {A : Type 0} (d : FrameFault) (f : Reader A) (count i : ℕ) (bytes : List ℕ) (total : Result (Unit {0} × List ℕ) FrameFault) → i < count → Fails d (passed_over (f bytes))
-    → passed_over (repeat_at f (count - i) bytes) ≡ total → Fails d total
+pub passing_fails : {A : Type 0} (is_text : A → Bool) (d : FrameFault) (f : Reader A) (t : Bool) (count i : ℕ) (bytes : List ℕ) (total : Result (Bool × List ℕ) FrameFault) → i < count → passed is_text (f bytes) ≡ Err d
+    → judged_on is_text t (repeat_at f (count - i) bytes) ≡ total → total ≡ Err d
 unfolding repeat_at
-passing_fails {A} d f count i bytes total lt failed so_far =
-    let P : Result (Unit {0} × List ℕ) FrameFault → Type 0 = λ r. Fails d r in
+passing_fails {A} is_text d f t count i bytes total lt failed so_far =
     let k = one_less count i lt in
-    let one : Fails d (passed_over (repeat_at f (count - i) bytes)) = rw k (by_first d (f bytes) failed) in
-    subst P so_far one
-  where
-    by_first : (d : FrameFault) (r : Result (A × List ℕ) (Unit {0})) → Fails d (passed_over r)
-        → Fails d (passed_over (r >>= λ first. repeat_at f (count - (i + 1)) first.1 >>= λ others. Ok (first.0 ∷ others.0, others.1)))
-    by_first BadLength (Ok x) is = absurd cc
-    by_first BadVersion (Ok x) is = absurd cc
-    by_first UnknownType (Ok x) is = absurd cc
-    by_first BadBody (Ok x) is = absurd cc
-    by_first NotUtf8 (Ok x) is = absurd cc
-    by_first TooLong (Ok x) is = absurd cc
-    by_first Memory (Ok x) is = tt
-    by_first d (Err u) is = is
-
-pub all_passed : {A : Type 0} (f : Reader A) (count i : ℕ) (bytes : List ℕ) (total : Result (Unit {0} × List ℕ) FrameFault) → count ≤ i
-    → passed_over (repeat_at f (count - i) bytes) ≡ total → total ≡ Ok (tt, bytes)
-unfolding repeat_at
-all_passed f count i bytes total le so_far =
-    let k : count - i ≡ 0 = omega arith in
-    let one : passed_over (repeat_at f (count - i) bytes) ≡ Ok (tt, bytes) = rw k refl in
+    let one : judged_on is_text t (repeat_at f (count - i) bytes) ≡ Err d = rw k (by_first (f bytes) failed) in
     sym so_far ∙ one
+  where
+    by_first : (r : Result (A × List ℕ) (Unit {0})) → passed is_text r ≡ Err d
+        → judged_on is_text t (r >>= λ first. repeat_at f (count - (i + 1)) first.1 >>= λ others. Ok (first.0 ∷ others.0, others.1)) ≡ Err d
+    by_first (Ok x) is = absurd cc
+    by_first (Err u) is = cc
+
+pub all_passed : {A : Type 0} (is_text : A → Bool) (f : Reader A) (t : Bool) (count i : ℕ) (bytes : List ℕ) (total : Result (Bool × List ℕ) FrameFault) → count ≤ i
+    → judged_on is_text t (repeat_at f (count - i) bytes) ≡ total → total ≡ Ok (t, bytes)
+unfolding repeat_at
+all_passed is_text f t count i bytes total le so_far =
+    let k : count - i ≡ 0 = omega arith in
+    let one : judged_on is_text t (repeat_at f (count - i) bytes) ≡ Ok (t, bytes) = rw k (ap (λ (b : Bool). Ok (b, bytes)) (alone t)) in
+    sym so_far ∙ one
+  where
+    alone : (t : Bool) → (t && true) ≡ t
+    alone true = refl
+    alone false = refl
 
 bad : (A B : Type 0) (d : FrameFault) → Fails {Y = A} d (Err BadBody) → Fails {Y = B} d (Err BadBody)
 bad A B BadLength is = absurd cc

@@ -9,10 +9,10 @@ use Rattle.std.proofs.lemmas.List.{take_at, drop_at, take-append-drop, take-appe
 use Rattle.pqformat.specs.Fields.{int32, string, has_zero, bytes_at, number_at}
 use Rattle.pqformat.specs.Steps.{◌>>=◌, closed}
 use Rattle.frames.specs.Body.{checked, always, nothing_at, starts}
-use Rattle.frames.specs.Frame.{Fits, HasBody, Fails, Gives, whole_of, IsWhole}
+use Rattle.frames.specs.Frame.{Fits, HasBody, Fails, Gives, whole_of, IsKept}
 use Rattle.frames.specs.Plain.{backend_key, backend_key_at}
 use Rattle.frames.specs.Parameter.{parameter, parameter_at, is_empty, FitsParameter, is_parameter_text}
-use Rattle.frames.specs.Startup.{startup, startup_number, startup_body, IsShapedStartup, is_startup_text, SpellsStartup, startup_limit, is_length, lengthy, numbered, numbered_at, headed_at, raw_startup, parameters_at, startup_at, framed_startup, IsStartupFault}
+use Rattle.frames.specs.Startup.{startup, startup_number, startup_body, IsShapedStartup, is_startup_text, startup_needs_memory, SpellsStartup, startup_limit, is_length, lengthy, numbered, numbered_at, headed_at, raw_startup, parameters_at, startup_at, framed_startup, IsStartupFault}
 use Rattle.frames.specs.declared.parameter.Parameter.{Parameter}
 use Rattle.frames.specs.declared.startup.Startup.{Startup}
 use Rattle.frames.specs.declared.startup.Startup.TheVariants.{Session, Ssl, Gss, Cancel}
@@ -23,6 +23,7 @@ use Rattle.pqformat.proofs.Codec.{IsBytes, IsBytes-take, bind_ok, found_some, so
 use Rattle.pqformat.proofs.Numbers.{number32, string_codec, nothing_codec, bytes_codec, length-int32}
 use Rattle.frames.proofs.Cases.{Body, Cases, body_of_codec, case, no_case, whole_again, made}
 use Rattle.frames.proofs.Lists.{Starting, until_body}
+use Rattle.frames.proofs.Steps.{kept_is_whole, kept_body}
 use Rattle.frames.proofs.Frames.{went_on, mapped, failed, number_there, bytes_there, still_waits}
 
 -- ---- bodies
@@ -265,10 +266,10 @@ is_only bytes r given text rest f spells parts =
     let P : Result (Option (Startup × ℕ)) FrameFault → Type 0 = λ read. Gives r read in
     subst P (ap framed_startup parts ∙ reads_again text rest f spells) given
 
-pub is_waiting : (bytes : List ℕ) (r : Result (Option (Startup × ℕ)) FrameFault) → Gives r (framed_startup bytes) → (r ≡ Err Memory → IsWhole (raw_startup bytes))
+pub is_waiting : (bytes : List ℕ) (r : Result (Option (Startup × ℕ)) FrameFault) → Gives r (framed_startup bytes) → (r ≡ Err Memory → IsKept startup_needs_memory (framed_startup bytes))
     → (text more : List ℕ) (f : Startup) → SpellsStartup text f → text ≡ bytes ++ more → length bytes < length text → r ≡ Ok None
 is_waiting bytes r given memory text more f spells parts less =
-    still_waits (raw_startup bytes) (λ raw. whole_of startup_at raw) r given memory refl
+    still_waits (raw_startup bytes) (λ raw. whole_of startup_at raw) r given (λ h. kept_is_whole startup_needs_memory startup_at (raw_startup bytes) (memory h)) refl
     (raw_waits (startup_number f) (startup_body f) bytes more (is_allowed f spells.short) (sym spells.text ∙ parts)
     (omega (arith, length-startup (startup_number f) (startup_body f), ap length spells.text)))
 
@@ -344,7 +345,7 @@ none_has number body bad f has =
     never_bad true is = absurd cc
     never_bad false is = absurd cc
 
-pub is_fault : (bytes : List ℕ) (r : Result (Option (Startup × ℕ)) FrameFault) → IsBytes bytes → Gives r (framed_startup bytes) → (r ≡ Err Memory → IsWhole (raw_startup bytes))
+pub is_fault : (bytes : List ℕ) (r : Result (Option (Startup × ℕ)) FrameFault) → IsBytes bytes → Gives r (framed_startup bytes) → (r ≡ Err Memory → IsKept startup_needs_memory (framed_startup bytes))
     → IfErr r (λ e. IsStartupFault e bytes)
 is_fault bytes (Ok o) fits given memory = tt
 is_fault bytes (Err e) fits given memory = by_fault e given memory
@@ -386,21 +387,23 @@ is_fault bytes (Err e) fits given memory = by_fault e given memory
         let refused = alone raw.1 e (startup_at raw.0.0 raw.0.1) read in
         by_body raw e t refused (startup_cases.fails raw.0.0 t.most raw.0.1 e t.body_fits t.allowed refused)
 
-    is_whole : (x : Result (Option ((ℕ × List ℕ) × ℕ)) FrameFault) → raw_startup bytes ≡ x → IsWhole x → IsStartupFault Memory bytes
-    is_whole (Ok (Some raw)) is came =
+    by_kept : (x : Result (Option ((ℕ × List ℕ) × ℕ)) FrameFault) → raw_startup bytes ≡ x → IsKept startup_needs_memory (x >>= λ raw. whole_of startup_at raw) → IsStartupFault Memory bytes
+    by_kept (Ok (Some raw)) is kept =
         let t = raw_takes bytes raw.0.0 raw.0.1 raw.1 fits is in
-        (raw.0.0, t.most, raw.0.1, t.rest, t.allowed, t.within, t.text, tt)
-    is_whole (Ok None) is came = absurd came
-    is_whole (Err d) is came = absurd came
+        let f = kept_body startup_needs_memory (startup_at raw.0.0 raw.0.1) raw.1 kept in
+        let b = startup_cases.takes raw.0.0 raw.0.1 f.0 t.body_fits f.1 in
+        (raw.0.0, t.most, raw.0.1, t.rest, t.allowed, t.within, t.text, (f.0, b.0, b.1, f.2))
+    by_kept (Ok None) is kept = absurd kept
+    by_kept (Err d) is kept = absurd kept
 
-    by_fault : (e : FrameFault) → Fails e (framed_startup bytes) → (failed Startup e ≡ Err Memory → IsWhole (raw_startup bytes)) → IsStartupFault e bytes
+    by_fault : (e : FrameFault) → Fails e (framed_startup bytes) → (failed Startup e ≡ Err Memory → IsKept startup_needs_memory (framed_startup bytes)) → IsStartupFault e bytes
     by_fault BadLength given memory = by_raw BadLength (raw_startup bytes) refl given
     by_fault BadVersion given memory = by_raw BadVersion (raw_startup bytes) refl given
     by_fault UnknownType given memory = by_raw UnknownType (raw_startup bytes) refl given
     by_fault BadBody given memory = by_raw BadBody (raw_startup bytes) refl given
     by_fault NotUtf8 given memory = by_raw NotUtf8 (raw_startup bytes) refl given
     by_fault TooLong given memory = by_raw TooLong (raw_startup bytes) refl given
-    by_fault Memory given memory = is_whole (raw_startup bytes) refl (memory refl)
+    by_fault Memory given memory = by_kept (raw_startup bytes) refl (memory refl)
 
 -- of two startups that begin the same bytes one is the other
 pub same_startup : (a b x y : List ℕ) (f g : Startup) → SpellsStartup a f → SpellsStartup b g → a ++ x ≡ b ++ y → (a ≡ b) × (f ≡ g) × (x ≡ y)

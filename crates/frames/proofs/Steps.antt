@@ -1,11 +1,12 @@
 -- The steps in which a function reads a frame, over any set of them: what each of its answers says of the whole.
-use Rattle.std.proofs.Common.{◌≡◌, ℕ, List, [], ◌∷◌, Option, Some, None, Result, Ok, Err, refl, sym, ap, ◌∙◌}
+use Rattle.std.proofs.Common.{◌≡◌, ℕ, Bool, true, List, [], ◌∷◌, Option, Some, None, Result, Ok, Err, refl, sym, ap, ◌∙◌}
+use Rattle.std.specs.Prelude.{IsOkAnd}
 use Rattle.pqformat.specs.Fields.{byte_at}
 use Rattle.pqformat.specs.Steps.{◌>>=◌}
 use Rattle.pqformat.proofs.Codec.{some_is}
 use Rattle.frames.specs.declared.fault.FrameFault.{FrameFault}
 use Rattle.frames.specs.declared.fault.FrameFault.TheVariants.{BadLength, BadVersion, UnknownType, BadBody, NotUtf8, TooLong, Memory}
-use Rattle.frames.specs.Frame.{Fails, with_kind, body_at, raw_at, whole_of, framed_at, IsWhole}
+use Rattle.frames.specs.Frame.{Fails, with_kind, body_at, raw_at, whole_of, framed_at, IsWhole, IsKept}
 
 -- what fails, fails whatever would have followed
 pub fails_on : {A B : Type 0} (e : FrameFault) (r : Result A FrameFault) (f : A → Result B FrameFault) → Fails e r → Fails e (r >>= f)
@@ -65,6 +66,27 @@ pub framed : {F : Type 0} (limit : ℕ → Option ℕ) (of : ℕ → List ℕ �
     → raw_at limit bytes ≡ Ok (Some ((kind, body), size)) → of kind body ≡ Ok f → framed_at limit of bytes ≡ Ok (Some (f, size))
 framed limit of bytes kind body size f there is = rw (there, is) refl
 
--- a body that stands there whole
-pub is_whole : (limit : ℕ → Option ℕ) (bytes : List ℕ) (raw : (ℕ × List ℕ) × ℕ) → raw_at limit bytes ≡ Ok (Some raw) → IsWhole (raw_at limit bytes)
-is_whole limit bytes raw there = rw there tt
+-- a frame that needs memory stands there whole
+pub is_kept : {F : Type 0} (needs_memory : F → Bool) (of : ℕ → List ℕ → Result F FrameFault) (read : Result (Option ((ℕ × List ℕ) × ℕ)) FrameFault) (raw : (ℕ × List ℕ) × ℕ)
+    → read ≡ Ok (Some raw) → IsOkAnd (of raw.0.0 raw.0.1) (λ f. needs_memory f ≡ true) → IsKept needs_memory (read >>= λ raw. whole_of of raw)
+is_kept {F} needs_memory of read raw there right = rw there (by_body (of raw.0.0 raw.0.1) right)
+  where
+    by_body : (r : Result F FrameFault) → IsOkAnd r (λ f. needs_memory f ≡ true) → IsKept needs_memory (r >>= λ f. Ok (Some (f, raw.1)))
+    by_body (Ok f) right = right
+    by_body (Err e) right = absurd right
+
+pub kept_is_whole : {F : Type 0} (needs_memory : F → Bool) (of : ℕ → List ℕ → Result F FrameFault) (read : Result (Option ((ℕ × List ℕ) × ℕ)) FrameFault) → IsKept needs_memory (read >>= λ raw. whole_of of raw) → IsWhole read
+kept_is_whole needs_memory of (Ok (Some raw)) kept = tt
+kept_is_whole needs_memory of (Ok None) kept = absurd kept
+kept_is_whole needs_memory of (Err e) kept = absurd kept
+
+-- the body of a frame that needs memory
+pub kept_body : {F : Type 0} (needs_memory : F → Bool) (r : Result F FrameFault) (n : ℕ) → IsKept needs_memory (r >>= λ f. Ok (Some (f, n))) → (f : F) × (r ≡ Ok f) × (needs_memory f ≡ true)
+kept_body needs_memory (Ok f) n kept = (f, refl, kept)
+kept_body needs_memory (Err e) n kept = absurd kept
+
+-- a fault that a step answers for want of memory, and the whole too
+pub still_memory : (A B : Type 0) (e : FrameFault) → failed B e ≡ Err Memory → failed A e ≡ Err Memory
+still_memory A B e h =
+    let same : e ≡ Memory = cc in
+    ap (λ (d : FrameFault). failed A d) same

@@ -86,6 +86,14 @@ is_back_text (RowDescription m) = list_all is_column_text m.columns
 is_back_text (ErrorResponse m) = list_all is_error_text m.fields
 is_back_text _ = true
 
+-- Four frames hold nothing to keep; the others hold texts, bytes or a list.
+abbrev pub back_needs_memory : Back → Bool
+back_needs_memory AuthenticationOk = false
+back_needs_memory (BackendKeyData m) = false
+back_needs_memory (ReadyForQuery m) = false
+back_needs_memory CopyDone = false
+back_needs_memory _ = true
+
 abbrev pub FitsBack : Back → Type 0
 FitsBack f = Fits IsShapedBack is_back_text f
 
@@ -140,4 +148,4 @@ framed_back bytes = framed_at back_limit back_at bytes
 
 -- a fault that stands in the bytes
 abbrev pub IsBackFault : FrameFault → List ℕ → Type 0
-IsBackFault e bytes = StandsAt back_limit back_kind back_body IsShapedBack is_back_text e bytes
+IsBackFault e bytes = StandsAt back_limit back_kind back_body IsShapedBack is_back_text back_needs_memory e bytes

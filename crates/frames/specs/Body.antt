@@ -42,10 +42,12 @@ abbrev pub passed : {X Y : Type 0} → (X → Y) → Result (X × List ℕ) (Uni
 passed told (Ok x) = Ok (told x.0, x.1)
 passed told (Err u) = Err BadBody
 
-abbrev pub passed_over : {X : Type 0} → Result (X × List ℕ) (Unit {0}) → Result (Unit {0} × List ℕ) FrameFault
-passed_over read = passed (λ _. tt) read
+-- A call that answers what reading gives, and has moved past it. It takes no memory.
+abbrev pub ReadsAt : {X : Type 0} → Result X FrameFault → List ℕ → Result (X × List ℕ) FrameFault → Type 0
+ReadsAt (Ok x) rest read = read ≡ Ok (x, rest)
+ReadsAt (Err e) rest read = read ≡ Err e
 
--- A call that answers what reading gives, and has moved past it, unless memory ran out.
+-- The same, unless memory ran out.
 abbrev pub GivesAt : {X : Type 0} → Result X FrameFault → List ℕ → Result (X × List ℕ) FrameFault → Type 0
 GivesAt (Ok x) rest read = read ≡ Ok (x, rest)
 GivesAt (Err e) rest read = Fails e read

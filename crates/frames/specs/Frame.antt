@@ -76,6 +76,12 @@ IsWhole (Ok (Some f)) = Unit {0}
 IsWhole (Ok None) = ⊥
 IsWhole (Err e) = ⊥
 
+-- a frame that stands there whole, and for which memory is needed
+abbrev pub IsKept : {F : Type 0} → (F → Bool) → Result (Option (F × ℕ)) FrameFault → Type 0
+IsKept needs_memory (Ok (Some f)) = needs_memory f.0 ≡ true
+IsKept needs_memory (Ok None) = ⊥
+IsKept needs_memory (Err e) = ⊥
+
 -- ---- Where a fault stands.
 
 -- f has this type byte and this body, whether its texts are UTF-8 or not
@@ -90,13 +96,13 @@ BeginsWith limit bytes Holds = (kind most n : ℕ) × (rest : List ℕ) × (limi
 abbrev pub HoldsBody : (ℕ → Option ℕ) → List ℕ → (ℕ → List ℕ → Type 0) → Type 0
 HoldsBody limit bytes Holds = (kind most : ℕ) × (body rest : List ℕ) × (limit kind ≡ Some most) × (4 + length body ≤ most) × (bytes ≡ frame kind body ++ rest) × Holds kind body
 
--- A bad body is no frame's, whatever its texts; one that isn't UTF-8 is that of a frame but for its texts. No regular
--- frame has a version.
-abbrev pub StandsAt : {F : Type 0} → (ℕ → Option ℕ) → (F → ℕ) → (F → List ℕ) → (F → Type 0) → (F → Bool) → FrameFault → List ℕ → Type 0
-StandsAt limit kind_of body_of Shaped is_text UnknownType bytes = (kind : ℕ) × (rest : List ℕ) × (bytes ≡ kind ∷ rest) × (limit kind ≡ None)
-StandsAt limit kind_of body_of Shaped is_text BadLength bytes = BeginsWith limit bytes (λ most n. n < 4)
-StandsAt limit kind_of body_of Shaped is_text TooLong bytes = BeginsWith limit bytes (λ most n. most < n)
-StandsAt {F} limit kind_of body_of Shaped is_text BadBody bytes = HoldsBody limit bytes (λ kind body. (f : F) → HasBody kind_of body_of Shaped kind body f → ⊥)
-StandsAt {F} limit kind_of body_of Shaped is_text NotUtf8 bytes = HoldsBody limit bytes (λ kind body. (f : F) × HasBody kind_of body_of Shaped kind body f × (is_text f ≡ false))
-StandsAt limit kind_of body_of Shaped is_text Memory bytes = HoldsBody limit bytes (λ kind body. Unit {0})
-StandsAt limit kind_of body_of Shaped is_text BadVersion bytes = ⊥
+-- A bad body is no frame's, whatever its texts; one that isn't UTF-8 is that of a frame but for its texts; and for want of
+-- memory only what is spelled rightly is refused, where it needs memory. No regular frame has a version.
+abbrev pub StandsAt : {F : Type 0} → (ℕ → Option ℕ) → (F → ℕ) → (F → List ℕ) → (F → Type 0) → (F → Bool) → (F → Bool) → FrameFault → List ℕ → Type 0
+StandsAt limit kind_of body_of Shaped is_text needs_memory UnknownType bytes = (kind : ℕ) × (rest : List ℕ) × (bytes ≡ kind ∷ rest) × (limit kind ≡ None)
+StandsAt limit kind_of body_of Shaped is_text needs_memory BadLength bytes = BeginsWith limit bytes (λ most n. n < 4)
+StandsAt limit kind_of body_of Shaped is_text needs_memory TooLong bytes = BeginsWith limit bytes (λ most n. most < n)
+StandsAt {F} limit kind_of body_of Shaped is_text needs_memory BadBody bytes = HoldsBody limit bytes (λ kind body. (f : F) → HasBody kind_of body_of Shaped kind body f → ⊥)
+StandsAt {F} limit kind_of body_of Shaped is_text needs_memory NotUtf8 bytes = HoldsBody limit bytes (λ kind body. (f : F) × HasBody kind_of body_of Shaped kind body f × (is_text f ≡ false))
+StandsAt {F} limit kind_of body_of Shaped is_text needs_memory Memory bytes = HoldsBody limit bytes (λ kind body. (f : F) × HasBody kind_of body_of Shaped kind body f × (is_text f ≡ true) × (needs_memory f ≡ true))
+StandsAt limit kind_of body_of Shaped is_text needs_memory BadVersion bytes = ⊥

@@ -45,6 +45,12 @@ is_front_text (Query m) = is_utf8 m.text
 is_front_text (CopyFail m) = is_utf8 m.reason
 is_front_text _ = true
 
+-- Terminate and CopyDone hold nothing to keep; the others hold a text or bytes.
+abbrev pub front_needs_memory : Front → Bool
+front_needs_memory Terminate = false
+front_needs_memory CopyDone = false
+front_needs_memory _ = true
+
 abbrev pub FitsFront : Front → Type 0
 FitsFront f = Fits IsShapedFront is_front_text f
 
@@ -82,4 +88,4 @@ framed_front bytes = framed_at front_limit front_at bytes
 
 -- a fault that stands in the bytes
 abbrev pub IsFrontFault : FrameFault → List ℕ → Type 0
-IsFrontFault e bytes = StandsAt front_limit front_kind front_body IsShapedFront is_front_text e bytes
+IsFrontFault e bytes = StandsAt front_limit front_kind front_body IsShapedFront is_front_text front_needs_memory e bytes

@@ -19,6 +19,11 @@ as_value (Ok None) = Ok Null
 as_value (Ok (Some bytes)) = Ok (Bytes bytes.now)
 as_value (Err e) = Err e
 
+-- a text as a reader lends it
+abbrev pub as_text : Result (Bor (List ℕ)) FrameFault → Result (List ℕ) FrameFault
+as_text (Ok text) = Ok text.now
+as_text (Err e) = Err e
+
 -- a string as a reader lends it
 abbrev pub as_bytes : Result (Bor (List ℕ)) FrameFault → Result (List ℕ) FrameFault
 as_bytes (Ok bytes) = Ok bytes.now

@@ -42,6 +42,11 @@ abbrev pub is_startup_text : Startup → Bool
 is_startup_text (Session parameters) = list_all is_parameter_text parameters
 is_startup_text _ = true
 
+-- Parameters are to be kept; a request holds two numbers at most.
+abbrev pub startup_needs_memory : Startup → Bool
+startup_needs_memory (Session parameters) = true
+startup_needs_memory _ = false
+
 -- The bytes are the one spelling of the startup, within the limit.
 pub record SpellsStartup (bytes : List ℕ) (f : Startup) : Type 0 where
   pub in_range : Fits IsShapedStartup is_startup_text f
@@ -119,5 +124,5 @@ IsStartupFault TooLong bytes = BeginsWithLength bytes (λ n rest. STARTUP_LIMIT 
 IsStartupFault BadVersion bytes = BeginsWithLength bytes (λ n rest. (number : ℕ) × (more : List ℕ) × (rest ≡ int32 number ++ more) × (startup_limit number ≡ None))
 IsStartupFault BadBody bytes = HoldsStartup bytes (λ number body. (f : Startup) → HasBody startup_number startup_body IsShapedStartup number body f → ⊥)
 IsStartupFault NotUtf8 bytes = HoldsStartup bytes (λ number body. (f : Startup) × HasBody startup_number startup_body IsShapedStartup number body f × (is_startup_text f ≡ false))
-IsStartupFault Memory bytes = HoldsStartup bytes (λ number body. Unit {0})
+IsStartupFault Memory bytes = HoldsStartup bytes (λ number body. (f : Startup) × HasBody startup_number startup_body IsShapedStartup number body f × (is_startup_text f ≡ true) × (startup_needs_memory f ≡ true))
 IsStartupFault UnknownType bytes = ⊥

@@ -2,7 +2,6 @@
 
 ghost use Rattle.std.specs.Prelude.{◌≡◌};
 ghost use Rattle.frames.specs.Body.{whole, always};
-ghost use Rattle.frames.specs.Frame.{Gives};
 ghost use Rattle.frames.specs.Plain.{authentication_at};
 
 use crate::body::end_of;
@@ -18,7 +17,7 @@ use pqformat::Cursor;
 pub const AUTHENTICATION: u8 = b'R';
 
 pub(crate) fn authentication_of(body: &[u8]) -> Result<u32, FrameFault>
-    ensures { Gives result (whole always (authentication_at body.now)) }
+    ensures { result ≡ whole always (authentication_at body.now) }
 {
     let mut cursor = Cursor::new(body);
     let asked = int32(&mut cursor)?;

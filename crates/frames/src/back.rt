@@ -1,9 +1,9 @@
 //! The frames that the server sends: the enum over them, its reader and its writer.
 
-ghost use Rattle.std.specs.Prelude.{◌≡◌, ◌<◌, ◌≤◌, ◌++◌, List, ℕ, length, take, Ok, Err, Some, None, IfOk, IfErr, IfSome, OnOk, OnErr};
-ghost use Rattle.frames.specs.Frame.{FitsLength, frame, Gives, IsWhole, raw_at};
+ghost use Rattle.std.specs.Prelude.{◌≡◌, ◌<◌, ◌≤◌, ◌++◌, List, ℕ, length, take, true, Ok, Err, Some, None, IsOkAnd, IfOk, IfErr, IfSome, OnOk, OnErr};
+ghost use Rattle.frames.specs.Frame.{FitsLength, frame, Gives, IsKept};
 ghost use Rattle.pqformat.specs.Putting.{Puts};
-ghost use Rattle.frames.specs.Back.{back_kind, back_body, back_limit, back_at, list_at, framed_back, SpellsBack, IsShortBack, IsBackFault, HasCounts};
+ghost use Rattle.frames.specs.Back.{back_kind, back_body, back_limit, back_needs_memory, back_at, list_at, framed_back, SpellsBack, IsShortBack, IsBackFault, HasCounts};
 
 use crate::authentication_ok::{AUTHENTICATION, authentication_of};
 use crate::backend_key_data::{BACKEND_KEY_DATA, BackendKeyData, backend_key_of, put_backend_key};
@@ -49,7 +49,8 @@ pub enum Back {
 /// The frame at the front of the bytes, and how many of them it takes; None while it isn't there whole.
 ///
 /// A type byte that no frame has is F3 at once; a length under 4 is F1, and one over the limit of its frames F6, as
-/// soon as it is there; F7 is answered only where a whole frame stands.
+/// soon as it is there; F4 and F5 are judged once the frame is there whole, and F7 is answered only where a frame stands
+/// that is right and needs memory.
 pub fn read_back(alloc: Global, bytes: &[u8]) -> Result<Option<(Back, usize)>, FrameFault>
     // What is read stands at the front, spelled so.
     ensures found { IfOk result (λ o. IfSome o (λ x. (x.1 ≤ length bytes.now) × SpellsBack (take x.1 bytes.now) x.0 × IsShortBack x.0)) }
@@ -63,13 +64,15 @@ pub fn read_back(alloc: Global, bytes: &[u8]) -> Result<Option<(Back, usize)>, F
     ensures fault { IfErr result (λ e. IsBackFault e bytes.now) }
     // Which fault it is, in the order in which the bytes are judged.
     ensures exact { Gives result (framed_back bytes.now) }
+    // Want of memory is answered only where nothing else is, and a frame stands that needs it.
+    ensures memory { result ≡ Err FrameFault.Memory → IsKept back_needs_memory (framed_back bytes.now) }
 {
     back_of(alloc, bytes)
 }
 
 fn back_of(alloc: Global, bytes: &[u8]) -> Result<Option<(Back, usize)>, FrameFault>
     ensures exact { Gives result (framed_back bytes.now) }
-    ensures memory { result ≡ Err FrameFault.Memory → IsWhole (raw_at back_limit bytes.now) }
+    ensures memory { result ≡ Err FrameFault.Memory → IsKept back_needs_memory (framed_back bytes.now) }
 {
     let mut cursor = Cursor::new(bytes);
     let Some(kind) = cursor.u8() else {
@@ -103,7 +106,8 @@ fn limit_of(kind: u8) -> Option<u32>
 
 #[tactic(auto, unfolding(crate::specs::Back::back_at))]
 fn whole_of(alloc: Global, kind: u8, body: &[u8]) -> Result<Back, FrameFault>
-    ensures { Gives result (back_at kind body.now) }
+    ensures exact { Gives result (back_at kind body.now) }
+    ensures memory { result ≡ Err FrameFault.Memory → IsOkAnd (back_at kind body.now) (λ f. back_needs_memory f ≡ true) }
 {
     match kind {
         AUTHENTICATION => {
@@ -133,7 +137,8 @@ fn whole_of(alloc: Global, kind: u8, body: &[u8]) -> Result<Back, FrameFault>
 /// The frames that are a list.
 #[tactic(auto, unfolding(crate::specs::Back::list_at))]
 fn list_of(alloc: Global, kind: u8, body: &[u8]) -> Result<Back, FrameFault>
-    ensures { Gives result (list_at kind body.now) }
+    ensures exact { Gives result (list_at kind body.now) }
+    ensures memory { result ≡ Err FrameFault.Memory → IsOkAnd (list_at kind body.now) (λ f. back_needs_memory f ≡ true) }
 {
     match kind {
         ROW_DESCRIPTION => {

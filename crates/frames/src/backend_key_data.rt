@@ -2,7 +2,6 @@
 
 ghost use Rattle.std.specs.Prelude.{◌≡◌};
 ghost use Rattle.frames.specs.Body.{whole, always};
-ghost use Rattle.frames.specs.Frame.{Gives};
 ghost use Rattle.frames.specs.Plain.{backend_key, backend_key_at};
 ghost use Rattle.pqformat.specs.Putting.{Puts};
 
@@ -30,7 +29,7 @@ pub struct BackendKeyData {
 /// The process and the key; a CancelRequest has the same two.
 #[tactic(auto, unfolding(crate::specs::Plain::backend_key_at))]
 pub(crate) fn backend_key_of(body: &[u8]) -> Result<(u32, u32), FrameFault>
-    ensures { Gives result (whole always (backend_key_at body.now)) }
+    ensures { result ≡ whole always (backend_key_at body.now) }
 {
     let mut cursor = Cursor::new(body);
     let process = int32(&mut cursor)?;

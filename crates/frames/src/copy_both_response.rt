@@ -1,8 +1,8 @@
 //! CopyBothResponse, the beginning of copy mode in both directions: its type, its reader and its writer.
 
-ghost use Rattle.std.specs.Prelude.{◌≡◌, length};
+ghost use Rattle.std.specs.Prelude.{◌≡◌, Err, IsOk, length};
 ghost use Rattle.pqformat.specs.Fields.{int16};
-ghost use Rattle.frames.specs.Body.{GivesAt, checked_at, passed_over, whole, always};
+ghost use Rattle.frames.specs.Body.{GivesAt, ReadsAt, checked_at, passed, whole, always};
 ghost use Rattle.frames.specs.Frame.{Gives};
 ghost use Rattle.frames.specs.Plain.{counted_at, format_at, copy_both_at};
 ghost use Rattle.pqformat.specs.Putting.{Puts};
@@ -37,9 +37,9 @@ impl Field for u16 {
 
     ghost is_text = { always };
 
-    fn pass(cursor: &mut Cursor<'_>) -> Result<(), FrameFault> {
+    fn pass(cursor: &mut Cursor<'_>) -> Result<bool, FrameFault> {
         int16(cursor)?;
-        Ok(())
+        Ok(true)
     }
 
     fn read(_alloc: Global, cursor: &mut Cursor<'_>) -> Result<Self, FrameFault> {
@@ -66,14 +66,16 @@ impl Put for u16 {
 
 #[tactic(auto, using(crate::proofs::Lists::untested))]
 fn formats_of(alloc: Global, cursor: &mut Cursor<'_>) -> Result<Items<u16>, FrameFault>
-    ensures { Gives result (whole always (counted_at format_at cursor.old)) }
+    ensures exact { Gives result (whole always (counted_at format_at cursor.old)) }
+    ensures memory { result ≡ Err FrameFault.Memory → IsOk (whole always (counted_at format_at cursor.old)) }
 {
     counted_of(alloc, cursor)
 }
 
 #[tactic(auto, unfolding(crate::specs::Plain::copy_both_at))]
 pub(crate) fn copy_both_of(alloc: Global, body: &[u8]) -> Result<CopyBothResponse, FrameFault>
-    ensures { Gives result (whole always (copy_both_at body.now)) }
+    ensures exact { Gives result (whole always (copy_both_at body.now)) }
+    ensures memory { result ≡ Err FrameFault.Memory → IsOk (whole always (copy_both_at body.now)) }
 {
     let mut cursor = Cursor::new(body);
     let format = byte(&mut cursor)?;

@@ -1,7 +1,7 @@
 //! DataRow, the values of one row: its type, its reader and its writer.
 
-ghost use Rattle.std.specs.Prelude.{◌≡◌, length};
-ghost use Rattle.frames.specs.Body.{GivesAt, checked_at, passed_over, whole, always};
+ghost use Rattle.std.specs.Prelude.{◌≡◌, Err, IsOk, length};
+ghost use Rattle.frames.specs.Body.{GivesAt, ReadsAt, checked_at, passed, whole, always};
 ghost use Rattle.frames.specs.Frame.{Gives};
 ghost use Rattle.frames.specs.Plain.{counted_at};
 ghost use Rattle.frames.specs.Raw.{as_value};
@@ -45,7 +45,7 @@ pub enum DataValue {
 /// The bytes behind the length of a value; None: a null.
 #[tactic(auto, unfolding(crate::specs::DataRow::value_at))]
 fn lent_value<'a>(cursor: &mut Cursor<'a>) -> Result<Option<&'a [u8]>, FrameFault>
-    ensures { GivesAt (as_value result) cursor.new (checked_at always (value_at cursor.old)) }
+    ensures { ReadsAt (as_value result) cursor.new (passed (λ v. v) (value_at cursor.old)) }
 {
     let length = int32(cursor)?;
     if length == NO_LENGTH {
@@ -66,9 +66,9 @@ impl Field for DataValue {
 
     ghost is_text = { always };
 
-    fn pass(cursor: &mut Cursor<'_>) -> Result<(), FrameFault> {
+    fn pass(cursor: &mut Cursor<'_>) -> Result<bool, FrameFault> {
         lent_value(cursor)?;
-        Ok(())
+        Ok(true)
     }
 
     fn read(alloc: Global, cursor: &mut Cursor<'_>) -> Result<Self, FrameFault> {
@@ -81,7 +81,8 @@ impl Field for DataValue {
 
 #[tactic(auto, using(crate::proofs::Lists::untested))]
 pub(crate) fn data_row_of(alloc: Global, body: &[u8]) -> Result<Items<DataValue>, FrameFault>
-    ensures { Gives result (whole always (counted_at value_at body.now)) }
+    ensures exact { Gives result (whole always (counted_at value_at body.now)) }
+    ensures memory { result ≡ Err FrameFault.Memory → IsOk (whole always (counted_at value_at body.now)) }
 {
     counted_of(alloc, &mut Cursor::new(body))
 }

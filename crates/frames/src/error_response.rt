@@ -1,11 +1,11 @@
 //! ErrorResponse, why a command or a session was refused: its type, its reader and its writer.
 
 ghost use Rattle.std.specs.Prelude.{◌≡◌, length};
-ghost use Rattle.frames.specs.Body.{GivesAt, checked_at, passed_over};
+ghost use Rattle.frames.specs.Body.{GivesAt, ReadsAt, checked_at, passed};
 ghost use Rattle.pqformat.specs.Putting.{Puts};
 ghost use Rattle.frames.specs.ErrorResponse.{error_field, error_field_at, is_error_text};
 
-use crate::body::text_of;
+use crate::body::{is_valid_text, text_of};
 use crate::fault::FrameFault;
 use crate::field::{byte, string};
 use crate::list::{Field, Put};
@@ -45,10 +45,10 @@ impl Field for ErrorField {
     ghost is_text = { is_error_text };
 
     #[tactic(auto, unfolding(crate::specs::ErrorResponse::error_field_at))]
-    fn pass(cursor: &mut Cursor<'_>) -> Result<(), FrameFault> {
+    fn pass(cursor: &mut Cursor<'_>) -> Result<bool, FrameFault> {
         byte(cursor)?;
-        string(cursor)?;
-        Ok(())
+        let text = string(cursor)?;
+        Ok(is_valid_text(text))
     }
 
     #[tactic(auto, unfolding(crate::specs::ErrorResponse::error_field_at))]

@@ -2,7 +2,7 @@
 
 ghost use Rattle.std.specs.Prelude.{◌≡◌};
 ghost use Rattle.std.specs.Int.{w16, w32};
-ghost use Rattle.frames.specs.Body.{GivesAt, passed, there};
+ghost use Rattle.frames.specs.Body.{ReadsAt, passed, there};
 ghost use Rattle.frames.specs.Raw.{as_bytes};
 ghost use Rattle.pqformat.specs.Fields.{byte_at, number_at, string_at};
 
@@ -10,26 +10,26 @@ use crate::fault::FrameFault;
 use pqformat::Cursor;
 
 pub(crate) fn byte(cursor: &mut Cursor<'_>) -> Result<u8, FrameFault>
-    ensures { GivesAt result cursor.new (passed (λ n. n) (there (byte_at cursor.old))) }
+    ensures { ReadsAt result cursor.new (passed (λ n. n) (there (byte_at cursor.old))) }
 {
     cursor.u8().ok_or(FrameFault::BadBody)
 }
 
 pub(crate) fn int16(cursor: &mut Cursor<'_>) -> Result<u16, FrameFault>
-    ensures { GivesAt result cursor.new (passed (λ n. n) (there (number_at w16 cursor.old))) }
+    ensures { ReadsAt result cursor.new (passed (λ n. n) (there (number_at w16 cursor.old))) }
 {
     cursor.u16().ok_or(FrameFault::BadBody)
 }
 
 pub(crate) fn int32(cursor: &mut Cursor<'_>) -> Result<u32, FrameFault>
-    ensures { GivesAt result cursor.new (passed (λ n. n) (there (number_at w32 cursor.old))) }
+    ensures { ReadsAt result cursor.new (passed (λ n. n) (there (number_at w32 cursor.old))) }
 {
     cursor.u32().ok_or(FrameFault::BadBody)
 }
 
 /// The bytes before the next zero byte.
 pub(crate) fn string<'a>(cursor: &mut Cursor<'a>) -> Result<&'a [u8], FrameFault>
-    ensures { GivesAt (as_bytes result) cursor.new (passed (λ s. s) (there (string_at cursor.old))) }
+    ensures { ReadsAt (as_bytes result) cursor.new (passed (λ s. s) (there (string_at cursor.old))) }
 {
     cursor.cstr().ok_or(FrameFault::BadBody)
 }

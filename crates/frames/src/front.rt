@@ -1,9 +1,9 @@
 //! The frames that a client sends: the enum over them, its reader and its writer.
 
-ghost use Rattle.std.specs.Prelude.{◌≡◌, ◌<◌, ◌≤◌, ◌++◌, List, ℕ, length, take, Ok, Err, Some, None, IfOk, IfErr, IfSome, OnOk, OnErr};
-ghost use Rattle.frames.specs.Frame.{FitsLength, frame, Gives, IsWhole, raw_at};
+ghost use Rattle.std.specs.Prelude.{◌≡◌, ◌<◌, ◌≤◌, ◌++◌, List, ℕ, length, take, true, Ok, Err, Some, None, IsOkAnd, IfOk, IfErr, IfSome, OnOk, OnErr};
+ghost use Rattle.frames.specs.Frame.{FitsLength, frame, Gives, IsKept};
 ghost use Rattle.pqformat.specs.Putting.{Puts};
-ghost use Rattle.frames.specs.Front.{front_kind, front_body, front_limit, front_at, framed_front, SpellsFront, IsShortFront, IsFrontFault};
+ghost use Rattle.frames.specs.Front.{front_kind, front_body, front_limit, front_needs_memory, front_at, framed_front, SpellsFront, IsShortFront, IsFrontFault};
 
 use crate::body::{nothing_of, only_text};
 use crate::copy_data::{COPY_DATA, CopyData, copy_data_len, copy_data_of, put_copy_data};
@@ -33,7 +33,8 @@ pub enum Front {
 /// The frame at the front of the bytes, and how many of them it takes; None while it isn't there whole.
 ///
 /// A type byte that no frame has is F3 at once; a length under 4 is F1, and one over the limit of its frames F6, as
-/// soon as it is there; F7 is answered only where a whole frame stands.
+/// soon as it is there; F4 and F5 are judged once the frame is there whole, and F7 is answered only where a frame stands
+/// that is right and needs memory.
 pub fn read_front(alloc: Global, bytes: &[u8]) -> Result<Option<(Front, usize)>, FrameFault>
     // What is read stands at the front, spelled so.
     ensures found { IfOk result (λ o. IfSome o (λ x. (x.1 ≤ length bytes.now) × SpellsFront (take x.1 bytes.now) x.0 × IsShortFront x.0)) }
@@ -47,13 +48,15 @@ pub fn read_front(alloc: Global, bytes: &[u8]) -> Result<Option<(Front, usize)>,
     ensures fault { IfErr result (λ e. IsFrontFault e bytes.now) }
     // Which fault it is, in the order in which the bytes are judged.
     ensures exact { Gives result (framed_front bytes.now) }
+    // Want of memory is answered only where nothing else is, and a frame stands that needs it.
+    ensures memory { result ≡ Err FrameFault.Memory → IsKept front_needs_memory (framed_front bytes.now) }
 {
     front_of(alloc, bytes)
 }
 
 fn front_of(alloc: Global, bytes: &[u8]) -> Result<Option<(Front, usize)>, FrameFault>
     ensures exact { Gives result (framed_front bytes.now) }
-    ensures memory { result ≡ Err FrameFault.Memory → IsWhole (raw_at front_limit bytes.now) }
+    ensures memory { result ≡ Err FrameFault.Memory → IsKept front_needs_memory (framed_front bytes.now) }
 {
     let mut cursor = Cursor::new(bytes);
     let Some(kind) = cursor.u8() else {
@@ -77,7 +80,8 @@ fn limit_of(kind: u8) -> Option<u32>
 }
 
 fn whole_of(alloc: Global, kind: u8, body: &[u8]) -> Result<Front, FrameFault>
-    ensures { Gives result (front_at kind body.now) }
+    ensures exact { Gives result (front_at kind body.now) }
+    ensures memory { result ≡ Err FrameFault.Memory → IsOkAnd (front_at kind body.now) (λ f. front_needs_memory f ≡ true) }
 {
     match kind {
         QUERY => {

@@ -1,12 +1,12 @@
 //! Lists in bodies: what an item must tell to be passed over, read and written in one. A list is passed over whole before
-//! it is read, so that a fault of its shape is found before one of its texts.
+//! it is read, so that a fault of its shape is found before one of its texts, and both before memory is taken.
 
-ghost use Rattle.std.specs.Prelude.{◌≡◌, ◌^◌, ◌<◌, ◌++◌, length, is_none};
+ghost use Rattle.std.specs.Prelude.{◌≡◌, ◌^◌, ◌<◌, ◌++◌, length, is_none, Err, IsOk};
 ghost use Rattle.std.specs.List.{list_all, flat_map, AllByRecursion};
 ghost use Rattle.pqformat.specs.Steps.{repeat_at, next_at, until_at, closed};
 ghost use Rattle.frames.specs.Plain.{counted, counted_at};
 ghost use Rattle.pqformat.specs.Putting.{Puts};
-ghost use Rattle.frames.specs.Body.{GivesAt, checked_at, passed, passed_over, whole};
+ghost use Rattle.frames.specs.Body.{ReadsAt, GivesAt, checked_at, passed, whole};
 ghost use Rattle.frames.specs.Frame.{Gives};
 
 use crate::body::end_of;
@@ -24,9 +24,9 @@ pub(crate) trait Field: Sized {
 
     ghost is_text: { Self → Bool };
 
-    /// Moves past one, whether its texts are UTF-8 or not.
-    fn pass(cursor: &mut Cursor<'_>) -> Result<(), FrameFault>
-        ensures { GivesAt result cursor.new (passed_over (field_at cursor.old)) };
+    /// Moves past one, and tells whether its texts are UTF-8.
+    fn pass(cursor: &mut Cursor<'_>) -> Result<bool, FrameFault>
+        ensures { ReadsAt result cursor.new (passed is_text (field_at cursor.old)) };
 
     fn read(alloc: Global, cursor: &mut Cursor<'_>) -> Result<Self, FrameFault>
         ensures { GivesAt result cursor.new (checked_at is_text (field_at cursor.old)) };
@@ -51,7 +51,7 @@ fn items_of<T: Field + Drop>(
 /// Moves past one more, or past the zero byte that ends them, which it answers.
 #[tactic(auto, unfolding(pqformat::specs::Steps::next_at))]
 fn pass_next<T: Field>(cursor: &mut Cursor<'_>) -> Result<bool, FrameFault>
-    ensures { GivesAt result cursor.new (passed is_none (next_at tt T.field_at cursor.old)) }
+    ensures { ReadsAt result cursor.new (passed is_none (next_at tt T.field_at cursor.old)) }
 {
     match cursor.rest().first() {
         None => Err(FrameFault::BadBody),
@@ -68,7 +68,7 @@ fn pass_next<T: Field>(cursor: &mut Cursor<'_>) -> Result<bool, FrameFault>
 
 /// How many stand before the zero byte that ends them; moves past it.
 fn count_of<T: Field>(cursor: &mut Cursor<'_>, limit: usize) -> Result<usize, FrameFault>
-    ensures { GivesAt result cursor.new (passed length (until_at tt T.field_at limit cursor.old)) }
+    ensures { ReadsAt result cursor.new (passed length (until_at tt T.field_at limit cursor.old)) }
 {
     for count in 0..limit {
         if pass_next::<T>(cursor)? {
@@ -80,22 +80,28 @@ fn count_of<T: Field>(cursor: &mut Cursor<'_>, limit: usize) -> Result<usize, Fr
 
 /// The items of a body, up to the zero byte that ends both.
 pub(crate) fn listed<T: Field + Drop>(alloc: Global, body: &[u8]) -> Result<Items<T>, FrameFault>
-    ensures { Gives result (whole (list_all T.is_text) (until_at tt T.field_at (length body.now) body.now)) }
+    ensures exact { Gives result (whole (list_all T.is_text) (until_at tt T.field_at (length body.now) body.now)) }
+    ensures memory { result ≡ Err FrameFault.Memory → IsOk (whole (list_all T.is_text) (until_at tt T.field_at (length body.now) body.now)) }
 {
     let mut cursor = Cursor::new(body);
     let count = count_of::<T>(&mut cursor, body.len())?;
     end_of(&cursor)?;
+    let are_texts = pass_items::<T>(&mut Cursor::new(body), count)?;
+    if !are_texts {
+        return Err(FrameFault::NotUtf8);
+    }
     items_of(alloc, &mut Cursor::new(body), count)
 }
 
-/// Moves past as many as the count says.
-fn pass_items<T: Field>(cursor: &mut Cursor<'_>, count: usize) -> Result<(), FrameFault>
-    ensures { GivesAt result cursor.new (passed_over (repeat_at T.field_at count cursor.old)) }
+/// Moves past as many as the count says, and tells whether all their texts are UTF-8.
+fn pass_items<T: Field>(cursor: &mut Cursor<'_>, count: usize) -> Result<bool, FrameFault>
+    ensures { ReadsAt result cursor.new (passed (list_all T.is_text) (repeat_at T.field_at count cursor.old)) }
 {
+    let mut are_texts = true;
     for _ in 0..count {
-        T::pass(cursor)?;
+        are_texts &= T::pass(cursor)?;
     }
-    Ok(())
+    Ok(are_texts)
 }
 
 /// A count, and that many items, with which the body ends.
@@ -103,7 +109,8 @@ pub(crate) fn counted_of<T: Field + Drop>(
     alloc: Global,
     cursor: &mut Cursor<'_>,
 ) -> Result<Items<T>, FrameFault>
-    ensures { Gives result (whole (list_all T.is_text) (counted_at T.field_at cursor.old)) }
+    ensures exact { Gives result (whole (list_all T.is_text) (counted_at T.field_at cursor.old)) }
+    ensures memory { result ≡ Err FrameFault.Memory → IsOk (whole (list_all T.is_text) (counted_at T.field_at cursor.old)) }
 {
     let count = int16(cursor)?;
     if count >= 1 << 15 {
@@ -117,11 +124,15 @@ fn ending_of<T: Field + Drop>(
     bytes: &[u8],
     count: usize,
 ) -> Result<Items<T>, FrameFault>
-    ensures { Gives result (whole (list_all T.is_text) (repeat_at T.field_at count bytes.now)) }
+    ensures exact { Gives result (whole (list_all T.is_text) (repeat_at T.field_at count bytes.now)) }
+    ensures memory { result ≡ Err FrameFault.Memory → IsOk (whole (list_all T.is_text) (repeat_at T.field_at count bytes.now)) }
 {
     let mut cursor = Cursor::new(bytes);
-    pass_items::<T>(&mut cursor, count)?;
+    let are_texts = pass_items::<T>(&mut cursor, count)?;
     end_of(&cursor)?;
+    if !are_texts {
+        return Err(FrameFault::NotUtf8);
+    }
     items_of(alloc, &mut Cursor::new(bytes), count)
 }
 

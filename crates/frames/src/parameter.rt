@@ -1,10 +1,10 @@
 //! A parameter of a session, as a client asks for it in its startup.
 
 ghost use Rattle.std.specs.Prelude.{◌≡◌};
-ghost use Rattle.frames.specs.Body.{GivesAt, checked_at, passed_over};
+ghost use Rattle.frames.specs.Body.{GivesAt, ReadsAt, checked_at, passed};
 ghost use Rattle.frames.specs.Parameter.{parameter_at, is_parameter_text};
 
-use crate::body::text_of;
+use crate::body::{is_valid_text, text_of};
 use crate::fault::FrameFault;
 use crate::field::string;
 use crate::list::Field;
@@ -30,10 +30,10 @@ impl Field for Parameter {
     ghost is_text = { is_parameter_text };
 
     #[tactic(auto, unfolding(crate::specs::Parameter::parameter_at))]
-    fn pass(cursor: &mut Cursor<'_>) -> Result<(), FrameFault> {
-        string(cursor)?;
-        string(cursor)?;
-        Ok(())
+    fn pass(cursor: &mut Cursor<'_>) -> Result<bool, FrameFault> {
+        let name = string(cursor)?;
+        let value = string(cursor)?;
+        Ok(is_valid_text(name) && is_valid_text(value))
     }
 
     #[tactic(auto, unfolding(crate::specs::Parameter::parameter_at))]

@@ -1,17 +1,17 @@
 //! ParameterStatus, what a parameter of the session is now: its type and its reader. Its body is a `Parameter`.
 
-ghost use Rattle.std.specs.Prelude.{◌≡◌, ◌^◌, ◌<◌, length};
+ghost use Rattle.std.specs.Prelude.{◌≡◌, ◌^◌, ◌<◌, length, Err, IsOk};
 ghost use Rattle.frames.specs.Body.{whole};
 ghost use Rattle.frames.specs.Frame.{Gives};
 ghost use Rattle.frames.specs.Parameter.{parameter, parameter_at, is_parameter_text};
 ghost use Rattle.pqformat.specs.Putting.{Puts};
 
-use crate::body::{end_of, text_of};
+use crate::body::{end_of, judged};
 use crate::fault::FrameFault;
 use crate::field::string;
 use crate::parameter::Parameter;
 use bytes::BytesMut;
-use pqformat::{Cursor, put_string};
+use pqformat::{Cursor, Text, put_string};
 use std::alloc::{AllocError, Global};
 
 /// The type byte of ParameterStatus (PostgreSQL 15, 55.7).
@@ -23,14 +23,17 @@ pub const PARAMETER_STATUS: u8 = b'S';
 
 #[tactic(auto, unfolding(crate::specs::Parameter::parameter_at))]
 pub(crate) fn parameter_status_of(alloc: Global, body: &[u8]) -> Result<Parameter, FrameFault>
-    ensures { Gives result (whole is_parameter_text (parameter_at body.now)) }
+    ensures exact { Gives result (whole is_parameter_text (parameter_at body.now)) }
+    ensures memory { result ≡ Err FrameFault.Memory → IsOk (whole is_parameter_text (parameter_at body.now)) }
 {
     let mut cursor = Cursor::new(body);
     let name = string(&mut cursor)?;
     let value = string(&mut cursor)?;
     end_of(&cursor)?;
-    let name = text_of(alloc, name)?;
-    let value = text_of(alloc, value)?;
+    let name = judged(name)?;
+    let value = judged(value)?;
+    let name = Text::copy_of(alloc, name)?;
+    let value = Text::copy_of(alloc, value)?;
     Ok(Parameter { name, value })
 }
 

@@ -2,7 +2,6 @@
 
 ghost use Rattle.std.specs.Prelude.{◌≡◌};
 ghost use Rattle.frames.specs.Body.{whole, always};
-ghost use Rattle.frames.specs.Frame.{Gives};
 ghost use Rattle.frames.specs.Plain.{status_letter, status_at};
 
 use crate::body::end_of;
@@ -38,7 +37,7 @@ impl Status {
 }
 
 pub(crate) fn ready_of(body: &[u8]) -> Result<Status, FrameFault>
-    ensures { Gives result (whole always (status_at body.now)) }
+    ensures { result ≡ whole always (status_at body.now) }
 {
     let mut cursor = Cursor::new(body);
     let status = match byte(&mut cursor)? {

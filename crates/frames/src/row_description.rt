@@ -1,11 +1,11 @@
 //! RowDescription, the columns of the rows that follow: its type, its reader and its writer.
 
 ghost use Rattle.std.specs.Prelude.{◌≡◌, length};
-ghost use Rattle.frames.specs.Body.{GivesAt, checked_at, passed, passed_over};
+ghost use Rattle.frames.specs.Body.{GivesAt, ReadsAt, checked_at, passed};
 ghost use Rattle.pqformat.specs.Putting.{Puts};
 ghost use Rattle.frames.specs.RowDescription.{column, column_type, column_at, type_at, is_column_text};
 
-use crate::body::text_of;
+use crate::body::{is_valid_text, text_of};
 use crate::fault::FrameFault;
 use crate::field::{int16, int32, string};
 use crate::list::{Field, Put};
@@ -54,7 +54,7 @@ pub struct ColumnType {
 
 #[tactic(auto, unfolding(crate::specs::RowDescription::type_at))]
 fn type_of(cursor: &mut Cursor<'_>) -> Result<ColumnType, FrameFault>
-    ensures { GivesAt result cursor.new (passed (λ t. t) (type_at cursor.old)) }
+    ensures { ReadsAt result cursor.new (passed (λ t. t) (type_at cursor.old)) }
 {
     let oid = int32(cursor)?;
     let size = int16(cursor)?.cast_signed();
@@ -74,13 +74,13 @@ impl Field for ColumnDescription {
     ghost is_text = { is_column_text };
 
     #[tactic(auto, unfolding(crate::specs::RowDescription::column_at))]
-    fn pass(cursor: &mut Cursor<'_>) -> Result<(), FrameFault> {
-        string(cursor)?;
+    fn pass(cursor: &mut Cursor<'_>) -> Result<bool, FrameFault> {
+        let name = string(cursor)?;
         int32(cursor)?;
         int16(cursor)?;
         type_of(cursor)?;
         int16(cursor)?;
-        Ok(())
+        Ok(is_valid_text(name))
     }
 
     #[tactic(auto, unfolding(crate::specs::RowDescription::column_at))]

@@ -1,9 +1,9 @@
 //! Startups: what a client sends before any frame, and their reader.
 
-ghost use Rattle.std.specs.Prelude.{◌≡◌, ◌≢◌, ◌<◌, ◌≤◌, ◌++◌, List, ℕ, length, take, Result, Ok, Err, Some, None, IfOk, IfErr, IfSome};
-ghost use Rattle.frames.specs.Frame.{Gives, IsWhole};
+ghost use Rattle.std.specs.Prelude.{◌≡◌, ◌≢◌, ◌<◌, ◌≤◌, ◌++◌, List, ℕ, length, take, Result, true, Ok, Err, Some, None, IsOkAnd, IfOk, IfErr, IfSome};
+ghost use Rattle.frames.specs.Frame.{Gives, IsKept};
 ghost use Rattle.frames.specs.Raw.{lent_startup};
-ghost use Rattle.frames.specs.Startup.{SpellsStartup, IsStartupFault, startup_limit, startup_at, lengthy, raw_startup, framed_startup};
+ghost use Rattle.frames.specs.Startup.{SpellsStartup, IsStartupFault, startup_limit, startup_needs_memory, startup_at, lengthy, raw_startup, framed_startup};
 
 use crate::backend_key_data::backend_key_of;
 use crate::body::nothing_of;
@@ -46,7 +46,8 @@ pub enum Startup {
 /// The startup at the front of the bytes, and how many of them it takes; None while it isn't there whole.
 ///
 /// The length is judged first, as soon as it is there: under 8 is F1, over the limit F6. Then the number: an unknown one
-/// is F2, and a request of another length than its own F1. F4, F5 and F7 are answered only where it stands whole.
+/// is F2, and a request of another length than its own F1. F4 and F5 are judged once it is there whole, and F7 is answered
+/// only where a session's startup stands that is right.
 pub fn read_startup(alloc: Global, bytes: &[u8]) -> Result<Option<(Startup, usize)>, FrameFault>
     // What is read stands at the front, spelled so.
     ensures found { IfOk result (λ o. IfSome o (λ x. (x.1 ≤ length bytes.now) × SpellsStartup (take x.1 bytes.now) x.0)) }
@@ -60,13 +61,15 @@ pub fn read_startup(alloc: Global, bytes: &[u8]) -> Result<Option<(Startup, usiz
     ensures fault { IfErr result (λ e. IsStartupFault e bytes.now) }
     // Which fault it is, in the order in which the bytes are judged.
     ensures exact { Gives result (framed_startup bytes.now) }
+    // Want of memory is answered only where nothing else is, and a startup stands that needs it.
+    ensures memory { result ≡ Err FrameFault.Memory → IsKept startup_needs_memory (framed_startup bytes.now) }
 {
     startup_of(alloc, bytes)
 }
 
 fn startup_of(alloc: Global, bytes: &[u8]) -> Result<Option<(Startup, usize)>, FrameFault>
     ensures exact { Gives result (framed_startup bytes.now) }
-    ensures memory { result ≡ Err FrameFault.Memory → IsWhole (raw_startup bytes.now) }
+    ensures memory { result ≡ Err FrameFault.Memory → IsKept startup_needs_memory (framed_startup bytes.now) }
 {
     let mut cursor = Cursor::new(bytes);
     let Some(((number, body), size)) = sized_of(&mut cursor)? else {
@@ -124,7 +127,8 @@ fn limit_of(number: u32) -> Option<u32>
 }
 
 fn whole_of(alloc: Global, number: u32, body: &[u8]) -> Result<Startup, FrameFault>
-    ensures { Gives result (startup_at number body.now) }
+    ensures exact { Gives result (startup_at number body.now) }
+    ensures memory { result ≡ Err FrameFault.Memory → IsOkAnd (startup_at number body.now) (λ f. startup_needs_memory f ≡ true) }
 {
     match number {
         PROTOCOL_VERSION => Ok(Startup::Session(listed(alloc, body)?)),

@@ -1,6 +1,6 @@
 -- One turn, from what was read at the front of the pending bytes.
 use Rattle.std.proofs.Common.{◌≡◌, ℕ, ◌<◌, ◌≤◌, ◌+◌, List, [], ◌∷◌, ◌++◌, length, take, drop, Result, Ok, Err, refl, sym, ap, subst, ◌∙◌, inl, inr, arith}
-use Rattle.std.specs.Prelude.{◌≢◌, ◌⊎◌, IfOk}
+use Rattle.std.specs.Prelude.{◌≢◌, ◌⊎◌, IfOk, OnErr}
 use Rattle.std.specs.declared.alloc.AllocError.{AllocError}
 use Rattle.std.proofs.lemmas.List.{length-append, length-take-le, take_all, append-nil, take-append-drop}
 use Rattle.frames.specs.declared.fault.FrameFault.{FrameFault}
@@ -12,6 +12,7 @@ use Rattle.frames.specs.declared.copy_data.CopyData.{CopyData}
 use Rattle.frames.specs.declared.copy_fail.CopyFail.{CopyFail}
 use Rattle.frames.specs.declared.query.Query.{Query}
 use Rattle.pqformat.specs.Fields.{int32}
+use Rattle.pqformat.specs.Putting.{Extends}
 use Rattle.frames.specs.Frame.{Gives}
 use Rattle.frames.specs.Front.{SpellsFront, IsShortFront, framed_front}
 use Rattle.frames.specs.Startup.{SpellsStartup, framed_startup, startup_number, startup_body}
@@ -22,10 +23,11 @@ use Rattle.server.specs.declared.stage.Stage.{Stage}
 use Rattle.server.specs.declared.stage.Stage.TheVariants.{Fresh, Closed}
 use Rattle.server.specs.declared.stage.Turned.{Turned}
 use Rattle.server.specs.Calls.{Call}
-use Rattle.server.specs.Conversation.{Gave}
+use Rattle.server.specs.Conversation.{Gave, Tried}
 use Rattle.server.specs.Said.{refused}
 use Rattle.server.specs.Turns.{Turn, IsTurn, IsFrameTurn, Hears, Opens, Streams, refusal_of}
-use Rattle.server.specs.Segment.{Went, HasText, Said, IsTurned}
+use Rattle.server.specs.Segment.{Went, HasText, Asks, Said, IsTurned, TakesTurn}
+use Rattle.server.proofs.Steps.{nothing_tried, tried_as}
 use Rattle.server.proofs.Segments.{went-none, went-one}
 
 -- ---- what is read takes bytes
@@ -118,11 +120,26 @@ startup_refused number pending fault Same out out' other gives says =
     )
 
 pub quiet_turned : {D : Type 0} (told : D → Call → D → Type 0) (number : ℕ) (stage : Stage) (pending : List ℕ) (desk : D) (out out' : List ℕ) (r : Result Turned AllocError)
-    → IfOk r (λ t. IsTurned number stage pending t (out' ≡ out) (λ fact. Said fact out out'))
-    → IfOk r (λ t. IsTurned number stage pending t ((desk ≡ desk) × (out' ≡ out)) (λ fact. Gave told fact desk out desk out'))
-quiet_turned told number stage pending desk out out' (Ok t) (inl (none, same, waits, kept)) = inl (none, same, waits, (refl, kept))
-quiet_turned told number stage pending desk out out' (Ok t) (inr (some, le, said)) = inr (some, le, record { asked = []; text = said.text; fact = said.fact; asks = refl; says = said.says })
-quiet_turned told number stage pending desk out out' (Err e) is = tt
+    → IfOk r (λ t. IsTurned number stage pending t (out' ≡ out) (λ fact. Said fact out out')) → OnErr r (Extends out out') → TakesTurn told number stage pending r desk out desk out'
+quiet_turned told number stage pending desk out out' (Ok t) (inl (none, same, waits, kept)) keeps = inl (none, same, waits, (refl, kept))
+quiet_turned told number stage pending desk out out' (Ok t) (inr (some, le, said)) keeps = inr (some, le, record { asked = []; text = said.text; fact = said.fact; asks = refl; says = said.says })
+quiet_turned told number stage pending desk out out' (Err e) is keeps = (nothing_tried told (Asks number stage pending) desk, keeps)
+
+-- what the answer of a frame tried, its turn tried
+pub front_tried : {D : Type 0} (told : D → Call → D → Type 0) (number : ℕ) (stage : Stage) (Answers : Front → List Call → List ℕ → Stage → Type 0) (pending : List ℕ) (count : ℕ) (front : Front) (desk desk' : D)
+    → ((t : Turn) (n : Stage) → IsFrameTurn Answers t n → IsTurn number stage t n)
+    → SpellsFront (take count pending) front → IsShortFront front
+    → Tried told (λ asked. (next : Stage) × (text : List ℕ) × Answers front asked text next) desk desk' → Tried told (Asks number stage pending) desk desk'
+front_tried told number stage Answers pending count front desk desk' turn spells short tried =
+    tried_as told (λ asked. (next : Stage) × (text : List ℕ) × Answers front asked text next) (Asks number stage pending) desk desk'
+    (λ asked part. (
+      record { text = take count pending; asked = asked; said = part.1 },
+      part.0,
+      drop count pending,
+      turn (record { text = take count pending; asked = asked; said = part.1 }) part.0 (inl (front, spells, short, part.2)),
+      refl,
+      sym (take-append-drop count pending),
+    )) tried
 
 pub closed_turned : {D : Type 0} (told : D → Call → D → Type 0) (number : ℕ) (pending : List ℕ) (desk : D) (out : List ℕ)
     → IsTurned number Closed pending (record { stage = Closed; count = length pending }) ((desk ≡ desk) × (out ≡ out)) (λ fact. Gave told fact desk out desk out)

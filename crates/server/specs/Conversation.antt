@@ -5,6 +5,9 @@ use Rattle.replcmd.specs.declared.command.Command.TheVariants.{Identify, Create,
 use Rattle.replcmd.specs.declared.fault.CmdFault.{CmdFault}
 use Rattle.replcmd.specs.declared.fault.CmdFault.TheVariants as commands
 use Rattle.replcmd.specs.Grammar.{SpellsCommand}
+use Rattle.replcmd.specs.Reading.{Tells}
+use Rattle.pqformat.specs.Putting.{Extends}
+use Rattle.std.specs.declared.alloc.AllocError.{AllocError}
 use Rattle.server.specs.declared.fault.DeskFault.{DeskFault}
 use Rattle.server.specs.declared.refusal.Refusal.TheVariants as refusals
 use Rattle.server.specs.Calls.{Call, End, System, CreateSlot, DropSlot, StartStream, AreAsked}
@@ -17,6 +20,17 @@ pub record Gave {D : Type 0} (told : D → Call → D → Type 0) (Fact : List C
   pub fact : Fact asked text
   pub asks : AreAsked told desk asked desk'
   pub says : out' ≡ out ++ text
+
+-- A step in which memory ran out: the desk was asked nothing, or all that the step asks.
+pub record Tried {D : Type 0} (told : D → Call → D → Type 0) (Asks : List Call → Type 0) (desk : D) (desk' : D) : Type 0 where
+  pub asked : List Call
+  pub fact : (asked ≡ []) ⊎ Asks asked
+  pub asks : AreAsked told desk asked desk'
+
+-- A step with its answer, or one in which memory ran out: what was said before it stands at the front still.
+abbrev pub Answered : {D A : Type 0} → (D → Call → D → Type 0) → Result A AllocError → (A → List Call → List ℕ → Type 0) → D → List ℕ → D → List ℕ → Type 0
+Answered told (Ok a) Fact desk out desk' out' = Gave told (Fact a) desk out desk' out'
+Answered {D} {A} told (Err e) Fact desk out desk' out' = Tried told (λ asked. (a : A) × (text : List ℕ) × Fact a asked text) desk desk' × Extends out out'
 
 -- ---- commands
 
@@ -37,11 +51,12 @@ abbrev pub HasShortSlot : Command → Type 0
 HasShortSlot (Create slot) = length slot ≤ 63
 HasShortSlot _ = Unit {0}
 
--- A query that is no command: any one of the codes of a text, or that memory ran out.
+-- A query that is no command: the code of the fault that its reading meets, or that memory ran out in the reading.
 pub record IsRefused (query : List ℕ) (asked : List Call) (text : List ℕ) : Type 0 where
   pub fault : CmdFault
   pub nothing : asked ≡ []
   pub answer : text ≡ refused_ready (refusals.Command fault)
+  pub read : Tells query (Err fault)
   pub no_command : fault ≢ commands.Memory → (c : Command) → SpellsCommand query c → ⊥
 
 abbrev pub Replies : List ℕ → List ℕ → Bool → List Call → List ℕ → Type 0

@@ -12,7 +12,10 @@ use Rattle.server.specs.declared.connection.Connection.{Connection}
 use Rattle.server.specs.declared.stage.Stage.{Stage}
 use Rattle.server.specs.declared.stage.Stage.TheVariants.{Fresh, Idle, Streaming, Stopping, Closed}
 use Rattle.server.specs.declared.stage.Turned.{Turned}
+use Rattle.pqformat.specs.Putting.{Extends}
+use Rattle.std.specs.declared.alloc.AllocError.{AllocError}
 use Rattle.server.specs.Calls.{Call, AreAsked}
+use Rattle.server.specs.Conversation.{Gave, Tried}
 use Rattle.server.specs.declared.conversation.Event.{Event}
 use Rattle.server.specs.declared.conversation.Event.TheVariants.{Came, AllSent}
 use Rattle.server.specs.Turns.{Turn, IsTurn, AreTurns, Waits, end_turn}
@@ -34,6 +37,24 @@ pub record Went {D : Type 0} (told : D → Call → D → Type 0) (Kind : Turn �
   pub spell : old.pending.items ++ input ≡ flat_map (λ t. t.text) turns ++ new.pending.items
   pub ask : AreAsked told desk (flat_map (λ t. t.asked) turns) desk'
   pub say : out' ≡ out ++ flat_map (λ t. t.said) turns
+
+-- A turn at the front of what is pending asks this.
+abbrev pub Asks : ℕ → Stage → List ℕ → List Call → Type 0
+Asks number stage pending asked = (t : Turn) × (next : Stage) × (rest : List ℕ) × IsTurn number stage t next × (t.asked ≡ asked) × (pending ≡ t.text ++ rest)
+
+-- A call in which memory ran out. The turns before that are whole; of the turn that failed nothing was said, and the desk
+-- was asked nothing, or all that the turn asks.
+pub record Broke {D : Type 0} (told : D → Call → D → Type 0) (input : List ℕ) (old : Connection) (desk : D) (out : List ℕ) (desk' : D) (out' : List ℕ) : Type 0 where
+  pub turns : List Turn
+  pub stage : Stage
+  pub rest : List ℕ
+  pub between : D
+  pub kind : AllByRecursion HasText turns
+  pub follow : AreTurns old.number old.stage turns stage
+  pub spell : old.pending.items ++ input ≡ flat_map (λ t. t.text) turns ++ rest
+  pub ask : AreAsked told desk (flat_map (λ t. t.asked) turns) between
+  pub say : out' ≡ out ++ flat_map (λ t. t.said) turns
+  pub failed : Tried told (Asks old.number stage rest) between desk'
 
 -- The end of a stream between two connections: the one turn without a text. What came before it is kept.
 pub record Ended (old : Connection) (out : List ℕ) (new : Connection) (out' : List ℕ) : Type 0 where
@@ -90,6 +111,11 @@ abbrev pub IsTurned : ℕ → Stage → List ℕ → Turned → Type 0 → ((Lis
 IsTurned number stage pending t Same Step =
     ((t.count ≡ 0) × (t.stage ≡ stage) × Waits stage pending × Same)
     ⊎ ((0 < t.count) × (t.count ≤ length pending) × Step (OneTurn number stage (take t.count pending) t.stage))
+
+-- Either that, or memory ran out in the turn.
+abbrev pub TakesTurn : {D : Type 0} → (D → Call → D → Type 0) → ℕ → Stage → List ℕ → Result Turned AllocError → D → List ℕ → D → List ℕ → Type 0
+TakesTurn told number stage pending (Ok t) desk out desk' out' = IsTurned number stage pending t ((desk' ≡ desk) × (out' ≡ out)) (λ fact. Gave told fact desk out desk' out')
+TakesTurn told number stage pending (Err e) desk out desk' out' = Tried told (Asks number stage pending) desk desk' × Extends out out'
 
 -- ---- what is pending
 

@@ -2,7 +2,8 @@
 
 ghost use Rattle.std.specs.Prelude.{◌≡◌, ◌≢◌, ◌↔◌, ◌<◌, ◌++◌, ℕ, length, OnOk, OnErr, IfOk, [], Err, false, true};
 ghost use Rattle.pqformat.specs.Fields.{byte_at};
-ghost use Rattle.server.specs.Segment.{Went, HasText, Ended, UnlessMemory, has_command, has_query, phase_of};
+ghost use Rattle.server.specs.Segment.{Went, HasText, Broke, Asks, Ended, UnlessMemory, has_command, has_query, phase_of};
+ghost use Rattle.server.specs.Conversation.{Tried};
 ghost use Rattle.server.specs.Turns.{IsTurn, Waits, end_turn};
 ghost use Rattle.server.specs.declared.stage.Stage.TheVariants.{Fresh, Closed};
 
@@ -93,11 +94,15 @@ impl Connection {
     /// Answers one startup or frame of what has come, the next. False: it isn't there whole, or waits for the end of the stream
     /// that stops.
     ///
-    /// H1 is want of memory, and it closes the connection without a word. H2: it is closed, and what has come is passed over.
+    /// H1 is want of memory, and it closes the connection without a word: what stood in `out` stands there, and no more. H2: it
+    /// is closed, and what has come is passed over.
     pub fn answer<D: Desk>(&mut self, desk: &mut D, out: &mut BytesMut) -> Result<bool, ConnFault>
         ensures went { UnlessMemory result (Went D.told HasText [] self.old desk.old out.old.items self.new desk.new out.new.items) }
         ensures less { IfOk result (λ more. more ≡ true → length self.new.pending.items < length self.old.pending.items) }
         ensures waits { IfOk result (λ more. more ≡ false → Waits self.new.stage self.new.pending.items) }
+        ensures unsaid { result ≡ Err ConnFault.Memory → out.new.items ≡ out.old.items }
+        // Of the desk nothing is asked then, or all that the turn asks.
+        ensures asked { result ≡ Err ConnFault.Memory → Tried D.told (Asks self.old.number self.old.stage self.old.pending.items) desk.old desk.new }
         ensures closed { OnErr result (self.new.stage ≡ Closed) }
         ensures ended { (result ≡ Err ConnFault.Closed) ↔ (self.old.stage ≡ Closed) }
     {
@@ -112,12 +117,15 @@ impl Connection {
         Ok(more)
     }
 
-    /// Takes one turn; false: what is pending has to wait for more.
+    /// Takes one turn; false: what is pending has to wait for more. Refused, it says nothing.
     fn step<D: Desk>(&mut self, desk: &mut D, out: &mut BytesMut) -> Result<bool, AllocError>
         ensures went { OnOk result (Went D.told HasText [] self.old desk.old out.old.items self.new desk.new out.new.items) }
         ensures less { IfOk result (λ more. more ≡ true → length self.new.pending.items < length self.old.pending.items) }
         ensures waits { IfOk result (λ more. more ≡ false → Waits self.new.stage self.new.pending.items) }
+        ensures unsaid { OnErr result (out.new.items ≡ out.old.items) }
+        ensures asked { OnErr result (Tried D.told (Asks self.old.number self.old.stage self.old.pending.items) desk.old desk.new) }
     {
+        let start = out.len();
         let stage = mem::replace(&mut self.stage, Stage::Closed);
         let turned = turn(
             self.alloc,
@@ -126,8 +134,11 @@ impl Connection {
             self.pending.as_slice(),
             desk,
             out,
-        )?;
-        let Turned { stage, count } = turned;
+        );
+        let Ok(Turned { stage, count }) = turned else {
+            out.truncate(start);
+            return Err(AllocError);
+        };
         self.stage = stage;
         self.pending.advance(count);
         Ok(0 < count)
@@ -142,6 +153,7 @@ impl Connection {
     ) -> Result<(), AllocError>
         ensures went { OnOk result (Went D.told HasText bytes.now self.old desk.old out.old.items self.new desk.new out.new.items) }
         ensures waits { OnOk result (Waits self.new.stage self.new.pending.items) }
+        ensures broke { OnErr result (Broke D.told bytes.now self.old desk.old out.old.items desk.new out.new.items) }
     {
         self.pending.extend_from_slice(bytes)?;
         while self.step(desk, out)? {}
@@ -162,8 +174,8 @@ impl Connection {
 
     /// Answers all that the client has sent up to the end of these bytes.
     ///
-    /// H1 is want of memory, and it closes the connection without a word. What comes to a closed connection is passed
-    /// over: in the call that closed it silently, in later ones by H2.
+    /// H1 is want of memory, and it closes the connection without a word: `out` has the answers of the turns before, each
+    /// whole. What comes to a closed connection is passed over: in the call that closed it silently, in later ones by H2.
     ///
     /// The client of a stream ends it by CopyDone. What comes behind that is kept, and answered by the first call after
     /// `stopped`.
@@ -175,6 +187,8 @@ impl Connection {
     ) -> Result<Phase, ConnFault>
         // The call carries the conversation on.
         ensures went { UnlessMemory result (Went D.told HasText bytes.now self.old desk.old out.old.items self.new desk.new out.new.items) }
+        // As far as memory goes, turn by turn.
+        ensures broke { result ≡ Err ConnFault.Memory → Broke D.told bytes.now self.old desk.old out.old.items desk.new out.new.items }
         // All that can be answered is.
         ensures waits { UnlessMemory result (Waits self.new.stage self.new.pending.items) }
         ensures phase { IfOk result (λ p. p ≡ phase_of self.new.stage) }
@@ -195,16 +209,21 @@ impl Connection {
     /// Ends the stream that stops: all of it has been said. The connection waits for a query again, and the next `take`,
     /// which may bring no bytes, answers what was kept behind the CopyDone.
     ///
-    /// H1 is want of memory, and it closes the connection.
+    /// H1 is want of memory, and it closes the connection without a word: what stood in `out` stands there, and no more.
     pub fn stopped(&mut self, out: &mut BytesMut) -> Result<Phase, ConnFault>
         requires { phase_of self.old.stage ≡ Phase.Stopping }
         ensures ended { IfOk result (λ _. Ended self.old out.old.items self.new out.new.items) }
         ensures phase { IfOk result (λ p. p ≡ Phase.Idle) }
         ensures closed { OnErr result (self.new.stage ≡ Closed) }
+        ensures unsaid { OnErr result (out.new.items ≡ out.old.items) }
         ensures memory { result ≢ Err ConnFault.Closed }
     {
+        let start = out.len();
         let stage = mem::replace(&mut self.stage, Stage::Closed);
-        say_ended(self.alloc, out)?;
+        if say_ended(self.alloc, out).is_err() {
+            out.truncate(start);
+            return Err(ConnFault::Memory);
+        }
         self.stage = after_end(stage);
         Ok(Phase::Idle)
     }

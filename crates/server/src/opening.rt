@@ -1,6 +1,7 @@
 //! The beginning of a session: what its startup asks for.
 
-ghost use Rattle.std.specs.Prelude.{◌≡◌, ◌≤◌, ◌+◌, ◌++◌, length, option_map, OnOk, IfOk, codes};
+ghost use Rattle.std.specs.Prelude.{◌≡◌, ◌≤◌, ◌+◌, ◌++◌, length, option_map, OnOk, OnErr, IfOk, codes};
+ghost use Rattle.pqformat.specs.Putting.{Extends};
 ghost use Rattle.pqformat.specs.Steps.{closed};
 ghost use Rattle.frames.specs.Parameter.{parameter};
 ghost use Rattle.server.specs.Opening.{value_of, opened, is_database, first_of};
@@ -53,8 +54,8 @@ fn database_of(parameters: &[Parameter]) -> &str
 /// Answers the startup of a session on the connection of this number: the database, or that none is served.
 ///
 /// The session must ask for `replication=database`. Other parameters are passed over, and of a repeated name the last
-/// pair counts.
-#[tactic(auto, unfolding(crate::specs::Opening::opened))]
+/// pair counts. Refused, for want of memory: what stood in `out` still stands at its front.
+#[tactic(auto, using(pqformat::proofs::Putting::in_place), unfolding(crate::specs::Opening::opened))]
 pub fn open(
     alloc: Global,
     number: u32,
@@ -64,6 +65,7 @@ pub fn open(
     requires { length (closed parameter parameters.now) ≤ MOST_DATABASE_BYTES }
     ensures database { IfOk result (λ d. d ≡ opened parameters.now) }
     ensures says { OnOk result (out.new.items ≡ out.old.items ++ greeted number (opened parameters.now)) }
+    ensures kept { OnErr result (Extends out.old.items out.new.items) }
 {
     if !asks_for_replication(parameters) {
         say_refused(alloc, out, Refusal::NoReplication)?;

@@ -1,7 +1,7 @@
 //! Queries: the command that a text spells, what it asks of the desk, and its answer.
 
-ghost use Rattle.std.specs.Prelude.{◌≡◌, ◌≤◌, length, OnOk, IfOk, false};
-ghost use Rattle.server.specs.Conversation.{Gave, Runs, Replies, HasShortSlot, is_ok};
+ghost use Rattle.std.specs.Prelude.{◌≡◌, ◌≤◌, length, false};
+ghost use Rattle.server.specs.Conversation.{Answered, Runs, Replies, HasShortSlot, is_ok};
 ghost use Rattle.replcmd.specs.declared.command.Command.TheVariants.{Identify, Create, Start, Drop};
 
 use crate::database::Database;
@@ -19,7 +19,7 @@ fn identify<D: Desk>(
     desk: &mut D,
     out: &mut BytesMut,
 ) -> Result<(), AllocError>
-    ensures { OnOk result (Gave D.told (Runs database.now Identify false) desk.old out.old.items desk.new out.new.items) }
+    ensures { Answered D.told result (λ _. Runs database.now Identify false) desk.old out.old.items desk.new out.new.items }
 {
     let end = desk.end();
     say_identified(alloc, out, desk.systemid(), end, database.as_str())
@@ -33,7 +33,7 @@ fn create<D: Desk>(
     out: &mut BytesMut,
 ) -> Result<(), AllocError>
     requires { length slot.now ≤ 63 }
-    ensures { OnOk result (Gave D.told (Runs database.now (Create slot.now) false) desk.old out.old.items desk.new out.new.items) }
+    ensures { Answered D.told result (λ _. Runs database.now (Create slot.now) false) desk.old out.old.items desk.new out.new.items }
 {
     let answer = desk.create(slot.as_str());
     say_created(alloc, out, slot.as_str(), answer)
@@ -46,7 +46,7 @@ fn drop_slot<D: Desk>(
     desk: &mut D,
     out: &mut BytesMut,
 ) -> Result<(), AllocError>
-    ensures { OnOk result (Gave D.told (Runs database.now (Drop slot.now) false) desk.old out.old.items desk.new out.new.items) }
+    ensures { Answered D.told result (λ _. Runs database.now (Drop slot.now) false) desk.old out.old.items desk.new out.new.items }
 {
     let answer = desk.drop_slot(slot.as_str());
     say_dropped(alloc, out, answer)
@@ -62,7 +62,7 @@ fn start<D: Desk>(
     desk: &mut D,
     out: &mut BytesMut,
 ) -> Result<bool, AllocError>
-    ensures { IfOk result (λ begun. Gave D.told (Runs database.now (Start slot.now position publications.now) begun) desk.old out.old.items desk.new out.new.items) }
+    ensures { Answered D.told result (λ begun. Runs database.now (Start slot.now position publications.now) begun) desk.old out.old.items desk.new out.new.items }
 {
     let answer = desk.start(slot.as_str(), position, publications.as_slice());
     let begun = has_begun(answer);
@@ -85,7 +85,7 @@ fn run<D: Desk>(
     out: &mut BytesMut,
 ) -> Result<bool, AllocError>
     requires { HasShortSlot command.now }
-    ensures { IfOk result (λ begun. Gave D.told (Runs database.now command.now begun) desk.old out.old.items desk.new out.new.items) }
+    ensures { Answered D.told result (λ begun. Runs database.now command.now begun) desk.old out.old.items desk.new out.new.items }
 {
     match command {
         Command::Identify => {
@@ -120,7 +120,7 @@ pub fn reply<D: Desk>(
     desk: &mut D,
     out: &mut BytesMut,
 ) -> Result<bool, AllocError>
-    ensures { IfOk result (λ begun. Gave D.told (Replies database.now query.now begun) desk.old out.old.items desk.new out.new.items) }
+    ensures { Answered D.told result (λ begun. Replies database.now query.now begun) desk.old out.old.items desk.new out.new.items }
 {
     match parse_command(alloc, query) {
         Ok(command) => run(alloc, database, &command, desk, out),

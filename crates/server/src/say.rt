@@ -4,6 +4,7 @@ ghost use Rattle.std.specs.Prelude.{◌≡◌, ◌<◌, ◌≤◌, ◌^◌, ◌+
 ghost use Rattle.std.specs.List.{AllByRecursion};
 ghost use Rattle.frames.specs.declared.data_row.DataValue.TheVariants.{Bytes};
 ghost use Rattle.frames.specs.declared.back.Back.TheVariants.{AuthenticationOk, ErrorResponse as ErrorFrame, CopyDone};
+ghost use Rattle.pqformat.specs.Putting.{Puts};
 ghost use Rattle.replcmd.specs.Position.{printed};
 ghost use Rattle.server.specs.Said.{said, error_frame, refused, refused_ready, ready, greeting, completed, status, shown, text_type, int4_type, IsSmall, identity_columns, identity_values, slot_columns, slot_values, key_frame, columns_frame, values_frame, slot_made, identified, created, dropped, started, ended};
 
@@ -32,9 +33,9 @@ pub const NO_MODIFIER: i32 = -1;
 /// The attribute of a column that is no table's.
 pub const NO_ATTRIBUTE: i16 = 0;
 
-#[tactic(auto, unfolding(crate::specs::Said::ready, crate::specs::Said::said, pqformat::specs::Fields::int32))]
+#[tactic(auto, using(pqformat::proofs::Putting::in_place), unfolding(crate::specs::Said::ready, crate::specs::Said::said, pqformat::specs::Fields::int32))]
 pub(crate) fn say_ready(out: &mut BytesMut) -> Result<(), AllocError>
-    ensures { OnOk result (out.new.items ≡ out.old.items ++ ready) }
+    ensures { Puts result out.old.items out.new.items ready }
 {
     write_back(&Back::ReadyForQuery(Status::Idle), out)
 }
@@ -72,51 +73,52 @@ fn error_fields(alloc: Global, code: &str, text: &str) -> Result<Items<ErrorFiel
     Ok(Items::new(fields))
 }
 
-#[tactic(auto, unfolding(crate::specs::Said::refused, crate::specs::Said::said))]
+#[tactic(auto, using(pqformat::proofs::Putting::in_place), unfolding(crate::specs::Said::refused, crate::specs::Said::said))]
 pub(crate) fn say_refused(
     alloc: Global,
     out: &mut BytesMut,
     refusal: Refusal,
 ) -> Result<(), AllocError>
-    ensures { OnOk result (out.new.items ≡ out.old.items ++ refused refusal) }
+    ensures { Puts result out.old.items out.new.items (refused refusal) }
 {
     let fields = error_fields(alloc, refusal.code(), refusal.text())?;
     write_back(&Back::ErrorResponse(ErrorResponse { fields }), out)
 }
 
 /// That a command is refused, and that the next one is waited for.
+#[tactic(auto, using(pqformat::proofs::Putting::in_place))]
 pub(crate) fn say_refused_ready(
     alloc: Global,
     out: &mut BytesMut,
     refusal: Refusal,
 ) -> Result<(), AllocError>
-    ensures { OnOk result (out.new.items ≡ out.old.items ++ refused_ready refusal) }
+    ensures { Puts result out.old.items out.new.items (refused_ready refusal) }
 {
     say_refused(alloc, out, refusal)?;
     say_ready(out)
 }
 
-#[tactic(auto, unfolding(crate::specs::Said::said, pqformat::specs::Fields::int32))]
+#[tactic(auto, using(pqformat::proofs::Putting::in_place), unfolding(crate::specs::Said::said, pqformat::specs::Fields::int32))]
 fn say_status(alloc: Global, out: &mut BytesMut, name: &str, value: &str) -> Result<(), AllocError>
     requires name { length name.now ≤ 40 }
     requires value { length value.now ≤ 40 }
-    ensures { OnOk result (out.new.items ≡ out.old.items ++ said (status name.now value.now)) }
+    ensures { Puts result out.old.items out.new.items (said (status name.now value.now)) }
 {
     let name = Text::copy_of(alloc, name)?;
     let value = Text::copy_of(alloc, value)?;
     write_back(&Back::ParameterStatus(Parameter { name, value }), out)
 }
 
-#[tactic(auto, unfolding(crate::specs::Said::said, pqformat::specs::Fields::int32))]
+#[tactic(auto, using(pqformat::proofs::Putting::in_place), unfolding(crate::specs::Said::said, pqformat::specs::Fields::int32))]
 fn say_authenticated(out: &mut BytesMut) -> Result<(), AllocError>
-    ensures { OnOk result (out.new.items ≡ out.old.items ++ said AuthenticationOk) }
+    ensures { Puts result out.old.items out.new.items (said AuthenticationOk) }
 {
     write_back(&Back::AuthenticationOk, out)
 }
 
-#[tactic(auto, unfolding(crate::specs::Said::said, pqformat::specs::Fields::int32))]
+#[tactic(auto, using(pqformat::proofs::Putting::in_place), unfolding(crate::specs::Said::said, pqformat::specs::Fields::int32))]
 fn say_key(out: &mut BytesMut, process: u32) -> Result<(), AllocError>
-    ensures { OnOk result (out.new.items ≡ out.old.items ++ said (key_frame process)) }
+    ensures { Puts result out.old.items out.new.items (said (key_frame process)) }
 {
     write_back(
         &Back::BackendKeyData(BackendKeyData { process, key: 0 }),
@@ -125,9 +127,9 @@ fn say_key(out: &mut BytesMut, process: u32) -> Result<(), AllocError>
 }
 
 /// The beginning of a session on the connection of this number.
-#[tactic(auto, unfolding(crate::specs::Said::greeting))]
+#[tactic(auto, using(pqformat::proofs::Putting::in_place), unfolding(crate::specs::Said::greeting))]
 pub(crate) fn say_greeting(alloc: Global, out: &mut BytesMut, number: u32) -> Result<(), AllocError>
-    ensures { OnOk result (out.new.items ≡ out.old.items ++ greeting number) }
+    ensures { Puts result out.old.items out.new.items (greeting number) }
 {
     say_authenticated(out)?;
     say_status(alloc, out, "server_version", "15.0")?;
@@ -177,23 +179,23 @@ fn value(alloc: Global, text: &str) -> Result<DataValue, AllocError>
     Ok(DataValue::Bytes(Items::new(bytes)))
 }
 
-#[tactic(auto, unfolding(crate::specs::Said::said, pqformat::specs::Fields::int32))]
+#[tactic(auto, using(pqformat::proofs::Putting::in_place), unfolding(crate::specs::Said::said, pqformat::specs::Fields::int32))]
 fn say_completed(alloc: Global, out: &mut BytesMut, tag: &str) -> Result<(), AllocError>
     requires { length tag.now ≤ 40 }
-    ensures { OnOk result (out.new.items ≡ out.old.items ++ said (completed tag.now)) }
+    ensures { Puts result out.old.items out.new.items (said (completed tag.now)) }
 {
     let tag = Text::copy_of(alloc, tag)?;
     write_back(&Back::CommandComplete(CommandComplete { tag }), out)
 }
 
 /// The answer of DROP_REPLICATION_SLOT.
-#[tactic(auto, unfolding(crate::specs::Said::dropped))]
+#[tactic(auto, using(pqformat::proofs::Putting::in_place), unfolding(crate::specs::Said::dropped))]
 pub(crate) fn say_dropped(
     alloc: Global,
     out: &mut BytesMut,
     answer: Result<(), DeskFault>,
 ) -> Result<(), AllocError>
-    ensures { OnOk result (out.new.items ≡ out.old.items ++ dropped answer) }
+    ensures { Puts result out.old.items out.new.items (dropped answer) }
 {
     match answer {
         Ok(()) => {
@@ -205,13 +207,13 @@ pub(crate) fn say_dropped(
 }
 
 /// The answer of START_REPLICATION.
-#[tactic(auto, unfolding(crate::specs::Said::started, crate::specs::Said::said, pqformat::specs::Fields::int32, pqformat::specs::Fields::int16))]
+#[tactic(auto, using(pqformat::proofs::Putting::in_place), unfolding(crate::specs::Said::started, crate::specs::Said::said, pqformat::specs::Fields::int32, pqformat::specs::Fields::int16))]
 pub(crate) fn say_started(
     alloc: Global,
     out: &mut BytesMut,
     answer: Result<(), DeskFault>,
 ) -> Result<(), AllocError>
-    ensures { OnOk result (out.new.items ≡ out.old.items ++ started answer) }
+    ensures { Puts result out.old.items out.new.items (started answer) }
 {
     match answer {
         Ok(()) => {
@@ -225,17 +227,17 @@ pub(crate) fn say_started(
     }
 }
 
-#[tactic(auto, unfolding(crate::specs::Said::said, pqformat::specs::Fields::int32))]
+#[tactic(auto, using(pqformat::proofs::Putting::in_place), unfolding(crate::specs::Said::said, pqformat::specs::Fields::int32))]
 fn say_copy_done(out: &mut BytesMut) -> Result<(), AllocError>
-    ensures { OnOk result (out.new.items ≡ out.old.items ++ said CopyDone) }
+    ensures { Puts result out.old.items out.new.items (said CopyDone) }
 {
     write_back(&Back::CopyDone, out)
 }
 
 /// The end of a stream.
-#[tactic(auto, unfolding(crate::specs::Said::ended))]
+#[tactic(auto, using(pqformat::proofs::Putting::in_place), unfolding(crate::specs::Said::ended))]
 pub(crate) fn say_ended(alloc: Global, out: &mut BytesMut) -> Result<(), AllocError>
-    ensures { OnOk result (out.new.items ≡ out.old.items ++ ended) }
+    ensures { Puts result out.old.items out.new.items ended }
 {
     say_copy_done(out)?;
     say_completed(alloc, out, "START_REPLICATION")?;
@@ -250,7 +252,7 @@ fn position_value(alloc: Global, position: u64) -> Result<DataValue, AllocError>
     value(alloc, text.as_str())
 }
 
-#[tactic(auto, unfolding(crate::specs::Said::said))]
+#[tactic(auto, using(pqformat::proofs::Putting::in_place), unfolding(crate::specs::Said::said))]
 fn say_columns(
     alloc: Global,
     out: &mut BytesMut,
@@ -258,24 +260,25 @@ fn say_columns(
 ) -> Result<(), AllocError>
     requires count { length columns ≤ 4 }
     requires names { AllByRecursion (λ c. length c.name ≤ 40) columns }
-    ensures { OnOk result (out.new.items ≡ out.old.items ++ said (columns_frame columns)) }
+    ensures { Puts result out.old.items out.new.items (said (columns_frame columns)) }
 {
     let columns = Items::new(Vec::from_array(alloc, columns)?);
     write_back(&Back::RowDescription(RowDescription { columns }), out)
 }
 
-#[tactic(auto, unfolding(crate::specs::Said::said))]
+#[tactic(auto, using(pqformat::proofs::Putting::in_place), unfolding(crate::specs::Said::said))]
 fn say_values(alloc: Global, out: &mut BytesMut, values: [DataValue; 4]) -> Result<(), AllocError>
     requires count { length values ≤ 4 }
     requires each { AllByRecursion IsSmall values }
-    ensures { OnOk result (out.new.items ≡ out.old.items ++ said (values_frame values)) }
+    ensures { Puts result out.old.items out.new.items (said (values_frame values)) }
 {
     let values = Items::new(Vec::from_array(alloc, values)?);
     write_back(&Back::DataRow(DataRow { values }), out)
 }
 
+#[tactic(auto, using(pqformat::proofs::Putting::in_place))]
 fn say_identity_columns(alloc: Global, out: &mut BytesMut) -> Result<(), AllocError>
-    ensures { OnOk result (out.new.items ≡ out.old.items ++ said identity_columns) }
+    ensures { Puts result out.old.items out.new.items (said identity_columns) }
 {
     let systemid = text_column(alloc, "systemid")?;
     let timeline = int4_column(alloc, "timeline")?;
@@ -284,6 +287,7 @@ fn say_identity_columns(alloc: Global, out: &mut BytesMut) -> Result<(), AllocEr
     say_columns(alloc, out, [systemid, timeline, xlogpos, dbname])
 }
 
+#[tactic(auto, using(pqformat::proofs::Putting::in_place))]
 fn say_identity_values(
     alloc: Global,
     out: &mut BytesMut,
@@ -293,7 +297,7 @@ fn say_identity_values(
 ) -> Result<(), AllocError>
     requires systemid { length systemid.now ≤ 2 ^ 16 }
     requires database { length database.now ≤ 2 ^ 16 }
-    ensures { OnOk result (out.new.items ≡ out.old.items ++ said (identity_values systemid.now end database.now)) }
+    ensures { Puts result out.old.items out.new.items (said (identity_values systemid.now end database.now)) }
 {
     let systemid = value(alloc, systemid)?;
     let timeline = value(alloc, "1")?;
@@ -303,7 +307,7 @@ fn say_identity_values(
 }
 
 /// The answer of IDENTIFY_SYSTEM.
-#[tactic(auto, unfolding(crate::specs::Said::identified))]
+#[tactic(auto, using(pqformat::proofs::Putting::in_place), unfolding(crate::specs::Said::identified))]
 pub(crate) fn say_identified(
     alloc: Global,
     out: &mut BytesMut,
@@ -313,7 +317,7 @@ pub(crate) fn say_identified(
 ) -> Result<(), AllocError>
     requires systemid { length systemid.now ≤ 2 ^ 16 }
     requires database { length database.now ≤ 2 ^ 16 }
-    ensures { OnOk result (out.new.items ≡ out.old.items ++ identified systemid.now end database.now) }
+    ensures { Puts result out.old.items out.new.items (identified systemid.now end database.now) }
 {
     say_identity_columns(alloc, out)?;
     say_identity_values(alloc, out, systemid, end, database)?;
@@ -321,8 +325,9 @@ pub(crate) fn say_identified(
     say_ready(out)
 }
 
+#[tactic(auto, using(pqformat::proofs::Putting::in_place))]
 fn say_slot_columns(alloc: Global, out: &mut BytesMut) -> Result<(), AllocError>
-    ensures { OnOk result (out.new.items ≡ out.old.items ++ said slot_columns) }
+    ensures { Puts result out.old.items out.new.items (said slot_columns) }
 {
     let slot_name = text_column(alloc, "slot_name")?;
     let consistent_point = text_column(alloc, "consistent_point")?;
@@ -335,6 +340,7 @@ fn say_slot_columns(alloc: Global, out: &mut BytesMut) -> Result<(), AllocError>
     )
 }
 
+#[tactic(auto, using(pqformat::proofs::Putting::in_place))]
 fn say_slot_values(
     alloc: Global,
     out: &mut BytesMut,
@@ -342,7 +348,7 @@ fn say_slot_values(
     position: u64,
 ) -> Result<(), AllocError>
     requires { length slot.now ≤ 2 ^ 16 }
-    ensures { OnOk result (out.new.items ≡ out.old.items ++ said (slot_values slot.now position)) }
+    ensures { Puts result out.old.items out.new.items (said (slot_values slot.now position)) }
 {
     let slot_name = value(alloc, slot)?;
     let consistent_point = position_value(alloc, position)?;
@@ -354,10 +360,10 @@ fn say_slot_values(
     )
 }
 
-#[tactic(auto, unfolding(crate::specs::Said::slot_made))]
+#[tactic(auto, using(pqformat::proofs::Putting::in_place), unfolding(crate::specs::Said::slot_made))]
 fn say_slot(alloc: Global, out: &mut BytesMut, slot: &str, position: u64) -> Result<(), AllocError>
     requires { length slot.now ≤ 2 ^ 16 }
-    ensures { OnOk result (out.new.items ≡ out.old.items ++ slot_made slot.now position) }
+    ensures { Puts result out.old.items out.new.items (slot_made slot.now position) }
 {
     say_slot_columns(alloc, out)?;
     say_slot_values(alloc, out, slot, position)?;
@@ -366,7 +372,7 @@ fn say_slot(alloc: Global, out: &mut BytesMut, slot: &str, position: u64) -> Res
 }
 
 /// The answer of CREATE_REPLICATION_SLOT.
-#[tactic(auto, unfolding(crate::specs::Said::created))]
+#[tactic(auto, using(pqformat::proofs::Putting::in_place), unfolding(crate::specs::Said::created))]
 pub(crate) fn say_created(
     alloc: Global,
     out: &mut BytesMut,
@@ -374,7 +380,7 @@ pub(crate) fn say_created(
     answer: Result<u64, DeskFault>,
 ) -> Result<(), AllocError>
     requires { length slot.now ≤ 2 ^ 16 }
-    ensures { OnOk result (out.new.items ≡ out.old.items ++ created slot.now answer) }
+    ensures { Puts result out.old.items out.new.items (created slot.now answer) }
 {
     match answer {
         Ok(position) => say_slot(alloc, out, slot, position),

@@ -1,9 +1,9 @@
 //! The frames of a session, in which queries are answered.
 
-ghost use Rattle.std.specs.Prelude.{◌≡◌, ℕ, IfOk};
+ghost use Rattle.std.specs.Prelude.{ℕ};
 ghost use Rattle.frames.specs.declared.front.Front.TheVariants.{Query};
-ghost use Rattle.server.specs.Conversation.{Gave};
-ghost use Rattle.server.specs.Segment.{IsTurned};
+ghost use Rattle.server.specs.Conversation.{Answered};
+ghost use Rattle.server.specs.Segment.{TakesTurn};
 ghost use Rattle.server.specs.Turns.{Hears};
 ghost use Rattle.server.specs.declared.stage.Stage.TheVariants.{Idle};
 
@@ -25,7 +25,7 @@ fn answer_query<D: Desk>(
     desk: &mut D,
     out: &mut BytesMut,
 ) -> Result<Stage, AllocError>
-    ensures { IfOk result (λ next. Gave D.told (λ asked said. Hears database (Query (record { text = query.now })) asked said next) desk.old out.old.items desk.new out.new.items) }
+    ensures { Answered D.told result (λ next asked said. Hears database (Query (record { text = query.now })) asked said next) desk.old out.old.items desk.new out.new.items }
 {
     if reply(alloc, &database, query, desk, out)? {
         Ok(Stage::Streaming(database))
@@ -41,7 +41,7 @@ fn answer_front<D: Desk>(
     desk: &mut D,
     out: &mut BytesMut,
 ) -> Result<Stage, AllocError>
-    ensures { IfOk result (λ next. Gave D.told (λ asked said. Hears database front.now asked said next) desk.old out.old.items desk.new out.new.items) }
+    ensures { Answered D.told result (λ next asked said. Hears database front.now asked said next) desk.old out.old.items desk.new out.new.items }
 {
     match front {
         Front::Query(query) => answer_query(alloc, database, query.text.as_str(), desk, out),
@@ -61,7 +61,7 @@ pub(crate) fn turn_session<D: Desk>(
     desk: &mut D,
     out: &mut BytesMut,
 ) -> Result<Turned, AllocError>
-    ensures { (number : ℕ) → IfOk result (λ t. IsTurned number (Idle database) pending.now t ((desk.new ≡ desk.old) × (out.new.items ≡ out.old.items)) (λ fact. Gave D.told fact desk.old out.old.items desk.new out.new.items)) }
+    ensures { (number : ℕ) → TakesTurn D.told number (Idle database) pending.now result desk.old out.old.items desk.new out.new.items }
 {
     match read_front(alloc, pending) {
         Ok(None) => Ok(Turned {

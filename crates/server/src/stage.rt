@@ -1,6 +1,7 @@
 //! How far a conversation is, what a turn leaves of it, and the answer of what can't be read.
 
-ghost use Rattle.std.specs.Prelude.{◌≡◌, ◌≢◌, ◌++◌, OnOk};
+ghost use Rattle.std.specs.Prelude.{◌≢◌, OnOk};
+ghost use Rattle.pqformat.specs.Putting.{Puts};
 ghost use Rattle.server.specs.Said.{refused};
 ghost use Rattle.server.specs.Turns.{refusal_of};
 
@@ -33,9 +34,10 @@ pub struct Turned {
 }
 
 /// Refuses what can't be read.
+#[tactic(auto, using(pqformat::proofs::Putting::in_place))]
 pub(crate) fn refuse(alloc: Global, fault: FrameFault, out: &mut BytesMut) -> Result<(), AllocError>
     ensures readable { OnOk result (fault ≢ FrameFault.Memory) }
-    ensures says { OnOk result (out.new.items ≡ out.old.items ++ refused (refusal_of fault)) }
+    ensures says { Puts result out.old.items out.new.items (refused (refusal_of fault)) }
 {
     match fault {
         FrameFault::Memory => Err(AllocError),

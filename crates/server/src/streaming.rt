@@ -1,10 +1,10 @@
 //! The frames of a client while a stream runs: how far it is, and that the stream is to end.
 
-ghost use Rattle.std.specs.Prelude.{◌≡◌, ◌∷◌, [], ℕ, IfOk};
+ghost use Rattle.std.specs.Prelude.{◌∷◌, [], ℕ};
 ghost use Rattle.frames.specs.declared.front.Front.TheVariants.{CopyData};
 ghost use Rattle.server.specs.Calls.{AreAsked, Flushed};
-ghost use Rattle.server.specs.Conversation.{Gave};
-ghost use Rattle.server.specs.Segment.{IsTurned};
+ghost use Rattle.server.specs.Conversation.{Answered};
+ghost use Rattle.server.specs.Segment.{TakesTurn};
 ghost use Rattle.server.specs.Turns.{Streams};
 ghost use Rattle.server.specs.declared.stage.Stage.TheVariants.{Streaming};
 
@@ -33,7 +33,7 @@ fn answer_data<D: Desk>(
     desk: &mut D,
     out: &mut BytesMut,
 ) -> Result<Stage, AllocError>
-    ensures { IfOk result (λ next. Gave D.told (λ asked said. Streams database (CopyData (record { bytes = bytes.now })) asked said next) desk.old out.old.items desk.new out.new.items) }
+    ensures { Answered D.told result (λ next asked said. Streams database (CopyData (record { bytes = bytes.now })) asked said next) desk.old out.old.items desk.new out.new.items }
 {
     match read_client(bytes) {
         Ok(status) => {
@@ -54,7 +54,7 @@ fn answer_in_stream<D: Desk>(
     desk: &mut D,
     out: &mut BytesMut,
 ) -> Result<Stage, AllocError>
-    ensures { IfOk result (λ next. Gave D.told (λ asked said. Streams database front.now asked said next) desk.old out.old.items desk.new out.new.items) }
+    ensures { Answered D.told result (λ next asked said. Streams database front.now asked said next) desk.old out.old.items desk.new out.new.items }
 {
     match front {
         Front::CopyData(data) => answer_data(alloc, database, data.bytes.as_slice(), desk, out),
@@ -75,7 +75,7 @@ pub(crate) fn turn_stream<D: Desk>(
     desk: &mut D,
     out: &mut BytesMut,
 ) -> Result<Turned, AllocError>
-    ensures { (number : ℕ) → IfOk result (λ t. IsTurned number (Streaming database) pending.now t ((desk.new ≡ desk.old) × (out.new.items ≡ out.old.items)) (λ fact. Gave D.told fact desk.old out.old.items desk.new out.new.items)) }
+    ensures { (number : ℕ) → TakesTurn D.told number (Streaming database) pending.now result desk.old out.old.items desk.new out.new.items }
 {
     match read_front(alloc, pending) {
         Ok(None) => Ok(Turned {

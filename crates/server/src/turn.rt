@@ -1,12 +1,12 @@
 //! One turn of a conversation: the startup or the frame at the front of what is pending, and its answer.
 
-ghost use Rattle.std.specs.Prelude.{◌≡◌, ◌≤◌, ◌+◌, ◌++◌, length, OnOk, IfOk, codes};
+ghost use Rattle.std.specs.Prelude.{◌≡◌, ◌≤◌, ◌+◌, length, OnErr, IfOk, codes};
 ghost use Rattle.frames.specs.Parameter.{parameter};
 ghost use Rattle.frames.specs.Startup.{startup_body};
+ghost use Rattle.pqformat.specs.Putting.{Extends, Puts};
 ghost use Rattle.pqformat.specs.Steps.{closed};
 ghost use Rattle.frames.specs.declared.startup.Startup.TheVariants.{Session};
-ghost use Rattle.server.specs.Conversation.{Gave};
-ghost use Rattle.server.specs.Segment.{IsTurned, Said};
+ghost use Rattle.server.specs.Segment.{IsTurned, TakesTurn, Said};
 ghost use Rattle.server.specs.Turns.{Opens};
 ghost use Rattle.server.specs.declared.stage.Stage.TheVariants.{Fresh};
 
@@ -21,6 +21,7 @@ use frames::{Parameter, STARTUP_LIMIT, Startup, read_startup};
 use std::alloc::{AllocError, Global};
 
 /// Answers a session's startup.
+#[tactic(auto, using(pqformat::proofs::Putting::in_place))]
 fn open_session(
     alloc: Global,
     number: u32,
@@ -28,7 +29,8 @@ fn open_session(
     out: &mut BytesMut,
 ) -> Result<Stage, AllocError>
     requires { length (closed parameter parameters.now) ≤ MOST_DATABASE_BYTES }
-    ensures { IfOk result (λ next. Said (λ asked said. Opens number (Session parameters.now) asked said next) out.old.items out.new.items) }
+    ensures says { IfOk result (λ next. Said (λ asked said. Opens number (Session parameters.now) asked said next) out.old.items out.new.items) }
+    ensures kept { OnErr result (Extends out.old.items out.new.items) }
 {
     match open(alloc, number, parameters, out)? {
         Some(database) => Ok(Stage::Idle(database)),
@@ -37,12 +39,14 @@ fn open_session(
 }
 
 /// Declines encryption.
+#[tactic(auto, using(pqformat::proofs::Putting::in_place))]
 fn decline(out: &mut BytesMut) -> Result<(), AllocError>
-    ensures { OnOk result (out.new.items ≡ out.old.items ++ codes "N") }
+    ensures { Puts result out.old.items out.new.items (codes "N") }
 {
     out.extend_from_slice(b"N")
 }
 
+#[tactic(auto, using(pqformat::proofs::Putting::in_place))]
 fn answer_startup(
     alloc: Global,
     number: u32,
@@ -50,7 +54,8 @@ fn answer_startup(
     out: &mut BytesMut,
 ) -> Result<Stage, AllocError>
     requires { 8 + length (startup_body startup.now) ≤ STARTUP_LIMIT }
-    ensures { IfOk result (λ next. Said (λ asked said. Opens number startup.now asked said next) out.old.items out.new.items) }
+    ensures says { IfOk result (λ next. Said (λ asked said. Opens number startup.now asked said next) out.old.items out.new.items) }
+    ensures kept { OnErr result (Extends out.old.items out.new.items) }
 {
     match startup {
         Startup::Session(parameters) => open_session(alloc, number, parameters.as_slice(), out),
@@ -67,13 +72,15 @@ fn answer_startup(
 }
 
 /// The turn of a connection that waits for its startup.
+#[tactic(auto, using(pqformat::proofs::Putting::in_place))]
 fn turn_startup(
     alloc: Global,
     number: u32,
     pending: &[u8],
     out: &mut BytesMut,
 ) -> Result<Turned, AllocError>
-    ensures { IfOk result (λ t. IsTurned number Fresh pending.now t (out.new.items ≡ out.old.items) (λ fact. Said fact out.old.items out.new.items)) }
+    ensures turned { IfOk result (λ t. IsTurned number Fresh pending.now t (out.new.items ≡ out.old.items) (λ fact. Said fact out.old.items out.new.items)) }
+    ensures kept { OnErr result (Extends out.old.items out.new.items) }
 {
     match read_startup(alloc, pending) {
         Ok(None) => Ok(Turned {
@@ -103,7 +110,7 @@ pub(crate) fn turn<D: Desk>(
     desk: &mut D,
     out: &mut BytesMut,
 ) -> Result<Turned, AllocError>
-    ensures { IfOk result (λ t. IsTurned number stage pending.now t ((desk.new ≡ desk.old) × (out.new.items ≡ out.old.items)) (λ fact. Gave D.told fact desk.old out.old.items desk.new out.new.items)) }
+    ensures { TakesTurn D.told number stage pending.now result desk.old out.old.items desk.new out.new.items }
 {
     match stage {
         Stage::Fresh => turn_startup(alloc, number, pending, out),

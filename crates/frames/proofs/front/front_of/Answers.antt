@@ -2,8 +2,9 @@ use Rattle.std.proofs.Common.{ℕ, List, Option, Some, None}
 use Rattle.std.proofs.lemmas.Result.{err_from_is_err_and}
 use Rattle.std.specs.Borrow.{Bor}
 use Rattle.frames.specs.declared.front.Front.{Front}
-use Rattle.frames.specs.Front.{front_limit, front_at}
-use Rattle.frames.proofs.Steps.{never_memory, waits_for_kind, fails_at_body, raw_found, waits_for_body, fails_whole, framed, is_whole}
+use Rattle.frames.specs.Frame.{raw_at}
+use Rattle.frames.specs.Front.{front_limit, front_at, front_needs_memory}
+use Rattle.frames.proofs.Steps.{never_memory, waits_for_kind, fails_at_body, raw_found, waits_for_body, fails_whole, framed, is_kept, still_memory}
 use Rattle.frames.proofs.front.front_of.Goals as goal
 
 pub returns-in_default : goal.returns-in_default
@@ -35,8 +36,9 @@ returns-in_err-frame c =
     let found = raw_found front_limit c.limit_of.result c.args.bytes.now c.in-Some.kind c.u8.new.self (Some (c.in-Some-2.body.now, c.in-Some-2.size))
     (rw c.new-cursor.ensures at c.in-Some.ensures) c.limit_of.ensures (rw c.in-Some-2.is at c.in_ok-body.ensures.exact) in
     rw (p.1, p.2) (record {
-      exact = fails_whole front_limit front_at c.args.bytes.now c.in-Some.kind c.in-Some-2.body.now c.in-Some-2.size c.in_err-frame.field-0.0 found c.in_err-frame.ensures;
-      memory = λ h. is_whole front_limit c.args.bytes.now ((c.in-Some.kind, c.in-Some-2.body.now), c.in-Some-2.size) found;
+      exact = fails_whole front_limit front_at c.args.bytes.now c.in-Some.kind c.in-Some-2.body.now c.in-Some-2.size c.in_err-frame.field-0.0 found c.in_err-frame.ensures.exact;
+      memory = λ h. is_kept front_needs_memory front_at (raw_at front_limit c.args.bytes.now) ((c.in-Some.kind, c.in-Some-2.body.now), c.in-Some-2.size) found
+          (c.in_err-frame.ensures.memory (still_memory Front (Option (Front × ℕ)) c.in_err-frame.field-0.0 h));
     })
 
 pub returns : goal.returns
@@ -44,6 +46,6 @@ returns c =
     let found = raw_found front_limit c.limit_of.result c.args.bytes.now c.in-Some.kind c.u8.new.self (Some (c.in-Some-2.body.now, c.in-Some-2.size))
     (rw c.new-cursor.ensures at c.in-Some.ensures) c.limit_of.ensures (rw c.in-Some-2.is at c.in_ok-body.ensures.exact) in
     record {
-      exact = framed front_limit front_at c.args.bytes.now c.in-Some.kind c.in-Some-2.body.now c.in-Some-2.size c.in_ok-frame.frame found c.in_ok-frame.ensures;
+      exact = framed front_limit front_at c.args.bytes.now c.in-Some.kind c.in-Some-2.body.now c.in-Some-2.size c.in_ok-frame.frame found c.in_ok-frame.ensures.exact;
       memory = λ h. absurd cc;
     }

@@ -1,12 +1,18 @@
-use Rattle.std.proofs.Common.{[], refl, inr}
+use Rattle.std.proofs.Common.{[], refl, inl, inr}
 use Rattle.server.specs.declared.refusal.Refusal.TheVariants.{Command}
+use Rattle.server.specs.Conversation.{Runs, Replies}
 use Rattle.server.specs.Said.{refused_ready}
 use Rattle.server.proofs.Names.{short_slot}
-use Rattle.server.proofs.Steps.{not_read}
+use Rattle.server.proofs.Steps.{not_read, answered_as}
 use Rattle.server.proofs.query.reply.Goals as goal
 
 pub run-requires : goal.run-requires
 run-requires g c = short_slot c.args.query.now c.in-Ok.command c.in-Ok.ensures.found
+
+pub returns-in-Ok : goal.returns-in-Ok
+returns-in-Ok g c =
+    answered_as g.D.Desk.told c.run.result (λ begun. Runs c.args.database.now c.in-Ok.command begun) (λ begun. Replies c.args.database.now c.args.query.now begun) c.args.desk.now c.args.out.now.items c.run.new.desk c.run.new.out.items
+    (λ begun asked text fact. inl (c.in-Ok.command, c.in-Ok.ensures.found, fact)) c.run.ensures
 
 pub returns-in_ok-say_refused_ready-in-Err : goal.returns-in_ok-say_refused_ready-in-Err
 returns-in_ok-say_refused_ready-in-Err g c = record {
@@ -17,6 +23,7 @@ returns-in_ok-say_refused_ready-in-Err g c = record {
       fault = c.in-Err.fault;
       nothing = refl;
       answer = refl;
+      read = c.in-Err.ensures.exact;
       no_command = λ other command spells. not_read c.in-Err.fault command other (c.in-Err.ensures.only command spells);
     },
     refl,

@@ -1,7 +1,8 @@
 use Rattle.std.proofs.Common.{◌≡◌}
+use Rattle.std.proofs.lemmas.Result.{err_from_is_err_and}
 use Rattle.server.specs.declared.stage.Stage.TheVariants.{Idle}
 use Rattle.server.specs.Turns.{Hears}
-use Rattle.server.proofs.Turning.{front_turned, front_refused}
+use Rattle.server.proofs.Turning.{front_turned, front_tried, front_refused}
 use Rattle.server.proofs.session.turn_session.Goals as goal
 
 pub returns-in_ok-stage-in-Ok-Some : goal.returns-in_ok-stage-in-Ok-Some
@@ -14,3 +15,13 @@ pub returns-in_ok-refuse-in-Err : goal.returns-in_ok-refuse-in-Err
 returns-in_ok-refuse-in-Err g c number =
     front_refused g.D.Desk.told number (Idle c.args.database) (Hears c.args.database) c.args.pending.now c.in-Err.fault ((c.args.desk.now ≡ c.args.desk.now) × (c.refuse.new.out.items ≡ c.args.out.now.items)) c.args.desk.now c.args.out.now.items c.refuse.new.out.items
     (λ t n is. is) c.in_ok-refuse-in-Err.ensures.readable c.in-Err.ensures.exact c.in_ok-refuse-in-Err.ensures.says
+
+pub returns-in_err-stage-in-Ok-Some : goal.returns-in_err-stage-in-Ok-Some
+returns-in_err-stage-in-Ok-Some g c number =
+    let p = err_from_is_err_and c.from_residual.result c.from_residual.ensures.1 in
+    let found = rw c.in-Ok-Some.field-0-is at c.in-Ok-Some.ensures.found in
+    rw p.1 (
+      front_tried g.D.Desk.told number (Idle c.args.database) (Hears c.args.database) c.args.pending.now c.in-Ok-Some.count c.in-Ok-Some.front c.args.desk.now c.answer_front.new.desk
+          (λ t n is. is) found.1 found.2 c.in_err-stage-in-Ok-Some.ensures.0,
+      c.in_err-stage-in-Ok-Some.ensures.1,
+    )

@@ -5,6 +5,6 @@ use Rattle.server.proofs.connection.Connection.step.Goals as goal
 
 pub returns-clause-went : goal.returns-clause-went
 returns-clause-went g c =
-    let turn = rw (c.replace-stage.ensures.value, c.as_slice.ensures) at c.in_ok-turned.ensures in
-    let new : Connection = record { alloc = c.args.self.now.alloc; number = c.args.self.now.number; stage = c.in_ok-turned.turned.stage; pending = c.advance.new.self } in
-    turned_went g.D.Desk.told c.args.self.now c.args.desk.now c.args.out.now.items c.in_ok-turned.turned new c.turn.new.desk c.turn.new.out.items refl refl c.advance.ensures.items turn
+    let turn = rw (c.replace-stage.ensures.value, c.as_slice.ensures) at c.in-Ok.ensures in
+    let new : Connection = record { alloc = c.args.self.now.alloc; number = c.args.self.now.number; stage = c.in-Ok.field-0.stage; pending = c.advance.new.self } in
+    turned_went g.D.Desk.told c.args.self.now c.args.desk.now c.args.out.now.items c.in-Ok.field-0 new c.turn-turned.new.desk c.turn-turned.new.out.items refl refl c.advance.ensures.items turn

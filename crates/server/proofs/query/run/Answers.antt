@@ -1,0 +1,23 @@
+use Rattle.std.proofs.lemmas.Result.{err_from_is_err_and}
+use Rattle.replcmd.specs.declared.command.Command.TheVariants.{Identify, Create, Drop}
+use Rattle.server.specs.Conversation.{Runs}
+use Rattle.server.proofs.Steps.{no_stream}
+use Rattle.server.proofs.query.run.Goals as goal
+
+pub returns-in_err-identify-in-Identify : goal.returns-in_err-identify-in-Identify
+returns-in_err-identify-in-Identify g c =
+    let p = err_from_is_err_and c.from_residual.result c.from_residual.ensures.1 in
+    rw (p.1, c.in-Identify.is) (no_stream g.D.Desk.told (λ begun. Runs c.args.database.now Identify begun) c.args.desk.now c.args.out.now.items c.identify.new.desk c.identify.new.out.items c.in_err-identify-in-Identify.ensures)
+
+pub returns-in_err-create-in-Create : goal.returns-in_err-create-in-Create
+returns-in_err-create-in-Create g c =
+    let p = err_from_is_err_and c.from_residual-in_err-create-in-Create.result c.from_residual-in_err-create-in-Create.ensures.1 in
+    rw (p.1, c.in-Create.is) (no_stream g.D.Desk.told (λ begun. Runs c.args.database.now (Create c.in-Create.slot) begun) c.args.desk.now c.args.out.now.items c.create.new.desk c.create.new.out.items c.in_err-create-in-Create.ensures)
+
+pub returns-in_err-drop_slot-in-Drop : goal.returns-in_err-drop_slot-in-Drop
+returns-in_err-drop_slot-in-Drop g c =
+    let p = err_from_is_err_and c.from_residual-in_err-drop_slot-in-Drop.result c.from_residual-in_err-drop_slot-in-Drop.ensures.1 in
+    rw (p.1, c.in-Drop.is) (no_stream g.D.Desk.told (λ begun. Runs c.args.database.now (Drop c.in-Drop.slot) begun) c.args.desk.now c.args.out.now.items c.drop_slot.new.desk c.drop_slot.new.out.items c.in_err-drop_slot-in-Drop.ensures)
+
+pub returns-in-Start : goal.returns-in-Start
+returns-in-Start g c = rw c.in-Start.is c.start.ensures
