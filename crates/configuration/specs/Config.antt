@@ -1,6 +1,6 @@
 -- What a TOML text names as a configuration: its tables, the publications over them, and the server. The tables are judged first, then
 -- the publications, then the names of the text's members, then the members of the server; the first that is wrong is told.
-use Rattle.std.specs.Prelude.{◌≡◌, ℕ, ℤ, pos, negsuc, ◌≤◌, nat_le, Bool, true, false, ◌&&◌, ◌||◌, not, if◌then◌else◌, List, codes, Option, Some, None, option_map, ok_or, Result, Ok, Err}
+use Rattle.std.specs.Prelude.{◌≡◌, ℕ, ℤ, pos, negsuc, ◌≤◌, nat_le, Bool, true, false, ◌&&◌, ◌||◌, not, if◌then◌else◌, List, length, codes, Option, Some, None, option_map, ok_or, Result, Ok, Err}
 use Rattle.std.specs.Str.{bytes_eq}
 use Rattle.toml.specs.Data.{Data, Members, no_members, member, get, as_str, as_integer, as_table}
 use Rattle.pqformat.specs.Steps.{◌>>=◌}
@@ -13,7 +13,7 @@ use Rattle.publication_config.specs.declared.fault.PubFault.{PubFault}
 use Rattle.publication_config.specs.declared.fault.PubFault.TheVariants as pubs
 use Rattle.publication.specs.Publications.{PublicationSet}
 use Rattle.publication_config.specs.Config.{publications_in}
-use Rattle.configuration.specs.declared.server.TheConstants.{MAX_CHUNKS}
+use Rattle.configuration.specs.declared.server.TheConstants.{MAX_CHUNKS, MAX_SYSTEMID}
 use Rattle.configuration.specs.declared.server.Server.{Server}
 use Rattle.configuration.specs.declared.server.Unread.{Unread}
 use Rattle.configuration.specs.declared.server.Unread.TheVariants as unread
@@ -30,6 +30,13 @@ counted_to most (negsuc n) = None
 
 unfoldable pub number_in : ℕ → Data → Option ℕ
 number_in most d = and_then (as_integer d) (counted_to most)
+
+abbrev pub of_length_to : ℕ → List ℕ → Option (List ℕ)
+of_length_to most text = if nat_le (length text) most then Some text else None
+
+-- a text of at most so many bytes
+unfoldable pub text_in : ℕ → Data → Option (List ℕ)
+text_in most d = and_then (as_str d) (of_length_to most)
 
 -- some member has another name than these
 abbrev pub has_another : (List ℕ → Bool) → Members → Bool
@@ -50,7 +57,7 @@ is_of_server name = bytes_eq name (codes "systemid") || (bytes_eq name (codes "r
 
 unfoldable pub server_in : Data → Result Server ServerMisfit
 server_in d = do
-  systemid ← told misfits.Systemid (codes "systemid") as_str d
+  systemid ← told misfits.Systemid (codes "systemid") (text_in MAX_SYSTEMID) d
   records ← told misfits.Records (codes "records") (number_in MAX_RECORDS) d
   chunks ← told misfits.Chunks (codes "chunks") (number_in MAX_CHUNKS) d
   if has_another_in is_of_server (as_table d) then Err misfits.Other

@@ -31,7 +31,7 @@ impl fmt::Display for ServerMisfit {
             ServerMisfit::AnotherPart =>
                 "the configuration wants table, publication, server, and no other member",
             ServerMisfit::NoServer => "the configuration wants a [server]",
-            ServerMisfit::Systemid => "[server] wants systemid: a text",
+            ServerMisfit::Systemid => "[server] wants systemid: a text of at most 65535 bytes",
             ServerMisfit::Records => "[server] wants records: a number from 1 to 1048576",
             ServerMisfit::Chunks => "[server] wants chunks: a number from 1 to 4096",
             ServerMisfit::Other => "[server] wants systemid, records, chunks, and no other member",

@@ -10,4 +10,4 @@ mod server;
 
 pub use config::{Config, explained};
 pub use config_fault::{ConfigFault, ServerMisfit};
-pub use server::{MAX_CHUNKS, Server};
+pub use server::{MAX_CHUNKS, MAX_SYSTEMID, Server};

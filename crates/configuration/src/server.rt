@@ -2,12 +2,12 @@
 
 ghost use Rattle.std.specs.Prelude.{◌≡◌, ◌≤◌, not, codes, option_copied, IfOk, IfSome, string_bytes};
 ghost use Rattle.std.specs.List.{list_any};
-ghost use Rattle.toml.specs.Data.{as_str, as_table, get};
+ghost use Rattle.toml.specs.Data.{as_table, get};
 ghost use Rattle.std.specs.BTreeMap.{keys};
 ghost use Rattle.toml.specs.View.{view};
 ghost use Rattle.tables.specs.Config.{and_then};
 ghost use Rattle.configuration.specs.declared.server.Unread.TheVariants.{Memory};
-ghost use Rattle.configuration.specs.Config.{IsServer, ReadsServer, has_another_in, is_of_server, is_part, number_in, server_in, server_of};
+ghost use Rattle.configuration.specs.Config.{IsServer, ReadsServer, has_another_in, is_of_server, is_part, number_in, server_in, server_of, text_in};
 
 use crate::config_fault::ServerMisfit;
 use pqformat::Text;
@@ -15,13 +15,16 @@ use std::alloc::{AllocError, Global};
 use toml::{Table, Value};
 use txlog::MAX_RECORDS;
 
+/// The most bytes of the text by which a system names itself, with which it fits any answer to a client.
+pub const MAX_SYSTEMID: usize = 65_535;
+
 /// The most chunks of an arena.
 pub const MAX_CHUNKS: usize = 4096;
 
 /// What a configuration says of the server.
 #[derive(Debug, Drop)]
 pub struct Server {
-    /// The text by which the system names itself to clients.
+    /// The text by which the system names itself to clients: at most `MAX_SYSTEMID` bytes.
     pub systemid: Text,
     /// For how many records the log has room: 1 to `MAX_RECORDS`.
     pub records: usize,
@@ -64,7 +67,9 @@ fn server_in(alloc: Global, value: &Value) -> Result<Server, Unread>
     ensures value { ReadsServer result (server_in (view value.now)) }
     ensures fits { IfOk result IsServer }
 {
-    let systemid = text_at(value, "systemid").ok_or(Unread::Wrong(ServerMisfit::Systemid))?;
+    let systemid = text_at(value, "systemid", MAX_SYSTEMID).ok_or(Unread::Wrong(
+        ServerMisfit::Systemid,
+    ))?;
     let records = number_at(value, "records", MAX_RECORDS).ok_or(Unread::Wrong(
         ServerMisfit::Records,
     ))?;
@@ -79,13 +84,26 @@ fn server_in(alloc: Global, value: &Value) -> Result<Server, Unread>
     })
 }
 
-fn text_at<'v>(table: &'v Value, member: &str) -> Option<&'v str>
-    ensures { option_copied result ≡ and_then (get member.now (view table.now)) as_str }
+/// The text of a member, of at most so many bytes.
+fn text_at<'v>(table: &'v Value, member: &str, most: usize) -> Option<&'v str>
+    ensures { option_copied result ≡ and_then (get member.now (view table.now)) (text_in most) }
 {
     match table.get(member) {
-        Some(value) => value.as_str(),
+        Some(value) => text_in(value, most),
         None => None,
     }
+}
+
+/// A text of at most so many bytes.
+#[tactic(auto, unfolding(crate::specs::Config::text_in))]
+fn text_in<'v>(value: &'v Value, most: usize) -> Option<&'v str>
+    ensures { option_copied result ≡ text_in most (view value.now) }
+{
+    let text = value.as_str()?;
+    if text.len() > most {
+        return None;
+    }
+    Some(text)
 }
 
 fn number_at(table: &Value, member: &str, most: usize) -> Option<usize>

@@ -1,13 +1,18 @@
 -- Turns of a stream, one behind the other.
-use Rattle.std.proofs.Common.{◌≡◌, ℕ, true, false, List, [], ◌∷◌, ◌++◌, Result, Ok, Err, refl, ap, subst}
-use Rattle.std.specs.Result.{is_err}
+use Rattle.std.proofs.Common.{◌≡◌, ◌⊎◌, ℕ, true, false, List, [], ◌∷◌, ◌++◌, Result, Ok, Err, inl, inr, refl, sym, ap, subst}
+use Rattle.std.specs.Result.{IsErr, is_err}
 use Rattle.std.specs.declared.option.Option.{Option}
 use Rattle.slots.specs.declared.step.View.{View}
 use Rattle.sender.specs.Sending.{SenderState}
+use Rattle.std.specs.Io.KnownBytes.{Appends}
+use Rattle.wal.specs.declared.record.Record.{Record}
+use Rattle.shared_log.specs.Readers.{seen_of}
+use Rattle.server.specs.declared.connection.Phase.TheVariants as phases
 use Rattle.walsender.specs.declared.walsender.Walsender.{Walsender}
+use Rattle.walsender.specs.Serving.{IsServing, WritesFirst}
 use Rattle.hub.specs.declared.inbox.Work.{Work}
-use Rattle.hub.specs.Streams.{HasLearnt, StreamsOn}
-use Rattle.hub.specs.Turns.{Confirms, EndsTurns, LeavesSlot, Standing, TakesTurns, Turn, Turns, standing}
+use Rattle.hub.specs.Streams.{HasLearnt, StreamsOn, keepalives}
+use Rattle.hub.specs.Turns.{Answers, Confirms, Ended, EndsTurns, LeavesSlot, Standing, TakesTurns, Turn, Turns, standing}
 use Rattle.hub.proofs.Streams.{learnt, one_more}
 
 -- the turn of a stream that was told of a commit before it
@@ -21,37 +26,57 @@ told_turn place here work old informed new seat seat_then seat_after before afte
       one_more old informed new before before after (learnt old informed before is) goes,
     )
 
-turns_more : {D L : Type 0} (told : D → Work → D → Type 0) (place : ℕ) (works : List Work) (work : Work) (desk given after : D) (old between new : Standing L) → Turns told place works desk old given between → told given work after
-    → Turn place work between new → Turns told place (works ++ work ∷ []) desk old after new
-turns_more {D} {L} told place [] work desk given after old between new (no_more, same) gives turn =
+-- what it answered, likewise
+pub told_answers : {L : Type 0} (work : Work) (old informed new : Walsender L) (seat seat_then seat_after : View) (before after : Option (List ℕ)) → HasLearnt old informed
+    → (work.phase ≡ phases.Closed) ⊎ WritesFirst (informed.sender.held ++ keepalives informed.sender.position work.asked) informed before after → Answers work (standing old seat before) (standing new seat_after after)
+told_answers work old informed new seat seat_then seat_after before after is (inl over) = inl over
+told_answers work old informed new seat seat_then seat_after before after is (inr first) = inr (λ written serving.
+    let Seen : List Record → Type 0 = λ log. IsServing log old.reader.place written old.sender in
+    let At : ℕ → Type 0 = λ place. IsServing (seen_of informed.reader) place written old.sender in
+    let By : SenderState → Type 0 = λ s. IsServing (seen_of informed.reader) informed.reader.place written s in
+    let (more, appended) = first written (subst By (sym is.sender) (subst At (sym is.place) (subst Seen (sym is.seen) serving))) in
+    let Wrote : SenderState → Type 0 = λ s. Appends before after ((s.held ++ keepalives s.position work.asked) ++ more) in
+    (more, subst Wrote is.sender appended))
+
+-- one turn more behind others, all of which went well
+turns_more : {D L : Type 0} (told : D → Work → D → Type 0) (place : ℕ) (last : Work → Standing L → Standing L → Type 0) (first : Work) (works : List Work) (work : Work) (desk given after : D) (old between new : Standing L)
+    → Turns told place Answers first works desk old given between → told given work after → Turn place work between new → last work between new → Turns told place last first (works ++ work ∷ []) desk old after new
+turns_more {D} {L} told place last first [] work desk given after old between new (no_more, turn, answered) gives one ends =
     let Gives : D → Type 0 = λ d. told d work after in
-    let Takes : Standing L → Type 0 = λ s. Turn place work s new in
-    (after, new, subst Gives no_more gives, subst Takes same turn, (refl, refl))
-turns_more told place (w ∷ works) work desk given after old between new (early, then, gave, turned, rest) gives turn = (early, then, gave, turned, turns_more told place works work early given after then between new rest gives turn)
+    (after, between, turn, answered, subst Gives no_more gives, (refl, one, ends))
+turns_more told place last first (w ∷ works) work desk given after old between new (early, then, turned, answered, gave, rest) gives one ends =
+    (early, then, turned, answered, gave, turns_more told place last w works work early given after then between new rest gives one ends)
 
 -- the turn of the first work
-pub first_turn : {D L : Type 0} (told : D → Work → D → Type 0) (place : ℕ) (first : Work) (desk : D) (old new : Standing L) → Turn place first old new → TakesTurns told place first desk old desk new
-first_turn told place first desk old new turn = (new, [], turn, (refl, refl))
+pub first_turn : {D L : Type 0} (told : D → Work → D → Type 0) (place : ℕ) (last : Work → Standing L → Standing L → Type 0) (first : Work) (desk : D) (old new : Standing L) → Turn place first old new → last first old new
+    → TakesTurns told place last first desk old desk new
+first_turn told place last first desk old new turn ends = ([], (refl, turn, ends))
 
 -- one turn more
-pub one_turn_more : {D L : Type 0} (told : D → Work → D → Type 0) (place : ℕ) (first work : Work) (desk given after : D) (old between new : Standing L) → TakesTurns told place first desk old given between → told given work after
-    → Turn place work between new → TakesTurns told place first desk old after new
-one_turn_more told place first work desk given after old between new (mid, works, turn, turns) gives one = (mid, works ++ work ∷ [], turn, turns_more told place works work desk given after mid between new turns gives one)
+pub one_turn_more : {D L : Type 0} (told : D → Work → D → Type 0) (place : ℕ) (last : Work → Standing L → Standing L → Type 0) (first work : Work) (desk given after : D) (old between new : Standing L)
+    → TakesTurns told place Answers first desk old given between → told given work after → Turn place work between new → last work between new → TakesTurns told place last first desk old after new
+one_turn_more told place last first work desk given after old between new (works, turns) gives one ends =
+    (works ++ work ∷ [], turns_more told place last first works work desk given after old between new turns gives one ends)
+
+-- of a turn that failed nothing is known
+pub ended_with_fault : {L T E : Type 0} (r : Result T E) (work : Work) (old new : Standing L) → IsErr r → Ended r work old new
+ended_with_fault (Ok done) work old new is = let never : false ≡ true = is in cc
+ended_with_fault (Err fault) work old new is = tt
 
 -- ---- the end of a stream
 
 -- its client asked for it
 pub left_at_end : {D L T E : Type 0} (told : D → Work → D → Type 0) (place : ℕ) (first : Work) (r : Result T E) (desk after : D) (old : Standing L) (position : ℕ) (seat : View) → is_err r ≡ false
     → EndsTurns told place first desk old after position seat → LeavesSlot told place first r desk old after seat
-left_at_end told place first (Ok done) desk after old position seat ok (end, turns, read, same) = (end, turns, same)
+left_at_end told place first (Ok done) desk after old position seat ok (end, last, turns, read, same) = (end, last, turns, same)
 left_at_end told place first (Err over) desk after old position seat ok ends = absurd cc
 
 -- the connection is over
-pub left_at_close : {D L T E : Type 0} (told : D → Work → D → Type 0) (place here : ℕ) (first last : Work) (r : Result T E) (desk closed after : D) (old : Standing L) (position : ℕ) (seat seat_after : View) → is_err r ≡ true → here ≡ place
-    → EndsTurns told place first desk old closed position seat → told closed last after → Confirms last.flushed position here seat seat_after → LeavesSlot told place first r desk old after seat_after
-left_at_close told place here first last (Ok done) desk closed after old position seat seat_after err at ends gives confirmed = absurd cc
-left_at_close told place here first last (Err over) desk closed after old position seat seat_after err at (end, turns, read, same) gives confirmed =
-    let At : ℕ → Type 0 = λ p. Confirms last.flushed position p seat seat_after in
-    let Read : ℕ → Type 0 = λ n. Confirms last.flushed n place seat seat_after in
-    let From : View → Type 0 = λ v. Confirms last.flushed end.walsender.sender.position place v seat_after in
-    (end, closed, last, turns, gives, subst From same (subst Read read (subst At at confirmed)))
+pub left_at_close : {D L T E : Type 0} (told : D → Work → D → Type 0) (place here : ℕ) (first work : Work) (r : Result T E) (desk closed after : D) (old : Standing L) (position : ℕ) (seat seat_after : View) → is_err r ≡ true → here ≡ place
+    → EndsTurns told place first desk old closed position seat → told closed work after → Confirms work.flushed position here seat seat_after → LeavesSlot told place first r desk old after seat_after
+left_at_close told place here first work (Ok done) desk closed after old position seat seat_after err at ends gives confirmed = absurd cc
+left_at_close told place here first work (Err over) desk closed after old position seat seat_after err at (end, last, turns, read, same) gives confirmed =
+    let At : ℕ → Type 0 = λ p. Confirms work.flushed position p seat seat_after in
+    let Read : ℕ → Type 0 = λ n. Confirms work.flushed n place seat seat_after in
+    let From : View → Type 0 = λ v. Confirms work.flushed end.walsender.sender.position place v seat_after in
+    (end, last, closed, work, turns, gives, subst From same (subst Read read (subst At at confirmed)))

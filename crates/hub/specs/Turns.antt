@@ -1,11 +1,14 @@
 -- What a stream does of the work that its connection brings, turn by turn, and what that leaves of its slot.
-use Rattle.std.specs.Prelude.{◌≡◌, ℕ, List, [], ◌∷◌, Option, Some, None, Result, Ok, Err, max, min}
+use Rattle.std.specs.Prelude.{◌≡◌, ◌⊎◌, ℕ, List, [], ◌∷◌, ◌++◌, Option, Some, None, Result, Ok, Err, max, min}
 use Rattle.slots.specs.Seats.{DidAt}
 use Rattle.slots.specs.declared.step.SlotKind.TheVariants.{Raise}
 use Rattle.slots.specs.declared.step.View.{View}
+use Rattle.server.specs.declared.connection.Phase.TheVariants as phases
 use Rattle.walsender.specs.declared.walsender.Walsender.{Walsender}
+use Rattle.walsender.specs.Serving.{WritesFirst}
+use Rattle.sender.specs.declared.turn_fault.TurnFault.{TurnFault}
 use Rattle.hub.specs.declared.inbox.Work.{Work}
-use Rattle.hub.specs.Streams.{StreamsOn}
+use Rattle.hub.specs.Streams.{StreamsOn, keepalives}
 
 -- What a status brings is confirmed as far as was read: the slot is raised to it, unless it stands further.
 abbrev pub Confirms : Option ℕ → ℕ → ℕ → View → View → Type 0
@@ -25,21 +28,33 @@ standing walsender seat written = record { walsender = walsender; seat = seat; w
 abbrev pub Turn : {L : Type 0} → ℕ → Work → Standing L → Standing L → Type 0
 Turn place work old new = Confirms work.flushed old.walsender.sender.position place old.seat new.seat × StreamsOn old.walsender new.walsender old.written new.written
 
--- a turn for each of these works, which a desk gave one behind the other
-abbrev pub Turns : {D L : Type 0} → (D → Work → D → Type 0) → ℕ → List Work → D → Standing L → D → Standing L → Type 0
-Turns told place [] desk old after new = (after ≡ desk) × (new ≡ old)
-Turns {D} {L} told place (work ∷ rest) desk old after new = (given : D) × (mid : Standing L) × told desk work given × Turn place work old mid × Turns told place rest given mid after new
+-- It went well: what was held was written, and then a keepalive for each status that asked, before all else, unless the connection is over.
+abbrev pub Answers : {L : Type 0} → Work → Standing L → Standing L → Type 0
+Answers work old new =
+    (work.phase ≡ phases.Closed) ⊎ WritesFirst (old.walsender.sender.held ++ keepalives old.walsender.sender.position work.asked) old.walsender old.written new.written
 
--- a turn for the first work, and for each that came behind it
-abbrev pub TakesTurns : {D L : Type 0} → (D → Work → D → Type 0) → ℕ → Work → D → Standing L → D → Standing L → Type 0
-TakesTurns {D} {L} told place first desk old after new = (mid : Standing L) × (works : List Work) × Turn place first old mid × Turns told place works desk mid after new
+-- what is known of the last turn of a stream that ended so
+abbrev pub Ended : {L T E : Type 0} → Result T E → Work → Standing L → Standing L → Type 0
+Ended (Ok done) = Answers
+Ended (Err fault) = λ work old new. Unit {0}
 
--- they were taken, up to this position and this seat
+-- A turn for the first work, and for each of those that a desk gave behind it, one after the other. All went well but perhaps the last.
+abbrev pub Turns : {D L : Type 0} → (D → Work → D → Type 0) → ℕ → (Work → Standing L → Standing L → Type 0) → Work → List Work → D → Standing L → D → Standing L → Type 0
+Turns told place last first [] desk old after new = (after ≡ desk) × Turn place first old new × last first old new
+Turns {D} {L} told place last first (work ∷ rest) desk old after new =
+    (given : D) × (mid : Standing L) × Turn place first old mid × Answers first old mid × told desk work given × Turns told place last work rest given mid after new
+
+abbrev pub TakesTurns : {D L : Type 0} → (D → Work → D → Type 0) → ℕ → (Work → Standing L → Standing L → Type 0) → Work → D → Standing L → D → Standing L → Type 0
+TakesTurns told place last first desk old after new = (works : List Work) × Turns told place last first works desk old after new
+
+-- they were taken, up to this position and this seat, however the last one ended
 abbrev pub EndsTurns : {D L : Type 0} → (D → Work → D → Type 0) → ℕ → Work → D → Standing L → D → ℕ → View → Type 0
-EndsTurns {D} {L} told place first desk old after position seat = (end : Standing L) × TakesTurns told place first desk old after end × (position ≡ end.walsender.sender.position) × (seat ≡ end.seat)
+EndsTurns {D} {L} told place first desk old after position seat =
+    (end : Standing L) × (last : Result Work TurnFault) × TakesTurns told place (Ended last) first desk old after end × (position ≡ end.walsender.sender.position) × (seat ≡ end.seat)
 
 -- What a stream leaves of its slot: all that came was confirmed in its turn. Where the connection is over, so was the last work, behind which nothing comes.
 abbrev pub LeavesSlot : {D L T E : Type 0} → (D → Work → D → Type 0) → ℕ → Work → Result T E → D → Standing L → D → View → Type 0
-LeavesSlot {D} {L} told place first (Ok done) desk old after seat = (end : Standing L) × TakesTurns told place first desk old after end × (seat ≡ end.seat)
+LeavesSlot {D} {L} told place first (Ok done) desk old after seat = (end : Standing L) × (last : Result Work TurnFault) × TakesTurns told place (Ended last) first desk old after end × (seat ≡ end.seat)
 LeavesSlot {D} {L} told place first (Err over) desk old after seat =
-    (end : Standing L) × (closed : D) × (last : Work) × TakesTurns told place first desk old closed end × told closed last after × Confirms last.flushed end.walsender.sender.position place end.seat seat
+    (end : Standing L) × (last : Result Work TurnFault) × (closed : D) × (work : Work) × TakesTurns told place (Ended last) first desk old closed end × told closed work after
+    × Confirms work.flushed end.walsender.sender.position place end.seat seat

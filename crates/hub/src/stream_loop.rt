@@ -2,7 +2,7 @@
 
 ghost use Rattle.std.specs.Prelude.{◌≡◌, OnOk};
 ghost use Rattle.hub.specs.Streams.{StreamsOn, WordsBehind};
-ghost use Rattle.hub.specs.Turns.{EndsTurns, LeavesSlot, TakesTurns, standing};
+ghost use Rattle.hub.specs.Turns.{Ended, EndsTurns, LeavesSlot, TakesTurns, standing};
 
 use crate::inbox::Work;
 use crate::line::Over;
@@ -75,7 +75,7 @@ fn run<L: LogName + SlotName, R: Wait, D: WorkDesk<L>, W: Write>(
     to: &mut W,
 ) -> Result<Work, TurnFault>
     ensures serves { StreamsOn stream.old.walsender stream.new.walsender (W.contents to.old) (W.contents to.new) }
-    ensures turns { TakesTurns D.told stream.old.hold.lease.place first desk.old (standing stream.old.walsender stream.old.hold.seat (W.contents to.old)) desk.new (standing stream.new.walsender stream.new.hold.seat (W.contents to.new)) }
+    ensures turns { TakesTurns D.told stream.old.hold.lease.place (Ended result) first desk.old (standing stream.old.walsender stream.old.hold.seat (W.contents to.old)) desk.new (standing stream.new.walsender stream.new.hold.seat (W.contents to.new)) }
     ensures lease { stream.new.hold.lease ≡ stream.old.hold.lease }
 {
     stream.go_on(slots, &first, to)?;
@@ -120,6 +120,6 @@ fn trouble_of(fault: TurnFault) -> Option<Trouble> {
     match fault {
         TurnFault::Write(_) => None,
         TurnFault::Memory | TurnFault::Sender(_) => Some(Trouble::Memory),
-        TurnFault::NoEntry => Some(Trouble::NoEntry),
+        TurnFault::NoEntry | TurnFault::Stale => Some(Trouble::NoEntry),
     }
 }

@@ -30,7 +30,9 @@ pub struct Publications {
 }
 
 impl Model for Publications {
+    ghost use Rattle.std.specs.Prelude.{◌≡◌, false};
     ghost use Rattle.std.specs.Coded.{codes};
+    ghost use Rattle.tables.specs.Tables.{oids_of, repeats};
     ghost use Rattle.publication_config.specs.Published.{PublicationSet, condition_code};
     ghost use Rattle.std.specs.List.{AllByRecursion};
     ghost use Rattle.publication.specs.Selection.{FitsTable};
@@ -41,7 +43,7 @@ impl Model for Publications {
 
     ghost view = { λ p. record { tables = p.tables; publications = p.publications } };
 
-    ghost invariant = { λ p. AllByRecursion FitsTable p.tables };
+    ghost invariant = { λ p. AllByRecursion FitsTable p.tables × (repeats (oids_of p.tables) ≡ false) };
 }
 
 impl Publications {

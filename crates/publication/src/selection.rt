@@ -1,12 +1,11 @@
 //! What a sender was asked to publish.
 
-ghost use Rattle.std.specs.Prelude.{◌≡◌, ◌++◌, ◌==◌, [], IfOk, IfSome, OnSome, option_map, true, false, filter, map, drop, is_some, length};
+ghost use Rattle.std.specs.Prelude.{◌≡◌, ◌++◌, ◌==◌, [], IfOk, IfSome, OnSome, option_map, true, false, filter, drop, is_some, length};
 ghost use Rattle.std.specs.Option.{option_copied};
 ghost use Rattle.std.specs.List.{AllByRecursion, list_all, list_any};
 ghost use Rattle.pgoutput.specs.declared.logical.Logical.TheVariants as logical;
 ghost use Rattle.pgoutput.specs.Logical.{FitsLogical};
-ghost use Rattle.tables.specs.Tables.{repeats};
-ghost use Rattle.tables.specs.Tables.{table_of, IsValue};
+ghost use Rattle.tables.specs.Tables.{table_of, IsValue, oids_of, repeats};
 ghost use Rattle.tables.specs.declared.change.Change.{Change};
 ghost use Rattle.stream.specs.Items.{IsShortMessage};
 ghost use Rattle.publication_config.specs.Published.{has};
@@ -40,9 +39,10 @@ pub struct Selection {
 }
 
 impl Model for Selection {
-    ghost use Rattle.std.specs.Prelude.{◌≡◌};
+    ghost use Rattle.std.specs.Prelude.{◌≡◌, false};
     ghost use Rattle.std.specs.List.{AllByRecursion};
     ghost use Rattle.std.specs.Coded.{codes};
+    ghost use Rattle.tables.specs.Tables.{oids_of, repeats};
     ghost use Rattle.publication_config.specs.Published.{PublicationSet, condition_code};
     ghost use Rattle.publication.specs.Selection.{FitsTable, selected_oids};
 
@@ -52,7 +52,7 @@ impl Model for Selection {
 
     ghost view = { λ s. record { tables = s.tables; publications = s.publications } };
 
-    ghost invariant = { λ s. AllByRecursion FitsTable s.tables × (s.oids ≡ selected_oids (record { tables = s.tables; publications = s.publications })) };
+    ghost invariant = { λ s. AllByRecursion FitsTable s.tables × (s.oids ≡ selected_oids (record { tables = s.tables; publications = s.publications })) × (repeats (oids_of s.tables) ≡ false) };
 }
 
 impl Selection {
@@ -74,7 +74,8 @@ impl Selection {
         tables: Items<Table>,
         publications: Items<Publication>,
     ) -> Result<Self, AllocError>
-        requires { AllByRecursion FitsTable tables }
+        requires fit { AllByRecursion FitsTable tables }
+        requires each_once { repeats (oids_of tables) ≡ false }
         ensures { IfOk result (λ s. s ≡ record { tables = tables; publications = publications }) }
     {
         let oids = oids_of(alloc, tables.as_slice(), publications.as_slice())?;
@@ -90,7 +91,7 @@ impl Selection {
     #[tactic(auto, using(crate::proofs::Repeats::no_repeats))]
     pub fn oids(&self) -> &[u32]
         ensures value { result.now ≡ selected_oids self.now }
-        ensures each_once { repeats (map (λ t. t.oid) self.now.tables) ≡ false → repeats result.now ≡ false }
+        ensures each_once { repeats result.now ≡ false }
     {
         self.oids.as_slice()
     }

@@ -88,20 +88,24 @@ fn report_run<L: LogName + SlotName, R: Wait, W: Write>(
             world.close(rt);
             written.map_err(SimFault::Write)
         }
-        Err(fault) => Err(stopped(schedule, fault)),
+        Err(RunFault::New) => Err(SimFault::Memory),
+        Err(RunFault::Step(world, fault)) => {
+            let done = world.answers().len();
+            world.close(rt);
+            Err(stopped(schedule, done, fault))
+        }
     }
 }
 
-/// The fault of a run that ended before its events did.
-fn stopped(schedule: Schedule, fault: RunFault) -> SimFault {
-    if let RunFault::Step(done, WorldFault::BadEvent) = fault
-        && let Some(event) = schedule.into_bad_event(done)
-    {
-        return SimFault::Event(event);
-    }
+/// The fault of the event behind so many that happened.
+fn stopped(schedule: Schedule, done: usize, fault: WorldFault) -> SimFault {
     match fault {
-        RunFault::Step(_, WorldFault::NoEntry) => SimFault::NoEntry,
-        RunFault::New | RunFault::Step(_, _) => SimFault::Memory,
+        WorldFault::NoEntry => SimFault::NoEntry,
+        WorldFault::Memory => SimFault::Memory,
+        WorldFault::BadEvent => match schedule.into_bad_event(done) {
+            Some(event) => SimFault::Event(event),
+            None => SimFault::Memory,
+        },
     }
 }
 

@@ -8,6 +8,7 @@ use Rattle.sender.specs.declared.turn_fault.TurnFault.TheVariants as turns
 -- why a turn fetched nothing
 abbrev pub fault_of_fetch : ReadFault → TurnFault
 fault_of_fetch reads.NoEntry = turns.NoEntry
+fault_of_fetch reads.Stale = turns.Stale
 fault_of_fetch reads.Memory = turns.Memory
 
 -- the reader moved on
@@ -15,6 +16,7 @@ abbrev pub has_fetched : Result ℕ TurnFault → Bool
 has_fetched (Ok count) = true
 has_fetched (Err turns.Memory) = false
 has_fetched (Err turns.NoEntry) = false
+has_fetched (Err turns.Stale) = false
 has_fetched (Err fault) = true
 
 -- the writer was asked to take bytes

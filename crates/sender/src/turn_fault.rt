@@ -21,9 +21,12 @@ pub enum TurnFault {
     /// No memory for what was to be fetched. The reader stays where it is.
     #[error("U3: out of memory")]
     Memory,
-    /// The reader stays where it is.
+    /// The reader stays where it is, and has seen nothing more.
     #[error("U4: the log lets no reader in")]
     NoEntry,
+    /// The reader stays where it is. Nobody meets it, as E1 of what was learnt.
+    #[error("U4: the log lacks what was learnt of")]
+    Stale,
 }
 
 impl From<ReadFault> for TurnFault {
@@ -32,6 +35,7 @@ impl From<ReadFault> for TurnFault {
     fn from(fault: ReadFault) -> TurnFault {
         match fault {
             ReadFault::NoEntry => TurnFault::NoEntry,
+            ReadFault::Stale => TurnFault::Stale,
             ReadFault::Memory => TurnFault::Memory,
         }
     }

@@ -6,9 +6,10 @@ ghost use mathlib.Core.List.{IsPrefix};
 ghost use Rattle.std.specs.declared.io.Error.{Error};
 ghost use Rattle.wal.specs.Log.{IsWellFormedLog};
 ghost use Rattle.shared_log.specs.Fronts.{settled};
-ghost use Rattle.shared_log.specs.Readers.{seen_of};
+ghost use Rattle.shared_log.specs.Readers.{HasSeen, seen_of};
+ghost use Rattle.shared_log.specs.declared.fault.ReadFault.{ReadFault};
 ghost use Rattle.sender.specs.declared.fault.SendFault.{SendFault};
-ghost use Rattle.sender.specs.Faults.{has_fetched, has_written};
+ghost use Rattle.sender.specs.Faults.{fault_of_fetch, has_fetched, has_written};
 ghost use Rattle.sender.specs.Turning.{IsRefused, ReadAndGave, fetched_from};
 
 use crate::limits::TURN_RECORDS;
@@ -37,6 +38,7 @@ pub fn turn<L: LogName, W: Write>(
     ensures count { IfOk result (λ n. n ≡ length (fetched_from reader.old.place (seen_of reader.new))) }
     ensures moved { has_fetched result ≡ true → reader.new.place ≡ reader.old.place + length (fetched_from reader.old.place (seen_of reader.new)) }
     ensures fresh { has_fetched result ≡ true → IsPrefix (settled reader.new.told) (seen_of reader.new) × IsWellFormedLog (seen_of reader.new) }
+    ensures why { (fault : ReadFault) → result ≡ Err (fault_of_fetch fault) → HasSeen fault reader.old reader.new }
     ensures unfetched { has_fetched result ≡ false → (reader.new.place ≡ reader.old.place) × (sender.new ≡ sender.old) }
     ensures sent { OnOk result ((given : List ℕ) × ReadAndGave clock sender.old sender.new (fetched_from reader.old.place (seen_of reader.new)) given
         × (sender.new.held ≡ []) × Appends (W.contents out.old) (W.contents out.new) given) }

@@ -6,8 +6,14 @@ use thiserror::Error;
 /// Why no records were fetched. The reader stays where it is.
 #[derive(Clone, Copy, Debug, PartialEq, Eq, Error)]
 pub enum ReadFault {
+    /// The entry was refused, and nothing more of the log was seen.
     #[error("E1: the log lets no reader in")]
     NoEntry,
+    /// The log that was entered lacks what the reader had learnt of. Nobody meets it, since a record is published before its
+    /// receipt is given; no contract tells that.
+    #[error("E1: the log lacks what was learnt of")]
+    Stale,
+    /// The log was entered, and holds all that was learnt.
     #[error("E2: out of memory")]
     Memory,
 }

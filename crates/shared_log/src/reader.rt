@@ -1,6 +1,6 @@
 //! A reader of the log.
 
-ghost use Rattle.std.specs.Prelude.{◌≡◌, ◌+◌, ◌≤◌, ◌++◌, [], List, true, IfOk, OnErr, drop, length, take, vec_len};
+ghost use Rattle.std.specs.Prelude.{◌≡◌, ◌+◌, ◌≤◌, ◌++◌, [], List, true, IfErr, IfOk, OnErr, drop, length, take, vec_len};
 ghost use mathlib.Core.List.{IsPrefix};
 ghost use Rattle.wal.specs.Log.{IsWellFormedLog};
 ghost use Rattle.wal.specs.Records.{shared};
@@ -30,7 +30,7 @@ pub struct LogReader<L: LogName> {
 }
 
 impl<L: LogName> LogReader<L> {
-    ghost use Rattle.shared_log.specs.Readers.{seen_of};
+    ghost use Rattle.shared_log.specs.Readers.{HasSeen, seen_of};
 
     /// Up to `max` records from the reader's place on, and moves the place past them. E1 where the log lets no reader in, E2 for
     /// memory.
@@ -40,6 +40,7 @@ impl<L: LogName> LogReader<L> {
         ensures gives { IfOk result (λ v. (shared v.items ≡ take max (drop self.old.place (seen_of self.new))) × (self.new.place ≡ self.old.place + vec_len v)) }
         ensures holds { IfOk result (λ _. IsPrefix (settled self.new.told) (seen_of self.new) × IsWellFormedLog (seen_of self.new)) }
         ensures err { OnErr result (self.new.place ≡ self.old.place) }
+        ensures why { IfErr result (λ fault. HasSeen fault self.old self.new) }
     {
         mem::replace_with(self, (alloc, max), |reader, about: (Global, usize)| {
             reader.fetched(about.0, about.1)
@@ -77,6 +78,7 @@ impl<L: LogName> LogReader<L> {
         ensures gives { IfOk result.1 (λ v. (shared v.items ≡ take max (drop self.place (seen_of result.0))) × (result.0.place ≡ self.place + vec_len v)) }
         ensures holds { IfOk result.1 (λ _. IsPrefix (settled result.0.told) (seen_of result.0) × IsWellFormedLog (seen_of result.0)) }
         ensures err { OnErr result.1 (result.0.place ≡ self.place) }
+        ensures why { IfErr result.1 (λ fault. HasSeen fault self result.0) }
     {
         let LogReader {
             reader,
@@ -106,7 +108,7 @@ impl<L: LogName> LogReader<L> {
                             place,
                             told,
                         },
-                        Err(ReadFault::NoEntry),
+                        Err(ReadFault::Stale),
                     );
                 }
                 match got {

@@ -50,6 +50,11 @@ pub record BreaksDown (log : List Record) (max : ℕ) (clock : ℤ) (old new : S
   pub fewer : count < length (take max (unread old.position log))
   pub is : new ≡ record (after_reading log clock (take count (take max (unread old.position log))) old) { failed = true }
 
+-- what reads the log, and so may be refused an entry
+abbrev pub is_read : Action → Bool
+is_read (actions.Read max clock) = true
+is_read action = false
+
 -- what a sender that has failed refuses
 abbrev pub needs_running : Action → Bool
 needs_running (actions.Read max clock) = true

@@ -3,6 +3,7 @@
 use Rattle.std.specs.Prelude.{◌≡◌, ℕ, Bool, true, false, List, []}
 use Rattle.wal.specs.declared.record.Record.{Record}
 use Rattle.publication.specs.Publications.{PublicationSet}
+use Rattle.shared_log.specs.Readers.{seen_of}
 use Rattle.sender.specs.Sending.{SenderState}
 use Rattle.walsender.specs.Serving.{IsStreaming, Serves}
 use Rattle.starts.specs.declared.start.Start.{Start}
@@ -26,6 +27,11 @@ start_state s = state_with s.connection s.produced.items s.stage
 abbrev pub is_open : {L : Type 0} → Stage L → Bool
 is_open (stages.Open w) = true
 is_open (stages.Cut e) = false
+
+-- the log as its reader saw it last
+abbrev pub seen_at : {L : Type 0} → Stage L → List Record
+seen_at (stages.Open w) = seen_of w.reader
+seen_at (stages.Cut e) = []
 
 -- what a sender that is no longer there was before it was cut
 pub record WasStreaming (log : List Record) (produced : List ℕ) (selection : PublicationSet) (start position : ℕ) : Type 0 where

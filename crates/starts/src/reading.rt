@@ -1,9 +1,9 @@
 //! What a start reads of the publisher's log.
 
-ghost use Rattle.std.specs.Prelude.{◌≡◌, ◌-◌, List, ℕ, IfOk, OnErr, length};
+ghost use Rattle.std.specs.Prelude.{◌≡◌, ◌-◌, List, ℕ, IfErr, IfOk, OnErr, length};
 ghost use mathlib.Core.List.{IsPrefix};
 ghost use Rattle.shared_log.specs.Fronts.{settled};
-ghost use Rattle.shared_log.specs.Readers.{seen_of};
+ghost use Rattle.shared_log.specs.Readers.{HasSeen, seen_of};
 ghost use Rattle.txlog.specs.Invariants.{IsPublisher};
 ghost use Rattle.walsender.specs.Serving.{Reads, Serves, next_records};
 
@@ -25,6 +25,8 @@ pub(crate) fn read_on<L: LogName>(
     ensures reads { IfOk result (Reads clock walsender.old.sender walsender.new.sender (next_records max walsender.old.reader.place publisher.old.log)) }
     ensures serves { (written : List ℕ) → Serves publisher.old.log written walsender.old → Serves publisher.old.log written walsender.new }
     ensures unread { OnErr result (walsender.new.sender ≡ walsender.old.sender) }
+    ensures why { IfErr result (λ fault. HasSeen fault walsender.old.reader walsender.new.reader) }
+    ensures told { IsPrefix publisher.old.log (settled walsender.new.reader.told) }
     ensures publisher { IsPublisher publisher.old }
 {
     let unread = unread_of(publisher, &mut walsender.reader);

@@ -1,10 +1,11 @@
 //! A start of a connection's sender, and what it has produced.
 
 ghost use Rattle.std.specs.Prelude.{◌≡◌, ◌≢◌, ◌+◌, ◌<◌, ◌∷◌, [], List, true, false, Err, IfOk, OnErr, vec_capacity, vec_len};
+ghost use mathlib.Core.List.{IsPrefix};
 ghost use Rattle.wal.specs.declared.record.Record.{Record};
 ghost use Rattle.starts.specs.State.{is_open_for, running};
-ghost use Rattle.starts.specs.Acting.{Acts, new_start};
-ghost use Rattle.starts.specs.Starts.{IsServed, is_open, start_state};
+ghost use Rattle.starts.specs.Acting.{Acts, is_read, new_start};
+ghost use Rattle.starts.specs.Starts.{IsServed, is_open, seen_at, start_state};
 
 use crate::action::Action;
 use crate::reading::read_on;
@@ -104,6 +105,7 @@ impl<L: LogName> Start<L> {
         ensures acts { IfOk result (λ a. Acts publisher.old.log action (start_state self.old) a (start_state self.new)) }
         ensures err { OnErr result (start_state self.new ≡ start_state self.old) }
         ensures happens { result ≢ Err WorldFault.BadEvent }
+        ensures entry { result ≡ Err WorldFault.NoEntry → is_read action ≡ true }
         ensures served { IsServed publisher.old.log self.new }
         ensures same { publisher.new ≡ publisher.old }
         ensures readers { vec_len readers.new + running (start_state self.new ∷ []) ≡ vec_len readers.old + running (start_state self.old ∷ []) }
@@ -129,6 +131,7 @@ impl<L: LogName> Start<L> {
         ensures acts { IfOk result (λ a. Acts publisher.old.log (Action.Read max clock) (start_state self.old) a (start_state self.new)) }
         ensures err { OnErr result (start_state self.new ≡ start_state self.old) }
         ensures happens { result ≢ Err WorldFault.BadEvent }
+        ensures memory { result ≡ Err WorldFault.Memory → IsPrefix publisher.old.log (seen_at self.new.stage) }
         ensures served { IsServed publisher.old.log self.new }
         ensures same { publisher.new ≡ publisher.old }
         ensures opened { is_open self.new.stage ≡ true }
@@ -139,7 +142,7 @@ impl<L: LogName> Start<L> {
         match read_on(alloc, publisher, walsender, max as usize, clock) {
             Ok(Ok(())) => return Ok(Answer::Done),
             Ok(Err(fault)) => return Ok(Answer::Sender(fault)),
-            Err(ReadFault::NoEntry) => return Err(WorldFault::NoEntry),
+            Err(ReadFault::NoEntry | ReadFault::Stale) => return Err(WorldFault::NoEntry),
             Err(ReadFault::Memory) => return Err(WorldFault::Memory),
         }
     }
@@ -166,6 +169,7 @@ impl<L: LogName> Start<L> {
         ensures acts { IfOk result (λ a. Acts publisher.now.log (Action.Drain max) (start_state self.old) a (start_state self.new)) }
         ensures err { OnErr result (start_state self.new ≡ start_state self.old) }
         ensures happens { result ≢ Err WorldFault.BadEvent }
+        ensures entered { result ≢ Err WorldFault.NoEntry }
         ensures served { IsServed publisher.now.log self.new }
         ensures opened { is_open self.new.stage ≡ true }
     {

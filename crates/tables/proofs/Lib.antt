@@ -1,5 +1,6 @@
 pub mod Behind
 pub mod Catalogs
+pub mod Catalogued
 pub mod ChangeBodies
 pub mod Lengths
 pub mod Members

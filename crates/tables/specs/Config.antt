@@ -24,7 +24,7 @@ use Rattle.tables.specs.declared.config_table.TheConstants.{MAX_COLUMNS}
 use Rattle.tables.specs.declared.config_member.TheConstants.{MAX_OID}
 use Rattle.tables.specs.declared.config_table.Unread.{Unread}
 use Rattle.tables.specs.declared.config_table.Unread.TheVariants as unread
-use Rattle.tables.specs.Tables.{is_name}
+use Rattle.tables.specs.Tables.{is_name, is_namesake}
 
 -- what is read of what was found, if anything was
 abbrev pub and_then : {A B : Type 0} → Option A → (A → Option B) → Option B
@@ -144,9 +144,6 @@ abbrev pub Reads : {X : Type 0} → Result X Unread → Result X Member → Type
 Reads (Ok x) read = read ≡ Ok x
 Reads (Err (unread.Wrong which)) read = read ≡ Err which
 Reads (Err unread.Memory) read = Unit {0}
-
-abbrev pub is_namesake : Table → Table → Bool
-is_namesake u t = bytes_eq u.schema t.schema && bytes_eq u.name t.name
 
 -- the OID or the name of the table is that of another
 abbrev pub clash : List Table → Table → Option Member

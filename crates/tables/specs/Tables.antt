@@ -1,5 +1,5 @@
 -- Which rows a table takes, and which changes fit a catalogue.
-use Rattle.std.specs.Prelude.{◌≡◌, ℕ, ◌^◌, ◌<◌, ◌≤◌, ◌==◌, nat_le, Bool, true, false, ◌&&◌, ◌||◌, not, List, [], ◌∷◌, ◌++◌, length, codes, count_by, filter, find, Option, IsSome, IsSomeAnd, FitsSigned}
+use Rattle.std.specs.Prelude.{◌≡◌, ℕ, ◌^◌, ◌<◌, ◌≤◌, ◌==◌, nat_le, Bool, true, false, ◌&&◌, ◌||◌, not, List, [], ◌∷◌, ◌++◌, length, codes, count_by, filter, find, map, Option, IsSome, IsSomeAnd, FitsSigned}
 use Rattle.std.specs.List.{list_all, list_any, zip, AllByRecursion}
 use Rattle.std.specs.Int.{w32, w64}
 use Rattle.std.specs.Str.{bytes_eq, is_utf8}
@@ -130,3 +130,21 @@ FitsChange tables (changes.Truncate oids) =
 abbrev pub repeats : List ℕ → Bool
 repeats [] = false
 repeats (oid ∷ oids) = list_any (λ other. other == oid) oids || repeats oids
+
+-- Schema and name are those of the other table.
+abbrev pub is_namesake : Table → Table → Bool
+is_namesake u t = bytes_eq u.schema t.schema && bytes_eq u.name t.name
+
+-- two of the tables have one name
+abbrev pub has_namesakes : List Table → Bool
+has_namesakes [] = false
+has_namesakes (t ∷ tables) = list_any (λ u. is_namesake u t) tables || has_namesakes tables
+
+abbrev pub oids_of : List Table → List ℕ
+oids_of tables = map (λ t. t.oid) tables
+
+-- what the tables of a catalogue are: each is one, and no two have one OID or one name
+pub record AreCatalogued (tables : List Table) : Type 0 where
+  pub each : AllByRecursion IsTable tables
+  pub oids : repeats (oids_of tables) ≡ false
+  pub names : has_namesakes tables ≡ false

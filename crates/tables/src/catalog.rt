@@ -1,15 +1,15 @@
 //! The tables that a publisher knows, found by OID or by name.
 
-ghost use Rattle.std.specs.Prelude.{◌≡◌, IfSome};
+ghost use Rattle.std.specs.Prelude.{◌≡◌, IfSome, false};
 ghost use Rattle.std.specs.List.{AllByRecursion};
 ghost use Rattle.std.specs.Option.{option_copied};
-ghost use Rattle.tables.specs.Tables.{IsTable, table_named, table_of};
+ghost use Rattle.tables.specs.Tables.{AreCatalogued, IsTable, has_namesakes, oids_of, repeats, table_named, table_of};
 
 use crate::table::Table;
 use pqformat::Items;
 use std::marker::Model;
 
-/// The tables of a publisher. Contracts see the list of them. Each is named, and has at most 64 columns.
+/// The tables of a publisher. Contracts see the list of them. Each is named, and has at most 64 columns; no two have one OID or one name.
 #[derive(Debug, Drop)]
 pub struct Catalog {
     tables: Items<Table>,
@@ -17,15 +17,14 @@ pub struct Catalog {
 
 impl Model for Catalog {
     ghost use Rattle.std.specs.Prelude.{List};
-    ghost use Rattle.std.specs.List.{AllByRecursion};
     ghost use Rattle.tables.specs.declared.table.Table.{Table};
-    ghost use Rattle.tables.specs.Tables.{IsTable};
+    ghost use Rattle.tables.specs.Tables.{AreCatalogued};
 
     ghost Value = { List Table };
 
     ghost view = { λ c. c.tables };
 
-    ghost invariant = { λ c. AllByRecursion IsTable c.tables };
+    ghost invariant = { λ c. AreCatalogued c.tables };
 
     ghost inverse = { λ tables. record { tables = tables } };
 }
@@ -34,6 +33,8 @@ impl Catalog {
     pub fn tables(&self) -> &[Table]
         ensures value { result.now ≡ self.now }
         ensures fits { AllByRecursion IsTable result.now }
+        ensures each_once { repeats (oids_of result.now) ≡ false }
+        ensures named_once { has_namesakes result.now ≡ false }
     {
         self.tables.as_slice()
     }
@@ -55,7 +56,7 @@ impl Catalog {
     }
 
     pub(crate) fn of_tables(tables: Items<Table>) -> Self
-        requires { AllByRecursion IsTable tables }
+        requires { AreCatalogued tables }
         ensures { result ≡ tables }
     {
         Catalog { tables }

@@ -1,10 +1,10 @@
 //! The tables of a configuration, which is a TOML text. Its form is told in docs/CONFIGURATION.md.
 
-ghost use Rattle.std.specs.Prelude.{◌≡◌, ◌==◌, [], IfOk, option_map};
-ghost use Rattle.std.specs.List.{list_any, AllByRecursion};
+ghost use Rattle.std.specs.Prelude.{◌≡◌, ◌==◌, [], IfOk, None, option_map};
+ghost use Rattle.std.specs.List.{list_any};
 ghost use Rattle.toml.specs.View.{view, items_view};
-ghost use Rattle.tables.specs.Config.{Names, Reads, ReadsTables, another_table, clash, is_namesake, named_by, next_table, tables_behind, tables_in, tables_of};
-ghost use Rattle.tables.specs.Tables.{IsTable};
+ghost use Rattle.tables.specs.Config.{Names, Reads, ReadsTables, another_table, clash, named_by, next_table, tables_behind, tables_in, tables_of};
+ghost use Rattle.tables.specs.Tables.{AreCatalogued, IsTable, is_namesake};
 
 use crate::catalog::Catalog;
 use crate::config_fault::{CatalogFault, Member, Misfit};
@@ -38,7 +38,7 @@ impl Catalog {
 
 fn tables_of(alloc: Global, member: Option<&Value>) -> Result<Items<Table>, CatalogFault>
     ensures value { ReadsTables result (tables_of (option_map (λ v. view v.now) member.entry)) }
-    ensures fits { IfOk result (AllByRecursion IsTable) }
+    ensures fits { IfOk result AreCatalogued }
 {
     let Some(value) = member else {
         return Ok(Items::new(Vec::new(alloc)));
@@ -51,7 +51,7 @@ fn tables_of(alloc: Global, member: Option<&Value>) -> Result<Items<Table>, Cata
 
 fn tables_behind(alloc: Global, values: &[Value]) -> Result<Items<Table>, CatalogFault>
     ensures value { ReadsTables result (tables_behind [] (items_view values.now)) }
-    ensures fits { IfOk result (AllByRecursion IsTable) }
+    ensures fits { IfOk result AreCatalogued }
 {
     let mut tables = Vec::new(alloc);
     for value in values {
@@ -66,6 +66,7 @@ fn tables_behind(alloc: Global, values: &[Value]) -> Result<Items<Table>, Catalo
 fn next_table(alloc: Global, tables: &[Table], value: &Value) -> Result<Table, CatalogFault>
     ensures value { ReadsTables result (next_table tables.now (view value.now)) }
     ensures fits { IfOk result IsTable }
+    ensures alone { IfOk result (λ t. clash tables.now t ≡ None) }
 {
     if tables.len() >= MAX_TABLES {
         return Err(CatalogFault::BadTables(Misfit::TooMany));
@@ -84,6 +85,7 @@ fn next_table(alloc: Global, tables: &[Table], value: &Value) -> Result<Table, C
 fn another_table(alloc: Global, tables: &[Table], value: &Value) -> Result<Table, Unread>
     ensures value { Reads result (another_table tables.now (view value.now)) }
     ensures fits { IfOk result IsTable }
+    ensures alone { IfOk result (λ t. clash tables.now t ≡ None) }
 {
     let table = table_in(alloc, value)?;
     match clash(tables, &table) {

@@ -93,3 +93,5 @@ turned clock old new place moved_to early seen before after (Err turns.Memory) f
     silent place moved_to early seen old new before after (t.silent refl) (stays place moved_to early seen old new begins (t.unfetched refl))
 turned clock old new place moved_to early seen before after (Err turns.NoEntry) fits begins t =
     silent place moved_to early seen old new before after (t.silent refl) (stays place moved_to early seen old new begins (t.unfetched refl))
+turned clock old new place moved_to early seen before after (Err turns.Stale) fits begins t =
+    silent place moved_to early seen old new before after (t.silent refl) (stays place moved_to early seen old new begins (t.unfetched refl))

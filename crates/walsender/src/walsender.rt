@@ -1,6 +1,6 @@
 //! A sender and its reader.
 
-ghost use Rattle.std.specs.Prelude.{◌≡◌, ◌≢◌, ◌↔◌, ◌+◌, ◌<◌, ◌++◌, ◌==◌, [], ℕ, List, false, true, drop, length, min, not, take, Err, IfOk, OnErr, OnOk};
+ghost use Rattle.std.specs.Prelude.{◌≡◌, ◌≢◌, ◌↔◌, ◌+◌, ◌<◌, ◌++◌, ◌==◌, [], ℕ, List, false, true, drop, length, min, not, take, Err, IfErr, IfOk, OnErr, OnOk};
 ghost use Rattle.std.specs.Io.KnownBytes.{Appends};
 ghost use mathlib.Core.List.{IsPrefix};
 ghost use Rattle.std.specs.declared.io.Error.{Error};
@@ -10,8 +10,9 @@ ghost use Rattle.wal.specs.Log.{IsWellFormedLog};
 ghost use Rattle.stream.specs.Words.{word_bytes};
 ghost use Rattle.stream.specs.Items.{keepalive_word};
 ghost use Rattle.shared_log.specs.Fronts.{settled};
-ghost use Rattle.shared_log.specs.Readers.{seen_of};
-ghost use Rattle.sender.specs.Faults.{has_fetched, has_written};
+ghost use Rattle.shared_log.specs.Readers.{HasSeen, seen_of};
+ghost use Rattle.shared_log.specs.declared.fault.ReadFault.{ReadFault};
+ghost use Rattle.sender.specs.Faults.{fault_of_fetch, has_fetched, has_written};
 ghost use Rattle.sender.specs.Turning.{ReadAndGave, fetched_from};
 ghost use Rattle.walsender.specs.Serving.{Gives, GoesOn, Reads, ReadsOn, Serves, StaysOn, WritesFirst, next_records};
 
@@ -86,6 +87,7 @@ impl<L: LogName> Walsender<L> {
         ensures moved { OnOk result (self.new.reader.place ≡ self.old.reader.place + length (next_records max self.old.reader.place (seen_of self.new.reader))) }
         ensures reads { IfOk result (Reads clock self.old.sender self.new.sender (next_records max self.old.reader.place (seen_of self.new.reader))) }
         ensures serves { OnOk result (ReadsOn (next_records max self.old.reader.place (seen_of self.new.reader)) self.old self.new) }
+        ensures why { IfErr result (λ fault. HasSeen fault self.old.reader self.new.reader) }
         ensures unread { OnErr result ((self.new.sender ≡ self.old.sender) × (self.new.reader.place ≡ self.old.reader.place)) }
     {
         let records = self.reader.fetch(alloc, max)?;
@@ -101,6 +103,7 @@ impl<L: LogName> Walsender<L> {
     ) -> Result<usize, TurnFault>
         ensures grows { IsPrefix (seen_of self.old.reader) (seen_of self.new.reader) }
         ensures told { self.new.reader.told ≡ self.old.reader.told }
+        ensures why { (fault : ReadFault) → result ≡ Err (fault_of_fetch fault) → HasSeen fault self.old.reader self.new.reader }
         ensures sees { has_fetched result ≡ true → IsPrefix (settled self.new.reader.told) (seen_of self.new.reader) }
         ensures serves { (given : List ℕ) × GoesOn given self.old self.new × Appends (W.contents to.old) (W.contents to.new) given }
         ensures sent { OnOk result (self.new.sender.held ≡ []) }

@@ -1,6 +1,6 @@
 -- What is true of the machine between two events is the headline; and a run that goes on is a run.
 use Rattle.std.proofs.Common.{◌≡◌, ◌+◌, ◌<◌, length, ℕ, true, false, List, [], ◌∷◌, ◌++◌, map, take, refl, sym, ap, subst, ◌∙◌}
-use Rattle.std.specs.Prelude.{◌↔◌, slice_index_or}
+use Rattle.std.specs.Prelude.{◌↔◌, Some, slice_get, slice_index_or}
 use Rattle.std.proofs.lemmas.List.{take_more}
 use Rattle.std.proofs.lemmas.Option.{slice_get_read}
 use Rattle.std.specs.List.{AllByRecursion}
@@ -23,7 +23,7 @@ use Rattle.world.specs.declared.machine.Machine.{Machine}
 use Rattle.world.specs.State.{WorldState}
 use Rattle.starts.specs.Acting.{read_by}
 use Rattle.world.specs.Law.{IsExact, Headline}
-use Rattle.world.specs.Steps.{IsStep, is_bad, IsRun, StopsAt}
+use Rattle.world.specs.Steps.{IsStep, is_bad, is_read, IsRun, StopsAt}
 use Rattle.walsender.specs.Serving.{IsStreaming}
 use Rattle.starts.specs.Starts.{IsServed, IsServedBy, state_with, start_state}
 use Rattle.world.specs.Machine.{IsMachine, shown}
@@ -77,13 +77,15 @@ run_on start mid new es k answers e a lt here run step =
     let P : List Event → Type 0 = λ l. IsRun start l (answers ++ a ∷ []) new in
     subst P (ap (λ d. take k es ++ d ∷ []) here ∙ sym (take_more es k e lt)) (joined start mid new (take k es) answers e a run step)
 
-pub stops : (start mid : WorldState) (es : List Event) (k : ℕ) (answers : List Answer) (e : Event) (fault : WorldFault) → k < length es → e ≡ slice_index_or es k e → IsRun start (take k es) answers mid
-    → (fault ≡ worlds.BadEvent) ↔ (is_bad e mid ≡ true) → StopsAt start es k fault
-stops start mid es k answers e fault lt here run bad = record {
-  event = e;
-  there = slice_get_read es (length es) k e refl lt here;
-  answers = answers;
-  state = mid;
-  runs = run;
-  bad = bad;
-}
+pub stops : (start mid : WorldState) (es : List Event) (k : ℕ) (answers : List Answer) (e : Event) (fault : WorldFault) → k < length es → e ≡ slice_index_or es k e → length answers ≡ k → IsRun start (take k es) answers mid
+    → (fault ≡ worlds.BadEvent) ↔ (is_bad e mid ≡ true) → (fault ≡ worlds.NoEntry → is_read e ≡ true) → StopsAt start es answers mid fault
+stops start mid es k answers e fault lt here count run bad entry =
+    let Runs : ℕ → Type 0 = λ n. IsRun start (take n es) answers mid in
+    let Next : ℕ → Type 0 = λ n. slice_get es n ≡ Some e in
+    record {
+      runs = subst Runs (sym count) run;
+      event = e;
+      next = subst Next (sym count) (slice_get_read es (length es) k e refl lt here);
+      bad = bad;
+      entry = entry;
+    }

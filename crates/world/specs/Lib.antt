@@ -7,3 +7,4 @@ pub mod Starting
 pub mod Steps
 pub mod Confirming
 pub mod Machine
+pub mod Ending

@@ -1,5 +1,5 @@
 -- What an event does to the world, exactly, and what a run of events is.
-use Rattle.std.specs.Prelude.{◌≡◌, ◌↔◌, ℕ, pos, Bool, true, ◌&&◌, not, is_some, List, [], ◌∷◌, take, slice_get, Option, Some, None, IsNone}
+use Rattle.std.specs.Prelude.{◌≡◌, ◌↔◌, ℕ, pos, Bool, true, false, ◌&&◌, not, is_some, List, [], ◌∷◌, length, take, slice_get, Option, Some, None, IsNone}
 use Rattle.schedule.specs.declared.event.Event.{Event}
 use Rattle.schedule.specs.declared.event.Event.TheVariants as events
 use Rattle.schedule.specs.declared.event.ConnectionStep.{ConnectionStep}
@@ -55,17 +55,26 @@ is_bad (events.Session t step) w = not (is_some (ask_of (events.Session t step) 
 is_bad (events.Connection c step) w = is_bad_at c step w
 is_bad (events.Slot name) w = not (is_slot_name name)
 
+abbrev pub is_read_at : ConnectionStep → Bool
+is_read_at (steps.Read max clock) = true
+is_read_at step = false
+
+-- an event that reads the log, and so may be refused an entry: V3
+abbrev pub is_read : Event → Bool
+is_read (events.Connection c step) = is_read_at step
+is_read event = false
+
 -- a run: the answers to the events in order, and where they lead
 abbrev pub IsRun : WorldState → List Event → List Answer → WorldState → Type 0
 IsRun old [] [] new = new ≡ old
 IsRun old (e ∷ es) (a ∷ rest) new = (mid : WorldState) × IsStep old e a mid × IsRun mid es rest new
 IsRun old events answers new = ⊥
 
--- So many events happened, and the next did not, by this fault: V1 exactly where it could not happen.
-pub record StopsAt (start : WorldState) (events : List Event) (done : ℕ) (fault : WorldFault) : Type 0 where
+-- These events happened with these answers, and the next did not, by this fault: V1 exactly where it could not happen, and V3
+-- only where it reads the log.
+pub record StopsAt (start : WorldState) (events : List Event) (answers : List Answer) (state : WorldState) (fault : WorldFault) : Type 0 where
+  pub runs : IsRun start (take (length answers) events) answers state
   pub event : Event
-  pub there : slice_get events done ≡ Some event
-  pub answers : List Answer
-  pub state : WorldState
-  pub runs : IsRun start (take done events) answers state
+  pub next : slice_get events (length answers) ≡ Some event
   pub bad : (fault ≡ worlds.BadEvent) ↔ (is_bad event state ≡ true)
+  pub entry : fault ≡ worlds.NoEntry → is_read event ≡ true

@@ -7,11 +7,11 @@ ghost use Rattle.world.specs.State.{new_subscriber, new_world, open_start, with_
 ghost use Rattle.starts.specs.State.{running};
 ghost use Rattle.world.specs.ConnectionLines.{ActsAt, IsStart, start_refusal};
 ghost use Rattle.named_slots.specs.Words.{is_held, is_missing, slot_named};
-ghost use Rattle.starts.specs.Acting.{new_start};
+ghost use Rattle.starts.specs.Acting.{is_read as reads_log, new_start};
 ghost use Rattle.world.specs.Delivering.{Delivers};
 ghost use Rattle.world.specs.Starting.{started_with};
 ghost use Rattle.sessions.specs.SessionLines.{IsLine, ask_of};
-ghost use Rattle.world.specs.Steps.{IsStep, IsStepAt, is_bad, is_bad_at, session_state};
+ghost use Rattle.world.specs.Steps.{IsStep, IsStepAt, is_bad, is_bad_at, is_read, is_read_at, session_state};
 ghost use Rattle.world.specs.Machine.{ActsIn, HasRoom, IsMachine, IsOpenAt, shown, subscriber_state};
 ghost use Rattle.starts.specs.Starts.{IsServed, start_state};
 
@@ -137,6 +137,7 @@ impl<L: LogName + SlotName> Machine<L> {
         requires machine { IsMachine self.old }
         ensures step { IfOk result (λ a. IsStep (shown self.old) event.now a (shown self.new)) }
         ensures bad { result ≡ Err WorldFault.BadEvent → is_bad event.now (shown self.old) ≡ true }
+        ensures entry { result ≡ Err WorldFault.NoEntry → is_read event.now ≡ true }
         ensures err { OnErr result (shown self.new ≡ shown self.old) }
         ensures machine { IsMachine self.new }
     {
@@ -152,6 +153,7 @@ impl<L: LogName + SlotName> Machine<L> {
         requires machine { IsMachine self.old }
         ensures step { IfOk result (λ a. IsStepAt name.now step.now (shown self.old) a (shown self.new)) }
         ensures bad { result ≡ Err WorldFault.BadEvent → is_bad_at name.now step.now (shown self.old) ≡ true }
+        ensures entry { result ≡ Err WorldFault.NoEntry → is_read_at step.now ≡ true }
         ensures err { OnErr result (shown self.new ≡ shown self.old) }
         ensures machine { IsMachine self.new }
     {
@@ -177,6 +179,7 @@ impl<L: LogName + SlotName> Machine<L> {
         ensures done { IfOk result (λ a. IsLine event.now (session_state (shown self.old)) a (session_state (shown self.new))) }
         ensures rest { shown self.new ≡ record (shown self.old) { publisher = (shown self.new).publisher; transactions = (shown self.new).transactions } }
         ensures bad { result ≡ Err WorldFault.BadEvent → IsNone (ask_of event.now (shown self.old).publisher (shown self.old).transactions) }
+        ensures entered { result ≢ Err WorldFault.NoEntry }
         ensures err { OnErr result (shown self.new ≡ shown self.old) }
         ensures machine { IsMachine self.new }
     {
@@ -197,6 +200,7 @@ impl<L: LogName + SlotName> Machine<L> {
         requires machine { IsMachine self.old }
         ensures start { IfOk result (λ a. IsNone (open_start name.now (shown self.old).starts) × IsStart name.now (slot_named slot.now) position names.now (shown self.old) a (shown self.new)) }
         ensures bad { result ≡ Err WorldFault.BadEvent → IsSome (open_start name.now (shown self.old).starts) }
+        ensures entered { result ≢ Err WorldFault.NoEntry }
         ensures err { OnErr result (shown self.new ≡ shown self.old) }
         ensures machine { IsMachine self.new }
     {
@@ -248,6 +252,7 @@ impl<L: LogName + SlotName> Machine<L> {
         requires reader { 0 < vec_len self.old.readers }
         ensures done { IfOk result (λ a. (a ≡ Answer.Done) × (shown self.new ≡ started_with name.now (slot_named slot.now) position selection (shown self.old))) }
         ensures happens { result ≢ Err WorldFault.BadEvent }
+        ensures entered { result ≢ Err WorldFault.NoEntry }
         ensures err { OnErr result (shown self.new ≡ shown self.old) }
         ensures machine { IsMachine self.new }
     {
@@ -327,6 +332,7 @@ impl<L: LogName + SlotName> Machine<L> {
         requires machine { IsMachine self.old }
         ensures acts { IfOk result (λ a. ActsAt name.now action (shown self.old) a (shown self.new)) }
         ensures bad { result ≡ Err WorldFault.BadEvent → IsNone (open_start name.now (shown self.old).starts) }
+        ensures entry { result ≡ Err WorldFault.NoEntry → reads_log action ≡ true }
         ensures err { OnErr result (shown self.new ≡ shown self.old) }
         ensures machine { IsMachine self.new }
     {
@@ -358,6 +364,7 @@ impl<L: LogName + SlotName> Machine<L> {
         requires machine { IsMachine self.old }
         ensures delivers { IfOk result (λ a. Delivers name.now max (shown self.old) a (shown self.new)) }
         ensures bad { result ≡ Err WorldFault.BadEvent → IsNone (open_start name.now (shown self.old).starts) }
+        ensures entered { result ≢ Err WorldFault.NoEntry }
         ensures err { OnErr result (shown self.new ≡ shown self.old) }
         ensures machine { IsMachine self.new }
     {
@@ -410,6 +417,7 @@ fn act_at<L: LogName>(
     requires all { AllByRecursion (IsServed publisher.old.log) starts.old.items }
     requires room { vec_len readers.old < vec_capacity readers.old }
     ensures acts { IfOk result (λ a. ActsIn publisher.old.log place action starts.old.items a starts.new.items) }
+    ensures entry { result ≡ Err WorldFault.NoEntry → reads_log action ≡ true }
     ensures err { OnErr result (map start_state starts.new.items ≡ map start_state starts.old.items) }
     ensures happens { result ≢ Err WorldFault.BadEvent }
     ensures all { AllByRecursion (IsServed publisher.old.log) starts.new.items }

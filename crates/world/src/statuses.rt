@@ -1,6 +1,6 @@
 //! Slots that are created, and the statuses that subscribers send back.
 
-ghost use Rattle.std.specs.Prelude.{◌≡◌, ◌&&◌, Err, IfOk, IsNone, OnErr, false, is_some};
+ghost use Rattle.std.specs.Prelude.{◌≡◌, ◌≢◌, ◌&&◌, Err, IfOk, IsNone, OnErr, false, is_some};
 ghost use Rattle.world.specs.State.{open_start, subscriber_of};
 ghost use Rattle.world.specs.Slots.{Acknowledges, Creates, PutsBack, has_status, status_with};
 ghost use Rattle.world.specs.Machine.{IsMachine, shown};
@@ -46,6 +46,7 @@ impl<L: LogName + SlotName> Machine<L> {
         requires machine { IsMachine self.old }
         ensures puts { IfOk result (λ a. PutsBack name.now (status_with flushed clock) (shown self.old) a (shown self.new)) }
         ensures bad { result ≡ Err WorldFault.BadEvent → IsNone (open_start name.now (shown self.old).starts) }
+        ensures entered { result ≢ Err WorldFault.NoEntry }
         ensures err { OnErr result (shown self.new ≡ shown self.old) }
         ensures machine { IsMachine self.new }
     {
@@ -66,6 +67,7 @@ impl<L: LogName + SlotName> Machine<L> {
         requires machine { IsMachine self.old }
         ensures acknowledges { IfOk result (λ a. Acknowledges name.now (shown self.old) a (shown self.new)) }
         ensures bad { result ≡ Err WorldFault.BadEvent → (is_some (open_start name.now (shown self.old).starts) && has_status (subscriber_of name.now (shown self.old).subscribers)) ≡ false }
+        ensures entered { result ≢ Err WorldFault.NoEntry }
         ensures err { OnErr result (shown self.new ≡ shown self.old) }
         ensures machine { IsMachine self.new }
     {

@@ -5,11 +5,11 @@ ghost use Rattle.named_slots.specs.Keeping.{confirmed_slot};
 ghost use Rattle.world.specs.State.{new_world};
 ghost use Rattle.world.specs.Law.{Headline};
 ghost use Rattle.world.specs.Confirming.{confirmed_at, confirmed_through};
-ghost use Rattle.world.specs.Steps.{IsRun, IsStep, StopsAt, is_bad};
+ghost use Rattle.world.specs.Steps.{IsRun, IsStep, is_bad, is_read};
+ghost use Rattle.world.specs.Ending.{HasStopped};
 ghost use Rattle.starts.specs.Starts.{start_state};
 ghost use Rattle.world.specs.Machine.{subscriber_state};
-ghost use Rattle.world.specs.declared.world.RunFault.{RunFault};
-ghost use Rattle.schedule.specs.declared.fault.WorldFault.{WorldFault as Fault};
+ghost use Rattle.wal.specs.Log.{IsWellFormedLog};
 
 use crate::machine::Machine;
 use crate::subscriber::Subscriber;
@@ -22,7 +22,6 @@ use starts::Start;
 use std::alloc::Global;
 use std::marker::Model;
 use std::sync::Wait;
-use thiserror::Error;
 
 /// The publisher, its sessions and connections, and what the events so far answered.
 ///
@@ -34,14 +33,11 @@ pub struct World<L: LogName + SlotName> {
 }
 
 /// Why a run ended before its events did.
-#[derive(Clone, Copy, Debug, PartialEq, Eq, Error)]
-pub enum RunFault {
-    /// There was no memory for a world.
-    #[error("V2: out of memory")]
+pub enum RunFault<L: LogName + SlotName> {
+    /// V2: there was no memory for a world.
     New,
-    /// So many events happened, and the next one didn't.
-    #[error("{1}, at event {0}")]
-    Step(usize, WorldFault),
+    /// The next event didn't happen. The world is as those before it left it, and has their answers.
+    Step(World<L>, WorldFault),
 }
 
 impl<L: LogName + SlotName> Model for World<L> {
@@ -80,13 +76,15 @@ impl<L: LogName + SlotName> World<L> {
     }
 
     /// Does one event, keeps what it answered, and answers it. V1 exactly where its name is unknown or wrongly repeated, V2 for
-    /// memory, and V3 where the log lets no reader in; each changes nothing.
+    /// memory, and V3 where the log that it reads lets no reader in; each changes nothing.
     pub fn step<R: Wait>(&mut self, rt: &R, event: &Event) -> Result<Answer, WorldFault>
         ensures step { IfOk result (λ a. IsStep self.old.state event.now a self.new.state) }
         ensures kept { IfOk result (λ a. self.new.answers ≡ self.old.answers ++ a ∷ []) }
         ensures bad { (result ≡ Err WorldFault.BadEvent) ↔ (is_bad event.now self.old.state ≡ true) }
+        ensures entry { result ≡ Err WorldFault.NoEntry → is_read event.now ≡ true }
         ensures err { OnErr result (self.new ≡ self.old) }
         ensures headline { Headline self.new.state }
+        ensures log { IsWellFormedLog self.new.state.publisher.log }
     {
         if self.machine.is_bad(event) {
             return Err(WorldFault::BadEvent);
@@ -97,7 +95,8 @@ impl<L: LogName + SlotName> World<L> {
         Ok(answer)
     }
 
-    /// Does the events one after the other, up to the first that doesn't happen.
+    /// Does the events one after the other, up to the first that doesn't happen. Then it hands the world back with the fault, to
+    /// be closed.
     pub fn run<R: Wait>(
         rt: &R,
         alloc: Global,
@@ -105,20 +104,22 @@ impl<L: LogName + SlotName> World<L> {
         slots: OpenedSlots,
         config: Config,
         events: &[Event],
-    ) -> Result<Self, RunFault>
+    ) -> Result<Self, RunFault<L>>
         requires log { history.seen.book ≡ L.book }
         requires slots { slots.first.table_id ≡ L.table }
         ensures run { IfOk result (λ w. IsRun (new_world config) events.now w.answers w.state) }
         ensures headline { IfOk result (λ w. Headline w.state) }
+        ensures log { IfOk result (λ w. IsWellFormedLog w.state.publisher.log) }
         ensures confirmed { IfOk result (λ w. (name : List ℕ) (run : IsRun (new_world config) events.now w.answers w.state)
             → confirmed_at name w.state.slots ≡ confirmed_through name (new_world config) events.now w.answers w.state run None) }
-        ensures stops { (done : ℕ) (fault : Fault) → result ≡ Err (RunFault.Step done fault) → StopsAt (new_world config) events.now done fault }
+        ensures stops { IfErr result (λ fault. HasStopped (new_world config) events.now fault) }
     {
-        let mut world = World::new(rt, alloc, history, slots, config).map_err(|_| RunFault::New)?;
-        for (done, event) in events.iter().enumerate() {
+        let Ok(mut world) = World::new(rt, alloc, history, slots, config) else {
+            return Err(RunFault::New);
+        };
+        for event in events {
             if let Err(fault) = world.step(rt, event) {
-                world.close(rt);
-                return Err(RunFault::Step(done, fault));
+                return Err(RunFault::Step(world, fault));
             }
         }
         Ok(world)

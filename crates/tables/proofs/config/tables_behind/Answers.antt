@@ -1,8 +1,8 @@
 use Rattle.std.proofs.Common.{◌+◌, drop, sym, ◌∙◌}
 use Rattle.toml.specs.View.{view, items_view}
 use Rattle.tables.specs.Config.{tables_behind}
-use Rattle.tables.specs.Tables.{IsTable}
-use Rattle.tables.proofs.Behind.{item_next, no_more_items, table_read, all_with}
+use Rattle.tables.proofs.Catalogued.{one_more}
+use Rattle.tables.proofs.Behind.{item_next, no_more_items, table_read}
 use Rattle.tables.proofs.config.tables_behind.Goals as goal
 
 pub loop-value-preserved : goal.loop-value-preserved
@@ -12,7 +12,7 @@ loop-value-preserved c =
     let read = table_read had (view c.value-item.result) (items_view (drop (c.loop-value.value-index + 1) c.args.values.now)) c.in_ok-table.table
     (rw c.as_slice.ensures.value at c.in_ok-table.ensures.value) in
     rw c.in_ok-push.ensures.items
-    (sym read ∙ sym next ∙ c.loop-value.invariant.0, all_with IsTable had c.in_ok-table.table c.loop-value.invariant.1 c.in_ok-table.ensures.fits)
+    (sym read ∙ sym next ∙ c.loop-value.invariant.0, one_more had c.in_ok-table.table c.loop-value.invariant.1 c.in_ok-table.ensures.fits (rw c.as_slice.ensures.value at c.in_ok-table.ensures.alone))
 
 pub returns : goal.returns
 returns c =

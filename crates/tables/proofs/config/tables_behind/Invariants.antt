@@ -1,10 +1,9 @@
 use Rattle.std.proofs.Common.{◌≡◌, [], drop}
 use Rattle.toml.specs.View.{items_view}
-use Rattle.std.specs.List.{AllByRecursion}
 use Rattle.tables.specs.Config.{tables_behind}
-use Rattle.tables.specs.Tables.{IsTable}
+use Rattle.tables.specs.Tables.{AreCatalogued}
 use Rattle.tables.proofs.config.tables_behind.Given as goal
 
 abbrev pub invariant-loop-value : goal.invariant-loop-value
 invariant-loop-value l =
-    (tables_behind l.tables.items (items_view (drop l.value-index l.values)) ≡ tables_behind [] (items_view l.values)) × AllByRecursion IsTable l.tables.items
+    (tables_behind l.tables.items (items_view (drop l.value-index l.values)) ≡ tables_behind [] (items_view l.values)) × AreCatalogued l.tables.items

@@ -1,4 +1,4 @@
-use Rattle.std.proofs.Common.{◌≡◌, ℕ, List, codes, Bool, false, Ok, refl, sym, rules}
+use Rattle.std.proofs.Common.{◌≡◌, ℕ, List, codes, false, Ok, refl, sym, rules}
 use Rattle.std.specs.Option.{ok_or}
 use Rattle.toml.specs.Data.{Data, get}
 use Rattle.toml.specs.View.{view}
