@@ -1,14 +1,18 @@
 """What connections of one pubd do, and what they do to one another. Each case answers what is wrong, a line each."""
 import os
 import pathlib
-import random
-import socket
 import struct
 import subprocess
 import sys
 import time
 
-from connection import TERMINATE, Connection, Refused, keepalive, position, status
+from connection import STARTUP, TERMINATE, Connection, Refused, keepalive, status
+from followers import (
+    a_refusal_without_a_reason_is_one_all_the_same,
+    acknowledgements_follow_what_was_printed,
+    quotes_stand_in_names_and_end_none,
+    restarts_lose_and_repeat_nothing,
+)
 from link import Link
 from server import NOBODY, Server, inserts
 
@@ -22,6 +26,8 @@ TIMES = 100
 THREADS = 2
 # Threads or descriptors, for what is asked of pubd here.
 ENOUGH = 200
+# The greatest length of a startup, its own four bytes counted.
+LONGEST_STARTUP = 10_000
 # Where the log begins.
 FIRST = 0x1000000
 
@@ -45,15 +51,15 @@ def a_conversation_goes_frame_by_frame(pubd, subcat):
 def nothing_is_lost_with_connections(pubd, subcat):
     """1,000 connections, half of them broken off in a stream; then 16 streams at once, a 17th that is refused, and 16 again.
 
-    The threads are counted while the sixteen stream.
+    The threads are counted while the sixteen stream: theirs, and pubd's own one, since its script is over.
     """
     wrong = []
+    threads = 1 + THREADS * STREAMS
     slots = [f"s{n}" for n in range(STREAMS)]
     with Server(pubd, CONNECTIONS) as server:
         first = Connection(server.port)
         for slot in slots:
             first.create(slot)
-        threads = server.threads() + THREADS * (STREAMS - 1)
         first.close()
         for n in range(CONNECTIONS - 2 * STREAMS - 2):
             one = Connection(server.port)
@@ -331,66 +337,16 @@ def behind_a_blocked_write(client, end, rest):
     client.close()
 
 
-def restarts_lose_and_repeat_nothing(pubd, subcat):
-    """subcat follows 1,000 transactions; it is ended or killed at random points, and begins again where it was or at 0/0."""
-    count, draw = 1000, random.Random(5)
-    with Server(pubd, CONNECTIONS, inserts(count), awaited=1) as server:
-        rows, at, runs = [], 0, 0
-        while len(rows) < count:
-            runs += 1
-            take = min(draw.randrange(1, 60), count - len(rows))
-            kills = len(rows) + take < count and draw.random() < 0.5
-            start = draw.choice(["0/0", f"{at >> 32:X}/{at & 0xFFFFFFFF:X}"])
-            words = [subcat] + ["--create"] * (runs == 1) + [f"127.0.0.1:{server.port}", "s", start, "p", str(take + 60 * kills)]
-            at = follow(words, rows, at, take if kills else None)
-        wrong = ["rows are lost, or come twice"] * (rows != [f"INSERT 16384 N('{k}','ab','7')" for k in range(1, count + 1)])
-        server.process.kill()
-        return wrong
-
-
-def a_refusal_without_a_reason_is_one_all_the_same(pubd, subcat):
-    """A server whose ErrorResponse has neither a code nor a text."""
-    with socket.create_server(("127.0.0.1", 0)) as listener:
-        words = [subcat, f"127.0.0.1:{listener.getsockname()[1]}", "s", "0/0", "p", "1"]
-        follower = subprocess.Popen(words, stdout=subprocess.DEVNULL, stderr=subprocess.PIPE, text=True)
-        client = listener.accept()[0]
-        client.sendall(b"E" + struct.pack(">I", 12) + b"SERROR\0\0")
-        said = follower.communicate(timeout=60)[1]
-        client.close()
-        return wrong_of(follower.returncode, said, "subcat: K4: ")
-
-
-def quotes_stand_in_names_and_end_none(pubd, subcat):
-    """A name with a quote is one that no slot may have, and not two words that are no command."""
+def a_startup_of_many_parameters_is_answered(pubd, subcat):
+    """As many as a startup has room for."""
     with Server(pubd, 1) as server:
-        words = [subcat, "--create", f"127.0.0.1:{server.port}", 'a"b', "0/0", "p", "1"]
-        follower = subprocess.run(words, stdout=subprocess.DEVNULL, stderr=subprocess.PIPE, text=True, timeout=60)
-        return wrong_of(follower.returncode, follower.stderr, "server: 42602 ") + server.end()
-
-
-def wrong_of(status, said, due):
-    return [f"it ended with {status}, and said {said!r}"] * (status != 1 or not said.startswith(due))
-
-
-def follow(words, rows, at, kill_behind):
-    """Keeps the rows of each transaction that comes whole and was not there; answers where the last one ends."""
-    follower = subprocess.Popen(words, stdout=subprocess.PIPE, stderr=subprocess.DEVNULL, text=True)
-    of_this, commits = [], 0
-    for line in follower.stdout:
-        word, *rest = line.split()
-        if word == "BEGIN":
-            of_this = []
-        elif word == "INSERT":
-            of_this.append(line.rstrip("\n"))
-        elif word == "COMMIT" and len(rest) == 3:
-            commits += 1
-            if position(rest[1]) > at:
-                rows += of_this
-                at = position(rest[1])
-            if commits == kill_behind:
-                follower.kill()
-    follower.wait()
-    return at
+        client = Connection(server.port, says_nothing=True)
+        startup = STARTUP[:-1]
+        startup += b"p\0\0" * ((LONGEST_STARTUP - 5 - len(startup)) // 3) + b"\0"
+        client.socket.sendall(struct.pack(">I", len(startup) + 4) + startup)
+        client.answers()
+        client.close()
+        return server.end()
 
 
 ALL = [
@@ -409,4 +365,6 @@ ALL = [
     restarts_lose_and_repeat_nothing,
     a_refusal_without_a_reason_is_one_all_the_same,
     quotes_stand_in_names_and_end_none,
+    a_startup_of_many_parameters_is_answered,
+    acknowledgements_follow_what_was_printed,
 ]

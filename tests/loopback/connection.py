@@ -17,6 +17,12 @@ def keepalive(position):
     return b"d" + struct.pack(">IcQqB", 22, b"k", position, 0, 0)
 
 
+def framed(digits):
+    """A frame by its type and its body in hexadecimal digits, as tests/loopback/conversation.frames has it."""
+    bare = bytes.fromhex(digits)
+    return bare[:1] + struct.pack(">I", len(bare) + 3) + bare[1:]
+
+
 class Refused(Exception):
     """What an ErrorResponse said: its code."""
 
