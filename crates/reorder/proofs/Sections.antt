@@ -8,6 +8,7 @@ use Rattle.wal.specs.declared.record.Body.{Body}
 use Rattle.wal.specs.declared.record.Body.TheVariants.{Assign, Change as Changed, AbortSub, Abort, Commit}
 use Rattle.wal.specs.Log.{IsNext, IsOpen, WellFormedAfter, is_named, is_assigned, chain_step, chain_back, chain, last_of, top_of, is_undone, is_dropped, ends, has_ended}
 use Rattle.wal.proofs.Laws.{chain-unassigned, has_ended-append, is_named-append, is_assigned-append, is_assigned-one, is_undone-append}
+use Rattle.wal.proofs.Sections.{goes_on}
 use Rattle.reorder.specs.Taking.{MayCome}
 use Rattle.reorder.proofs.Named.{or_left, or_right, none_first}
 
@@ -29,42 +30,6 @@ none_newer p (r ∷ newer) older x none = by_body r.body (none_newer p newer old
     by_body (AbortSub xid) above none' = above x none'
     by_body (Abort xid) above none' = above x none'
     by_body (Commit xid time) above none' = above x none'
-
--- a chain has an end, whatever is named where there is none
-ends_in : (older : List Record) (a x : ℕ) → last_of a (chain_back older x) ≡ last_of x (chain_back older x)
-ends_in [] a x = refl
-ends_in (r ∷ older) a x = by_body r.body (ends_in older a x)
-  where
-    by_body : (body : Body) → last_of a (chain_back older x) ≡ last_of x (chain_back older x) → last_of a (chain_step (chain_back older) body x) ≡ last_of x (chain_step (chain_back older) body x)
-    by_body (Assign sub parent) above = by_test (sub == x)
-      where
-        by_test : (b : Bool) → last_of a (cond b (x ∷ chain_back older parent) (chain_back older x)) ≡ last_of x (cond b (x ∷ chain_back older parent) (chain_back older x))
-        by_test true = refl
-        by_test false = above
-    by_body (Changed xid change) above = above
-    by_body (AbortSub xid) above = above
-    by_body (Abort xid) above = above
-    by_body (Commit xid time) above = above
-
--- the end of a chain in the newer records goes on in the older ones
-goes_on : (newer older : List Record) (x : ℕ) → last_of x (chain_back (newer ++ older) x) ≡ last_of (last_of x (chain_back newer x)) (chain_back older (last_of x (chain_back newer x)))
-goes_on [] older x = refl
-goes_on (r ∷ newer) older x = by_body r.body (goes_on newer older)
-  where
-    by_body : (body : Body) → ((y : ℕ) → last_of y (chain_back (newer ++ older) y) ≡ last_of (last_of y (chain_back newer y)) (chain_back older (last_of y (chain_back newer y)))) →
-        last_of x (chain_step (chain_back (newer ++ older)) body x) ≡ last_of (last_of x (chain_step (chain_back newer) body x)) (chain_back older (last_of x (chain_step (chain_back newer) body x)))
-    by_body (Assign sub parent) above = by_test (sub == x)
-      where
-        by_test : (b : Bool) → last_of x (cond b (x ∷ chain_back (newer ++ older) parent) (chain_back (newer ++ older) x))
-            ≡ last_of (last_of x (cond b (x ∷ chain_back newer parent) (chain_back newer x))) (chain_back older (last_of x (cond b (x ∷ chain_back newer parent) (chain_back newer x))))
-        by_test true =
-            ends_in (newer ++ older) x parent ∙ above parent
-            ∙ sym (ap (λ (y : ℕ). last_of y (chain_back older y)) (ends_in newer x parent))
-        by_test false = above x
-    by_body (Changed xid change) above = above x
-    by_body (AbortSub xid) above = above x
-    by_body (Abort xid) above = above x
-    by_body (Commit xid time) above = above x
 
 -- A SECTION
 

@@ -92,7 +92,7 @@ body_none (AbortSub xid) above rest x k none = k none
 body_none (Abort xid) above rest x k none = k none
 body_none (Commit xid time) above rest x k none = k none
 
-chain_back-unassigned : (older : List Record) (x : ℕ) → is_assigned older x ≡ false → chain_back older x ≡ x ∷ []
+pub chain_back-unassigned : (older : List Record) (x : ℕ) → is_assigned older x ≡ false → chain_back older x ≡ x ∷ []
 chain_back-unassigned [] x none = refl
 chain_back-unassigned (r ∷ older) x none = body_none r.body (chain_back older) (is_assigned older x) x (chain_back-unassigned older x) none
 

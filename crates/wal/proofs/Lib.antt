@@ -3,3 +3,4 @@ pub mod Laws
 pub mod Lists
 pub mod LiveChanges
 pub mod Places
+pub mod Sections

@@ -21,6 +21,10 @@ by_both : {A : Type 0} (p : A → Bool) (x : A) (b : Bool) (xs ys : List A) → 
 by_both p x true xs ys e = rw e refl
 by_both p x false xs ys e = e
 
+pub filter_none : {A : Type 0} (p : A → Bool) (xs : List A) → AllByRecursion (λ x. p x ≡ false) xs → filter p xs ≡ []
+filter_none p [] all = refl
+filter_none p (x ∷ xs) all = rw all.0 (filter_none p xs all.1)
+
 -- a filter of a filter
 pub filter_twice : {A : Type 0} (p q : A → Bool) (xs : List A) → filter p (filter q xs) ≡ filter (λ x. q x && p x) xs
 filter_twice p q [] = refl

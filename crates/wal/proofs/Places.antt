@@ -15,7 +15,7 @@ use Rattle.wal.proofs.Lists.{or_false, filter_agrees, eqb_comm}
 use Rattle.wal.proofs.Laws.{is_named-one, is_assigned-one, chain-append, all_when, chain-quiet}
 
 -- a record assigns no xid that was named before it
-next-assigns : (before : List Record) (body : Body) (x : ℕ) → is_named before x ≡ true → IsNext before body → assigns x body ≡ false
+pub next-assigns : (before : List Record) (body : Body) (x : ℕ) → is_named before x ≡ true → IsNext before body → assigns x body ≡ false
 next-assigns before (Assign sub parent) x named next = ne_eqb sub x (λ same. let both : true ≡ false = sym named ∙ ap (is_named before) (sym same) ∙ next.0 in cc)
 next-assigns before (Changed xid change) x named next = refl
 next-assigns before (AbortSub xid) x named next = refl
@@ -31,7 +31,7 @@ chain-stable before (r ∷ rest) x named h =
     ∙ chain-quiet before r x (next-assigns before r.body x named h.0)
 
 -- the changes are of xids that are named
-changes-named : (log : List Record) → AllByRecursion (λ e. is_named log e.xid ≡ true) (entries log)
+pub changes-named : (log : List Record) → AllByRecursion (λ e. is_named log e.xid ≡ true) (entries log)
 changes-named [] = tt
 changes-named (r ∷ log) = by_body r.start r.body (all_when _ _ (λ (e : Entry) (named : is_named log e.xid ≡ true). or_right (names e.xid r.body) (is_named log e.xid) named) (entries log) (changes-named log))
   where
@@ -78,11 +78,11 @@ committed-by_places log s h = placed-from s [] log h.order
 
 -- CHAINS
 
-or_left : (a b : Bool) → a ≡ true → (a || b) ≡ true
+pub or_left : (a b : Bool) → a ≡ true → (a || b) ≡ true
 or_left true b e = refl
 or_left false b e = cc
 
-or_right : (a b : Bool) → b ≡ true → (a || b) ≡ true
+pub or_right : (a b : Bool) → b ≡ true → (a || b) ≡ true
 or_right true b e = refl
 or_right false b e = e
 
@@ -147,7 +147,7 @@ chain-IsChain log x h = chain-all [] log h.order (λ y. (refl, refl)) x
 
 -- ONE CHAIN
 
-or_of : (a b : Bool) → (a || b) ≡ true → (a ≡ true) ⊎ (b ≡ true)
+pub or_of : (a b : Bool) → (a || b) ≡ true → (a ≡ true) ⊎ (b ≡ true)
 or_of true b e = inl refl
 or_of false b e = inr e
 
@@ -178,7 +178,7 @@ assigned-body (AbortSub xid) x is = absurd cc
 assigned-body (Abort xid) x is = absurd cc
 assigned-body (Commit xid time) x is = absurd cc
 
-assigned-named : (log : List Record) (x : ℕ) → is_assigned log x ≡ true → is_named log x ≡ true
+pub assigned-named : (log : List Record) (x : ℕ) → is_assigned log x ≡ true → is_named log x ≡ true
 assigned-named [] x is = absurd cc
 assigned-named (r ∷ log) x is =
     elim (or_of (assigns x r.body) (is_assigned log x) is) [

@@ -2,11 +2,11 @@
 -- Log.antt says the same record by record, each judged by those before it, as the code reads them. Of a well-formed log
 -- both say the same: that is the law `a_log_has_one_reading` of src/reading.rt.
 use Rattle.std.specs.Prelude.{◌≡◌, ℕ, ◌+◌, ◌==◌, Bool, true, false, ◌&&◌, not, List, [], ◌∷◌, ◌++◌, filter, take, nat_le, if◌then◌else◌}
-use Rattle.std.specs.List.{list_any}
+use Rattle.std.specs.List.{list_any, AllByRecursion}
 use Rattle.wal.specs.declared.record.Record.{Record}
 use Rattle.wal.specs.declared.record.Body.{Body}
 use Rattle.wal.specs.declared.record.Body.TheVariants.{Assign, Commit}
-use Rattle.wal.specs.Log.{Entry, Transaction, entries, is_assigned, is_undone, chain, top_of}
+use Rattle.wal.specs.Log.{Entry, Transaction, entries, xid_in, is_assigned, is_undone, chain, top_of}
 
 -- CHAINS
 
@@ -51,3 +51,19 @@ placed_from s log n (r ∷ rs) = placed_at s log n r.start r.end r.body ++ place
 -- the transactions of the log that commit at s or later, in the order of their Commits
 abbrev pub committed_by_places : List Record → ℕ → List Transaction
 committed_by_places log s = placed_from s log 0 log
+
+-- SECTIONS
+
+-- whether the record commits the transaction, at s or later
+abbrev pub commits_at : ℕ → ℕ → ℕ → Body → Bool
+commits_at s top start (Commit xid time) = (xid == top) && nat_le s start
+commits_at s top start body = false
+
+-- whether the transaction commits at s or later
+abbrev pub commits_from : List Record → ℕ → ℕ → Bool
+commits_from log s top = list_any (λ r. commits_at s top r.start r.body) log
+
+-- None of these records of the log is one of a transaction that commits at s or later. A record is of the transaction that its
+-- xid belongs to in the whole log.
+abbrev pub SkipsNone : List Record → ℕ → List Record → Type 0
+SkipsNone log s skipped = AllByRecursion (λ r. commits_from log s (top_of log (xid_in r.body)) ≡ false) skipped

@@ -1,15 +1,18 @@
 //! The law of logs: read record by record, a log says what the whole of it says by places.
 
-ghost use Rattle.std.specs.Prelude.{◌≡◌, ℕ, List};
+ghost use Rattle.std.specs.Prelude.{◌≡◌, ◌++◌, ℕ, List};
 ghost use Rattle.wal.specs.declared.record.Record.{Record};
 ghost use Rattle.wal.specs.Log.{IsWellFormedLog, chain, committed};
-ghost use Rattle.wal.specs.Places.{IsChain, committed_by_places};
+ghost use Rattle.wal.specs.Places.{IsChain, SkipsNone, committed_by_places};
 
 /// Of a well-formed log, `committed` and `chain`, which judge each record by those before it, are what `specs/Places.antt`
 /// says of the log as a whole.
 pub fn a_log_has_one_reading()
     // What transactions commit, and what each of them keeps.
     ensures committed { (log : List Record) (s : ℕ) → IsWellFormedLog log → committed log s ≡ committed_by_places log s }
+    // The same of a section that is read alone: what its own records say is what the log says, where no transaction that commits
+    // at the start position or later has a record before it.
+    ensures section { (skipped records : List Record) (s : ℕ) → IsWellFormedLog (skipped ++ records) → SkipsNone (skipped ++ records) s skipped → committed records s ≡ committed_by_places (skipped ++ records) s }
     // There is a way up from each xid,
     ensures chain { (log : List Record) (x : ℕ) → IsWellFormedLog log → IsChain log x (chain log x) }
     // and there is no other.
