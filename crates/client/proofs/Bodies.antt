@@ -53,7 +53,7 @@ unread_message body m faults.Frame spelled no_message = by_word
         let own : XLogDataBody = record { start = x.start; end = x.end; clock = x.clock; payload = says.0 } in
         let same : m ≡ own = payload_is m own (same_body body (bodies.XLogData m) (bodies.XLogData own) spelled says.1) in
         no_message x.message (subst (λ (l : List ℕ). SpellsLogical l x.message) (ap (λ (b : XLogDataBody). b.payload) (sym same)) says.2)
-unread_message body m faults.Memory spelled unread = tt
+unread_message body m faults.Memory spelled unread = (m, spelled, unread)
 unread_message body m faults.Order spelled unread = absurd unread
 unread_message body m faults.UnknownRelation spelled unread = absurd unread
 unread_message body m faults.Server spelled unread = absurd unread

@@ -5,8 +5,8 @@ use Rattle.std.specs.List.{AllByRecursion}
 use Rattle.std.proofs.lemmas.Bool.{cases_lt}
 use Rattle.std.proofs.lemmas.List.{length-append, take-append-le, take-append-drop, take_at}
 use Rattle.std.proofs.lemmas.List.Concat.{flat_map-cons}
-use Rattle.frames.specs.Frame.{frame, FitsLength}
-use Rattle.frames.specs.Back.{framed_back, back_limit}
+use Rattle.frames.specs.Frame.{frame, FitsLength, IsKept}
+use Rattle.frames.specs.Back.{framed_back, back_limit, back_needs_memory}
 use Rattle.frames.specs.declared.copy_data.TheConstants.{COPY_DATA}
 use Rattle.frames.specs.declared.frame.TheConstants.{FRAME_LIMIT}
 use Rattle.frames.specs.declared.back.Back.TheVariants.{CopyData}
@@ -18,7 +18,7 @@ use Rattle.pgoutput.specs.Logical.{spell_logical}
 use Rattle.stream.specs.declared.word.Word.{Word}
 use Rattle.stream.specs.declared.word.Word.TheVariants as words
 use Rattle.stream.specs.Words.{word_body, word_bytes, frames_of, FitsWord}
-use Rattle.client.specs.Words.{Says, SpellsWord, AreSpelled, Waits}
+use Rattle.client.specs.Words.{Says, SpellsWord, AreSpelled, Waits, TakesMemory}
 use Rattle.client.proofs.Bodies.{says_once}
 
 -- ---- a word's own bytes
@@ -42,6 +42,12 @@ framed_word body rest short =
     let raw = raw_again back_limit COPY_DATA FRAME_LIMIT body rest refl short (omega (arith, short)) in
     let read = back_bodies.again (CopyData (record { bytes = body })) (tt, tt) in
     rw (raw, read) refl
+
+-- the frame of a word is kept
+pub takes_memory : (bytes : List ℕ) (n : ℕ) (w : Word) → SpellsWord (take n bytes) w → TakesMemory bytes
+takes_memory bytes n w spelled =
+    let whole : bytes ≡ frame COPY_DATA spelled.body ++ drop n bytes = sym (take-append-drop n bytes) ∙ ap (λ (l : List ℕ). l ++ drop n bytes) spelled.frame in
+    subst (IsKept back_needs_memory) (sym (ap framed_back whole ∙ framed_word spelled.body (drop n bytes) spelled.short)) refl
 
 framed_waits : (body bytes more : List ℕ) → 4 + length body ≤ FRAME_LIMIT → frame COPY_DATA body ≡ bytes ++ more → length bytes < 5 + length body → framed_back bytes ≡ Ok None
 framed_waits body bytes more short text less = rw (raw_waits back_limit COPY_DATA FRAME_LIMIT body bytes more refl short (omega (arith, short)) text less) refl

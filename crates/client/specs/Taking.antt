@@ -1,10 +1,10 @@
 -- What an applier makes of the bytes that it takes.
-use Rattle.std.specs.Prelude.{◌≡◌, ℕ, List, ◌++◌, Option, Some, None, Result, Ok, Err}
+use Rattle.std.specs.Prelude.{◌≡◌, ℕ, ◌⊎◌, List, ◌++◌, Option, Some, None, Result, Ok, Err}
 use Rattle.stream.specs.declared.word.Word.{Word}
 use Rattle.client.specs.declared.fault.ClientFault.{ClientFault}
 use Rattle.client.specs.declared.fault.ClientFault.TheVariants.{Order, UnknownRelation}
 use Rattle.client.specs.Subscriber.{Subscriber, after_word, after_words}
-use Rattle.client.specs.Words.{SpellsWord, AreSpelled, Waits, IsUnread}
+use Rattle.client.specs.Words.{SpellsWord, AreSpelled, Waits, IsUnread, TakesMemory}
 
 -- an applier between two calls: the subscriber, what isn't read yet, and the fault that it has answered
 pub record ApplierState : Type 0 where
@@ -35,6 +35,11 @@ pub record StopsAfter (old : Subscriber) (bytes : List ℕ) (new : Subscriber) (
   pub rest : List ℕ
   pub reached : Reached old bytes new rest
   pub stops : Stops fault new rest
+
+-- Where want of memory stops a call: before it takes a word, or behind whole words, at a frame that stands there whole and holds
+-- something to keep.
+abbrev pub StopsForMemory : Subscriber → List ℕ → Subscriber → Type 0
+StopsForMemory old bytes new = (new ≡ old) ⊎ ((rest : List ℕ) × Reached old bytes new rest × TakesMemory rest)
 
 -- Since this subscriber connected, so many bytes were taken: all whole words, and what is left holds none.
 pub record HasTaken (base : Subscriber) (a : ApplierState) (bytes : List ℕ) : Type 0 where

@@ -1,15 +1,17 @@
 -- What stands at the front of a server's bytes: a word of the stream, or what is none (PostgreSQL 15, 55.4, 55.5 and 55.7).
 use Rattle.std.specs.Prelude.{◌≡◌, ℕ, ◌+◌, ◌<◌, ◌≤◌, List, [], ◌∷◌, ◌++◌, length, take, Option, Some, None, Result, Ok, Err}
-use Rattle.frames.specs.Frame.{frame}
-use Rattle.frames.specs.Back.{framed_back}
+use Rattle.frames.specs.Frame.{frame, IsKept}
+use Rattle.frames.specs.Back.{framed_back, back_needs_memory}
 use Rattle.frames.specs.declared.copy_data.TheConstants.{COPY_DATA}
 use Rattle.frames.specs.declared.frame.TheConstants.{FRAME_LIMIT}
 use Rattle.frames.specs.declared.fault.FrameFault.{FrameFault}
 use Rattle.frames.specs.declared.back.Back.{Back}
 use Rattle.frames.specs.declared.back.Back.TheVariants.{CopyData, ErrorResponse}
+use Rattle.copyboth.specs.XLogData.{XLogDataBody}
 use Rattle.copyboth.specs.Server.{SpellsXLogData, SpellsKeepalive}
+use Rattle.pgoutput.specs.declared.fault.OutFault.TheVariants as outs
 use Rattle.pgoutput.specs.declared.logical.Logical.{Logical}
-use Rattle.pgoutput.specs.Logical.{SpellsLogical}
+use Rattle.pgoutput.specs.Logical.{SpellsLogical, Stands}
 use Rattle.stream.specs.declared.word.Word.{Word}
 use Rattle.stream.specs.declared.word.Word.TheVariants as words
 use Rattle.client.specs.declared.fault.ClientFault.{ClientFault}
@@ -55,6 +57,10 @@ Holds Whole Faulty (Ok (Some f)) = Whole f.0
 Holds Whole Faulty (Ok None) = ⊥
 Holds Whole Faulty (Err e) = Faulty
 
+-- The frame at the front stands there whole, and holds something to keep.
+abbrev pub TakesMemory : List ℕ → Type 0
+TakesMemory rest = IsKept back_needs_memory (framed_back rest)
+
 -- Why no word is read at the front: what is there is no frame of a stream, or the server's ErrorResponse is there, or
 -- memory ran out.
 abbrev pub IsUnread : ClientFault → List ℕ → Type 0
@@ -75,13 +81,17 @@ Reads bytes (Err e) = IsUnread e bytes
 abbrev pub ReadsMessage : List ℕ → Result Logical ClientFault → Type 0
 ReadsMessage payload (Ok m) = SpellsLogical payload m
 ReadsMessage payload (Err Frame) = (m : Logical) → SpellsLogical payload m → ⊥
-ReadsMessage payload (Err Memory) = Unit {0}
+ReadsMessage payload (Err Memory) = Stands outs.Memory payload
 ReadsMessage payload (Err e) = ⊥
+
+-- an XLogData whose message holds something to keep
+abbrev pub IsHeavy : List ℕ → Type 0
+IsHeavy body = (x : XLogDataBody) × SpellsXLogData body x × Stands outs.Memory x.payload
 
 abbrev pub ReadsBody : List ℕ → Result Word ClientFault → Type 0
 ReadsBody body (Ok w) = Says body w
 ReadsBody body (Err Frame) = (w : Word) → Says body w → ⊥
-ReadsBody body (Err Memory) = Unit {0}
+ReadsBody body (Err Memory) = IsHeavy body
 ReadsBody body (Err e) = ⊥
 
 -- a CopyData that says this word
@@ -89,9 +99,13 @@ abbrev pub IsWord : Back → Word → Type 0
 IsWord (CopyData m) w = Says m.bytes w
 IsWord _ w = ⊥
 
+abbrev pub IsHeavyFrame : Back → Type 0
+IsHeavyFrame (CopyData m) = IsHeavy m.bytes
+IsHeavyFrame _ = ⊥
+
 abbrev pub ReadsFrame : Back → Result Word ClientFault → Type 0
 ReadsFrame frame (Ok w) = IsWord frame w
 ReadsFrame frame (Err Frame) = IsNoWord frame
 ReadsFrame frame (Err Server) = IsError frame
-ReadsFrame frame (Err Memory) = Unit {0}
+ReadsFrame frame (Err Memory) = IsHeavyFrame frame
 ReadsFrame frame (Err e) = ⊥

@@ -1,12 +1,12 @@
 //! An applier: the bytes of a stream in, applied transactions out.
 
-ghost use Rattle.std.specs.Prelude.{◌≡◌, ◌<◌, ◌++◌, [], None, Ok, IfErr, OnErr, OnOk, length, false, true};
+ghost use Rattle.std.specs.Prelude.{◌≡◌, ◌<◌, ◌++◌, [], None, Ok, Err, IfErr, OnErr, OnOk, length, false, true};
 ghost use Rattle.frames.specs.Frame.{frame};
 ghost use Rattle.frames.specs.declared.copy_data.TheConstants.{COPY_DATA};
 ghost use Rattle.copyboth.specs.Status.{status};
 ghost use Rattle.client.specs.Subscriber.{resting};
-ghost use Rattle.client.specs.Taking.{HasTaken, Reached, Stops, StopsAfter, Takes};
-ghost use Rattle.client.specs.Words.{Waits};
+ghost use Rattle.client.specs.Taking.{HasTaken, Reached, Stops, StopsAfter, StopsForMemory, Takes};
+ghost use Rattle.client.specs.Words.{TakesMemory, Waits};
 ghost use Rattle.client.specs.Law.{Follows};
 
 use crate::fault::ClientFault;
@@ -107,6 +107,8 @@ impl Applier {
         ensures takes { Takes self.old self.new bytes.now result }
         // Over a stream nothing but want of memory is refused, and what stands whole is gained.
         ensures follows { Follows self.old self.new bytes.now result }
+        // Want of memory is answered for the bytes themselves, before a word is taken, or at a frame that is kept.
+        ensures memory { self.old.fault ≡ None → result ≡ Err ClientFault.Memory → StopsForMemory self.old.subscriber (self.old.unread ++ bytes.now) self.new.subscriber }
     {
         if let Some(fault) = self.fault {
             return Err(fault);
@@ -123,6 +125,7 @@ impl Applier {
         ensures ok { OnOk result (Reached self.old.subscriber (self.old.unread ++ bytes.now) self.new.subscriber self.new.unread) }
         ensures waits { OnOk result (Waits self.new.unread) }
         ensures err { IfErr result (λ e. StopsAfter self.old.subscriber (self.old.unread ++ bytes.now) self.new.subscriber e) }
+        ensures memory { result ≡ Err ClientFault.Memory → StopsForMemory self.old.subscriber (self.old.unread ++ bytes.now) self.new.subscriber }
         ensures fault { self.new.fault ≡ self.old.fault }
     {
         self.unread.extend_from_slice(bytes)?;
@@ -137,6 +140,7 @@ impl Applier {
         ensures none { result ≡ Ok false → self.new ≡ self.old }
         ensures waits { result ≡ Ok false → Waits self.new.unread }
         ensures err { IfErr result (λ e. Stops e self.old.subscriber self.old.unread) }
+        ensures memory { result ≡ Err ClientFault.Memory → TakesMemory self.old.unread }
         ensures unchanged { OnErr result (self.new ≡ self.old) }
         ensures fault { self.new.fault ≡ self.old.fault }
     {

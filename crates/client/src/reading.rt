@@ -1,7 +1,7 @@
 //! The words at the front of a server's bytes.
 
-ghost use Rattle.std.specs.Prelude.{◌≡◌};
-ghost use Rattle.client.specs.Words.{Reads, ReadsBody, ReadsFrame, ReadsMessage};
+ghost use Rattle.std.specs.Prelude.{◌≡◌, Err};
+ghost use Rattle.client.specs.Words.{Reads, ReadsBody, ReadsFrame, ReadsMessage, TakesMemory};
 
 use crate::fault::ClientFault;
 use copyboth::{ServerBody, read_server};
@@ -14,7 +14,8 @@ use stream::{Keepalive, Word, XLogData};
 ///
 /// K1 at what is no frame of a stream, K4 at an ErrorResponse, K5 for memory.
 pub(crate) fn read_word(alloc: Global, bytes: &[u8]) -> Result<Option<(Word, usize)>, ClientFault>
-    ensures { Reads bytes.now result }
+    ensures reads { Reads bytes.now result }
+    ensures memory { result ≡ Err ClientFault.Memory → TakesMemory bytes.now }
 {
     match read_back(alloc, bytes) {
         Ok(None) => Ok(None),
