@@ -1,6 +1,6 @@
 //! What was seen of a history.
 
-ghost use Rattle.std.specs.Prelude.{◌≡◌, ◌+◌, ◌<◌, ◌≤◌, ◌^◌, ◌++◌, ◌∷◌, [], length, true, MatchBool};
+ghost use Rattle.std.specs.Prelude.{◌≡◌, ◌+◌, ◌<◌, ◌≤◌, ◌^◌, ◌++◌, ◌∷◌, [], length, false, true, MatchBool};
 ghost use mathlib.Core.List.{IsPrefix};
 ghost use Rattle.shared_log.specs.Book.{IsLonger};
 ghost use Rattle.shared_log.specs.Fronts.{ends_confirmed, settled, shown};
@@ -120,7 +120,8 @@ impl<L: LogName> Front<L> {
     pub(crate) fn is_in(&self, mark: &Mark) -> bool
         requires book { mark.now.seen.book ≡ L.book }
         requires ends { ends_confirmed self.now ≡ true }
-        ensures { result ≡ true → IsPrefix (settled self.now) (shown mark.now.seen.log) }
+        ensures held { result ≡ true → IsPrefix (settled self.now) (shown mark.now.seen.log) }
+        ensures behind { result ≡ false → IsPrefix mark.now.seen.log self.now × (length mark.now.seen.log + 1 < length self.now) }
     {
         let mut both = self.seen.again();
         both.learn(&mark.seen);
