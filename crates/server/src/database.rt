@@ -6,11 +6,11 @@ use pqformat::Text;
 use std::marker::Model;
 
 /// The longest name of a database, in bytes: no startup has room for a longer one.
-pub const MOST_DATABASE_BYTES: usize = 10_000;
+pub(crate) const MOST_DATABASE_BYTES: usize = 10_000;
 
 /// The name of the database that a client asked for. Contracts see its bytes.
 #[derive(Drop)]
-pub struct Database {
+pub(crate) struct Database {
     name: Text,
 }
 
@@ -26,7 +26,7 @@ impl Model for Database {
 }
 
 impl Database {
-    pub fn new(name: Text) -> Self
+    pub(crate) fn new(name: Text) -> Self
         requires { length name ≤ MOST_DATABASE_BYTES }
         ensures { result ≡ name }
     {

@@ -18,9 +18,6 @@ mod turn;
 
 pub use connection::{Connection, Phase};
 pub use conversation::{Event, converse};
-pub use database::{Database, MOST_DATABASE_BYTES};
 pub use desk::Desk;
 pub use fault::{ConnFault, DeskFault};
-pub use opening::open;
-pub use query::reply;
 pub use refusal::Refusal;

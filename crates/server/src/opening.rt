@@ -56,7 +56,7 @@ fn database_of(parameters: &[Parameter]) -> &str
 /// The session must ask for `replication=database`. Other parameters are passed over, and of a repeated name the last
 /// pair counts. Refused, for want of memory: what stood in `out` still stands at its front.
 #[tactic(auto, using(pqformat::proofs::Putting::in_place), unfolding(crate::specs::Opening::opened))]
-pub fn open(
+pub(crate) fn open(
     alloc: Global,
     number: u32,
     parameters: &[Parameter],

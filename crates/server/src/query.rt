@@ -113,7 +113,7 @@ fn run<D: Desk>(
 ///
 /// A command makes its calls of the desk, each once. A text that is none makes no call: it is refused by the code of its
 /// fault, and the next query is waited for.
-pub fn reply<D: Desk>(
+pub(crate) fn reply<D: Desk>(
     alloc: Global,
     database: &Database,
     query: &str,

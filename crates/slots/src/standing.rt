@@ -28,7 +28,7 @@ impl Standing {
     }
 
     /// The word that says so.
-    pub fn word(self) -> u64
+    pub(crate) fn word(self) -> u64
         requires { word_of self < 2 ^ 64 }
         ensures word { result ≡ word_of self }
         ensures back { standing_of result ≡ self }
