@@ -1,5 +1,6 @@
 //! Short uses of the crates, each in a file of its own, to read and to time: `example_uses USE [then USE]..`. The first three are first
-//! steps; what a use prints is small, so that many turns of it measure its speed. `example_uses` alone says which there are.
+//! steps, and the last is a small service. What the others print is small, so that many turns of them measure their speed.
+//! `example_uses` alone says which there are.
 #![tactic(auto)]
 
 mod claims;
@@ -8,6 +9,7 @@ mod desk;
 mod filters;
 mod item;
 mod log;
+mod orders;
 mod rows;
 mod sending;
 mod subscriber;
@@ -17,13 +19,16 @@ use claims::work_on_slots;
 use connection::hold_conversations;
 use filters::work_on_filters;
 use log::work_on_log;
+use orders::follow_orders;
 use rows::work_on_store;
 use sending::bytes_sent;
 use std::alloc::Global;
 use std::env;
 use std::io::Print;
+use std::net::{Net, TcpListener, TcpStream};
 use std::sync::Wait;
 use std::thread::Threads;
+use std::time::Clock;
 use subscriber::follow_stream;
 
 const USAGE: &str = "usage: example_uses USE [then USE].., where a USE is one of
@@ -33,7 +38,8 @@ const USAGE: &str = "usage: example_uses USE [then USE].., where a USE is one of
   store ROWS insert|update|delete|undo..
   filter TURNS filter|hand|one|sixteen
   slots slots|words|apart THREADS TURNS
-  log RECORDS READERS busy|yielding COMMITS FETCHES";
+  log RECORDS READERS busy|yielding COMMITS FETCHES
+  orders";
 
 /// The word between two uses.
 const THEN: &str = "then";
@@ -47,11 +53,10 @@ fn main(rt: HostRuntime) -> Result<()> {
     Ok(())
 }
 
-fn use_one<R: Threads + Wait + Sync + Print>(
-    rt: &R,
-    alloc: Global,
-    words: &[String],
-) -> Result<()> {
+fn use_one<R>(rt: &R, alloc: Global, words: &[String]) -> Result<()>
+where
+    R: Net<Listener = TcpListener, Stream = TcpStream> + Threads + Wait + Clock + Print + Sync,
+{
     let [name, words @ ..] = words else {
         bail!("{USAGE}");
     };
@@ -63,6 +68,7 @@ fn use_one<R: Threads + Wait + Sync + Print>(
         "filter" => work_on_filters(rt, alloc, words),
         "slots" => work_on_slots(rt, alloc, words),
         "log" => work_on_log(rt, alloc, words),
+        "orders" => follow_orders(rt, alloc),
         _ => bail!("{USAGE}"),
     }
 }

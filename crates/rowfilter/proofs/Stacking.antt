@@ -1,9 +1,13 @@
 -- The stack of what waits, whose top stands last in its list.
-use Rattle.std.proofs.Common.{◌≡◌, ℕ, ◌<◌, nat_lt, arith, length, None, List, [], ◌∷◌, ◌++◌, refl, sym, subst, ap, ◌∙◌}
+use Rattle.std.proofs.Common.{◌≡◌, ℕ, ◌+◌, ◌<◌, nat_lt, arith, length, map, drop, get_or, Some, None, List, [], ◌∷◌, ◌++◌, refl, sym, subst, ap, ◌∙◌}
 use Rattle.std.proofs.lemmas.Bool.{lt-ltb}
+use Rattle.std.proofs.lemmas.List.{at_drop_more}
+use Rattle.std.specs.Prelude.{option_and_then}
+use Rattle.tables.specs.declared.column.Column.{Column as TableColumn}
 use Rattle.rowfilter.specs.declared.pending.Pending.{Pending as Item}
-use Rattle.rowfilter.specs.Stacks.{Pending, wants, wanted_by, folded, completed, ends_over}
-use Rattle.rowfilter.specs.Parts.{Grown, parts}
+use Rattle.rowfilter.specs.declared.token.Token.{Token}
+use Rattle.rowfilter.specs.Stacks.{Pending, State, wants, wanted_by, folded, completed, ends_over, run, step}
+use Rattle.rowfilter.specs.Parts.{Grown, parts, word_at}
 use Rattle.rowfilter.specs.Views.{seen_pending, stack_on, stack_of}
 use Rattle.rowfilter.proofs.Pieces.{if_true}
 
@@ -35,3 +39,14 @@ still_there below (first ∷ items) item a = still_there (item ∷ below) items 
 pub ends_none : (items : List Item) (a : Grown) → 0 < length items → ends_over (stack_of items) a ≡ None
 ends_none [] a some = absurd (omega (arith, some))
 ends_none (item ∷ items) a some = still_there [] items (seen_pending item) a
+
+-- ---- one word more
+
+pub word_read : (columns : List TableColumn) (tokens : List Token) (i : ℕ) (token : Token) (state next : State Grown) → i < length tokens → token ≡ get_or tokens i token
+    → step parts state (word_at columns token) ≡ Some next → run parts next (map (word_at columns) (drop (i + 1) tokens)) ≡ run parts state (map (word_at columns) (drop i tokens))
+word_read columns tokens i token state next inside is moved =
+    let rest = map (word_at columns) (drop (i + 1) tokens) in
+    sym
+    (at_drop_more (λ ts. run parts state (map (word_at columns) ts)) tokens i token inside
+    ∙ ap (λ t. run parts state (map (word_at columns) (t ∷ drop (i + 1) tokens))) (sym is)
+    ∙ ap (option_and_then (λ to. run parts to rest)) moved)

@@ -55,19 +55,26 @@ pub fn words_of<'a>(alloc: Global, words: &'a [String]) -> Result<Words<'a>, Err
 }
 
 fn command_of<'a>(alloc: Global) -> Result<Command<'a>, AllocError> {
-    let create = Arg::new(alloc, "create")
-        .long("create")
-        .action(ArgAction::SetTrue)
-        .help("Create the slot first");
-    let mut command = Command::new(alloc, "subcat")
-        .about(ABOUT)
-        .after_help(AFTER_HELP)
-        .bin_name("subcat")?
-        .arg(create)?;
+    let mut command = bare(alloc)?.arg(create(alloc))?;
     for (name, help) in &REQUIRED {
         command = command.arg(required(alloc, *name, *help))?;
     }
     Ok(command)
+}
+
+/// The command without its words.
+fn bare<'a>(alloc: Global) -> Result<Command<'a>, AllocError> {
+    Command::new(alloc, "subcat")
+        .about(ABOUT)
+        .after_help(AFTER_HELP)
+        .bin_name("subcat")
+}
+
+fn create(alloc: Global) -> Arg<'static> {
+    Arg::new(alloc, "create")
+        .long("create")
+        .action(ArgAction::SetTrue)
+        .help("Create the slot first")
 }
 
 fn required<'a>(alloc: Global, name: &'a str, help: &'a str) -> Arg<'a> {

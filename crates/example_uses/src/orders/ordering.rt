@@ -1,12 +1,12 @@
 //! The service's own thread: each order is a transaction, and each article of it stands behind a savepoint.
 
-use crate::FOLLOWERS;
-use crate::fault::OrderFault;
-use crate::orders::{ORDERS, Order, STOCK};
-use crate::shop::{
+use crate::orders::FOLLOWERS;
+use crate::orders::fault::OrderFault;
+use crate::orders::shop::{
     LINE_TABLE, ORDER_TABLE, STOCK_TABLE, line_row, order_row, pieces_and_price, stock_key,
     stock_row,
 };
+use crate::orders::stock::{ORDERS, Order, STOCK};
 use hub::{Hub, Transaction};
 use shared_log::LogName;
 use slots::SlotName;
@@ -14,7 +14,7 @@ use std::alloc::Global;
 use std::sync::Wait;
 
 /// Fills the stock and takes all orders, once both followers have their streams: what is committed before reaches nobody.
-pub(crate) fn take_orders<L, R>(rt: &R, alloc: Global, hub: &Hub<L>) -> Result<(), OrderFault>
+pub fn take_orders<L, R>(rt: &R, alloc: Global, hub: &Hub<L>) -> Result<(), OrderFault>
 where
     L: LogName + SlotName,
     R: Wait,

@@ -5,7 +5,7 @@ use thiserror::Error;
 use txlog::SessionFault;
 
 #[derive(Clone, Copy, Debug, PartialEq, Eq, Error)]
-pub(crate) enum OrderFault {
+pub enum OrderFault {
     #[error("nothing of it is there")]
     SoldOut,
     #[error("{0}")]

@@ -1,18 +1,17 @@
 //! A service that publishes what it does: a thread of its own takes orders and commits them, connections are served beside it,
-//! and two followers read what it publishes.
-#![tactic(auto)]
+//! and two followers read what it publishes. `orders` prints what they got.
 
 mod fault;
 mod following;
 mod ordering;
-mod orders;
 mod shop;
+mod stock;
 
 ghost use Rattle.std.specs.Prelude.{◌≡◌};
 
-use crate::following::{Followed, follow_both};
-use crate::ordering::take_orders;
-use crate::shop::CONFIGURATION;
+use crate::orders::following::{Followed, follow_both};
+use crate::orders::ordering::take_orders;
+use crate::orders::shop::CONFIGURATION;
 use anyhow::Result;
 use hub::{Hub, OpenGate, OpenedHub, serve};
 use pqformat::Text;
@@ -20,6 +19,7 @@ use publication::Publications;
 use shared_log::LogName;
 use slots::SlotName;
 use std::alloc::Global;
+use std::io::Print;
 use std::marker::Brand;
 use std::net::{Net, SocketAddr, TcpListener, TcpStream};
 use std::sync::Wait;
@@ -29,11 +29,13 @@ use std::time::Clock;
 use tables::Catalog;
 
 /// How many connections are served.
-const FOLLOWERS: u32 = 2;
+pub const FOLLOWERS: u32 = 2;
 
-fn main(rt: HostRuntime) -> Result<()> {
-    let alloc = rt.alloc();
-    let followed = served::<Brand, HostRuntime>(&rt, alloc, opened(alloc)?)?;
+pub fn follow_orders<R>(rt: &R, alloc: Global) -> Result<()>
+where
+    R: Net<Listener = TcpListener, Stream = TcpStream> + Threads + Wait + Clock + Print + Sync,
+{
+    let followed = served::<Brand, R>(rt, alloc, opened(alloc)?)?;
     println!(rt; "all tables:")?;
     print!(rt; "{}", str::from_utf8(followed.all.as_slice())?)?;
     println!(rt; "large orders:")?;

@@ -1,18 +1,18 @@
 //! The tables of the shop, and their rows.
 
-use crate::orders::Order;
+use crate::orders::stock::Order;
 use pqformat::Text;
 use std::alloc::{AllocError, Global};
 use tables::{Row, Value};
 
-pub(crate) const STOCK_TABLE: u32 = 20001;
+pub const STOCK_TABLE: u32 = 20001;
 
-pub(crate) const ORDER_TABLE: u32 = 20002;
+pub const ORDER_TABLE: u32 = 20002;
 
-pub(crate) const LINE_TABLE: u32 = 20003;
+pub const LINE_TABLE: u32 = 20003;
 
 /// The tables, a publication of all of them, and one of the orders of 100 or more.
-pub(crate) const CONFIGURATION: &str = "\
+pub const CONFIGURATION: &str = "\
 [[table]]
 oid = 20001
 schema = 'shop'
@@ -40,34 +40,29 @@ publish = ['insert']
 tables = [{ name = 'shop.orders', where = 'total >= 100' }]
 ";
 
-pub(crate) fn stock_row(
-    alloc: Global,
-    article: &str,
-    pieces: i32,
-    price: i64,
-) -> Result<Row, AllocError> {
+pub fn stock_row(alloc: Global, article: &str, pieces: i32, price: i64) -> Result<Row, AllocError> {
     let article = text(alloc, article)?;
     Ok(Row::new(vec![in alloc; article, Value::Int4(pieces), Value::Int8(price)]?))
 }
 
-pub(crate) fn stock_key(alloc: Global, article: &str) -> Result<Row, AllocError> {
+pub fn stock_key(alloc: Global, article: &str) -> Result<Row, AllocError> {
     Ok(Row::new(vec![in alloc; text(alloc, article)?]?))
 }
 
 /// How many pieces a row of the stock tells of, and what one costs.
-pub(crate) fn pieces_and_price(row: &Row) -> Option<(i32, i64)> {
+pub fn pieces_and_price(row: &Row) -> Option<(i32, i64)> {
     match row.values() {
         [_, Value::Int4(pieces), Value::Int8(price)] => Some((*pieces, *price)),
         _ => None,
     }
 }
 
-pub(crate) fn order_row(alloc: Global, order: &Order, total: i64) -> Result<Row, AllocError> {
+pub fn order_row(alloc: Global, order: &Order, total: i64) -> Result<Row, AllocError> {
     let customer = text(alloc, order.customer)?;
     Ok(Row::new(vec![in alloc; Value::Int4(order.id), customer, Value::Int8(total)]?))
 }
 
-pub(crate) fn line_row(alloc: Global, order: &Order, article: &str) -> Result<Row, AllocError> {
+pub fn line_row(alloc: Global, order: &Order, article: &str) -> Result<Row, AllocError> {
     let article = text(alloc, article)?;
     Ok(Row::new(vec![in alloc; Value::Int4(order.id), article]?))
 }

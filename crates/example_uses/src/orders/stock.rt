@@ -1,19 +1,19 @@
 //! What is in stock, and what is ordered.
 
 /// An article, how many pieces of it there are, and what one costs.
-pub(crate) struct Article {
-    pub(crate) name: &'static str,
-    pub(crate) pieces: i32,
-    pub(crate) price: i64,
+pub struct Article {
+    pub name: &'static str,
+    pub pieces: i32,
+    pub price: i64,
 }
 
-pub(crate) struct Order {
-    pub(crate) id: i32,
-    pub(crate) customer: &'static str,
-    pub(crate) articles: &'static [&'static str],
+pub struct Order {
+    pub id: i32,
+    pub customer: &'static str,
+    pub articles: &'static [&'static str],
 }
 
-pub(crate) const STOCK: [Article; 3] = [
+pub const STOCK: [Article; 3] = [
     Article {
         name: "desk",
         pieces: 2,
@@ -32,7 +32,7 @@ pub(crate) const STOCK: [Article; 3] = [
 ];
 
 /// The first takes the last lamp: of the second order only the desk is left, and of the third nothing.
-pub(crate) const ORDERS: [Order; 4] = [
+pub const ORDERS: [Order; 4] = [
     Order {
         id: 1,
         customer: "Ada",

@@ -27,17 +27,13 @@ const LARGE: Options<'static> = Options {
 
 /// What the followers got, a line each message.
 #[derive(Drop)]
-pub(crate) struct Followed {
-    pub(crate) all: Vec<u8>,
-    pub(crate) large: Vec<u8>,
+pub struct Followed {
+    pub all: Vec<u8>,
+    pub large: Vec<u8>,
 }
 
 /// Both followers, side by side.
-pub(crate) fn follow_both<R>(
-    rt: &R,
-    alloc: Global,
-    address: SocketAddr,
-) -> Result<Followed, FollowFault>
+pub fn follow_both<R>(rt: &R, alloc: Global, address: SocketAddr) -> Result<Followed, FollowFault>
 where
     R: Net<Listener = TcpListener, Stream = TcpStream> + Threads + Wait + Sync,
 {
