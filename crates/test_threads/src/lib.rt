@@ -12,6 +12,8 @@ mod numbers;
 #[cfg(test)]
 mod receipt_calls;
 #[cfg(test)]
+mod server_calls;
+#[cfg(test)]
 mod session;
 #[cfg(test)]
 mod slot_calls;

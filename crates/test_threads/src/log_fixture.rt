@@ -14,7 +14,7 @@ use txlog::{Opened, Publisher, Receipt, SessionFault};
 use wal::{Body, FIRST_POSITION, Record};
 
 /// One table, and a publication of it.
-const CONFIGURATION: &str = "\
+pub const CONFIGURATION: &str = "\
 [[table]]
 oid = 16384
 schema = 'public'
