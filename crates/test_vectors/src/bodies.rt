@@ -11,7 +11,7 @@ use copyboth::{
     ServerBody, read_client, read_server, write_keepalive, write_status, write_xlogdata,
 };
 use pgoutput::{Logical, OutFault, read_logical, write_logical, written_and_read};
-use std::alloc::Global;
+use std::alloc::{AllocError, Global};
 use tables::{BodyFault, Change, MAX_TRUNCATED, body_len, read_body, write_body};
 
 pub fn answer_logical(alloc: Global, bytes: &[u8], answer: &mut String) -> Result<()> {
@@ -38,29 +38,50 @@ fn tell_logical(alloc: Global, message: &Logical, read: &[u8], answer: &mut Stri
     requires range { FitsLogical message.now }
     requires short { IsShort message.now }
 {
-    let mut written = BytesMut::new(alloc);
-    write_logical(message, &mut written)?;
-    tell_written(answer, written.as_slice(), read)?;
-    let again = written_and_read(alloc, message)?;
-    let is_same = again == *message;
+    tell_written_logical(alloc, message, read, answer)?;
+    let is_same = is_read_again(alloc, message)?;
     ensure!(is_same, "is another message when it is read again");
     Ok(())
 }
 
-pub fn answer_server(alloc: Global, bytes: &[u8], answer: &mut String) -> Result<()> {
+fn tell_written_logical(
+    alloc: Global,
+    message: &Logical,
+    read: &[u8],
+    answer: &mut String,
+) -> Result<(), AllocError>
+    requires { IsShort message.now }
+{
     let mut written = BytesMut::new(alloc);
+    write_logical(message, &mut written)?;
+    tell_written(answer, written.as_slice(), read)
+}
+
+fn is_read_again(alloc: Global, message: &Logical) -> Result<bool, OutFault>
+    requires range { FitsLogical message.now }
+    requires short { IsShort message.now }
+{
+    Ok(written_and_read(alloc, message)? == *message)
+}
+
+pub fn answer_server(alloc: Global, bytes: &[u8], answer: &mut String) -> Result<()> {
     let came = read_server(bytes);
     tell(answer, &came)?;
-    match &came {
-        Ok(ServerBody::XLogData(data)) => {
-            write_xlogdata(data.start, data.end, data.clock, data.payload, &mut written)?;
-        }
-        Ok(ServerBody::Keepalive(body)) => {
-            write_keepalive(body.end, body.clock, body.ask, &mut written)?;
-        }
-        Err(_) => return Ok(()),
+    if let Ok(body) = &came {
+        let mut written = BytesMut::new(alloc);
+        write_server(body, &mut written)?;
+        tell_written(answer, written.as_slice(), bytes)?;
     }
-    Ok(tell_written(answer, written.as_slice(), bytes)?)
+    Ok(())
+}
+
+fn write_server(body: &ServerBody<'_>, written: &mut BytesMut) -> Result<(), AllocError> {
+    match body {
+        ServerBody::XLogData(data) => {
+            write_xlogdata(data.start, data.end, data.clock, data.payload, written)
+        }
+        ServerBody::Keepalive(body) => write_keepalive(body.end, body.clock, body.ask, written),
+    }
 }
 
 pub fn answer_client(alloc: Global, bytes: &[u8], answer: &mut String) -> Result<()> {

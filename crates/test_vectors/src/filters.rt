@@ -1,9 +1,9 @@
 //! Row filters: what each is of some rows, or why it is none.
 
 use crate::answer::bytes_of;
-use anyhow::{Context, Result};
+use anyhow::{Context, Result, bail};
 use rowfilter::{Filter, fault_at, parse};
-use std::alloc::Global;
+use std::alloc::{AllocError, Global};
 use tables::{Catalog, Change, Table, read_body};
 
 /// `TABLES|INSERTS|FILTER`: a configuration of one table, and the bodies of inserts, between commas. Adds what the filter is of
@@ -12,8 +12,10 @@ pub fn answer_filter(alloc: Global, given: &str, answer: &mut String) -> Result<
     let (tables, rest) = given.split_once('|').context("gives no rows")?;
     let (inserts, text) = rest.split_once('|').context("gives no filter")?;
     let catalog = Catalog::from_toml(alloc, tables)?;
-    let table = catalog.tables().first().context("gives no table")?;
-    add_filtered(alloc, table, inserts, text, answer)
+    match catalog.tables() {
+        [table, ..] => add_filtered(alloc, table, inserts, text, answer),
+        [] => bail!("gives no table"),
+    }
 }
 
 fn add_filtered(
@@ -42,8 +44,13 @@ fn add_truths(alloc: Global, filter: &Filter, inserts: &str, answer: &mut String
 
 fn add_truth(alloc: Global, filter: &Filter, insert: &str, answer: &mut String) -> Result<()> {
     let bytes = bytes_of(alloc, insert)?;
-    match read_body(alloc, bytes.as_slice())? {
-        Change::Insert(_, row) => Ok(write!(answer, " {:?}", filter.truth(&row))?),
+    let change = read_body(alloc, bytes.as_slice())?;
+    Ok(add_truth_of(filter, &change, answer)?)
+}
+
+fn add_truth_of(filter: &Filter, change: &Change, answer: &mut String) -> Result<(), AllocError> {
+    match change {
+        Change::Insert(_, row) => write!(answer, " {:?}", filter.truth(row)),
         _ => Ok(()),
     }
 }
