@@ -57,7 +57,7 @@ body_takes bytes c rest fits e =
     let P : Change × List ℕ → Type 0 = λ y. SpellsBody bytes y.0 in
     subst P g.1 (record { in_range = t.1; text = t.0.parts ∙ rw empty (append-nil (spell_body a.0.0)) })
 
-body_again : (bytes : List ℕ) (c : Change) → SpellsBody bytes c → body_at bytes ≡ Ok (c, [])
+pub body_again : (bytes : List ℕ) (c : Change) → SpellsBody bytes c → body_at bytes ≡ Ok (c, [])
 unfolding body_at
 body_again bytes c h =
     let whole : bytes ≡ spell_body c ++ [] = h.text ∙ sym (append-nil (spell_body c)) in

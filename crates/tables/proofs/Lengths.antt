@@ -1,6 +1,7 @@
 -- The lengths of numbers, rows and bodies in a spelling.
-use Rattle.std.proofs.Common.{◌≡◌, ◌≤◌, ◌+◌, ◌*◌, ℕ, List, [], ◌∷◌, length, arith, length-append}
-use Rattle.std.specs.List.{flat_map}
+use Rattle.std.proofs.Common.{◌≡◌, ◌≤◌, ◌<◌, ◌^◌, ◌+◌, ◌*◌, ℕ, List, [], ◌∷◌, length, arith, length-append}
+use Rattle.std.specs.Prelude.{IsSome}
+use Rattle.std.specs.List.{AllByRecursion, flat_map}
 use Rattle.pqformat.specs.Fields.{int16, int32}
 use Rattle.pqformat.proofs.Numbers.{length-int16, length-int32, length-int64}
 use Rattle.tables.specs.declared.value.Value.{Value}
@@ -8,7 +9,10 @@ use Rattle.tables.specs.declared.value.Value.TheVariants as values
 use Rattle.tables.specs.declared.table.Table.{Table}
 use Rattle.tables.specs.declared.change.Change.{Change}
 use Rattle.tables.specs.declared.change.Change.TheVariants as changes
-use Rattle.tables.specs.Tables.{FitsChange}
+use Rattle.tables.specs.declared.change_body.TheConstants.{MAX_BODY_LENGTH}
+use Rattle.tables.specs.declared.row.TheConstants.{MAX_ROW_LENGTH}
+use Rattle.tables.specs.Reading.{IsCodedValue, IsCodedRow, IsCoded}
+use Rattle.tables.specs.Tables.{FitsChange, IsValue, table_of}
 use Rattle.tables.specs.Spelling.{spell_value, spell_row, row_length, spell_one, body_length, IsShort}
 
 pub ruleset lengths = (length-int16, length-int32, length-int64)
@@ -47,6 +51,28 @@ oids_length (x ∷ oids) = omega (arith, length-append (int32 x) (flat_map int32
 pub truncate_length : (oids : List ℕ) → body_length (changes.Truncate oids) ≡ 3 + 4 * length oids
 truncate_length oids = omega (arith, length-append (int16 (length oids)) (flat_map int32 oids), length-int16 (length oids), oids_length oids)
 
+-- a value that a short row holds can be read again
+coded_value : (value : Value) → IsValue value → length (spell_value value) ≤ MAX_ROW_LENGTH → IsCodedValue value
+coded_value values.Null fits short = tt
+coded_value (values.Bool b) fits short = tt
+coded_value (values.Int4 n) fits short = fits
+coded_value (values.Int8 n) fits short = fits
+coded_value (values.Text text) fits short = (omega (arith, short, length-text text), fits)
+
+coded_values : (row : List Value) → AllByRecursion IsValue row → length (flat_map spell_value row) ≤ MAX_ROW_LENGTH → AllByRecursion IsCodedValue row
+coded_values [] fits short = tt
+coded_values (value ∷ row) fits short =
+    let parts = length-append (spell_value value) (flat_map spell_value row) in
+    (coded_value value fits.0 (omega (arith, short, parts)), coded_values row fits.1 (omega (arith, short, parts)))
+
+pub coded_row : (row : List Value) → AllByRecursion IsValue row → row_length row ≤ MAX_ROW_LENGTH → IsCodedRow row
+coded_row row fits short =
+    (omega (arith, count_le_row_length row, short), coded_values row fits (omega (arith, row_length_is row, short)))
+
+all_numbers : (P : ℕ → Type 0) (oids : List ℕ) → AllByRecursion (λ oid. (oid < 2 ^ 32) × P oid) oids → AllByRecursion (λ oid. oid < 2 ^ 32) oids
+all_numbers P [] all = tt
+all_numbers P (oid ∷ oids) all = (all.0.0, all_numbers P oids all.1)
+
 -- what fits the tables can be written
 pub short_of_fits : (tables : List Table) (change : Change) → FitsChange tables change → IsShort change
 short_of_fits tables (changes.Insert oid row) fits = fits.short
@@ -54,8 +80,23 @@ short_of_fits tables (changes.Update oid old row) fits = (fits.0.short, fits.1.s
 short_of_fits tables (changes.Delete oid old) fits = fits.short
 short_of_fits tables (changes.Truncate oids) fits = fits.0
 
+-- and can be read again
+pub coded_of_fits : (tables : List Table) (change : Change) → FitsChange tables change → IsCoded change
+coded_of_fits tables (changes.Insert oid row) fits = (fits.number, coded_row row fits.in_range fits.short)
+coded_of_fits tables (changes.Update oid old row) fits =
+    ((fits.0.number, coded_row old fits.0.in_range fits.0.short), coded_row row fits.1.in_range fits.1.short)
+coded_of_fits tables (changes.Delete oid old) fits = (fits.number, coded_row old fits.in_range fits.short)
+coded_of_fits tables (changes.Truncate oids) fits = (omega (arith, fits.0), all_numbers (λ oid. IsSome (table_of oid tables)) oids fits.1)
+
 pub insert_length : (oid : ℕ) (row : List Value) → body_length (changes.Insert oid row) ≡ 5 + row_length row
 insert_length oid row = one_row_length 1 oid row
 
 pub delete_length : (oid : ℕ) (row : List Value) → body_length (changes.Delete oid row) ≡ 5 + row_length row
 delete_length oid row = one_row_length 3 oid row
+
+-- a short change has a short body
+pub body_bounded : (change : Change) → IsShort change → body_length change ≤ MAX_BODY_LENGTH
+body_bounded (changes.Insert oid row) short = omega (arith, insert_length oid row, short)
+body_bounded (changes.Update oid old row) short = omega (arith, two_rows_length oid old row, short.0, short.1)
+body_bounded (changes.Delete oid old) short = omega (arith, delete_length oid old, short)
+body_bounded (changes.Truncate oids) short = omega (arith, truncate_length oids, short)

@@ -3,6 +3,7 @@
 ghost use Rattle.std.specs.Prelude.{◌≡◌, ◌+◌, ◌∷◌, ◌++◌, [], ◌<◌, ◌^◌, IfErr, IfOk, List, OnErr, OnOk, false, true};
 ghost use Rattle.store.specs.History.{Made, count_of, rolled_back};
 ghost use Rattle.store.specs.Keeping.{Keeps};
+ghost use Rattle.tables.specs.Reading.{IsCoded};
 ghost use Rattle.tables.specs.Spelling.{IsShort};
 ghost use Rattle.txlog.specs.Invariants.{IsPublisher};
 ghost use Rattle.wal.specs.Log.{IsWellFormedLog, end_of};
@@ -146,6 +147,7 @@ fn write<L: LogName, R: Wait>(
     change: Change,
 ) -> Result<(), SessionFault>
     requires short { IsShort change }
+    requires coded { IsCoded change }
     requires fits { end_of FIRST_POSITION log.old + 2 ^ 14 < 2 ^ 64 }
     requires good { 0 < at.room → IsWellFormedLog (log.old ++ record_after log.old (Body.Change at.innermost change) ∷ []) }
     ensures ok { OnOk result ((log.new ≡ log.old ++ record_after log.old (Body.Change at.innermost change) ∷ []) × (store.new ≡ store.old)) }

@@ -1,15 +1,17 @@
 //! A change that a record can hold.
 
-ghost use Rattle.std.specs.Prelude.{◌≡◌, ◌≤◌, Some, None, true, if◌then◌else◌};
+ghost use Rattle.std.specs.Prelude.{◌≡◌, ◌≤◌, ◌<◌, ◌^◌, Some, None, true, if◌then◌else◌, length, nat_le};
 ghost use Rattle.tables.specs.declared.change_body.TheConstants.{MAX_BODY_LENGTH};
+ghost use Rattle.tables.specs.declared.change_body.TheConstants.{MAX_TRUNCATED};
+ghost use Rattle.tables.specs.Reading.{IsCoded, IsCodedOids, IsCodedRow};
 ghost use Rattle.tables.specs.Spelling.{IsShort, body_length};
-ghost use Rattle.wal.specs.Records.{fits_record};
+ghost use Rattle.wal.specs.Records.{fits_record, is_short_row};
 
 use std::marker::Model;
-use tables::{Change, MAX_TRUNCATED, body_len};
+use tables::{Change, MAX_TRUNCATED, Row, body_len};
 
 /// A change whose rows are at most 8,000 bytes long, and which truncates at most 256 tables, so that its body is of at most
-/// 16,005 bytes. Contracts see the change.
+/// 16,005 bytes, from which it can be read again. Contracts see the change.
 #[derive(Debug, Drop)]
 pub struct LoggedChange {
     change: Change,
@@ -17,13 +19,14 @@ pub struct LoggedChange {
 
 impl Model for LoggedChange {
     ghost use Rattle.tables.specs.declared.change.Change.{Change as Held};
+    ghost use Rattle.tables.specs.Reading.{IsCoded};
     ghost use Rattle.tables.specs.Spelling.{IsShort};
 
     ghost Value = { Held };
 
     ghost view = { λ l. l.change };
 
-    ghost invariant = { λ l. IsShort l.change };
+    ghost invariant = { λ l. IsShort l.change × IsCoded l.change };
 
     ghost inverse = { λ change. record { change = change } };
 }
@@ -40,9 +43,10 @@ impl LoggedChange {
         }
     }
 
-    /// A change that is known to be short.
+    /// A change that is known to be one that a record can hold.
     pub fn of(change: Change) -> Self
-        requires { IsShort change }
+        requires short { IsShort change }
+        requires coded { IsCoded change }
         ensures { result ≡ change }
     {
         LoggedChange { change }
@@ -51,6 +55,7 @@ impl LoggedChange {
     pub fn change(&self) -> &Change
         ensures value { result.now ≡ self.now }
         ensures short { IsShort result.now }
+        ensures coded { IsCoded result.now }
     {
         &self.change
     }
@@ -68,11 +73,29 @@ impl LoggedChange {
 fn is_short(change: &Change) -> bool
     ensures value { result ≡ fits_record change.now }
     ensures short { result ≡ true → IsShort change.now }
+    ensures coded { result ≡ true → IsCoded change.now }
 {
     match change {
-        Change::Insert(_, row) => row.coded_len().is_some(),
-        Change::Update(_, old, row) => old.coded_len().is_some() && row.coded_len().is_some(),
-        Change::Delete(_, old) => old.coded_len().is_some(),
-        Change::Truncate(oids) => oids.len() <= MAX_TRUNCATED,
+        Change::Insert(oid, row) | Change::Delete(oid, row) => is_short_row(*oid, row),
+        Change::Update(oid, old, row) => is_short_row(*oid, old) && is_short_row(*oid, row),
+        Change::Truncate(oids) => are_few(oids.as_slice()),
     }
+}
+
+fn is_short_row(oid: u32, row: &Row) -> bool
+    ensures value { result ≡ is_short_row row.now }
+    ensures coded { result ≡ true → (oid < 2 ^ 32) × IsCodedRow row.now }
+{
+    row.coded_len().is_some()
+}
+
+/// Whether a truncate may name so many tables.
+fn are_few(oids: &[u32]) -> bool
+    ensures value { result ≡ nat_le (length oids.now) MAX_TRUNCATED }
+    ensures coded { result ≡ true → IsCodedOids oids.now }
+{
+    for oid in oids {
+        let _in_range = *oid;
+    }
+    oids.len() <= MAX_TRUNCATED
 }

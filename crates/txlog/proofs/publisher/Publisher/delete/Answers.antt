@@ -1,4 +1,5 @@
 use Rattle.std.proofs.Common.{arith, ◌^◌}
+use Rattle.tables.proofs.Lengths.{coded_of_fits}
 use Rattle.store.specs.History as history
 use Rattle.txlog.specs.Publishing.{PublisherState}
 use Rattle.txlog.proofs.Calls.{record_fits}
@@ -15,6 +16,7 @@ write-requires g c =
     let short = delete_short s.tables c.in-Ok.change c.args.oid made_so.old made_so.made fits in
     record {
       short = short;
+      coded = coded_of_fits s.tables c.in-Ok.change fits;
       fits = record_fits s (2 ^ 14) c.self.invariant.publisher (omega arith);
       good = change_good c.self.inside.store s c.args.self.now c.args.tx.now c.in_ok-at.at c.in-Ok.change c.self.view_is c.self.invariant at.live at.innermost at.room fits short;
     }

@@ -2,6 +2,7 @@ use Rattle.std.proofs.Common.{arith, ◌^◌, ◌∷◌, [], ◌++◌, sym, subs
 use Rattle.tables.specs.declared.change.Change.{Change}
 use Rattle.store.specs.Keeping.{Keeps}
 use Rattle.store.specs.History.{made}
+use Rattle.tables.proofs.Lengths.{coded_of_fits}
 use Rattle.store.specs.History as history
 use Rattle.txlog.specs.Publishing.{PublisherState}
 use Rattle.txlog.proofs.Calls.{record_fits}
@@ -16,6 +17,7 @@ write-requires g c =
     let short = insert_short s.tables c.in-Ok.change c.args.oid c.args.row c.in-Ok.ensures.change c.in-Ok.ensures.fits in
     record {
       short = short;
+      coded = coded_of_fits s.tables c.in-Ok.change c.in-Ok.ensures.fits;
       fits = record_fits s (2 ^ 14) c.self.invariant.publisher (omega arith);
       good = change_good c.self.inside.store s c.args.self.now c.args.tx.now c.in_ok-at.at c.in-Ok.change c.self.view_is c.self.invariant at.live at.innermost at.room c.in-Ok.ensures.fits short;
     }
