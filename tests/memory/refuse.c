@@ -1,10 +1,7 @@
 /* Refuses memory to the program that it is loaded into, once: the allocation whose number the variable REFUSE has, counted
-   from 1. What the C library takes for a thread isn't counted: threads that aren't to be had are a matter of tests/loopback. The
-   variable REFUSE_TELLS has the number of a descriptor, to which the count of all allocations goes in the end. */
+   from 1. The variable REFUSE_TELLS has the number of a descriptor, to which the count of all allocations goes in the end. */
 #define _GNU_SOURCE
-#include <dlfcn.h>
 #include <errno.h>
-#include <pthread.h>
 #include <stdatomic.h>
 #include <stdio.h>
 #include <stdlib.h>
@@ -18,7 +15,6 @@ void *__libc_memalign(size_t align, size_t size);
 static atomic_long counted;
 static long refused;
 static int teller = -1;
-static __thread int is_for_a_thread __attribute__((tls_model("initial-exec")));
 
 static long number_in(const char *name, long other) {
     const char *text = getenv(name);
@@ -39,7 +35,7 @@ __attribute__((destructor)) static void tell(void) {
 }
 
 static int is_refused(void) {
-    if (is_for_a_thread || atomic_fetch_add(&counted, 1) + 1 != refused)
+    if (atomic_fetch_add(&counted, 1) + 1 != refused)
         return 0;
     errno = ENOMEM;
     return 1;
@@ -63,14 +59,4 @@ int posix_memalign(void **made, size_t align, size_t size) {
         return ENOMEM;
     *made = got;
     return 0;
-}
-
-int pthread_create(pthread_t *made, const pthread_attr_t *how, void *(*runs)(void *), void *on) {
-    static int (*create)(pthread_t *, const pthread_attr_t *, void *(*)(void *), void *);
-    if (!create)
-        create = (int (*)(pthread_t *, const pthread_attr_t *, void *(*)(void *), void *))dlsym(RTLD_NEXT, "pthread_create");
-    is_for_a_thread = 1;
-    int status = create(made, how, runs, on);
-    is_for_a_thread = 0;
-    return status;
 }
