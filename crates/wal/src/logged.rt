@@ -94,6 +94,7 @@ fn are_few(oids: &[u32]) -> bool
     ensures value { result ≡ nat_le (length oids.now) MAX_TRUNCATED }
     ensures coded { result ≡ true → IsCodedOids oids.now }
 {
+    // Each is of 32 bits, as a truncate's body has it; reading it shows that.
     for oid in oids {
         let _in_range = *oid;
     }
