@@ -1,12 +1,13 @@
 -- The books with a free chunk made the last of a strand.
 use Rattle.std.proofs.Common.{◌≡◌, ◌≢◌, ℕ, suc, ◌+◌, ◌-◌, ◌<◌, ◌≤◌, List, [], ◌∷◌, ◌++◌, length, set, take, refl, sym, ap, ◌∙◌, subst, arith, ⊎_elim}
-use Rattle.std.specs.List.{sum_by}
+use Rattle.std.specs.List.{Contains, sum_by}
 use Rattle.std.proofs.lemmas.Bool.{cases_eq, cases_lt}
 use Rattle.std.proofs.lemmas.List.{length-set, length-take-le, get_or-take, get_or-set_same, get_or-set_other}
+use Rattle.std.proofs.lemmas.List.Elements.{Contains-append_left}
 use Rattle.std.proofs.lemmas.List.Sums.{sum_by-set}
-use Rattle.chgarena.specs.Books.{Books, IsBooks, IsOwned, IsRun, at, count_to, run}
+use Rattle.chgarena.specs.Books.{Books, IsBooks, IsHeld, IsOwned, IsRun, at, chunks_of, count_to, run}
 use Rattle.chgarena.specs.Links.{IsPopped, begun, grown}
-use Rattle.chgarena.proofs.Runs.{Same, run_first, run_last, same_run, longer_run, sum_by_same, count_of_strand, count_of_none, count_same}
+use Rattle.chgarena.proofs.Runs.{Same, last_in, run_first, run_last, same_run, longer_run, sum_by_same, count_of_strand, count_of_none, count_same}
 
 -- a free chunk c becomes the last of the strand h, k of whose chunks stand before it
 module _ (b : Books) (good : IsBooks b) (h c k : ℕ) (next : List ℕ) (popped : IsPopped b c) where
@@ -73,8 +74,13 @@ module _ (b : Books) (good : IsBooks b) (h c k : ℕ) (next : List ℕ) (popped 
         IsRun added x (at b.last x) r m d × (run next m d ≡ run b.next m d)
     other_run x low' ne has r m d is = same_run b added x (at b.last x) refl r m d (λ y in' owned _. stays y x low' ne in' owned) is
 
+    other_chunks : (x : ℕ) → x < b.chunks → x ≢ h → at b.last x < b.chunks → chunks_of added x ≡ chunks_of b x
+    other_chunks x low' ne has =
+        ap (λ l. run next (at added.rank l) x) (last_else x ne) ∙ (ap (λ j. run next j x) (rank_else (at b.last x) (last_other x low' has)) ∙
+        (other_run x low' ne has 0 (at b.rank (at b.last x)) x (good.strands x low' has)).1)
+
     -- the books stay in order, where the run of h does
-    module _ (count : count_to b (at b.last h) ≡ k) (own : IsRun added h c 0 k h) where
+    module _ (count : count_to b (at b.last h) ≡ k) (own : IsRun added h c 0 k h) (keeps : (x : ℕ) → at b.last h < b.chunks → Contains (chunks_of b h) x → Contains (run next k h) x) where
       counts : (i : ℕ) → i < length b.last → count_to added (at b.last i) ≡ count_to b (at b.last i)
       counts i in' = count_same b added (at b.last i) refl (λ has. rank_else (at b.last i) (last_other i (omega (arith, good.lasts)) has))
 
@@ -102,6 +108,37 @@ module _ (b : Books) (good : IsBooks b) (h c k : ℕ) (next : List ℕ) (popped 
           (other_run x in' ne has' 0 (at b.rank (at b.last x)) x (good.strands x in' has')).0))
           (cases_eq x h)
 
+      held_by : (x : ℕ) → Contains (run next k h) x → IsHeld added h x
+      held_by x is =
+          let P : ℕ → Type 0 = λ l. Contains (run next (at added.rank l) h) x in
+          let Q : ℕ → Type 0 = λ j. Contains (run next j h) x in
+          (omega (arith, last_is low, was_free.0), subst P (sym (last_is low)) (subst Q (sym rank_is) is))
+
+      held_else : (x strand : ℕ) → strand < b.chunks → IsHeld b strand x → IsHeld added strand x
+      held_else x strand low' was = ⊎_elim
+          (λ (e : strand ≡ h).
+          let P : ℕ → Type 0 = λ s. IsHeld added s x in
+          let Q : ℕ → Type 0 = λ s. IsHeld b s x in
+          let is : IsHeld b h x = subst Q e was in
+          subst P (sym e) (held_by x (keeps x is.0 is.1)))
+          (λ (ne : strand ≢ h).
+          let P : List ℕ → Type 0 = λ cs. Contains cs x in
+          (omega (arith, last_else strand ne, was.0), subst P (sym (other_chunks strand low' ne was.0)) was.1))
+          (cases_eq strand h)
+
+      held_is : (x : ℕ) → x < b.chunks → at added.owner x < b.chunks → IsHeld added (at added.owner x) x
+      held_is x in' has = ⊎_elim
+          (λ (e : x ≡ c).
+          let P : ℕ → Type 0 = λ y. IsHeld added (at added.owner y) y in
+          let Q : ℕ → Type 0 = λ s. IsHeld added s c in
+          subst P (sym e) (subst Q (sym owner_is) (held_by c (last_in added h c 0 k h own))))
+          (λ (ne : x ≢ c).
+          let same = owner_else x ne in
+          let low' : at b.owner x < b.chunks = omega arith in
+          let Q : ℕ → Type 0 = λ s. IsHeld added s x in
+          subst Q (sym same) (held_else x (at b.owner x) low' (good.held x in' low')))
+          (cases_eq x c)
+
       pub added_good : IsBooks added
       added_good = record {
         owners = length-set b.owner c h ∙ good.owners;
@@ -116,6 +153,7 @@ module _ (b : Books) (good : IsBooks b) (h c k : ℕ) (next : List ℕ) (popped 
             let n = rests in
             good.apart i j (omega arith) (omega arith) (sym (rest_at i in') ∙ (same ∙ rest_at j in''));
         strands = strand_is;
+        held = held_is;
         all = let n = rests in let s = sums in let a = good.all in omega arith;
       }
 
@@ -134,6 +172,7 @@ module _ (b : Books) (good : IsBooks b) (c : ℕ) (popped : IsPopped b c) where
 
   pub begun_good : IsBooks (begun b c)
   begun_good = added_good b good c c 0 b.next popped good.nexts (λ x low ne. refl) (was_free b good c c 0 b.next popped).0 (count_of_none b (at b.last c) no_strand) begun_run
+      (λ x has is. let high = no_strand in absurd (omega arith))
 
 -- a free chunk becomes the last of the strand h
 module _ (b : Books) (good : IsBooks b) (h c : ℕ) (popped : IsPopped b c) (low : h < b.chunks) (has : at b.last h < b.chunks) where
@@ -177,4 +216,7 @@ module _ (b : Books) (good : IsBooks b) (h c : ℕ) (popped : IsPopped b c) (low
   grown_good =
       let P : ℕ → Type 0 = λ j. IsRun (grown b h c) h c 0 j h in
       let more : suc k ≡ k + 1 = omega arith in
+      let C : ℕ → ℕ → Type 0 = λ x j. Contains (run next j h) x in
+      let D : ℕ → List ℕ → Type 0 = λ x cs. Contains cs x in
       added_good b good h c (k + 1) next popped (length-set b.next l c ∙ good.nexts) next_else low (count_of_strand b l has) (subst P more grown_run.0)
+      (λ x _ is. subst (C x) more (subst (D x) (sym grown_run.1) (Contains-append_left (run b.next k h) (c ∷ []) x is)))

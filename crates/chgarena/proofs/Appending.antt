@@ -1,46 +1,73 @@
 -- What a chunk's entries are when the places of one chunk change.
-use Rattle.std.proofs.Common.{◌≡◌, ◌≢◌, ℕ, ◌+◌, ◌*◌, ◌<◌, ◌≤◌, ◌^◌, List, [], ◌∷◌, ◌++◌, Option, Some, length, get_or, set, map, take, replicate, refl, sym, ap, ◌∙◌, subst, arith, ⊎_elim}
-use Rattle.std.specs.Int.{w32, to_be_bytes}
+use Rattle.std.proofs.Common.{◌≡◌, ◌≢◌, ℕ, ◌+◌, ◌-◌, ◌*◌, ◌<◌, ◌≤◌, ◌^◌, List, [], ◌∷◌, ◌++◌, Option, length, get_or, set, take, replicate, refl, sym, ap, ◌∙◌, subst, arith, ⊎_elim}
 use Rattle.std.proofs.lemmas.Bool.{cases_eq, cases_lt}
-use Rattle.std.proofs.lemmas.List.{append_assoc, length-append, length-set, length-replicate, map-append, get_or-set_same, get_or-set_other, get_or-replicate, ext_get_or}
+use Rattle.std.proofs.lemmas.List.{length-append, length-set, length-replicate, get_or_append_left, get_or_default, get_or_push, get_or-set_same, get_or-set_other, get_or-replicate, ext_get_or}
 use Rattle.std.proofs.lemmas.List.FromFn.{length-map-range_with_len, get_or-map-range_with_len}
 use Rattle.chgarena.specs.Places.{with_bytes}
-use Rattle.chgarena.specs.Pages.{IsPage, IsPages, coded, coded_entry, entries, known, page, pages, used_of}
-use Rattle.chgarena.proofs.Coding.{known_some, length-entries, coded_push, length-coded_push, entries-coded}
-use Rattle.chgarena.proofs.Written.{length-with_bytes, before_it, behind_it, up_to_it}
+use Rattle.chgarena.specs.Pages.{IsPage, IsPages, Lies, begins, line_of, line_place, page, pages, places_of, taken, with_entry}
+use Rattle.chgarena.proofs.Coding.{begins_last, begins_push, bytes_of, entry_within, length-page, page_is, taken_is, taken_push}
+use Rattle.chgarena.proofs.Written.{length-with_bytes, before_it, behind_it, in_chunk, in_it}
 
-pub length-pages : (places : List (Option ℕ)) (used counts : List ℕ) → length (pages places used counts) ≡ length used
-length-pages places used counts = length-map-range_with_len (λ c. page (get_or counts c 0) (used_of places (get_or used c 0) c)) 0 (length used)
+pub length-pages : (places : List (Option ℕ)) (counts : List ℕ) → length (pages places counts) ≡ length counts
+length-pages places counts = length-map-range_with_len (λ c. page (get_or counts c 0) (places_of places c)) 0 (length counts)
 
-pub page_at : (places : List (Option ℕ)) (used counts : List ℕ) (c : ℕ) → c < length used → get_or (pages places used counts) c [] ≡ page (get_or counts c 0) (used_of places (get_or used c 0) c)
-page_at places used counts c low = get_or-map-range_with_len (λ i. page (get_or counts i 0) (used_of places (get_or used i 0) i)) 0 (length used) c c [] low (omega arith)
+pub page_at : (places : List (Option ℕ)) (counts : List ℕ) (c : ℕ) → c < length counts → get_or (pages places counts) c [] ≡ page (get_or counts c 0) (places_of places c)
+page_at places counts c low = get_or-map-range_with_len (λ i. page (get_or counts i 0) (places_of places i)) 0 (length counts) c c [] low (omega arith)
 
 -- what contracts see of a chunk
-module _ (places : List (Option ℕ)) (used counts : List ℕ) (good : IsPages places used counts) (seen : List (List (List ℕ))) (view : pages places used counts ≡ seen) (c : ℕ) (in' : c < length seen) where
+module _ (places : List (Option ℕ)) (used counts : List ℕ) (good : IsPages places used counts) (seen : List (List (List ℕ))) (view : pages places counts ≡ seen) (c : ℕ) (in' : c < length seen) where
   pub low_seen : c < length used
-  low_seen = let n : length (pages places used counts) ≡ length seen = ap length view in omega (arith, length-pages places used counts)
+  low_seen = let n : length (pages places counts) ≡ length seen = ap length view in omega (arith, length-pages places counts, good.counted)
 
-  pub page_seen : get_or seen c [] ≡ page (get_or counts c 0) (used_of places (get_or used c 0) c)
-  page_seen = ap (λ ps. get_or ps c []) (sym view) ∙ page_at places used counts c low_seen
+  pub page_seen : get_or seen c [] ≡ page (get_or counts c 0) (places_of places c)
+  page_seen = ap (λ ps. get_or ps c []) (sym view) ∙ page_at places counts c (let low = low_seen in omega (arith, good.counted))
 
-  pub used_seen : length (coded (get_or seen c [])) ≡ get_or used c 0
-  used_seen = ap (λ es. length (coded es)) page_seen ∙ (good.each c low_seen).long
+  pub used_seen : taken (get_or seen c []) ≡ get_or used c 0
+  used_seen = ap (λ es. taken es) page_seen ∙ (good.each c low_seen).long
 
   pub fits_seen : get_or used c 0 ≤ 16384
   fits_seen = (good.each c low_seen).fits
 
   pub count_seen : length (get_or seen c []) ≡ get_or counts c 0
-  count_seen = ap length page_seen ∙ length-entries (get_or counts c 0) (known (used_of places (get_or used c 0) c))
-
-  pub written_seen : used_of places (get_or used c 0) c ≡ map (λ byte. Some byte) (coded (get_or seen c []))
-  written_seen = (good.each c low_seen).written ∙ ap (λ es. map (λ byte. Some byte) (coded es)) (sym page_seen)
+  count_seen = ap length page_seen ∙ length-page (get_or counts c 0) (places_of places c)
 
   pub room_seen : c * 16384 + 16384 ≤ length places
   room_seen = let l = low_seen in omega (arith, good.room)
 
--- one chunk has other places in use
+-- what was read of a chunk that has room for an entry of this length
+pub record HasRoom (places : List (Option ℕ)) (used counts : List ℕ) (c u n size : ℕ) : Type 0 where
+  pub low : c < length used
+  pub counted : length counts ≡ length used
+  pub few : c < 2 ^ 32
+  pub used_is : u ≡ get_or used c 0
+  pub count_is : n ≡ get_or counts c 0
+  pub lines : n * 4 ≤ u
+  pub fits : u + (size + 4) ≤ 16384
+  pub room : c * 16384 + 16384 ≤ length places
+
+pub has_room : (places : List (Option ℕ)) (used counts : List ℕ) (good : IsPages places used counts) (seen : List (List (List ℕ))) (view : pages places counts ≡ seen) (c : ℕ) (in' : c < length seen)
+    (u n size : ℕ) → u ≡ get_or used c u → n ≡ get_or counts c n → taken (get_or seen c []) + (size + 4) ≤ 16384 → HasRoom places used counts c u n size
+has_room places used counts good seen view c in' u n size e e' room =
+    let low' : c < length used = low_seen places used counts good seen view c in' in
+    let used' : u ≡ get_or used c 0 = e ∙ get_or_default used c u 0 low' in
+    let count' : n ≡ get_or counts c 0 = e' ∙ get_or_default counts c n 0 (omega (arith, good.counted)) in
+    let all = used_seen places used counts good seen view c in' in
+    let many = count_seen places used counts good seen view c in' in
+    let sum = taken_is (get_or seen c []) in
+    record {
+      low = low';
+      counted = good.counted;
+      few = omega (arith, good.few);
+      used_is = used';
+      count_is = count';
+      lines = omega arith;
+      fits = omega arith;
+      room = room_seen places used counts good seen view c in';
+    }
+
+-- the places of one chunk change
 module _ (places places' : List (Option ℕ)) (used counts : List ℕ) (good : IsPages places used counts) (c u n : ℕ) (low : c < length used)
-    (same : (i : ℕ) → i < length used → i ≢ c → used_of places' (get_or used i 0) i ≡ used_of places (get_or used i 0) i) where
+    (same : (i : ℕ) → i < length used → i ≢ c → places_of places' i ≡ places_of places i) where
   used_is : get_or (set used c u) c 0 ≡ u
   used_is = get_or-set_same used c u 0 low
 
@@ -53,27 +80,27 @@ module _ (places places' : List (Option ℕ)) (used counts : List ℕ) (good : I
   counts_else : (i : ℕ) → i ≢ c → get_or (set counts c n) i 0 ≡ get_or counts i 0
   counts_else i ne = get_or-set_other counts c i n 0 ne
 
-  pub changed : pages places' (set used c u) (set counts c n) ≡ set (pages places used counts) c (page n (used_of places' u c))
+  pub changed : pages places' (set counts c n) ≡ set (pages places counts) c (page n (places_of places' c))
   changed =
-      let new = page n (used_of places' u c) in
-      let olds = length-pages places used counts in
-      let news = length-pages places' (set used c u) (set counts c n) in
-      let sets = length-set used c u in
-      let resets = length-set (pages places used counts) c new in
-      ext_get_or [] (pages places' (set used c u) (set counts c n)) (set (pages places used counts) c new) (omega arith) (λ i in'.
-      let in'' : i < length used = omega arith in
-      page_at places' (set used c u) (set counts c n) i (omega arith) ∙
+      let new = page n (places_of places' c) in
+      let olds = length-pages places counts in
+      let news = length-pages places' (set counts c n) in
+      let sets = length-set counts c n in
+      let resets = length-set (pages places counts) c new in
+      let many = good.counted in
+      ext_get_or [] (pages places' (set counts c n)) (set (pages places counts) c new) (omega arith) (λ i in'.
+      let in'' : i < length counts = omega arith in
+      page_at places' (set counts c n) i (omega arith) ∙
       ⊎_elim
       (λ (e : i ≡ c).
-      let P : ℕ → Type 0 = λ j. page (get_or (set counts c n) j 0) (used_of places' (get_or (set used c u) j 0) j) ≡ get_or (set (pages places used counts) c new) j [] in
-      subst P (sym e) (ap (λ k. page k (used_of places' (get_or (set used c u) c 0) c)) counts_is ∙ (ap (λ k. page n (used_of places' k c)) used_is ∙
-      sym (get_or-set_same (pages places used counts) c new [] (omega arith)))))
+      let P : ℕ → Type 0 = λ j. page (get_or (set counts c n) j 0) (places_of places' j) ≡ get_or (set (pages places counts) c new) j [] in
+      subst P (sym e) (ap (λ k. page k (places_of places' c)) counts_is ∙ sym (get_or-set_same (pages places counts) c new [] (omega arith))))
       (λ (ne : i ≢ c).
-      ap (λ k. page k (used_of places' (get_or (set used c u) i 0) i)) (counts_else i ne) ∙ (ap (λ k. page (get_or counts i 0) (used_of places' k i)) (used_else i ne) ∙
-      (ap (page (get_or counts i 0)) (same i in'' ne) ∙ (sym (page_at places used counts i in'') ∙ sym (get_or-set_other (pages places used counts) c i new [] ne)))))
+      ap (λ k. page k (places_of places' i)) (counts_else i ne) ∙ (ap (page (get_or counts i 0)) (same i (omega arith) ne) ∙
+      (sym (page_at places counts i in'') ∙ sym (get_or-set_other (pages places counts) c i new [] ne))))
       (cases_eq i c))
 
-  module _ (long : length places' ≡ length places) (new : IsPage u n (used_of places' u c)) where
+  module _ (long : length places' ≡ length places) (new : IsPage u n (places_of places' c)) where
     pub changed_good : IsPages places' (set used c u) (set counts c n)
     changed_good =
         let sets = length-set used c u in
@@ -83,26 +110,26 @@ module _ (places places' : List (Option ℕ)) (used counts : List ℕ) (good : I
           few = omega (arith, good.few);
           each = λ i in'. ⊎_elim
               (λ (e : i ≡ c).
-              let P : ℕ → Type 0 = λ j. IsPage (get_or (set used c u) j 0) (get_or (set counts c n) j 0) (used_of places' (get_or (set used c u) j 0) j) in
-              let Q : ℕ → Type 0 = λ k. IsPage k (get_or (set counts c n) c 0) (used_of places' k c) in
-              let R : ℕ → Type 0 = λ k. IsPage u k (used_of places' u c) in
+              let P : ℕ → Type 0 = λ j. IsPage (get_or (set used c u) j 0) (get_or (set counts c n) j 0) (places_of places' j) in
+              let Q : ℕ → Type 0 = λ k. IsPage k (get_or (set counts c n) c 0) (places_of places' c) in
+              let R : ℕ → Type 0 = λ k. IsPage u k (places_of places' c) in
               subst P (sym e) (subst Q (sym used_is) (subst R (sym counts_is) new)))
               (λ (ne : i ≢ c).
               let in'' : i < length used = omega arith in
-              let Q : ℕ → Type 0 = λ k. IsPage k (get_or (set counts c n) i 0) (used_of places' k i) in
-              let R : ℕ → Type 0 = λ k. IsPage (get_or used i 0) k (used_of places' (get_or used i 0) i) in
+              let Q : ℕ → Type 0 = λ k. IsPage k (get_or (set counts c n) i 0) (places_of places' i) in
+              let R : ℕ → Type 0 = λ k. IsPage (get_or used i 0) k (places_of places' i) in
               let S : List (Option ℕ) → Type 0 = λ ps. IsPage (get_or used i 0) (get_or counts i 0) ps in
               subst Q (sym (used_else i ne)) (subst R (sym (counts_else i ne)) (subst S (sym (same i in'' ne)) (good.each i in''))))
               (cases_eq i c);
         }
 
 -- a chunk of no entries
-pub no_page : IsPage 0 0 []
-no_page = record { fits = omega arith; long = refl; written = refl }
+pub no_page : (places : List (Option ℕ)) → IsPage 0 0 places
+no_page places = record { fits = omega arith; long = refl; lies = λ k low. absurd (omega arith) }
 
 -- an entry is added to a chunk that has room for it
 module _ (places : List (Option ℕ)) (used counts : List ℕ) (good : IsPages places used counts) (c : ℕ) (e : List ℕ) (low : c < length used)
-    (room : length (coded (get_or (pages places used counts) c [])) + (length e + 4) ≤ 16384) where
+    (room : taken (get_or (pages places counts) c []) + (length e + 4) ≤ 16384) where
   abbrev u : ℕ
   u = get_or used c 0
 
@@ -110,98 +137,141 @@ module _ (places : List (Option ℕ)) (used counts : List ℕ) (good : IsPages p
   n = get_or counts c 0
 
   abbrev es : List (List ℕ)
-  es = page n (used_of places u c)
+  es = page n (places_of places c)
 
-  abbrev a : ℕ
-  a = c * 16384 + u
+  -- where it begins
+  abbrev pub from : ℕ
+  from = u - n * 4
 
-  abbrev head : List ℕ
-  head = to_be_bytes w32 (length e)
+  abbrev base : ℕ
+  base = c * 16384
 
-  abbrev pub places₁ : List (Option ℕ)
-  places₁ = with_bytes places a head
+  abbrev line : List ℕ
+  line = line_of from (length e)
+
+  abbrev places₁ : List (Option ℕ)
+  places₁ = with_bytes places (base + from) e
 
   abbrev pub places₂ : List (Option ℕ)
-  places₂ = with_bytes places₁ (a + 4) e
+  places₂ = with_entry places c n from e
 
-  was : IsPage u n (used_of places u c)
+  was : IsPage u n (places_of places c)
   was = good.each c low
 
-  pub entry_fits : u + (length e + 4) ≤ 16384
-  entry_fits =
-      let is : length (coded (get_or (pages places used counts) c [])) ≡ length (coded es) = ap (λ xs. length (coded xs)) (page_at places used counts c low) in
-      let long = was.long in
-      omega arith
+  many : length es ≡ n
+  many = length-page n (places_of places c)
 
-  pub fits₁ : a + 4 ≤ length places
+  pub all_before : bytes_of es + n * 4 ≡ u
+  all_before = let long = was.long in omega (arith, taken_is es, many)
+
+  pub entry_fits : from + length e + (n + 1) * 4 ≤ 16384
+  entry_fits =
+      let is : taken (get_or (pages places counts) c []) ≡ taken es = ap (λ xs. taken xs) (page_at places counts c (omega (arith, good.counted))) in
+      let long = was.long in
+      omega (arith, all_before)
+
+  fits₁ : base + from + length e ≤ length places
   fits₁ = omega (arith, entry_fits, good.room)
 
   length₁ : length places₁ ≡ length places
-  length₁ = length-with_bytes places a head fits₁
+  length₁ = length-with_bytes places (base + from) e fits₁
 
-  pub fits₂ : a + 4 + length e ≤ length places₁
-  fits₂ = omega (arith, entry_fits, good.room, length₁)
+  four : length line ≡ 4
+  four = refl
+
+  fits₂ : base + line_place n + length line ≤ length places₁
+  fits₂ = let l = four in omega (arith, entry_fits, good.room, length₁)
 
   length₂ : length places₂ ≡ length places
-  length₂ = length-with_bytes places₁ (a + 4) e fits₂ ∙ length₁
+  length₂ = length-with_bytes places₁ (base + line_place n) line fits₂ ∙ length₁
 
-  others : (i : ℕ) → i < length used → i ≢ c → used_of places₂ (get_or used i 0) i ≡ used_of places (get_or used i 0) i
+  others : (i : ℕ) → i < length used → i ≢ c → places_of places₂ i ≡ places_of places i
   others i in' ne =
-      let v = get_or used i 0 in
-      let low' = (good.each i in').fits in
+      let t = entry_fits in
+      let l = four in
       ⊎_elim
       (λ (below : i < c).
-      before_it places₁ (a + 4) e fits₂ (i * 16384) v (omega arith) ∙ before_it places a head fits₁ (i * 16384) v (omega arith))
+      before_it places₁ (base + line_place n) line fits₂ (i * 16384) 16384 (omega arith) ∙ before_it places (base + from) e fits₁ (i * 16384) 16384 (omega arith))
       (λ (above : c ≤ i).
       let more : c < i = omega arith in
-      let t = entry_fits in
-      ap (take v) (behind_it places₁ (a + 4) e fits₂ (i * 16384) (omega arith) ∙ behind_it places a head fits₁ (i * 16384) (omega arith)))
+      ap (take 16384) (behind_it places₁ (base + line_place n) line fits₂ (i * 16384) (omega arith) ∙ behind_it places (base + from) e fits₁ (i * 16384) (omega arith)))
       (cases_lt i c)
 
-  bytes_are : used_of places₂ (u + (4 + length e)) c ≡ map (λ byte. Some byte) (coded (es ++ e ∷ []))
-  bytes_are =
-      let S : List ℕ → List (Option ℕ) = map (λ (byte : ℕ). Some byte) in
-      up_to_it places₁ (a + 4) e fits₂ (c * 16384) (u + 4) (u + (4 + length e)) (omega arith) (omega arith) ∙
-      (ap (λ xs. xs ++ S e) (up_to_it places a head fits₁ (c * 16384) u (u + 4) refl refl ∙ ap (λ xs. xs ++ S head) was.written) ∙
-      (append_assoc (S (coded es)) (S head) (S e) ∙
-      (ap (λ xs. S (coded es) ++ xs) (sym (map-append (λ (byte : ℕ). Some byte) head e)) ∙
-      (sym (map-append (λ (byte : ℕ). Some byte) (coded es) (coded_entry e)) ∙ ap S (sym (coded_push es e))))))
-
-  page_is : page (n + 1) (used_of places₂ (u + (4 + length e)) c) ≡ es ++ e ∷ []
-  page_is =
-      let all = es ++ e ∷ [] in
-      let many : length all ≡ n + 1 = length-append es (e ∷ []) ∙ ap (λ k. k + 1) (length-entries n (known (used_of places u c))) in
-      let long = length-coded_push es e in
-      let old = was.long in
+  -- those before it stay
+  still : (k at : ℕ) (x : List ℕ) → k < n → at + length x ≤ from → Lies (places_of places c) k at x → Lies (places_of places₂ c) k at x
+  still k at x in' below is =
       let t = entry_fits in
-      ap (λ ps. entries (n + 1) (known ps)) bytes_are ∙ (ap (entries (n + 1)) (known_some (coded all)) ∙
-      (ap (λ k. entries k (coded all)) (sym many) ∙ entries-coded all (omega arith)))
+      let l = four in
+      record {
+        line = in_chunk places₂ base (line_place k) 4 (omega arith) ∙
+            (ap (take 4) (behind_it places₁ (base + line_place n) line fits₂ (base + line_place k) (omega arith) ∙ behind_it places (base + from) e fits₁ (base + line_place k) (omega arith)) ∙
+            (sym (in_chunk places base (line_place k) 4 (omega arith)) ∙ is.line));
+        bytes = in_chunk places₂ base at (length x) (omega arith) ∙
+            (before_it places₁ (base + line_place n) line fits₂ (base + at) (length x) (omega arith) ∙ (before_it places (base + from) e fits₁ (base + at) (length x) (omega arith) ∙
+            (sym (in_chunk places base at (length x) (omega arith)) ∙ is.bytes)));
+      }
 
-  added_page : IsPage (u + (4 + length e)) (n + 1) (used_of places₂ (u + (4 + length e)) c)
-  added_page = record {
-    fits = omega (arith, entry_fits);
-    long = let long = length-coded_push es e in let old = was.long in ap (λ xs. length (coded xs)) page_is ∙ omega arith;
-    written = bytes_are ∙ ap (λ xs. map (λ byte. Some byte) (coded xs)) (sym page_is);
-  }
+  here : Lies (places_of places₂ c) n from e
+  here =
+      let t = entry_fits in
+      record {
+        line = in_chunk places₂ base (line_place n) 4 (omega arith) ∙ in_it places₁ (base + line_place n) line fits₂;
+        bytes = in_chunk places₂ base from (length e) (omega arith) ∙
+            (before_it places₁ (base + line_place n) line fits₂ (base + from) (length e) (omega arith) ∙ in_it places (base + from) e fits₁);
+      }
+
+  abbrev all : List (List ℕ)
+  all = es ++ e ∷ []
+
+  all_lie : (k : ℕ) → k < n + 1 → Lies (places_of places₂ c) k (begins all k) (get_or all k [])
+  all_lie k in' = ⊎_elim
+      (λ (old : k < n).
+      let P : ℕ → Type 0 = λ at. Lies (places_of places₂ c) k at (get_or all k []) in
+      let Q : List ℕ → Type 0 = λ x. Lies (places_of places₂ c) k (begins es k) x in
+      let within = entry_within es k (omega (arith, many)) in
+      subst P (sym (begins_push es e k (omega (arith, many)))) (subst Q (sym (get_or_append_left es (e ∷ []) [] k (omega (arith, many))))
+      (still k (begins es k) (get_or es k []) old (omega (arith, all_before)) (was.lies k old))))
+      (λ (high : n ≤ k).
+      let is : n ≡ k = omega arith in
+      let O : ℕ → Type 0 = λ j. Lies (places_of places₂ c) j (begins all j) (get_or all j []) in
+      let P : ℕ → Type 0 = λ at. Lies (places_of places₂ c) n at (get_or all n []) in
+      let Q : List ℕ → Type 0 = λ x. Lies (places_of places₂ c) n from x in
+      let begin : from ≡ begins all n = let b = begins_last es e n many in omega (arith, all_before) in
+      subst O is (subst P begin (subst Q (sym (get_or_push es e [] n (omega (arith, many)))) here)))
+      (cases_lt k n)
+
+  page_is_all : page (n + 1) (places_of places₂ c) ≡ all
+  page_is_all =
+      let size = taken_push es e in
+      let old = was.long in
+      page_is (places_of places₂ c) all (n + 1) (length-append es (e ∷ []) ∙ ap (λ k. k + 1) many) (omega (arith, entry_fits, all_before)) all_lie
+
+  added_page : IsPage (u + (4 + length e)) (n + 1) (places_of places₂ c)
+  added_page =
+      let P : List (List ℕ) → Type 0 = λ xs. (k : ℕ) → k < n + 1 → Lies (places_of places₂ c) k (begins xs k) (get_or xs k []) in
+      record {
+        fits = omega (arith, entry_fits, all_before);
+        long = let size = taken_push es e in let old = was.long in ap (λ xs. taken xs) page_is_all ∙ omega arith;
+        lies = subst P (sym page_is_all) all_lie;
+      }
 
   pub appended_good : IsPages places₂ (set used c (u + (4 + length e))) (set counts c (n + 1))
   appended_good = changed_good places places₂ used counts good c (u + (4 + length e)) (n + 1) low others length₂ added_page
 
-  pub appended : pages places₂ (set used c (u + (4 + length e))) (set counts c (n + 1)) ≡
-      set (pages places used counts) c (get_or (pages places used counts) c [] ++ e ∷ [])
+  pub appended : pages places₂ (set counts c (n + 1)) ≡ set (pages places counts) c (get_or (pages places counts) c [] ++ e ∷ [])
   appended =
       changed places places₂ used counts good c (u + (4 + length e)) (n + 1) low others ∙
-      ap (set (pages places used counts) c) (page_is ∙ ap (λ xs. xs ++ e ∷ []) (sym (page_at places used counts c low)))
+      ap (set (pages places counts) c) (page_is_all ∙ ap (λ xs. xs ++ e ∷ []) (sym (page_at places counts c (omega (arith, good.counted)))))
 
 -- chunks of no entries
-pub fresh_pages : (places : List (Option ℕ)) (m : ℕ) → pages places (replicate m 0) (replicate m 0) ≡ replicate m []
+pub fresh_pages : (places : List (Option ℕ)) (m : ℕ) → pages places (replicate m 0) ≡ replicate m []
 fresh_pages places m =
-    let many = length-pages places (replicate m 0) (replicate m 0) in
+    let many = length-pages places (replicate m 0) in
     let nothing : List (List ℕ) = [] in
-    ext_get_or [] (pages places (replicate m 0) (replicate m 0)) (replicate m nothing) (omega (arith, length-replicate {A = ℕ} m 0, length-replicate m nothing)) (λ i in'.
+    ext_get_or [] (pages places (replicate m 0)) (replicate m nothing) (omega (arith, length-replicate {A = ℕ} m 0, length-replicate m nothing)) (λ i in'.
     let low : i < m = omega (arith, length-replicate {A = ℕ} m 0) in
-    page_at places (replicate m 0) (replicate m 0) i (omega (arith, length-replicate {A = ℕ} m 0)) ∙
-    (ap (λ k. page k (used_of places (get_or (replicate m 0) i 0) i)) (get_or-replicate m i 0 0 low) ∙ sym (get_or-replicate m i nothing [] low)))
+    page_at places (replicate m 0) i (omega (arith, length-replicate {A = ℕ} m 0)) ∙
+    (ap (λ k. page k (places_of places i)) (get_or-replicate m i 0 0 low) ∙ sym (get_or-replicate m i nothing [] low)))
 
 pub fresh_pages_good : (places : List (Option ℕ)) (m : ℕ) → length places ≡ m * 16384 → m < 2 ^ 32 → IsPages places (replicate m 0) (replicate m 0)
 fresh_pages_good places m long low = record {
@@ -209,7 +279,7 @@ fresh_pages_good places m long low = record {
   room = omega (arith, length-replicate {A = ℕ} m 0);
   few = omega (arith, length-replicate {A = ℕ} m 0);
   each = λ i in'.
-      let P : ℕ → Type 0 = λ k. IsPage k k (used_of places k i) in
+      let P : ℕ → Type 0 = λ k. IsPage k k (places_of places i) in
       let e : get_or (replicate m 0) i 0 ≡ 0 = get_or-replicate m i 0 0 (omega (arith, length-replicate {A = ℕ} m 0)) in
-      subst P (sym e) no_page;
+      subst P (sym e) (no_page (places_of places i));
 }

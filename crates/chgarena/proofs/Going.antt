@@ -6,7 +6,6 @@ use Rattle.chgarena.specs.Entries.{AreBelow, IsReading, from_on}
 use Rattle.chgarena.specs.Joined.{joined}
 use Rattle.chgarena.specs.Links.{books}
 use Rattle.chgarena.specs.declared.links.Links.{Links}
-use Rattle.chgarena.proofs.Coding.{after_entry}
 
 pub below_run : (b : Books) (h l r m c : ℕ) → IsRun b h l r m c → AreBelow b.chunks b.next (suc m) c
 below_run b h l r zero c is = (is.0.0, tt)
@@ -24,7 +23,7 @@ below_more : (n : ℕ) (next : List ℕ) (left c : ℕ) → 0 < left → AreBelo
 below_more n next zero c more is = absurd (omega arith)
 below_more n next (suc left) c more is = let P : ℕ → Type 0 = λ k. AreBelow n next k (at next c) in let e : left ≡ suc left - 1 = omega arith in (is.0, subst P e is.1)
 
-module _ (l : Links) (ps : List (List (List ℕ))) (chunk left given before : ℕ) (is : IsReading l ps chunk left given before) where
+module _ (l : Links) (ps : List (List (List ℕ))) (chunk left given : ℕ) (is : IsReading l ps chunk left given) where
   abbrev next : List ℕ
   next = (books l).next
 
@@ -51,13 +50,12 @@ module _ (l : Links) (ps : List (List (List ℕ))) (chunk left given before : �
           (ap (λ e. e ∷ drop (given + 1) (get_or ps chunk [] ++ rest)) (get_or_append_left (get_or ps chunk []) rest [] given low) ∙
           ap (λ es. entry ∷ drop (given + 1) es) (sym all)))
 
-      pub given_reading : (size : ℕ) → size ≡ length entry → IsReading l ps chunk left (given + 1) (before + (4 + size))
-      given_reading size e = record {
+      pub given_reading : IsReading l ps chunk left (given + 1)
+      given_reading = record {
         links = is.links;
         pages = is.pages;
         chunks = is.chunks;
         within = omega arith;
-        bytes = let a = after_entry (get_or ps chunk []) given low in let b = is.bytes in omega arith;
       }
 
     -- it has none
@@ -67,11 +65,10 @@ module _ (l : Links) (ps : List (List (List ℕ))) (chunk left given before : �
           let e : length (get_or ps chunk []) ≡ given = omega (arith, is.within) in
           sym (ap (drop given) (from_on_more next ps left chunk more) ∙ drop_at (get_or ps chunk []) (from_on next ps (left - 1) (at next chunk)) given e)
 
-      pub next_reading : IsReading l ps (at next chunk) (left - 1) 0 0
+      pub next_reading : IsReading l ps (at next chunk) (left - 1) 0
       next_reading = record {
         links = is.links;
         pages = is.pages;
         chunks = (below_more l.chunks next left chunk more is.chunks).1;
         within = omega arith;
-        bytes = refl;
       }

@@ -8,7 +8,7 @@ use Rattle.std.proofs.lemmas.List.Sums.{sum_by-cons}
 use Rattle.chgarena.specs.Books.{Books, IsBooks, IsRun, at, chunks_of, count_to, run}
 use Rattle.chgarena.specs.Fill.{fill, filled, sizes}
 use Rattle.chgarena.specs.Joined.{IsFilled, joined, strand_at, strands}
-use Rattle.chgarena.specs.Pages.{coded}
+use Rattle.chgarena.specs.Pages.{taken}
 use Rattle.chgarena.specs.Strands.{IsOf, entries_at, entries_of, fills}
 use Rattle.chgarena.proofs.Runs.{count_of_strand, count_of_none}
 
@@ -100,8 +100,8 @@ module _ (b b' : Books) (ps ps' : List (List (List ℕ))) (n : b'.chunks ≡ b.c
   filled_kept : (x : ℕ) → Kept b b' ps ps' x → at b.last x < b.chunks → IsFilled b ps x → IsFilled b' ps' x
   filled_kept x kept has full =
       ap (λ cs. filled (sizes (joined ps' cs))) (kept.chunks has) ∙ (ap (λ es. filled (sizes es)) (kept.entries has) ∙ (full ∙
-      sym (ap (λ l. (at b'.rank l + 1, length (coded (get_or ps' l [])))) kept.last ∙
-      (ap (λ k. (k + 1, length (coded (get_or ps' (at b.last x) [])))) (kept.rank has) ∙ ap (λ es. (at b.rank (at b.last x) + 1, length (coded es))) (kept.end has)))))
+      sym (ap (λ l. (at b'.rank l + 1, taken (get_or ps' l []))) kept.last ∙
+      (ap (λ k. (k + 1, taken (get_or ps' (at b.last x) []))) (kept.rank has) ∙ ap (λ es. (at b.rank (at b.last x) + 1, taken es)) (kept.end has)))))
 
   -- one strand changes, and every other stays
   pub one_changed : (h : ℕ) (new : Option (List (List ℕ))) → h < b.chunks → ((x : ℕ) → x < b.chunks → x ≢ h → Kept b b' ps ps' x) → strand_at b' ps' h ≡ new →

@@ -12,6 +12,8 @@ pub mod Appending
 pub mod Reading
 pub mod Joining
 pub mod Pushing
+pub mod Counting
 pub mod Seeing
 pub mod Finding
 pub mod Going
+mod Crosses

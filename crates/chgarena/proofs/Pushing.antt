@@ -8,10 +8,10 @@ use Rattle.chgarena.specs.Books.{Books, IsBooks, IsRun, at, chunks_of, run}
 use Rattle.chgarena.specs.Fill.{filled, sizes, with_size}
 use Rattle.chgarena.specs.Joined.{IsFilled, joined, strands}
 use Rattle.chgarena.specs.Links.{IsPopped, IsReleased, begun, grown}
-use Rattle.chgarena.specs.Pages.{coded}
+use Rattle.chgarena.specs.Pages.{taken}
 use Rattle.chgarena.proofs.Runs.{run_last}
 use Rattle.chgarena.proofs.Adding.{other, other_run, was_free, rank_is, rank_else, last_is, last_else, last_other, grown_good, grown_run}
-use Rattle.chgarena.proofs.Coding.{length-coded_push}
+use Rattle.chgarena.proofs.Coding.{taken_push}
 use Rattle.chgarena.proofs.Joining.{Kept, all_filled, joined_more, joined_same, no_strand, one_changed, some_strand}
 
 -- one entry more
@@ -32,7 +32,7 @@ module _ (b : Books) (good : IsBooks b) (ps : List (List (List ℕ))) (long : le
   owner_of_last x low has = (run_last b x (at b.last x) 0 (at b.rank (at b.last x)) x (run_of x low has)).1
 
   -- the last chunk of the strand h has one entry more
-  module _ (h : ℕ) (low : h < b.chunks) (has : at b.last h < b.chunks) (e : List ℕ) (fits : length (coded (get_or ps (at b.last h) [])) + (length e + 4) ≤ 16384) where
+  module _ (h : ℕ) (low : h < b.chunks) (has : at b.last h < b.chunks) (e : List ℕ) (fits : taken (get_or ps (at b.last h) []) + (length e + 4) ≤ 16384) where
     abbrev l : ℕ
     l = at b.last h
 
@@ -63,8 +63,8 @@ module _ (b : Books) (good : IsBooks b) (ps : List (List (List ℕ))) (long : le
     filled_entry : IsFilled b with_entry h
     filled_entry =
         ap (λ es. filled (sizes es)) joined_entry ∙ (filled_more (joined ps (chunks_of b h)) e ∙ (ap (λ p. with_size p (length e)) (full h low has) ∙
-        (fits_in (at b.rank l + 1) (length (coded (get_or ps l []))) (length e) fits ∙
-        ap (λ n. (at b.rank l + 1, n)) (sym (length-coded_push (get_or ps l []) e) ∙ ap (λ es. length (coded es)) (sym page_is)))))
+        (fits_in (at b.rank l + 1) (taken (get_or ps l [])) (length e) fits ∙
+        ap (λ n. (at b.rank l + 1, n)) (sym (taken_push (get_or ps l []) e) ∙ ap (λ es. taken es) (sym page_is)))))
 
     pub entry_strands : strands b with_entry ≡ set (strands b ps) h (Some (joined ps (chunks_of b h) ++ e ∷ []))
     entry_strands = one_changed b b ps with_entry refl h (Some (joined ps (chunks_of b h) ++ e ∷ [])) low entry_kept (some_strand b with_entry h has ∙ ap (λ es. Some es) joined_entry)
@@ -83,11 +83,11 @@ module _ (b : Books) (good : IsBooks b) (ps : List (List (List ℕ))) (long : le
     old_page : (y : ℕ) → y ≢ c → get_or with_page y [] ≡ get_or ps y []
     old_page y ne = get_or-set_other ps c y (e ∷ []) [] ne
 
-    new_length : length (coded (get_or with_page c [])) ≡ length e + 4
-    new_length = let n : length (coded (e ∷ [])) ≡ 0 + (length e + 4) = length-coded_push [] e in ap (λ es. length (coded es)) new_page ∙ omega arith
+    new_length : taken (get_or with_page c []) ≡ length e + 4
+    new_length = let n : taken (e ∷ []) ≡ 0 + (length e + 4) = taken_push [] e in ap (λ es. taken es) new_page ∙ omega arith
 
     -- the last of the strand h
-    module _ (h : ℕ) (low : h < b.chunks) (has : at b.last h < b.chunks) (over : 16384 < length (coded (get_or ps (at b.last h) [])) + (length e + 4)) where
+    module _ (h : ℕ) (low : h < b.chunks) (has : at b.last h < b.chunks) (over : 16384 < taken (get_or ps (at b.last h) []) + (length e + 4)) where
       abbrev k : ℕ
       k = at b.rank (at b.last h)
 
@@ -100,7 +100,7 @@ module _ (b : Books) (good : IsBooks b) (ps : List (List (List ℕ))) (long : le
       nexts : length b'.next ≡ b.chunks
       nexts = (grown_good b good h c popped low has).nexts
 
-      grown_kept : (x : ℕ) → x < b.chunks → x ≢ h → Kept b b' ps with_page x
+      pub grown_kept : (x : ℕ) → x < b.chunks → x ≢ h → Kept b b' ps with_page x
       grown_kept x low' ne =
           let last : at b'.last x ≡ at b.last x = last_else b good h c (k + 1) b'.next popped x ne in
           let rank : at b.last x < b.chunks → at b'.rank (at b.last x) ≡ at b.rank (at b.last x) = λ has'. rank_else b good h c (k + 1) b'.next popped (at b.last x) (last_other b good h c (k + 1) b'.next popped x low' has') in
@@ -119,7 +119,7 @@ module _ (b : Books) (good : IsBooks b) (ps : List (List (List ℕ))) (long : le
       rank_grown : at b'.rank c ≡ k + 1
       rank_grown = rank_is b good h c (k + 1) b'.next popped
 
-      chunks_grown : chunks_of b' h ≡ chunks_of b h ++ c ∷ []
+      pub chunks_grown : chunks_of b' h ≡ chunks_of b h ++ c ∷ []
       chunks_grown =
           let more : k + 1 ≡ suc k = omega arith in
           ap (λ l. run b'.next (at b'.rank l) h) last_grown ∙ (ap (λ j. run b'.next j h) (rank_grown ∙ more) ∙ (grown_run b good h c popped low has).1)
@@ -133,8 +133,8 @@ module _ (b : Books) (good : IsBooks b) (ps : List (List (List ℕ))) (long : le
       filled_grown : IsFilled b' with_page h
       filled_grown =
           ap (λ es. filled (sizes es)) joined_grown ∙ (filled_more (joined ps (chunks_of b h)) e ∙ (ap (λ p. with_size p (length e)) (full h low has) ∙
-          (opens_next (k + 1) (length (coded (get_or ps (at b.last h) []))) (length e) over ∙
-          sym (ap (λ l. (at b'.rank l + 1, length (coded (get_or with_page l [])))) last_grown ∙ (ap (λ j. (j + 1, length (coded (get_or with_page c [])))) rank_grown ∙ ap (λ n. (k + 1 + 1, n)) new_length)))))
+          (opens_next (k + 1) (taken (get_or ps (at b.last h) [])) (length e) over ∙
+          sym (ap (λ l. (at b'.rank l + 1, taken (get_or with_page l []))) last_grown ∙ (ap (λ j. (j + 1, taken (get_or with_page c []))) rank_grown ∙ ap (λ n. (k + 1 + 1, n)) new_length)))))
 
       pub grown_strands : strands b' with_page ≡ set (strands b ps) h (Some (joined ps (chunks_of b h) ++ e ∷ []))
       grown_strands = one_changed b b' ps with_page refl h (Some (joined ps (chunks_of b h) ++ e ∷ [])) low grown_kept
@@ -147,7 +147,7 @@ module _ (b : Books) (good : IsBooks b) (ps : List (List (List ℕ))) (long : le
     abbrev b₀ : Books
     b₀ = begun b c
 
-    begun_kept : (x : ℕ) → x < b.chunks → x ≢ c → Kept b b₀ ps with_page x
+    pub begun_kept : (x : ℕ) → x < b.chunks → x ≢ c → Kept b b₀ ps with_page x
     begun_kept x low' ne =
         let last : at b₀.last x ≡ at b.last x = last_else b good c c 0 b.next popped x ne in
         let rank : at b.last x < b.chunks → at b₀.rank (at b.last x) ≡ at b.rank (at b.last x) = λ has'. rank_else b good c c 0 b.next popped (at b.last x) (last_other b good c c 0 b.next popped x low' has') in
@@ -168,14 +168,16 @@ module _ (b : Books) (good : IsBooks b) (ps : List (List (List ℕ))) (long : le
     rank_begun : at b₀.rank c ≡ 0
     rank_begun = rank_is b good c c 0 b.next popped
 
+    pub chunks_begun : chunks_of b₀ c ≡ c ∷ []
+    chunks_begun = ap (λ l. run b.next (at b₀.rank l) c) last_begun ∙ ap (λ j. run b.next j c) rank_begun
+
     joined_begun : joined with_page (chunks_of b₀ c) ≡ e ∷ []
-    joined_begun =
-        ap (λ l. joined with_page (run b.next (at b₀.rank l) c)) last_begun ∙ (ap (λ j. joined with_page (run b.next j c)) rank_begun ∙ (append-nil (get_or with_page c []) ∙ new_page))
+    joined_begun = ap (joined with_page) chunks_begun ∙ (append-nil (get_or with_page c []) ∙ new_page)
 
     filled_begun : IsFilled b₀ with_page c
     filled_begun =
         ap (λ es. filled (sizes es)) joined_begun ∙ (opens_next 0 16384 (length e) (omega arith) ∙
-        sym (ap (λ l. (at b₀.rank l + 1, length (coded (get_or with_page l [])))) last_begun ∙ (ap (λ j. (j + 1, length (coded (get_or with_page c [])))) rank_begun ∙ ap (λ n. (1, n)) new_length)))
+        sym (ap (λ l. (at b₀.rank l + 1, taken (get_or with_page l []))) last_begun ∙ (ap (λ j. (j + 1, taken (get_or with_page c []))) rank_begun ∙ ap (λ n. (1, n)) new_length)))
 
     pub begun_strands : strands b₀ with_page ≡ set (strands b ps) c (Some (e ∷ []))
     begun_strands = one_changed b b₀ ps with_page refl c (Some (e ∷ [])) in_range begun_kept (some_strand b₀ with_page c (omega (arith, last_begun, in_range)) ∙ ap (λ es. Some es) joined_begun)
@@ -185,10 +187,10 @@ module _ (b : Books) (good : IsBooks b) (ps : List (List (List ℕ))) (long : le
 
   -- a strand is gone
   module _ (h : ℕ) (low : h < b.chunks) (b' : Books) (gone : IsReleased b h b') where
-    last_gone : at b'.last h ≡ b.chunks
+    pub last_gone : at b'.last h ≡ b.chunks
     last_gone = ap (λ ls. at ls h) gone.3 ∙ get_or-set_same b.last h b.chunks 0 (omega (arith, good.lasts))
 
-    gone_kept : (x : ℕ) → x < b.chunks → x ≢ h → Kept b b' ps ps x
+    pub gone_kept : (x : ℕ) → x < b.chunks → x ≢ h → Kept b b' ps ps x
     gone_kept x low' ne =
         let last : at b'.last x ≡ at b.last x = ap (λ ls. at ls x) gone.3 ∙ get_or-set_other b.last h x b.chunks 0 ne in
         record {

@@ -1,12 +1,12 @@
 -- The books while the chunks of a strand become free, from the first on, and the books of an arena that is new.
 use Rattle.std.proofs.Common.{◌≡◌, ◌≢◌, ℕ, suc, ◌+◌, ◌-◌, ◌<◌, ◌≤◌, [], ◌∷◌, ◌++◌, length, set, replicate, refl, sym, ap, ◌∙◌, subst, arith, ⊎_elim}
-use Rattle.std.specs.List.{sum_by, range_with_len}
+use Rattle.std.specs.List.{Contains, sum_by, range_with_len}
 use Rattle.std.proofs.lemmas.Bool.{cases_eq, cases_lt}
 use Rattle.std.proofs.lemmas.List.{map-id, length-set, length-append, length-replicate, get_or-replicate, get_or_append_left, get_or_push, get_or-set_same, get_or-set_other}
 use Rattle.std.proofs.lemmas.List.FromFn.{length-range_with_len, get_or-range_with_len, map-range_with_len_more}
 use Rattle.std.proofs.lemmas.List.Sums.{sum_by-set}
-use Rattle.chgarena.specs.Books.{Books, IsBooks, IsRun, at, count_to}
-use Rattle.chgarena.proofs.Runs.{Same, run_first, same_run, sum_by_same, sum_by_none, count_of_strand, count_of_none}
+use Rattle.chgarena.specs.Books.{Books, IsBooks, IsHeld, IsRun, at, count_to, run}
+use Rattle.chgarena.proofs.Runs.{Same, behind_first, run_first, same_run, sum_by_same, sum_by_none, count_of_strand, count_of_none}
 
 -- the strand h, whose last chunk was l, is gone, and `left` of its chunks are still to become free, the first of them c
 pub record IsReleasing (b : Books) (h l left c : ℕ) : Type 0 where
@@ -18,6 +18,8 @@ pub record IsReleasing (b : Books) (h l left c : ℕ) : Type 0 where
   pub apart : (i j : ℕ) → i < length b.free → j < length b.free → at b.free i ≡ at b.free j → i ≡ j
   pub others : (x : ℕ) → x < b.chunks → x ≢ h → at b.last x < b.chunks → IsRun b x (at b.last x) 0 (at b.rank (at b.last x)) x
   pub own : (m : ℕ) → left ≡ m + 1 → (r : ℕ) × IsRun b h l r m c
+  pub held : (x : ℕ) → x < b.chunks → at b.owner x < b.chunks → at b.owner x ≢ h → IsHeld b (at b.owner x) x
+  pub mine : (x : ℕ) → x < b.chunks → at b.owner x ≡ h → (m : ℕ) × (left ≡ m + 1) × Contains (run b.next m c) x
   pub gone : at b.last h ≡ b.chunks
   pub all : length b.free + left + sum_by (count_to b) b.last ≡ b.chunks
 
@@ -46,6 +48,13 @@ module _ (b : Books) (good : IsBooks b) (h : ℕ) (low : h < b.chunks) (has : at
         let k : at b.rank (at b.last h) ≡ m = omega arith in
         let P : ℕ → Type 0 = λ j. IsRun ended h (at b.last h) 0 j h in
         (0, subst P k (same_run b ended h (at b.last h) refl 0 (at b.rank (at b.last h)) h (λ y _ _ _. stays y) (good.strands h low has)).0);
+    held = λ x in' has' ne.
+        let e : at ended.last (at b.owner x) ≡ at b.last (at b.owner x) = get_or-set_other b.last h (at b.owner x) b.chunks 0 ne in
+        let P : ℕ → Type 0 = λ l. (l < b.chunks) × Contains (run b.next (at b.rank l) (at b.owner x)) x in
+        subst P (sym e) (good.held x in' has');
+    mine = λ x in' owned.
+        let P : ℕ → Type 0 = λ s. IsHeld b s x in
+        (at b.rank (at b.last h), refl, (subst P owned (good.held x in' (omega arith))).1);
     gone = get_or-set_same b.last h b.chunks 0 (omega (arith, good.lasts));
     all =
         let moved = sum_by-set (count_to b) b.last h b.chunks 0 (omega (arith, good.lasts)) in
@@ -109,6 +118,12 @@ module _ (b : Books) (h l left c : ℕ) (going : IsReleasing b h l left c) (low 
       (cases_lt j (length b.free)))
       (cases_lt i (length b.free))
 
+  still : (x : ℕ) → at freed.owner x < b.chunks → x ≢ c
+  still x has e =
+      let free : at freed.owner c ≡ b.chunks = get_or-set_same b.owner c b.chunks 0 (omega (arith, own_first.0, going.owners)) in
+      let same : at freed.owner x ≡ at freed.owner c = ap (at freed.owner) e in
+      absurd (omega arith)
+
   pub freed_releasing : IsReleasing freed h l (left - 1) (at b.next c)
   freed_releasing = record {
     owners = length-set b.owner c b.chunks ∙ going.owners;
@@ -125,6 +140,15 @@ module _ (b : Books) (h l left c : ℕ) (going : IsReleasing b h l left c) (low 
           (same_run b freed h l refl (is.0 + 1) m (at b.next c)
               (λ y _ owned high. record { owner = owner_else y (λ e'. let r : at b.rank y ≡ at b.rank c = ap (at b.rank) e' in absurd (omega (arith, is.1.0.2))); rank = refl; next = refl }) is.1.1).0,
         );
+    held = λ x in' has ne.
+        let same = owner_else x (still x has) in
+        let P : ℕ → Type 0 = λ s. IsHeld b s x in
+        subst P (sym same) (going.held x in' (omega arith) (λ e. ne (same ∙ e)));
+    mine = λ x in' owned.
+        let ne = still x (omega arith) in
+        let was = going.mine x in' (sym (owner_else x ne) ∙ owned) in
+        let rest = behind_first b.next was.0 c x ne was.2 in
+        (rest.0, let n = was.1 in let n' = rest.1 in omega arith, rest.2);
     gone = going.gone;
     all =
         let n = lengths in
@@ -146,6 +170,10 @@ released_good b h l c going = record {
       (λ (e : x ≡ h). let gone : at b.last x ≡ b.chunks = ap (at b.last) e ∙ going.gone in absurd (omega arith))
       (λ (ne : x ≢ h). going.others x in' ne has)
       (cases_eq x h);
+  held = λ x in' has. ⊎_elim
+      (λ (e : at b.owner x ≡ h). let none = going.mine x in' e in let n = none.1 in absurd (omega arith))
+      (λ (ne : at b.owner x ≢ h). going.held x in' has ne)
+      (cases_eq (at b.owner x) h);
   all = let a = going.all in omega arith;
 }
 
@@ -169,6 +197,7 @@ fresh_good n = record {
       let low' : j < n = omega (arith, length-range_with_len 0 n) in
       omega (arith, get_or-range_with_len 0 n i 0 low, get_or-range_with_len 0 n j 0 low');
   strands = λ x in' has. let e = get_or-replicate n x n 0 in' in absurd (omega arith);
+  held = λ x in' has. let e = get_or-replicate n x n 0 in' in absurd (omega arith);
   all =
       let none = sum_by_none (count_to (fresh n)) (replicate n n) (λ i in'.
       let low : i < n = omega (arith, length-replicate n n) in

@@ -1,6 +1,6 @@
 -- What stays of a strand's chunks while the books of others change.
-use Rattle.std.proofs.Common.{◌≡◌, ℕ, zero, suc, ◌+◌, ◌<◌, ◌≤◌, Bool, true, false, cond, List, [], ◌∷◌, ◌++◌, length, nat_lt, refl, sym, ap, ◌∙◌, subst, arith}
-use Rattle.std.specs.List.{sum_by}
+use Rattle.std.proofs.Common.{◌≡◌, ◌≢◌, ℕ, zero, suc, ◌+◌, ◌<◌, ◌≤◌, Bool, true, false, cond, List, [], ◌∷◌, ◌++◌, length, get_or, nat_lt, refl, sym, ap, ◌∙◌, subst, arith}
+use Rattle.std.specs.List.{Contains, sum_by}
 use Rattle.std.proofs.lemmas.Bool.{ltb-true, ltb-false, lt-ltb, le-ltb}
 use Rattle.std.proofs.lemmas.List.Sums.{sum_by-cons}
 use Rattle.chgarena.specs.Books.{Books, IsOwned, IsRun, at, count_to, run}
@@ -24,6 +24,21 @@ run_last b h l r (suc m) c is =
 pub run_first : (b : Books) (h l r m c : ℕ) → IsRun b h l r m c → IsOwned b h r c
 run_first b h l r zero c is = is.0
 run_first b h l r (suc m) c is = is.0
+
+-- its last chunk is one of it
+pub last_in : (b : Books) (h l r m c : ℕ) → IsRun b h l r m c → Contains (run b.next m c) l
+last_in b h l r zero c is = (0, omega arith, is.1)
+last_in b h l r (suc m) c is = let rest = last_in b h l (r + 1) m (at b.next c) is.1 in (suc rest.0, let low = rest.1 in omega arith, rest.2)
+
+-- a chunk of a run that is not the first one is in the rest
+pub behind_first : (next : List ℕ) (m c x : ℕ) → x ≢ c → Contains (run next m c) x → (less : ℕ) × (m ≡ less + 1) × Contains (run next less (at next c)) x
+behind_first next m c x ne is = by_place next m c x ne is.0 is.1 is.2
+  where
+    by_place : (next : List ℕ) (m c x : ℕ) → x ≢ c → (i : ℕ) → i < length (run next m c) → get_or (run next m c) i x ≡ x → (less : ℕ) × (m ≡ less + 1) × Contains (run next less (at next c)) x
+    by_place next zero c x ne zero low is = absurd (ne (sym is))
+    by_place next zero c x ne (suc i) low is = absurd (omega arith)
+    by_place next (suc m) c x ne zero low is = absurd (ne (sym is))
+    by_place next (suc m) c x ne (suc i) low is = (m, omega arith, (i, omega arith, is))
 
 -- a run stays where its chunks from this rank on stay
 pub same_run : (b b' : Books) (h l : ℕ) → b'.chunks ≡ b.chunks → (r m c : ℕ) → ((x : ℕ) → x < b.chunks → at b.owner x ≡ h → r ≤ at b.rank x → Same b b' x) →

@@ -61,13 +61,16 @@ module _ (ps : List (Option ℕ)) (at : ℕ) (bs : List ℕ) (fits : at + length
       drop_at (take at ps ++ written bs) (drop end ps) end (omega (arith, front, length-append (take at ps) (written bs), length-map bs (λ (b : ℕ). Some b))) in
       ap (λ k. drop k now) e ∙ (sym (drop-drop j end now) ∙ (ap (drop j) cut ∙ (drop-drop j end ps ∙ ap (λ k. drop k ps) (sym e))))
 
-  -- it, with what stands before it from a place on
-  pub up_to_it : (from n k : ℕ) → from + n ≡ at → k ≡ n + length bs → take k (drop from now) ≡ take n (drop from ps) ++ written bs
-  up_to_it from n k e e' =
-      let end = at + length bs in
-      let rest = written bs ++ drop end ps in
-      let start : drop from (take at ps) ≡ take n (drop from ps) = ap (λ i. drop from (take i ps)) (sym e) ∙ drop-take from n ps in
-      let long = length-drop from ps in
-      let size : length (take n (drop from ps)) ≡ n = length-take-le n (drop from ps) (omega arith) in
-      ap (take k) (drop-append-le from (take at ps) rest (omega (arith, front)) ∙ (ap (λ xs. xs ++ rest) start ∙ sym (append_assoc (take n (drop from ps)) (written bs) (drop end ps)))) ∙
-      take_at (take n (drop from ps) ++ written bs) (drop end ps) k (omega (arith, size, length-append (take n (drop from ps)) (written bs), length-map bs (λ (b : ℕ). Some b)))
+  -- what was written
+  pub in_it : take (length bs) (drop at now) ≡ written bs
+  in_it =
+      let rest = drop (at + length bs) ps in
+      ap (take (length bs)) (drop_at (take at ps) (written bs ++ rest) at front) ∙ take_at (written bs) rest (length bs) (length-map bs (λ (b : ℕ). Some b))
+
+-- what stands in one chunk
+pub in_chunk : (ps : List (Option ℕ)) (base from size : ℕ) → from + size ≤ 16384 → take size (drop from (take 16384 (drop base ps))) ≡ take size (drop (base + from) ps)
+in_chunk ps base from size low =
+    let rest = 16384 - from in
+    let e : 16384 ≡ from + rest = omega arith in
+    ap (λ n. take size (drop from (take n (drop base ps)))) e ∙ (ap (take size) (drop-take from rest (drop base ps)) ∙
+    (take-take size rest (drop from (drop base ps)) (omega arith) ∙ ap (take size) (drop-drop from base ps)))

@@ -1,5 +1,5 @@
 -- Which chunks belong to which strand. A strand goes by its first chunk, and a number that is not below `chunks` stands for none.
-use Rattle.std.specs.Prelude.{◌≡◌, ℕ, zero, suc, ◌+◌, ◌<◌, List, [], ◌∷◌, length, get_or, nat_lt, if◌then◌else◌, sum_by}
+use Rattle.std.specs.Prelude.{◌≡◌, ℕ, zero, suc, ◌+◌, ◌<◌, List, [], ◌∷◌, length, get_or, nat_lt, if◌then◌else◌, sum_by, Contains}
 
 pub record Books : Type 0 where
   pub chunks : ℕ
@@ -38,6 +38,10 @@ count_to b last = if nat_lt last b.chunks then at b.rank last + 1 else 0
 abbrev pub chunks_of : Books → ℕ → List ℕ
 chunks_of b strand = run b.next (at b.rank (at b.last strand)) strand
 
+-- the strand is there, and the chunk is one of its chunks
+abbrev pub IsHeld : Books → ℕ → ℕ → Type 0
+IsHeld b strand chunk = (at b.last strand < b.chunks) × Contains (chunks_of b strand) chunk
+
 pub record IsBooks (b : Books) : Type 0 where
   pub owners : length b.owner ≡ b.chunks
   pub nexts : length b.next ≡ b.chunks
@@ -47,5 +51,7 @@ pub record IsBooks (b : Books) : Type 0 where
   pub free : (i : ℕ) → i < length b.free → (at b.free i < b.chunks) × (at b.owner (at b.free i) ≡ b.chunks)
   pub apart : (i j : ℕ) → i < length b.free → j < length b.free → at b.free i ≡ at b.free j → i ≡ j
   pub strands : (h : ℕ) → h < b.chunks → at b.last h < b.chunks → IsRun b h (at b.last h) 0 (at b.rank (at b.last h)) h
+  -- a chunk that belongs to a strand is one of its chunks
+  pub held : (x : ℕ) → x < b.chunks → at b.owner x < b.chunks → IsHeld b (at b.owner x) x
   -- each chunk is free or a strand's
   pub all : length b.free + sum_by (count_to b) b.last ≡ b.chunks

@@ -1,8 +1,7 @@
 -- The entries of a strand that are still to come while it is read.
-use Rattle.std.specs.Prelude.{◌≡◌, ℕ, zero, suc, ◌<◌, ◌≤◌, List, [], ◌++◌, get_or, length, take}
+use Rattle.std.specs.Prelude.{◌≡◌, ℕ, zero, suc, ◌<◌, ◌≤◌, List, [], ◌++◌, get_or, length}
 use Rattle.chgarena.specs.Books.{at}
 use Rattle.chgarena.specs.Links.{IsLinks, books}
-use Rattle.chgarena.specs.Pages.{coded}
 use Rattle.chgarena.specs.declared.links.Links.{Links}
 
 -- the entries of so many chunks from this one on
@@ -15,10 +14,9 @@ abbrev pub AreBelow : ℕ → List ℕ → ℕ → ℕ → Type 0
 AreBelow chunks next zero chunk = Unit {0}
 AreBelow chunks next (suc left) chunk = (chunk < chunks) × AreBelow chunks next left (at next chunk)
 
--- so many entries of the chunk were given, which take so many bytes
-pub record IsReading (l : Links) (ps : List (List (List ℕ))) (chunk left given before : ℕ) : Type 0 where
+-- so many entries of the chunk were given
+pub record IsReading (l : Links) (ps : List (List (List ℕ))) (chunk left given : ℕ) : Type 0 where
   pub links : IsLinks l
   pub pages : length ps ≡ l.chunks
   pub chunks : AreBelow l.chunks (books l).next left chunk
   pub within : given ≤ length (get_or ps chunk [])
-  pub bytes : before ≡ length (coded (take given (get_or ps chunk [])))

@@ -2,9 +2,9 @@
 
 ghost use Rattle.std.specs.Prelude.{◌≡◌, ◌↔◌, ℕ, ◌+◌, ◌<◌, ◌≤◌, ◌^◌, ◌++◌, ◌∷◌, [], None, Some, false, get_or, length, IfOk, IsErr, MatchOption, MatchBool, OnErr, OnOk, replicate, slice_set};
 ghost use Rattle.chgarena.specs.Books.{at, chunks_of};
-ghost use Rattle.chgarena.specs.Joined.{joined};
+ghost use Rattle.chgarena.specs.Joined.{AreCounted, joined};
 ghost use Rattle.chgarena.specs.Links.{IsLinks, IsPopped, begun, books, grown};
-ghost use Rattle.chgarena.specs.Pages.{coded};
+ghost use Rattle.chgarena.specs.Pages.{taken};
 
 use crate::entries::Entries;
 use crate::full::Full;
@@ -19,6 +19,8 @@ use std::marker::Model;
 pub struct Arena {
     links: Links,
     pages: Pages,
+    /// For each chunk of a strand, how many of the strand's entries stand before it.
+    before: Vec<usize>,
 }
 
 impl Model for Arena {
@@ -30,7 +32,7 @@ impl Model for Arena {
 
     ghost view = { λ a. strands (books a.links) a.pages };
 
-    ghost invariant = { λ a. IsArena a.links a.pages };
+    ghost invariant = { λ a. IsArena a.links a.pages a.before.items };
 }
 
 impl Arena {
@@ -44,6 +46,7 @@ impl Arena {
         Ok(Arena {
             links: Links::new(alloc, chunks)?,
             pages: Pages::new(alloc, chunks)?,
+            before: Vec::from_elem(alloc, 0, chunks)?,
         })
     }
 
@@ -102,7 +105,9 @@ impl Arena {
             ((self.new ≡ self.old) × (fills self.old ≡ length self.old))
             (λ h. (h < length self.old) × (get_or self.old h None ≡ None) × (self.new ≡ slice_set self.old h (Some (entry.now ∷ []))) × (fills self.old < length self.old)) }
     {
-        push_first(&mut self.links, &mut self.pages, entry)
+        let chunk = push_first(&mut self.links, &mut self.pages, entry)?;
+        self.before[chunk] = 0;
+        Some(chunk)
     }
 
     /// Adds an entry to a strand that has chunks, unless its last one has no room and no chunk is free.
@@ -118,7 +123,14 @@ impl Arena {
             self.pages.append(last, entry);
             return true;
         }
-        push_behind(&mut self.links, &mut self.pages, head, entry).is_some()
+        let before = self.before[last] + self.pages.count(last);
+        match push_behind(&mut self.links, &mut self.pages, head, entry) {
+            Some(chunk) => {
+                self.before[chunk] = before;
+                true
+            }
+            None => false,
+        }
     }
 
     /// The k-th entry of a strand of this arena, in the order of pushing.
@@ -127,9 +139,19 @@ impl Arena {
         requires entry { k < length (entries_of self.now strand.now) }
         ensures { result.now ≡ get_or (entries_of self.now strand.now) k [] }
     {
+        self.entry_near(strand, k, self.links.chunks())
+    }
+
+    /// The k-th entry of a strand of this arena, as `entry` has it. It is found at once where it lies in the chunk `near`, and else by
+    /// going over the strand's chunks.
+    pub fn entry_near(&self, strand: &Strand, k: usize, near: usize) -> &[u8]
+        requires of { IsOf self.now strand.now }
+        requires entry { k < length (entries_of self.now strand.now) }
+        ensures { result.now ≡ get_or (entries_of self.now strand.now) k [] }
+    {
         match strand.head {
             Some(head) => {
-                let (chunk, k) = find(&self.links, &self.pages, head, k);
+                let (chunk, k) = find_near(&self.links, &self.pages, &self.before, head, k, near);
                 self.pages.entry(chunk, k)
             }
             None => unreachable!(),
@@ -198,6 +220,32 @@ fn push_behind(links: &mut Links, pages: &mut Pages, head: usize, entry: &[u8]) 
     let chunk = links.grow(head)?;
     start(pages, chunk, entry);
     Some(chunk)
+}
+
+/// The chunk that has the k-th entry of a strand, and which of its entries that is, without going over chunks where it is the chunk `near`.
+fn find_near(
+    links: &Links,
+    pages: &Pages,
+    before: &[usize],
+    head: usize,
+    k: usize,
+    near: usize,
+) -> (usize, usize)
+    requires links { IsLinks links.now }
+    requires strand { (head < (books links.now).chunks) × (at (books links.now).last head < (books links.now).chunks) }
+    requires pages { length pages.now ≡ (books links.now).chunks }
+    requires before { (length before.now ≡ (books links.now).chunks) × AreCounted pages.now before.now 0 (chunks_of (books links.now) head) }
+    requires entry { k < length (joined pages.now (chunks_of (books links.now) head)) }
+    ensures within { (result.0 < length pages.now) × (result.1 < length (get_or pages.now result.0 [])) }
+    ensures entry { get_or (get_or pages.now result.0 []) result.1 [] ≡ get_or (joined pages.now (chunks_of (books links.now) head)) k [] }
+{
+    if near < links.chunks() && links.owner(near) == head {
+        let first = before[near];
+        if first <= k && k - first < pages.count(near) {
+            return (near, k - first);
+        }
+    }
+    find(links, pages, head, k)
 }
 
 /// The chunk that has the k-th entry of a strand, and which of its entries that is.

@@ -18,9 +18,8 @@ pub struct Entries<'a> {
     /// The chunk of the next entry, and how many chunks there are from it on.
     chunk: usize,
     left: usize,
-    /// How many entries of the chunk were given, and how many bytes they take.
+    /// How many entries of the chunk were given.
     given: usize,
-    before: usize,
 }
 
 impl<'a> Model for Entries<'a> {
@@ -32,7 +31,7 @@ impl<'a> Model for Entries<'a> {
 
     ghost view = { λ e. drop e.given (from_on (books e.links.now).next e.pages.now e.left e.chunk) };
 
-    ghost invariant = { λ e. IsReading e.links.now e.pages.now e.chunk e.left e.given e.before };
+    ghost invariant = { λ e. IsReading e.links.now e.pages.now e.chunk e.left e.given };
 }
 
 impl<'a> Entries<'a> {
@@ -50,7 +49,6 @@ impl<'a> Entries<'a> {
             chunk: head,
             left,
             given: 0,
-            before: 0,
         }
     }
 
@@ -66,8 +64,12 @@ impl<'a> Entries<'a> {
             chunk: 0,
             left: 0,
             given: 0,
-            before: 0,
         }
+    }
+
+    /// The chunk of the entry that was given last. Before the first entry and after the end it may be any number.
+    pub fn chunk(&self) -> usize {
+        self.chunk
     }
 }
 
@@ -81,15 +83,13 @@ impl<'a> Iterator for Entries<'a> {
     fn next(&mut self) -> Option<&'a [u8]> {
         while self.left > 0 {
             if self.given < self.pages.count(self.chunk) {
-                let entry = self.pages.entry_from(self.chunk, self.given, self.before);
+                let entry = self.pages.entry(self.chunk, self.given);
                 self.given += 1;
-                self.before += 4 + entry.len();
                 return Some(entry);
             }
             self.chunk = self.links.next(self.chunk);
             self.left -= 1;
             self.given = 0;
-            self.before = 0;
         }
         None
     }

@@ -68,6 +68,14 @@ impl Links {
         self.rank[chunk]
     }
 
+    /// The strand that has a chunk.
+    pub(crate) fn owner(&self, chunk: usize) -> usize
+        requires { IsLinks self.now × (chunk < (books self.now).chunks) }
+        ensures { result ≡ at (books self.now).owner chunk }
+    {
+        self.owner[chunk]
+    }
+
     /// The chunk after this one in its strand.
     pub(crate) fn next(&self, chunk: usize) -> usize
         requires { IsLinks self.now × (chunk < (books self.now).chunks) }

@@ -20,6 +20,9 @@ impl Model for Memory {
     ghost also_shares = { λ m _ κ. places_lent m.ptr m.places κ };
 }
 
+// Its bytes are its own, whichever thread has it.
+unsafe impl Send for Memory {}
+
 /// The right to give a region back to where it came from.
 pub(crate) struct Lease<A: Allocator> {
     of: PhantomData<A>,
@@ -31,6 +34,8 @@ pub(crate) struct Lease<A: Allocator> {
 impl<A: Allocator> Model for Lease<A> {
     ghost also_owns = { λ l. A.dealloc_token l.alloc (bytes l.size) l.ptr };
 }
+
+unsafe impl<A: Allocator + Send> Send for Lease<A> {}
 
 impl Memory {
     /// Asks for a region of this many bytes, none of them written.

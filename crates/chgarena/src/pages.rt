@@ -1,8 +1,7 @@
-//! The entries of each chunk.
+//! The entries of each chunk, one after another from its front on, and the line of each in a directory that grows down from its end.
 
 ghost use Rattle.std.specs.Prelude.{◌≡◌, ℕ, ◌+◌, ◌*◌, ◌<◌, ◌≤◌, ◌^◌, ◌++◌, ◌∷◌, [], IfOk, List, Some, drop, get_or, length, map, replicate, slice_set, take};
-ghost use Rattle.std.specs.Int.{w32, to_be_bytes};
-ghost use Rattle.chgarena.specs.Pages.{coded};
+ghost use Rattle.chgarena.specs.Pages.{line_of, line_place, taken, with_entry};
 
 use crate::region::Region;
 use std::alloc::{AllocError, Global};
@@ -10,6 +9,9 @@ use std::marker::Model;
 
 /// How many bytes a chunk has.
 const CHUNK: usize = 16384;
+
+/// How many bytes the line of an entry has.
+const LINE: usize = 4;
 
 /// The chunks of a region. Contracts see a list of entries for each.
 #[derive(Drop)]
@@ -25,7 +27,7 @@ impl Model for Pages {
 
     ghost Value = { List (List (List ℕ)) };
 
-    ghost view = { λ p. pages p.region p.used.items p.counts.items };
+    ghost view = { λ p. pages p.region p.counts.items };
 
     ghost invariant = { λ p. IsPages p.region p.used.items p.counts.items };
 }
@@ -46,7 +48,7 @@ impl Pages {
     /// How many bytes of a chunk are left.
     pub(crate) fn left(&self, chunk: usize) -> usize
         requires { chunk < length self.now }
-        ensures { result + length (coded (get_or self.now chunk [])) ≡ 16384 }
+        ensures { result + taken (get_or self.now chunk []) ≡ 16384 }
     {
         CHUNK - self.used[chunk]
     }
@@ -71,15 +73,14 @@ impl Pages {
     /// Adds an entry to a chunk that has room for it.
     pub(crate) fn append(&mut self, chunk: usize, entry: &[u8])
         requires chunk { chunk < length self.old }
-        requires room { length (coded (get_or self.old chunk [])) + (length entry.now + 4) ≤ 16384 }
+        requires room { taken (get_or self.old chunk []) + (length entry.now + 4) ≤ 16384 }
         ensures { self.new ≡ slice_set self.old chunk (get_or self.old chunk [] ++ entry.now ∷ []) }
     {
         let used = self.used[chunk];
-        let at = chunk * CHUNK + used;
-        self.region.write(at, &(entry.len() as u32).to_be_bytes());
-        self.region.write(at + 4, entry);
-        self.used[chunk] = used + (4 + entry.len());
-        self.counts[chunk] += 1;
+        let count = self.counts[chunk];
+        write_entry(&mut self.region, chunk, count, used - count * LINE, entry);
+        self.used[chunk] = used + (LINE + entry.len());
+        self.counts[chunk] = count + 1;
     }
 
     /// The k-th entry of a chunk.
@@ -88,34 +89,49 @@ impl Pages {
         requires entry { k < length (get_or self.now chunk []) }
         ensures { result.now ≡ get_or (get_or self.now chunk []) k [] }
     {
-        let region = &self.region;
-        let mut at = chunk * CHUNK;
-        for _entry in 0..k {
-            at += 4 + length_at(region, at);
-        }
-        region.lend(at + 4, length_at(region, at))
-    }
-
-    /// The k-th entry of a chunk, before which so many of its bytes lie.
-    pub(crate) fn entry_from(&self, chunk: usize, k: usize, before: usize) -> &[u8]
-        requires chunk { chunk < length self.now }
-        requires entry { k < length (get_or self.now chunk []) }
-        requires before { before ≡ length (coded (take k (get_or self.now chunk []))) }
-        ensures entry { result.now ≡ get_or (get_or self.now chunk []) k [] }
-        ensures within { before + (4 + length result.now) ≤ 16384 }
-    {
-        let region = &self.region;
-        let at = chunk * CHUNK + before;
-        region.lend(at + 4, length_at(region, at))
+        let (from, size) = read_line(&self.region, line_at(chunk, k));
+        self.region.lend(chunk * CHUNK + from, size)
     }
 }
 
-/// The length of the entry that begins at a place.
-fn length_at(region: &Region, at: usize) -> usize
-    requires within { at + 4 ≤ length region.now }
-    requires written { (n : ℕ) × (n < 2 ^ 32) × (take 4 (drop at region.now) ≡ map Some (to_be_bytes w32 n)) }
-    ensures { (n : ℕ) → n < 2 ^ 32 → take 4 (drop at region.now) ≡ map Some (to_be_bytes w32 n) → result ≡ n }
+/// Where the line of the k-th entry of a chunk lies.
+fn line_at(chunk: usize, k: usize) -> usize
+    requires chunk { chunk < 2 ^ 32 }
+    requires line { (k + 1) * 4 ≤ 16384 }
+    ensures { result ≡ chunk * 16384 + line_place k }
 {
-    let head = region.lend(at, 4);
-    u32::from_be_bytes([head[0], head[1], head[2], head[3]]) as usize
+    chunk * CHUNK + (CHUNK - (k + 1) * LINE)
+}
+
+/// Writes an entry from a place of a chunk on, and its line as the k-th.
+fn write_entry(region: &mut Region, chunk: usize, k: usize, from: usize, entry: &[u8])
+    requires chunk { (chunk < 2 ^ 32) × (chunk * 16384 + 16384 ≤ length region.old) }
+    requires room { from + length entry.now + (k + 1) * 4 ≤ 16384 }
+    ensures { region.new ≡ with_entry region.old chunk k from entry.now }
+{
+    let at = chunk * CHUNK + from;
+    region.write(at, entry);
+    region.write(line_at(chunk, k), &line(from, entry.len()));
+}
+
+/// The line of an entry.
+fn line(from: usize, size: usize) -> [u8; 4]
+    requires { (from < 2 ^ 16) × (size < 2 ^ 16) }
+    ensures { result ≡ line_of from size }
+{
+    let from = (from as u16).to_be_bytes();
+    let size = (size as u16).to_be_bytes();
+    [from[0], from[1], size[0], size[1]]
+}
+
+/// Where an entry begins in its chunk and how long it is, from its line.
+fn read_line(region: &Region, at: usize) -> (usize, usize)
+    requires within { at + 4 ≤ length region.now }
+    requires written { (from : ℕ) × (size : ℕ) × (from < 2 ^ 16) × (size < 2 ^ 16) × (take 4 (drop at region.now) ≡ map Some (line_of from size)) }
+    ensures { (from size : ℕ) → from < 2 ^ 16 → size < 2 ^ 16 → take 4 (drop at region.now) ≡ map Some (line_of from size) → result ≡ (from, size) }
+{
+    let line = region.lend(at, LINE);
+    let from = u16::from_be_bytes([line[0], line[1]]);
+    let size = u16::from_be_bytes([line[2], line[3]]);
+    (from as usize, size as usize)
 }

@@ -2,7 +2,9 @@
 
 use std::marker::Model;
 
-/// A list of entries in an arena. It goes by its first chunk, which it gets with its first entry, and must be given back.
+/// A list of entries in an arena. It goes by its first chunk, which it gets with its first entry, and must be given back: one that is
+/// let go keeps its chunks as long as its arena stands.
+#[derive(Drop)]
 pub struct Strand {
     pub(crate) head: Option<usize>,
 }

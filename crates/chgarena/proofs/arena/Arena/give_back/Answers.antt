@@ -7,11 +7,11 @@ pub release-requires-clause-strand : goal.release-requires-clause-strand
 release-requires-clause-strand c =
     let i = c.self.inside in
     let is : c.args.strand ≡ Some c.in-Some.head = cc in
-    of_seen i.links i.pages c.self.invariant c.args.self.now c.self.view_is c.in-Some.head (subst (λ s. IsOf c.args.self.now s) is c.requires)
+    of_seen i.links i.pages i.before.items c.self.invariant c.args.self.now c.self.view_is c.in-Some.head (subst (λ s. IsOf c.args.self.now s) is c.requires)
 
 pub returns-in-Some : goal.returns-in-Some
 returns-in-Some c =
     let i = c.self.inside in
     let is : c.args.strand ≡ Some c.in-Some.head = cc in
-    released_strands i.links i.pages c.self.invariant c.args.self.now c.self.view_is c.in-Some.head (subst (λ s. IsOf c.args.self.now s) is c.requires) c.release.new.self c.release.ensures.links c.release.ensures.released ∙
+    released_strands i.links i.pages i.before.items c.self.invariant c.args.self.now c.self.view_is c.in-Some.head (subst (λ s. IsOf c.args.self.now s) is c.requires) c.release.new.self c.release.ensures.links c.release.ensures.released ∙
     ap (λ s. without c.args.self.now s) (sym is)

@@ -1,124 +1,69 @@
-use Rattle.std.proofs.Common.{◌≡◌, ℕ, ◌+◌, ◌*◌, ◌<◌, ◌≤◌, List, [], Some, drop, get_or, length, map, take, sym, ap, ◌∙◌, arith}
-use Rattle.chgarena.proofs.Appending.{low_seen}
+use Rattle.std.proofs.Common.{◌≡◌, ℕ, ◌+◌, ◌*◌, [], Some, drop, get_or, length, map, take, sym, ap, ◌∙◌, subst, arith}
+use Rattle.chgarena.specs.Pages.{begins, known, line_of}
+use Rattle.chgarena.proofs.Appending.{low_seen, room_seen}
 use Rattle.chgarena.proofs.Coding.{known_some}
-use Rattle.chgarena.proofs.Reading.{body_read, head_read, places_small, read, read_next, read_small, read_within}
-use Rattle.chgarena.specs.Pages.{coded, known}
+use Rattle.chgarena.proofs.Reading.{body_read, line_read, line_says, read_fits}
 use Rattle.chgarena.proofs.pages.Pages.entry.Goals as goal
 
-pub overflow_mul-at : goal.overflow_mul-at
-overflow_mul-at c =
+pub line_at-requires-clause-chunk : goal.line_at-requires-clause-chunk
+line_at-requires-clause-chunk c =
     let i = c.self.inside in
     let low = low_seen i.region i.used.items i.counts.items c.self.invariant c.args.self.now c.self.view_is c.args.chunk c.requires.chunk in
     let few = c.self.invariant.few in
-    record { fits = omega arith }
-
-pub length_at-requires-clause-within : goal.length_at-requires-clause-within
-length_at-requires-clause-within c =
-    let i = c.self.inside in
-    let within = read_within i.region i.used.items i.counts.items c.self.invariant c.args.self.now c.self.view_is c.args.chunk c.requires.chunk c.loop-entry._entry c.loop-entry.at (omega (arith, c.requires.entry, c.loop-entry-test.true)) c.loop-entry.invariant in
     omega arith
 
-pub length_at-requires-clause-written : goal.length_at-requires-clause-written
-length_at-requires-clause-written c =
+pub line_at-requires-clause-line : goal.line_at-requires-clause-line
+line_at-requires-clause-line c =
     let i = c.self.inside in
-    let k = c.loop-entry._entry in
-    let low : k < length (get_or c.args.self.now c.args.chunk []) = omega (arith, c.requires.entry, c.loop-entry-test.true) in (
-      length (read i.region i.used.items i.counts.items c.self.invariant c.args.self.now c.self.view_is c.args.chunk c.requires.chunk k c.loop-entry.at low c.loop-entry.invariant),
-      read_small i.region i.used.items i.counts.items c.self.invariant c.args.self.now c.self.view_is c.args.chunk c.requires.chunk k c.loop-entry.at low c.loop-entry.invariant,
-      head_read i.region i.used.items i.counts.items c.self.invariant c.args.self.now c.self.view_is c.args.chunk c.requires.chunk k c.loop-entry.at low c.loop-entry.invariant,
-    )
+    let fits = read_fits i.region i.used.items i.counts.items c.self.invariant c.args.self.now c.self.view_is c.args.chunk c.requires.chunk c.args.k c.requires.entry in
+    omega (arith, c.requires.entry)
 
-pub overflow_add-at : goal.overflow_add-at
-overflow_add-at c =
+pub read_line-from-requires-clause-within : goal.read_line-from-requires-clause-within
+read_line-from-requires-clause-within c =
     let i = c.self.inside in
-    let k = c.loop-entry._entry in
-    let low : k < length (get_or c.args.self.now c.args.chunk []) = omega (arith, c.requires.entry, c.loop-entry-test.true) in
-    let small = read_small i.region i.used.items i.counts.items c.self.invariant c.args.self.now c.self.view_is c.args.chunk c.requires.chunk k c.loop-entry.at low c.loop-entry.invariant in
-    let size : c.length_at.result ≡ length (get_or (get_or c.args.self.now c.args.chunk []) k []) = c.length_at.ensures (length (get_or (get_or c.args.self.now c.args.chunk []) k [])) small
-    (head_read i.region i.used.items i.counts.items c.self.invariant c.args.self.now c.self.view_is c.args.chunk c.requires.chunk k c.loop-entry.at low c.loop-entry.invariant) in
+    let fits = read_fits i.region i.used.items i.counts.items c.self.invariant c.args.self.now c.self.view_is c.args.chunk c.requires.chunk c.args.k c.requires.entry in
+    let room = room_seen i.region i.used.items i.counts.items c.self.invariant c.args.self.now c.self.view_is c.args.chunk c.requires.chunk in
+    omega (arith, c.requires.entry, c.line_at.ensures)
+
+pub read_line-from-requires-clause-written : goal.read_line-from-requires-clause-written
+read_line-from-requires-clause-written c =
+    let i = c.self.inside in
+    let es = get_or c.args.self.now c.args.chunk [] in
+    let fits = read_fits i.region i.used.items i.counts.items c.self.invariant c.args.self.now c.self.view_is c.args.chunk c.requires.chunk c.args.k c.requires.entry in
+    let P : ℕ → Type 0 = λ at. take 4 (drop at i.region) ≡ map (λ x. Some x) (line_of (begins es c.args.k) (length (get_or es c.args.k []))) in
+    (begins es c.args.k, length (get_or es c.args.k []), omega arith, omega arith, subst P (sym c.line_at.ensures) (line_read i.region i.used.items i.counts.items c.self.invariant c.args.self.now c.self.view_is c.args.chunk c.requires.chunk c.args.k c.requires.entry))
+
+pub overflow_add-chunk : goal.overflow_add-chunk
+overflow_add-chunk c =
+    let i = c.self.inside in
+    let low = low_seen i.region i.used.items i.counts.items c.self.invariant c.args.self.now c.self.view_is c.args.chunk c.requires.chunk in
+    let few = c.self.invariant.few in
+    let fits = read_fits i.region i.used.items i.counts.items c.self.invariant c.args.self.now c.self.view_is c.args.chunk c.requires.chunk c.args.k c.requires.entry in
+    let says = line_says i.region i.used.items i.counts.items c.self.invariant c.args.self.now c.self.view_is c.args.chunk c.requires.chunk c.args.k c.requires.entry c.line_at.result c.read_line-from.result c.line_at.ensures c.read_line-from.ensures in
+    let from = ap (λ p. p.0) says in
+    let size = ap (λ p. p.1) says in
     record { fits = omega arith }
-
-pub overflow_add-at-in-loop-entry : goal.overflow_add-at-in-loop-entry
-overflow_add-at-in-loop-entry c =
-    let i = c.self.inside in
-    let k = c.loop-entry._entry in
-    let low : k < length (get_or c.args.self.now c.args.chunk []) = omega (arith, c.requires.entry, c.loop-entry-test.true) in
-    let small = read_small i.region i.used.items i.counts.items c.self.invariant c.args.self.now c.self.view_is c.args.chunk c.requires.chunk k c.loop-entry.at low c.loop-entry.invariant in
-    let within = read_within i.region i.used.items i.counts.items c.self.invariant c.args.self.now c.self.view_is c.args.chunk c.requires.chunk k c.loop-entry.at low c.loop-entry.invariant in
-    let fits = places_small i.region i.used.items i.counts.items c.self.invariant c.args.self.now c.self.view_is c.args.chunk c.requires.chunk k c.loop-entry.at low c.loop-entry.invariant in
-    let size : c.length_at.result ≡ length (get_or (get_or c.args.self.now c.args.chunk []) k []) = c.length_at.ensures (length (get_or (get_or c.args.self.now c.args.chunk []) k [])) small
-    (head_read i.region i.used.items i.counts.items c.self.invariant c.args.self.now c.self.view_is c.args.chunk c.requires.chunk k c.loop-entry.at low c.loop-entry.invariant) in
-    record { fits = omega arith }
-
-pub loop-entry-preserved : goal.loop-entry-preserved
-loop-entry-preserved c =
-    let i = c.self.inside in
-    let k = c.loop-entry._entry in
-    let low : k < length (get_or c.args.self.now c.args.chunk []) = omega (arith, c.requires.entry, c.loop-entry-test.true) in
-    let small = read_small i.region i.used.items i.counts.items c.self.invariant c.args.self.now c.self.view_is c.args.chunk c.requires.chunk k c.loop-entry.at low c.loop-entry.invariant in
-    let size : c.length_at.result ≡ length (get_or (get_or c.args.self.now c.args.chunk []) k []) = c.length_at.ensures (length (get_or (get_or c.args.self.now c.args.chunk []) k [])) small
-    (head_read i.region i.used.items i.counts.items c.self.invariant c.args.self.now c.self.view_is c.args.chunk c.requires.chunk k c.loop-entry.at low c.loop-entry.invariant) in
-    ap (λ n. c.loop-entry.at + (4 + n)) size ∙ read_next i.region i.used.items i.counts.items c.self.invariant c.args.self.now c.self.view_is c.args.chunk c.requires.chunk k c.loop-entry.at low c.loop-entry.invariant
-
--- at the end of the loop
-here : (k k' chunk at : ℕ) (es : List (List ℕ)) → k' ≤ k → k ≤ k' → at ≡ chunk * 16384 + length (coded (take k' es)) → at ≡ chunk * 16384 + length (coded (take k es))
-here k k' chunk at es up down is = let same : k' ≡ k = omega arith in is ∙ ap (λ j. chunk * 16384 + length (coded (take j es))) same
-
-pub overflow_add-at-2 : goal.overflow_add-at-2
-overflow_add-at-2 c =
-    let i = c.self.inside in
-    let is = here c.args.k c.loop-entry._entry c.args.chunk c.loop-entry.at (get_or c.args.self.now c.args.chunk []) c.loop-entry.auto._entry-end c.loop-entry-test.false c.loop-entry.invariant in
-    let within = read_within i.region i.used.items i.counts.items c.self.invariant c.args.self.now c.self.view_is c.args.chunk c.requires.chunk c.args.k c.loop-entry.at c.requires.entry is in
-    let fits = places_small i.region i.used.items i.counts.items c.self.invariant c.args.self.now c.self.view_is c.args.chunk c.requires.chunk c.args.k c.loop-entry.at c.requires.entry is in
-    record { fits = omega arith }
-
-pub length_at-requires-2-clause-within : goal.length_at-requires-2-clause-within
-length_at-requires-2-clause-within c =
-    let i = c.self.inside in
-    let is = here c.args.k c.loop-entry._entry c.args.chunk c.loop-entry.at (get_or c.args.self.now c.args.chunk []) c.loop-entry.auto._entry-end c.loop-entry-test.false c.loop-entry.invariant in
-    let within = read_within i.region i.used.items i.counts.items c.self.invariant c.args.self.now c.self.view_is c.args.chunk c.requires.chunk c.args.k c.loop-entry.at c.requires.entry is in
-    omega arith
-
-pub length_at-requires-2-clause-written : goal.length_at-requires-2-clause-written
-length_at-requires-2-clause-written c =
-    let i = c.self.inside in
-    let is = here c.args.k c.loop-entry._entry c.args.chunk c.loop-entry.at (get_or c.args.self.now c.args.chunk []) c.loop-entry.auto._entry-end c.loop-entry-test.false c.loop-entry.invariant in (
-      length (get_or (get_or c.args.self.now c.args.chunk []) c.args.k []),
-      read_small i.region i.used.items i.counts.items c.self.invariant c.args.self.now c.self.view_is c.args.chunk c.requires.chunk c.args.k c.loop-entry.at c.requires.entry is,
-      head_read i.region i.used.items i.counts.items c.self.invariant c.args.self.now c.self.view_is c.args.chunk c.requires.chunk c.args.k c.loop-entry.at c.requires.entry is,
-    )
 
 pub lend-requires-clause-within : goal.lend-requires-clause-within
 lend-requires-clause-within c =
     let i = c.self.inside in
-    let is = here c.args.k c.loop-entry._entry c.args.chunk c.loop-entry.at (get_or c.args.self.now c.args.chunk []) c.loop-entry.auto._entry-end c.loop-entry-test.false c.loop-entry.invariant in
-    let within = read_within i.region i.used.items i.counts.items c.self.invariant c.args.self.now c.self.view_is c.args.chunk c.requires.chunk c.args.k c.loop-entry.at c.requires.entry is in
-    let size = c.length_at-2.ensures (length (get_or (get_or c.args.self.now c.args.chunk []) c.args.k []))
-    (read_small i.region i.used.items i.counts.items c.self.invariant c.args.self.now c.self.view_is c.args.chunk c.requires.chunk c.args.k c.loop-entry.at c.requires.entry is)
-    (head_read i.region i.used.items i.counts.items c.self.invariant c.args.self.now c.self.view_is c.args.chunk c.requires.chunk c.args.k c.loop-entry.at c.requires.entry is) in
+    let fits = read_fits i.region i.used.items i.counts.items c.self.invariant c.args.self.now c.self.view_is c.args.chunk c.requires.chunk c.args.k c.requires.entry in
+    let room = room_seen i.region i.used.items i.counts.items c.self.invariant c.args.self.now c.self.view_is c.args.chunk c.requires.chunk in
+    let says = line_says i.region i.used.items i.counts.items c.self.invariant c.args.self.now c.self.view_is c.args.chunk c.requires.chunk c.args.k c.requires.entry c.line_at.result c.read_line-from.result c.line_at.ensures c.read_line-from.ensures in
+    let from = ap (λ p. p.0) says in
+    let size = ap (λ p. p.1) says in
     omega arith
 
 pub lend-requires-clause-written : goal.lend-requires-clause-written
 lend-requires-clause-written c =
     let i = c.self.inside in
-    let is = here c.args.k c.loop-entry._entry c.args.chunk c.loop-entry.at (get_or c.args.self.now c.args.chunk []) c.loop-entry.auto._entry-end c.loop-entry-test.false c.loop-entry.invariant in
-    let size : c.length_at-2.result ≡ length (get_or (get_or c.args.self.now c.args.chunk []) c.args.k []) = c.length_at-2.ensures (length (get_or (get_or c.args.self.now c.args.chunk []) c.args.k []))
-    (read_small i.region i.used.items i.counts.items c.self.invariant c.args.self.now c.self.view_is c.args.chunk c.requires.chunk c.args.k c.loop-entry.at c.requires.entry is)
-    (head_read i.region i.used.items i.counts.items c.self.invariant c.args.self.now c.self.view_is c.args.chunk c.requires.chunk c.args.k c.loop-entry.at c.requires.entry is) in (
-      get_or (get_or c.args.self.now c.args.chunk []) c.args.k [],
-      ap (λ n. take n (drop (c.loop-entry.at + 4) i.region)) size ∙
-          body_read i.region i.used.items i.counts.items c.self.invariant c.args.self.now c.self.view_is c.args.chunk c.requires.chunk c.args.k c.loop-entry.at c.requires.entry is,
-    )
+    let says = line_says i.region i.used.items i.counts.items c.self.invariant c.args.self.now c.self.view_is c.args.chunk c.requires.chunk c.args.k c.requires.entry c.line_at.result c.read_line-from.result c.line_at.ensures c.read_line-from.ensures in
+    let there = ap (λ p. take p.1 (drop (c.args.chunk * 16384 + p.0) i.region)) says ∙ body_read i.region i.used.items i.counts.items c.self.invariant c.args.self.now c.self.view_is c.args.chunk c.requires.chunk c.args.k c.requires.entry in
+    (get_or (get_or c.args.self.now c.args.chunk []) c.args.k [], there)
 
 pub returns : goal.returns
 returns c =
     let i = c.self.inside in
-    let entry = get_or (get_or c.args.self.now c.args.chunk []) c.args.k [] in
-    let is = here c.args.k c.loop-entry._entry c.args.chunk c.loop-entry.at (get_or c.args.self.now c.args.chunk []) c.loop-entry.auto._entry-end c.loop-entry-test.false c.loop-entry.invariant in
-    let size : c.length_at-2.result ≡ length entry = c.length_at-2.ensures (length entry)
-    (read_small i.region i.used.items i.counts.items c.self.invariant c.args.self.now c.self.view_is c.args.chunk c.requires.chunk c.args.k c.loop-entry.at c.requires.entry is)
-    (head_read i.region i.used.items i.counts.items c.self.invariant c.args.self.now c.self.view_is c.args.chunk c.requires.chunk c.args.k c.loop-entry.at c.requires.entry is) in
-    let same : map (λ x. Some x) c.lend.result.now ≡ map (λ x. Some x) entry =
-    sym c.lend.ensures ∙ (ap (λ n. take n (drop (c.loop-entry.at + 4) i.region)) size ∙
-    body_read i.region i.used.items i.counts.items c.self.invariant c.args.self.now c.self.view_is c.args.chunk c.requires.chunk c.args.k c.loop-entry.at c.requires.entry is) in
-    sym (known_some c.lend.result.now) ∙ (ap known same ∙ known_some entry)
+    let says = line_says i.region i.used.items i.counts.items c.self.invariant c.args.self.now c.self.view_is c.args.chunk c.requires.chunk c.args.k c.requires.entry c.line_at.result c.read_line-from.result c.line_at.ensures c.read_line-from.ensures in
+    let there = ap (λ p. take p.1 (drop (c.args.chunk * 16384 + p.0) i.region)) says ∙ body_read i.region i.used.items i.counts.items c.self.invariant c.args.self.now c.self.view_is c.args.chunk c.requires.chunk c.args.k c.requires.entry in
+    sym (known_some c.lend.result.now) ∙ (ap known (sym c.lend.ensures ∙ there) ∙ known_some (get_or (get_or c.args.self.now c.args.chunk []) c.args.k []))
