@@ -4,6 +4,7 @@ ghost use Rattle.std.specs.Prelude.{◌≡◌};
 
 use anyhow::Result;
 use bytes::BytesMut;
+use chgarena::Arena;
 use pqformat::Text;
 use publication::{Publications, Selection};
 use sender::Sender;
@@ -14,6 +15,9 @@ use std::sync::Wait;
 use tables::{Catalog, Row, Value};
 use txlog::{Opened, Publisher, SessionFault, Tx};
 use wal::FIRST_POSITION;
+
+/// The chunks of the arena in which the sender keeps changes.
+const CHUNKS: usize = 64;
 
 /// One table, and a publication of it.
 const CONFIGURATION: &str = "\
@@ -60,7 +64,8 @@ fn session_sent<L: LogName, R: Wait>(
 /// A sender of what the publication `p` publishes, from the beginning of the log on.
 fn sender_of_p(alloc: Global, catalog: &Catalog) -> Result<Sender> {
     let selection = selection_of_p(alloc, catalog)?;
-    Ok(Sender::start(alloc, selection, 0, FIRST_POSITION)?)
+    let arena = Arena::new(alloc, CHUNKS)?;
+    Ok(Sender::start(alloc, selection, 0, FIRST_POSITION, arena)?)
 }
 
 fn selection_of_p(alloc: Global, catalog: &Catalog) -> Result<Selection> {

@@ -10,6 +10,7 @@ use denote.Param.SendFields.{FieldsHave, declared_send, declared_sync, as_row_se
 use Rattle.std.proofs.Crossing as heap
 use Rattle.std.proofs.net.tcp.TcpStream.TheSendSync as socket
 use Rattle.bytes.proofs.unique.BytesMut.TheSendSync as buffer
+use Rattle.chgarena.proofs.arena.Arena.TheSendSync as arena
 use Rattle.pqformat.proofs.items.Items.TheSendSync as items
 use Rattle.pqformat.proofs.text.Text.TheSendSync as text
 use Rattle.tables.proofs.table.Table.TheSendSync as table
@@ -101,7 +102,7 @@ module _ (L : RattleType) (s : slot_name.Ghosts L.Denot) (l : log_name.Ghosts L.
   hold_send = declared_send (hold.the_type L s) (seat.the_send L s, (lease.the_send L s, tt))
 
   grant_send : IsSend (grant.the_row L s l)
-  grant_send = declared_send (grant.the_type L s l) (selection_send, (search sendable, (reader.the_send L l, (hold_send, (search sendable, tt)))))
+  grant_send = declared_send (grant.the_type L s l) (selection_send, (search sendable, (reader.the_send L l, (hold_send, (search sendable, (arena.the_send, tt))))))
 
   -- what the two threads of a connection have in common
   pub line_sync : IsSync (line.the_row L s l)
@@ -137,7 +138,7 @@ module _ (L : RattleType) (s : slot_name.Ghosts L.Denot) (l : log_name.Ghosts L.
                       search (heap.crosses, sendable) depth 10,
                       (
                         search (heap.crosses, sendable) depth 10,
-                        (search (heap.crosses, sendable) depth 10, (search (heap.crosses, sendable) depth 10, tt)),
+                        (search (heap.crosses, sendable) depth 10, (search (heap.crosses, sendable) depth 10, (search (heap.crosses, sendable) depth 10, tt))),
                       ),
                     ),
                   ),

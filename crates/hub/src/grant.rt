@@ -8,11 +8,33 @@ ghost use Rattle.slots.specs.declared.step.SlotKind.TheVariants.{Claim, Read, Re
 
 use crate::hold::Hold;
 use crate::pool::Pair;
+use chgarena::Arena;
 use pqformat::Text;
-use publication::{Publications, Selection};
+use publication::{PubFault, Publications, Selection};
 use shared_log::{LogName, LogReader};
 use slots::{SlotName, SlotTable};
+use std::alloc::Global;
 use walsender::ClaimFault;
+
+/// What a stream is made of beside its slot and its reader: what these names select, and an arena of so many chunks.
+#[derive(Drop)]
+pub(crate) struct Means<'a> {
+    pub alloc: Global,
+    pub publications: &'a Publications,
+    pub names: &'a [Text],
+    pub chunks: u32,
+}
+
+impl<'a> Means<'a> {
+    /// Only memory refuses it, once the publications are judged.
+    fn make(&self) -> Result<(Selection, Arena), PubFault>
+        ensures { IfOk result (λ made. made.0 ≡ selected self.now.publications.now self.now.names.now) }
+    {
+        let selection = self.publications.select(self.names)?;
+        let arena = Arena::new(self.alloc, self.chunks as usize)?;
+        Ok((selection, arena))
+    }
+}
 
 /// What a START was granted, on its way to the thread that writes: `Stream::open` makes the stream of it. It isn't `Drop`: where
 /// no stream comes of it, `end` ends it.
@@ -23,6 +45,8 @@ pub(crate) struct StreamGrant<L: LogName + SlotName> {
     pub hold: Hold<L>,
     /// Which latch wakes its stream.
     pub latch: usize,
+    /// Where its sender keeps the changes of transactions in progress.
+    pub arena: Arena,
 }
 
 impl<L: LogName + SlotName> StreamGrant<L> {
@@ -32,8 +56,7 @@ impl<L: LogName + SlotName> StreamGrant<L> {
         slots: &SlotTable<L>,
         pair: Pair<L>,
         place: usize,
-        publications: &Publications,
-        names: &[Text],
+        means: &Means<'_>,
         position: u64,
     ) -> Result<Self, (Pair<L>, ClaimFault)>
         requires { place < 16 }
@@ -41,7 +64,7 @@ impl<L: LogName + SlotName> StreamGrant<L> {
             × (b.hold.seat ≡ with_step (with_step pair.seat (slot_step Claim place 1 (held_by pair.seat.number))) (slot_step Read place confirmed confirmed))
             × (b.start ≡ max position confirmed)) }
         ensures place { IfOk result (λ b. b.hold.lease.place ≡ place) }
-        ensures selection { IfOk result (λ b. b.selection ≡ selected publications.now names.now) }
+        ensures selection { IfOk result (λ b. b.selection ≡ selected means.now.publications.now means.now.names.now) }
         ensures reader { IfOk result (λ b. b.reader.place ≡ 0) }
     {
         let Pair {
@@ -60,8 +83,8 @@ impl<L: LogName + SlotName> StreamGrant<L> {
                 return Err((pair, ClaimFault::Slot(fault)));
             }
         };
-        let selection = match publications.select(names) {
-            Ok(selection) => selection,
+        let (selection, arena) = match means.make() {
+            Ok(made) => made,
             Err(_) => {
                 let pair = Pair {
                     reader,
@@ -79,6 +102,7 @@ impl<L: LogName + SlotName> StreamGrant<L> {
             reader,
             hold,
             latch,
+            arena,
         })
     }
 
@@ -93,6 +117,7 @@ impl<L: LogName + SlotName> StreamGrant<L> {
             reader,
             hold,
             latch,
+            arena: _,
         } = self;
         let seat = hold.release(slots);
         Pair {

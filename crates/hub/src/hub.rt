@@ -31,6 +31,9 @@ use walsender::begin;
 /// How many streams may run at once.
 pub const MOST_STREAMS: usize = 16;
 
+/// How many chunks the arena of a stream has, unless another number is set: a mebibyte.
+const CHUNKS: u32 = 64;
+
 /// For how many seconds the client of a stream may be silent, unless another time is set: PostgreSQL's default.
 const WAL_SENDER_TIMEOUT: u64 = 60;
 
@@ -44,6 +47,8 @@ pub struct OpenedHub {
     pub slots: OpenedSlots,
     /// For how long the client of a stream may be silent: 60 seconds, unless it is set. Zero is for ever.
     pub wal_sender_timeout: Duration,
+    /// How many chunks of 16,384 bytes the changes of the transactions in progress may take in a stream: 64, unless it is set.
+    pub chunks: u32,
 }
 
 impl OpenedHub {
@@ -69,6 +74,7 @@ impl OpenedHub {
             log,
             slots,
             wal_sender_timeout: Duration::from_secs(WAL_SENDER_TIMEOUT),
+            chunks: CHUNKS,
         })
     }
 }
@@ -98,6 +104,7 @@ pub struct Hub<L: LogName + SlotName> {
     /// One for each stream that may run.
     latches: Vec<Latch>,
     wal_sender_timeout: Duration,
+    pub(crate) chunks: u32,
     streams_begun: AtomicU64,
     no_more_streams: AtomicBool,
     /// A stream has begun, or none will.
@@ -117,6 +124,7 @@ impl<L: LogName + SlotName> Hub<L> {
             log,
             slots,
             wal_sender_timeout,
+            chunks,
         } = opened;
         let (table, mut seats) = slots.open::<L>(MOST_STREAMS + 1)?;
         let Some(seat) = seats.pop() else {
@@ -135,6 +143,7 @@ impl<L: LogName + SlotName> Hub<L> {
             notice: Mutex::new(CommitNotice::new()),
             latches,
             wal_sender_timeout,
+            chunks,
             streams_begun: AtomicU64::new(0),
             no_more_streams: AtomicBool::new(false),
             changed: Condvar::new(),
@@ -154,6 +163,7 @@ impl<L: LogName + SlotName> Hub<L> {
             notice: _,
             latches: _,
             wal_sender_timeout: _,
+            chunks: _,
             streams_begun: _,
             no_more_streams: _,
             changed: _,

@@ -2,7 +2,7 @@
 
 ghost use Rattle.std.specs.Prelude.{◌<◌};
 
-use crate::grant::StreamGrant;
+use crate::grant::{Means, StreamGrant};
 use crate::hub::Hub;
 use crate::pool::Pair;
 use pqformat::Text;
@@ -56,14 +56,13 @@ impl<'h, L: LogName + SlotName, R: Wait> StartDesk for HubStart<'h, L, R> {
 
     fn claim(&mut self, slot: FoundSlot, pair: Pair<L>) -> Result<StreamGrant<L>, ClaimFault> {
         let hub = self.hub;
-        match StreamGrant::claim(
-            &hub.slots,
-            pair,
-            slot.place,
-            &hub.publications,
-            self.names,
-            self.position,
-        ) {
+        let means = Means {
+            alloc: hub.alloc,
+            publications: &hub.publications,
+            names: self.names,
+            chunks: hub.chunks,
+        };
+        match StreamGrant::claim(&hub.slots, pair, slot.place, &means, self.position) {
             Ok(grant) => Ok(grant),
             Err((pair, fault)) => {
                 hub.give_back(self.rt, pair);

@@ -9,7 +9,7 @@ use crate::line::Over;
 use crate::streaming::Stream;
 use crate::words::{Trouble, write_trouble};
 use crate::work_desk::WorkDesk;
-use sender::TurnFault;
+use sender::{SendFault, TurnFault};
 use server::Phase;
 use shared_log::LogName;
 use slots::{SlotName, SlotTable};
@@ -119,6 +119,7 @@ fn tell<L: LogName + SlotName, W: Write>(
 fn trouble_of(fault: TurnFault) -> Option<Trouble> {
     match fault {
         TurnFault::Write(_) => None,
+        TurnFault::Sender(SendFault::ArenaFull) => Some(Trouble::FullArena),
         TurnFault::Memory | TurnFault::Sender(_) => Some(Trouble::Memory),
         TurnFault::NoEntry | TurnFault::Stale => Some(Trouble::NoEntry),
     }

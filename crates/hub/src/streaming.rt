@@ -57,10 +57,11 @@ impl<L: LogName + SlotName> Stream<L> {
             reader,
             hold,
             latch,
+            arena,
         } = grant;
         Stream {
             alloc,
-            walsender: Walsender::begin(alloc, reader, selection, start),
+            walsender: Walsender::begin(alloc, reader, selection, start, arena),
             hold,
             latch,
             flushed: start,

@@ -14,6 +14,8 @@ use std::io::{ErrorKind, Write};
 #[derive(Clone, Copy, PartialEq, Eq)]
 pub(crate) enum Trouble {
     Memory,
+    /// Transactions in progress fill the arena.
+    FullArena,
     /// The log lets no reader in.
     NoEntry,
     /// No threads are to be had for one more connection.
@@ -26,7 +28,7 @@ impl Trouble {
     {
         match self {
             Trouble::Memory => "53200",
-            Trouble::NoEntry => "53400",
+            Trouble::FullArena | Trouble::NoEntry => "53400",
             Trouble::Crowd => "53300",
         }
     }
@@ -36,6 +38,7 @@ impl Trouble {
     {
         match self {
             Trouble::Memory => "out of memory",
+            Trouble::FullArena => "change arena is full",
             Trouble::NoEntry => "log cannot be entered",
             Trouble::Crowd => "sorry, too many clients already",
         }
@@ -45,7 +48,7 @@ impl Trouble {
         ensures { length result.now ≤ 40 }
     {
         match self {
-            Trouble::Memory | Trouble::NoEntry => "ERROR",
+            Trouble::Memory | Trouble::FullArena | Trouble::NoEntry => "ERROR",
             Trouble::Crowd => "FATAL",
         }
     }

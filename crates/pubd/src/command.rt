@@ -33,6 +33,9 @@ A configuration names the server, the tables and their publications, as in
   name = 'p'
   tables = [{ name = 'public.item' }]
 
+The log has room for that number of records. Each stream keeps the changes of transactions in
+progress in that number of chunks, each of 16,384 bytes; where they are full it ends (53400).
+
 A script has one line for each step of a session. T is a name for a transaction.
 
   begin T                  a transaction begins

@@ -99,6 +99,7 @@ fn opened(rt: &HostRuntime, path: &str, timeout: Option<Duration>) -> Result<Ope
         server.records,
     )
     .map_err(Fault::Hub)?;
+    opened.chunks = server.chunks as u32;
     if let Some(timeout) = timeout {
         opened.wal_sender_timeout = timeout;
     }

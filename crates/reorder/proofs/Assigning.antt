@@ -1,19 +1,22 @@
 -- A subtransaction comes under its parent.
 use Rattle.std.proofs.Common.{◌≡◌, ℕ, ◌==◌, Bool, true, false, ◌||◌, List, [], ◌∷◌, ◌++◌, Option, Some, None, is_some, refl, sym, ap, subst, ◌∙◌, eq-eqb}
 use Rattle.std.specs.Prelude.{IsSome}
+use Rattle.std.specs.List.{list_any, AllByRecursion}
 use Rattle.std.proofs.lemmas.Bool.{eqb-true, ne_eqb}
 use Rattle.std.proofs.lemmas.List.{append-nil}
 use Rattle.wal.specs.declared.record.Record.{Record}
 use Rattle.wal.specs.declared.record.Body.TheVariants.{Assign}
-use Rattle.wal.specs.Log.{Entry, is_named, is_undone, has_ended, chain, last_of, top_of, entries}
-use Rattle.wal.proofs.Lists.{or_false, eqb_comm}
+use Rattle.wal.specs.Log.{Entry, is_named, is_undone, is_dropped, has_ended, chain, last_of, top_of, entries}
+use Rattle.wal.proofs.Lists.{or_false, eqb_comm, list_any_agrees}
 use Rattle.wal.proofs.Laws.{all_when, chain-append, is_named-one, is_undone-one, has_ended-one}
 use Rattle.reorder.specs.Rising.{IsRising}
-use Rattle.reorder.specs.Strands.{StrandState, ByXid, put, fresh, is_in, assigned, AreDistinct}
+use Rattle.reorder.specs.Pool.{put}
+use Rattle.reorder.specs.Strands.{StrandState, ByXid, above_in, above_of, fresh, is_in, assigned, AreDistinct}
 use Rattle.reorder.specs.Bookkeeping.{IsStrand, IsTransaction, AreStrandsOf, changes_of}
-use Rattle.reorder.proofs.Named.{or_left, or_right, not_undone, no_changes}
+use Rattle.reorder.proofs.Named.{or_left, or_right, no_changes}
 use Rattle.reorder.proofs.Opening.{put_cases, put_here, no_some}
 use Rattle.reorder.proofs.Keeping.{entries_push, changes_push}
+use Rattle.reorder.proofs.Ordering.{ordered_back, ordered_push}
 
 in_push : (y x : ℕ) (xs : List ℕ) → is_in y (xs ++ x ∷ []) ≡ (is_in y xs || (y == x))
 in_push y x [] = or_false (y == x)
@@ -76,6 +79,9 @@ placed_kept l rs r sub parent p h o some none unheard body =
     undone_same : (q : ℕ) → is_undone (rs ++ r ∷ []) q ≡ is_undone rs q
     undone_same q = is_undone-one rs r q ∙ rw body (or_false (is_undone rs q))
 
+    dropped_same : (q : ℕ) → (sub == q) ≡ false → is_dropped (rs ++ r ∷ []) q ≡ is_dropped rs q
+    dropped_same q other = ap (list_any (is_undone (rs ++ r ∷ []))) (chain_same q other) ∙ list_any_agrees (is_undone (rs ++ r ∷ [])) (is_undone rs) undone_same (chain rs q)
+
     ended_same : (q : ℕ) → has_ended (rs ++ r ∷ []) q ≡ has_ended rs q
     ended_same q = has_ended-one rs r q ∙ rw body (or_false (has_ended rs q))
 
@@ -98,7 +104,6 @@ placed_kept l rs r sub parent p h o some none unheard body =
     new_strand : IsStrand (placed sub parent p o.members l) (rs ++ r ∷ []) sub (fresh (parent ∷ p.above))
     new_strand = record {
       chain = chain_sub;
-      undone = sym (undone_same sub ∙ not_undone rs sub unheard);
       changes = λ live. sym (changes_same sub ∙ no_changes rs sub unheard);
       freed = λ undone. refl;
       members = o.members ++ sub ∷ [];
@@ -117,9 +122,8 @@ placed_kept l rs r sub parent p h o some none unheard body =
             let equal : w.members ≡ o.members = cc in
             record {
               chain = chain_same q other ∙ w.chain;
-              undone = w.undone ∙ sym (undone_same q);
-              changes = λ live. w.changes live ∙ sym (changes_same q);
-              freed = w.freed;
+              changes = λ live. w.changes (sym (dropped_same q other) ∙ live) ∙ sym (changes_same q);
+              freed = λ dropped. w.freed (sym (dropped_same q other) ∙ dropped);
               members = o.members ++ sub ∷ [];
               members_are = rw same refl;
               within = all_when _ _ (λ (y : ℕ) (inn : is_in y w.members ≡ true). still_in y sub o.members (subst (λ (ys : List ℕ). is_in y ys ≡ true) equal inn)) (q ∷ s.above) w.within;
@@ -127,9 +131,8 @@ placed_kept l rs r sub parent p h o some none unheard body =
         by_test false apart =
             record {
               chain = chain_same q other ∙ w.chain;
-              undone = w.undone ∙ sym (undone_same q);
-              changes = λ live. w.changes live ∙ sym (changes_same q);
-              freed = w.freed;
+              changes = λ live. w.changes (sym (dropped_same q other) ∙ live) ∙ sym (changes_same q);
+              freed = λ dropped. w.freed (sym (dropped_same q other) ∙ dropped);
               members = w.members;
               members_are = rw apart w.members_are;
               within = w.within;
@@ -137,6 +140,9 @@ placed_kept l rs r sub parent p h o some none unheard body =
 
     stays : (q : ℕ) → IsSome (l.strand q) → IsSome ((placed sub parent p o.members l).strand q)
     stays q has = put_cases IsSome sub q (Some (fresh (parent ∷ p.above))) l.strand (λ same. refl) (λ other. has)
+
+    above_same : (q : ℕ) → IsSome (l.strand q) → above_of (placed sub parent p o.members l) q ≡ above_of l q
+    above_same q has = rw (not_sub q has) refl
 
     -- an xid of the new list is an old one, or the new one
     member_cases : (P : ℕ → Type 0) (q : ℕ) → ((y : ℕ) → is_in y o.members ≡ true → P y) → P sub → is_in q (o.members ++ sub ∷ []) ≡ true → P q
@@ -153,6 +159,9 @@ placed_kept l rs r sub parent p h o some none unheard body =
       distinct = distinct_push sub o.members (out (is_in sub o.members) refl) home.distinct;
       strands = λ q inn. member_cases (λ y. IsSome ((placed sub parent p o.members l).strand y)) q (λ y old. stays y (home.strands y old)) (ap is_some (put_here sub (Some (fresh (parent ∷ p.above))) l.strand)) inn;
       tops = λ q inn. member_cases (λ y. top_of (rs ++ r ∷ []) y ≡ last_of parent p.above) q (λ y old. top_same y (not_sub y (home.strands y old)) ∙ home.tops y old) (ap (last_of sub) chain_sub) inn;
+      ordered = ordered_push (placed sub parent p o.members l) sub o.members
+          (ordered_back l (placed sub parent p o.members l) o.members (λ y old. above_same y (home.strands y old)) home.ordered) (out (is_in sub o.members) refl)
+          (subst (λ (ys : List ℕ). AllByRecursion (λ y. is_in y o.members ≡ true) ys) (sym (ap above_in (put_here sub (Some (fresh (parent ∷ p.above))) l.strand))) o.within);
     }
       where
         out : (b : Bool) → is_in sub o.members ≡ b → b ≡ false
@@ -166,6 +175,7 @@ placed_kept l rs r sub parent p h o some none unheard body =
       distinct = w.distinct;
       strands = λ q inn. stays q (w.strands q inn);
       tops = λ q inn. top_same q (not_sub q (w.strands q inn)) ∙ w.tops q inn;
+      ordered = ordered_back l (placed sub parent p o.members l) ys (λ q inn. above_same q (w.strands q inn)) w.ordered;
     }
 
 pub assign_kept : (l : ByXid) (rs : List Record) (r : Record) (sub parent : ℕ) → AreStrandsOf l rs → IsSome (l.strand parent) → l.strand sub ≡ None → is_named rs sub ≡ false →

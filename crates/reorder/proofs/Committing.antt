@@ -1,7 +1,7 @@
 -- What the strands of a transaction keep, joined and sorted by position, is what it keeps by the definition.
 use Rattle.std.proofs.Common.{◌≡◌, ℕ, ◌<◌, ◌==◌, Bool, true, false, cond, ◌&&◌, ◌||◌, not, List, [], ◌∷◌, Option, Some, None, refl, sym, ap, subst, ◌∙◌, eq-eqb, nat_cmp}
 use Rattle.std.specs.Prelude.{IsSome}
-use Rattle.std.specs.List.{filter, flat_map, list_any, AllByRecursion}
+use Rattle.std.specs.List.{filter, flat_map, AllByRecursion}
 use Rattle.std.specs.List.Sorted.{IsNonDecreasingBy, IsStableByKey, IsPermutation}
 use Rattle.std.proofs.lemmas.Bool.{eqb-true}
 use Rattle.wal.specs.declared.record.Record.{Record}
@@ -9,9 +9,9 @@ use Rattle.wal.specs.Log.{Entry, is_named, is_undone, is_dropped, is_kept, has_e
 use Rattle.wal.proofs.Lists.{filter_agrees, all_agree, filter_twice}
 use Rattle.wal.proofs.Laws.{all_when}
 use Rattle.reorder.specs.Rising.{IsRising}
-use Rattle.reorder.specs.Strands.{StrandState, ByXid, is_in, all_in, undone_in, kept_in, joined, AreDistinct}
+use Rattle.reorder.specs.Strands.{StrandState, ByXid, is_in, all_in, changes_in, joined, AreDistinct}
 use Rattle.reorder.specs.Bookkeeping.{IsStrand, IsTransaction, AreStrandsOf}
-use Rattle.reorder.proofs.Named.{or_left, undropped, entries_named}
+use Rattle.reorder.proofs.Named.{undropped, entries_named}
 use Rattle.reorder.proofs.Keeping.{top_of_member}
 use Rattle.reorder.proofs.Merging.{merged, permuted}
 
@@ -28,32 +28,15 @@ held l rs x h some = by_option (l.strand x) refl some
     by_option None at has = let never : false ≡ true = has in cc
     by_option (Some s) at has = record { strand = s; strand_is = at; is = h.strands x s at }
 
--- rolled back by the strands, or by the records
-same_undone : (l : ByXid) (rs : List Record) (t : ℕ) (xs : List ℕ) → AreStrandsOf l rs → IsTransaction l rs t xs → (ys : List ℕ) → AllByRecursion (λ y. is_in y xs ≡ true) ys →
-    list_any (λ y. undone_in (l.strand y)) ys ≡ list_any (is_undone rs) ys
-same_undone l rs t xs h w [] all = refl
-same_undone l rs t xs h w (y ∷ ys) all =
-    let m : Held l rs y = held l rs y h (w.strands y all.0) in
-    let here : undone_in (l.strand y) ≡ is_undone rs y = ap undone_in m.strand_is ∙ m.is.undone in
-    rw (here, same_undone l rs t xs h w ys all.1) refl
-
-same_dropped : (l : ByXid) (rs : List Record) (x : ℕ) (s : StrandState) → AreStrandsOf l rs → IsStrand l rs x s →
-    (s.undone || list_any (λ y. undone_in (l.strand y)) s.above) ≡ is_dropped rs x
-same_dropped l rs x s h o =
-    let w : IsTransaction l rs (last_of x s.above) o.members = h.transactions (last_of x s.above) o.members o.members_are in
-    ap (λ b. b || list_any (λ y. undone_in (l.strand y)) s.above) o.undone
-    ∙ ap (λ b. is_undone rs x || b) (same_undone l rs (last_of x s.above) o.members h w s.above o.within.1)
-    ∙ ap (list_any (is_undone rs)) (sym o.chain)
-
 none_in : (es : List Entry) → filter (λ e. false) es ≡ []
 none_in [] = refl
 none_in (e ∷ es) = none_in es
 
 -- of one xid
 kept_xid : (l : ByXid) (rs : List Record) (x : ℕ) → AreStrandsOf l rs → IsSome (l.strand x) →
-    kept_in l.strand (l.strand x) ≡ filter (λ e. e.xid == x) (filter (λ e. not (is_dropped rs e.xid)) (entries rs))
+    changes_in (l.strand x) ≡ filter (λ e. e.xid == x) (filter (λ e. not (is_dropped rs e.xid)) (entries rs))
 kept_xid l rs x h some =
-    ap (kept_in l.strand) m.strand_is ∙ by_test (is_dropped rs x) refl ∙ sym (filter_twice (λ e. e.xid == x) (λ e. not (is_dropped rs e.xid)) (entries rs))
+    ap changes_in m.strand_is ∙ by_test (is_dropped rs x) refl ∙ sym (filter_twice (λ e. e.xid == x) (λ e. not (is_dropped rs e.xid)) (entries rs))
   where
     m : Held l rs x
     m = held l rs x h some
@@ -72,18 +55,13 @@ kept_xid l rs x h some =
         never_both false true = refl
         never_both false false = refl
 
-    by_test : (d : Bool) → is_dropped rs x ≡ d → kept_in l.strand (Some m.strand) ≡ filter (λ e. not (is_dropped rs e.xid) && (e.xid == x)) (entries rs)
-    by_test true is =
-        rw (same_dropped l rs x m.strand h m.is ∙ is)
-        (sym (sym (filter_agrees _ _ (entries rs) (all_agree _ _ (λ (e : Entry). by_xid e true is (e.xid == x) refl) (entries rs))) ∙ none_in (entries rs)))
-    by_test false is =
-        let live : m.strand.undone ≡ false = or_left m.strand.undone (list_any (λ y. undone_in (l.strand y)) m.strand.above) (same_dropped l rs x m.strand h m.is ∙ is) in
-        rw (same_dropped l rs x m.strand h m.is ∙ is)
-        (m.is.changes live ∙ filter_agrees _ _ (entries rs) (all_agree _ _ (λ (e : Entry). by_xid e false is (e.xid == x) refl) (entries rs)))
+    by_test : (d : Bool) → is_dropped rs x ≡ d → m.strand.changes ≡ filter (λ e. not (is_dropped rs e.xid) && (e.xid == x)) (entries rs)
+    by_test true is = m.is.freed is ∙ sym (sym (filter_agrees _ _ (entries rs) (all_agree _ _ (λ (e : Entry). by_xid e true is (e.xid == x) refl) (entries rs))) ∙ none_in (entries rs))
+    by_test false is = m.is.changes is ∙ filter_agrees _ _ (entries rs) (all_agree _ _ (λ (e : Entry). by_xid e false is (e.xid == x) refl) (entries rs))
 
 -- of all xids of a transaction
 kept_xids : (l : ByXid) (rs : List Record) → AreStrandsOf l rs → (ys : List ℕ) → AllByRecursion (λ y. IsSome (l.strand y)) ys →
-    flat_map (λ x. kept_in l.strand (l.strand x)) ys ≡ flat_map (λ x. filter (λ e. e.xid == x) (filter (λ e. not (is_dropped rs e.xid)) (entries rs))) ys
+    flat_map (λ x. changes_in (l.strand x)) ys ≡ flat_map (λ x. filter (λ e. e.xid == x) (filter (λ e. not (is_dropped rs e.xid)) (entries rs))) ys
 kept_xids l rs h [] all = refl
 kept_xids l rs h (y ∷ ys) all = rw (kept_xid l rs y h all.0, kept_xids l rs h ys all.1) refl
 
@@ -151,7 +129,7 @@ of_members : (l : ByXid) (rs : List Record) (t : ℕ) (P : List Entry → Type 0
 of_members l rs t P h each = by_option (l.members t) refl
   where
     of_these : (xs : List ℕ) → AreDistinct xs → AllByRecursion (λ x. IsSome (l.strand x)) xs → all_in (l.members t) ≡ xs → P (joined l t)
-    of_these xs distinct some is = subst P (sym (ap (flat_map (λ x. kept_in l.strand (l.strand x))) is ∙ kept_xids l rs h xs some)) (each xs distinct is)
+    of_these xs distinct some is = subst P (sym (ap (flat_map (λ x. changes_in (l.strand x))) is ∙ kept_xids l rs h xs some)) (each xs distinct is)
 
     by_option : (o : Option (List ℕ)) → l.members t ≡ o → P (joined l t)
     by_option None is = of_these [] tt tt (ap all_in is)

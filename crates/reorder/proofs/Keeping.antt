@@ -1,5 +1,5 @@
 -- What a record does to what is kept is what it does to the log: a change, a rollback, and the end of a transaction.
-use Rattle.std.proofs.Common.{◌≡◌, ℕ, ◌<◌, ◌==◌, Bool, true, false, cond, ◌||◌, List, [], ◌∷◌, ◌++◌, Option, Some, None, refl, sym, ap, subst, ◌∙◌, eq-eqb}
+use Rattle.std.proofs.Common.{◌≡◌, ℕ, ◌<◌, ◌==◌, Bool, true, false, cond, ◌&&◌, ◌||◌, List, [], ◌∷◌, ◌++◌, reverse, Option, Some, None, refl, sym, ap, subst, ◌∙◌, eq-eqb}
 use Rattle.std.specs.Prelude.{IsSome}
 use Rattle.std.specs.List.{filter, list_any, AllByRecursion}
 use Rattle.std.specs.Option.{option_map}
@@ -7,15 +7,16 @@ use Rattle.std.proofs.lemmas.Bool.{ne_eqb}
 use Rattle.std.proofs.lemmas.List.{append-nil}
 use Rattle.std.proofs.lemmas.List.Elements.{filter-append}
 use Rattle.wal.specs.declared.record.Record.{Record}
-use Rattle.wal.specs.Log.{Entry, IsOpen, names, is_named, is_assigned, undoes, is_undone, ends, has_ended, chain, last_of, top_of, entry_at, entries}
-use Rattle.wal.proofs.Lists.{or_false, eqb_comm, all_append}
-use Rattle.wal.proofs.Laws.{chain-append, chain-unassigned, is_named-one, is_undone-one, has_ended-one, entries-append, KeepsChains}
+use Rattle.wal.specs.Log.{Entry, IsOpen, names, is_named, is_assigned, undoes, is_undone, is_dropped, ends, has_ended, chain, last_of, top_of, entry_at, entries}
+use Rattle.wal.proofs.Lists.{or_false, eqb_comm, all_append, list_any_agrees}
+use Rattle.wal.proofs.Laws.{chain-append, chain-unassigned, is_named-one, is_undone-one, has_ended-one, dropped-kept, entries-append, KeepsChains}
 use Rattle.reorder.specs.Rising.{IsRising}
-use Rattle.reorder.specs.Strands.{StrandState, ByXid, all_in, is_in, with_change, without_changes, pushed, undone, ended}
+use Rattle.reorder.specs.Strands.{StrandState, ByXid, above_in, above_of, all_in, back_from_last, behind, is_in, rolled_back, with_change, pushed, undone, ended}
 use Rattle.reorder.specs.Bookkeeping.{IsStrand, IsTransaction, AreStrandsOf, changes_of}
 use Rattle.reorder.specs.Taking.{StartsBehind}
 use Rattle.reorder.proofs.Named.{or_left, or_right, or_true, entries_before}
 use Rattle.reorder.proofs.Opening.{put_cases}
+use Rattle.reorder.proofs.Ordering.{in_reversed, one_of, ordered_back, stands_behind}
 
 pub some_of : {A B : Type 0} (f : A → B) (o : Option A) → IsSome o → IsSome (option_map f o)
 some_of f None some = some
@@ -54,18 +55,32 @@ was_named : (rs : List Record) (r : Record) (x q : ℕ) → names q r.body ≡ (
 was_named rs r x q naming other named =
     sym (or_false (is_named rs q)) ∙ ap (λ b. is_named rs q || b) (sym (naming ∙ eqb_comm q x ∙ other)) ∙ sym (is_named-one rs r q) ∙ named
 
+none_any : (xs : List ℕ) → list_any (λ y. false) xs ≡ false
+none_any [] = refl
+none_any (x ∷ xs) = none_any xs
+
+-- a record that rolls nothing back drops nothing
+dropped_same : (rs : List Record) (r : Record) → KeepsChains r.body → ((y : ℕ) → undoes y r.body ≡ false) → (q : ℕ) → is_dropped (rs ++ r ∷ []) q ≡ is_dropped rs q
+dropped_same rs r keeps undoing q =
+    dropped-kept rs r keeps q ∙ ap (λ b. is_dropped rs q || b) (list_any_agrees (λ y. undoes y r.body) (λ y. false) undoing (chain rs q) ∙ none_any (chain rs q)) ∙ or_false (is_dropped rs q)
+
 -- what is kept of a transaction's xids, where only the strands change, and none goes
 strands_changed : (l a : ByXid) (rs : List Record) (r : Record) → KeepsChains r.body → ((y : ℕ) → ends y r.body ≡ false) → ((x : ℕ) → IsSome (l.strand x) → IsSome (a.strand x)) →
-    (t : ℕ) (xs : List ℕ) → IsTransaction l rs t xs → IsTransaction a (rs ++ r ∷ []) t xs
-strands_changed l a rs r keeps ending stay t xs o = record {
+    ((x : ℕ) → above_of a x ≡ above_of l x) → (t : ℕ) (xs : List ℕ) → IsTransaction l rs t xs → IsTransaction a (rs ++ r ∷ []) t xs
+strands_changed l a rs r keeps ending stay above t xs o = record {
   running = has_ended-one rs r t ∙ ap (λ b. has_ended rs t || b) (ending t) ∙ or_false (has_ended rs t) ∙ o.running;
   own = o.own;
   distinct = o.distinct;
   strands = λ q inn. stay q (o.strands q inn);
   tops = λ q inn. top_same rs r keeps q ∙ o.tops q inn;
+  ordered = ordered_back l a xs (λ q inn. above q) o.ordered;
 }
 
 -- A CHANGE
+
+above_mapped : (f : StrandState → StrandState) (o : Option StrandState) → ((s : StrandState) → (f s).above ≡ s.above) → above_in (option_map f o) ≡ above_in o
+above_mapped f None same = refl
+above_mapped f (Some s) same = same s
 
 pub push_kept : (l : ByXid) (rs : List Record) (r : Record) (x : ℕ) (e : Entry) → AreStrandsOf l rs → IsOpen rs x → IsSome (l.strand x) → StartsBehind rs r →
     KeepsChains r.body → ((y : ℕ) → undoes y r.body ≡ false) → ((y : ℕ) → ends y r.body ≡ false) → ((y : ℕ) → names y r.body ≡ (y == x)) →
@@ -79,6 +94,8 @@ push_kept l rs r x e h alive has behind keeps undoing ending naming made xid pos
           (λ other is. as_it_was q s other (h.strands q s is));
       transactions = λ t xs is. strands_changed l (pushed x e l) rs r keeps ending
           (λ q some. put_cases IsSome x q (option_map (with_change e) (l.strand x)) l.strand (λ same. some_of (with_change e) (l.strand x) has) (λ other. some))
+          (λ q. put_cases (λ o. above_in o ≡ above_of l q) x q (option_map (with_change e) (l.strand x)) l.strand
+          (λ same. above_mapped (with_change e) (l.strand x) (λ s. refl) ∙ ap (above_of l) same) (λ other. refl))
           t xs (h.transactions t xs is);
       complete = λ q named kept running. put_cases IsSome x q (option_map (with_change e) (l.strand x)) l.strand (λ same. some_of (with_change e) (l.strand x) has)
           (λ other. h.complete q (was_named rs r x q (naming q) other named) (sym (undone_same q) ∙ kept) (sym (ended_same rs r keeps ending q) ∙ running));
@@ -92,15 +109,11 @@ push_kept l rs r x e h alive has behind keeps undoing ending naming made xid pos
     undone_same : (q : ℕ) → is_undone (rs ++ r ∷ []) q ≡ is_undone rs q
     undone_same q = is_undone-one rs r q ∙ ap (λ b. is_undone rs q || b) (undoing q) ∙ or_false (is_undone rs q)
 
-    live_still : (s : StrandState) → IsStrand l rs x s → s.undone ≡ false
-    live_still s o = o.undone ∙ or_left (is_undone rs x) (list_any (is_undone rs) s.above) (ap (list_any (is_undone rs)) (sym o.chain) ∙ alive.undropped)
-
     grown : (s : StrandState) → IsStrand l rs x s → IsStrand (pushed x e l) (rs ++ r ∷ []) x (with_change e s)
     grown s o = record {
       chain = chain_same x ∙ o.chain;
-      undone = o.undone ∙ sym (undone_same x);
-      freed = λ undone. let never : true ≡ false = sym undone ∙ live_still s o in cc;
-      changes = λ live. ap (λ es. es ++ e ∷ []) (o.changes live) ∙ sym (changes_push rs r x ∙ ap (λ es. changes_of rs x ++ es) (ap (filter (λ f. f.xid == x)) made ∙ rw (eq-eqb e.xid x xid) refl));
+      freed = λ dropped. let never : true ≡ false = sym dropped ∙ dropped_same rs r keeps undoing x ∙ alive.undropped in cc;
+      changes = λ live. ap (λ es. es ++ e ∷ []) (o.changes alive.undropped) ∙ sym (changes_push rs r x ∙ ap (λ es. changes_of rs x ++ es) (ap (filter (λ f. f.xid == x)) made ∙ rw (eq-eqb e.xid x xid) refl));
       members = o.members;
       members_are = o.members_are;
       within = o.within;
@@ -109,9 +122,9 @@ push_kept l rs r x e h alive has behind keeps undoing ending naming made xid pos
     as_it_was : (q : ℕ) (s : StrandState) → (x == q) ≡ false → IsStrand l rs q s → IsStrand (pushed x e l) (rs ++ r ∷ []) q s
     as_it_was q s other o = record {
       chain = chain_same q ∙ o.chain;
-      undone = o.undone ∙ sym (undone_same q);
-      freed = o.freed;
-      changes = λ live. o.changes live ∙ sym (changes_push rs r q ∙ ap (λ es. changes_of rs q ++ es) (ap (filter (λ f. f.xid == q)) made ∙ rw (xid, other) refl) ∙ append-nil (changes_of rs q));
+      freed = λ dropped. o.freed (sym (dropped_same rs r keeps undoing q) ∙ dropped);
+      changes = λ live. o.changes (sym (dropped_same rs r keeps undoing q) ∙ live)
+          ∙ sym (changes_push rs r q ∙ ap (λ es. changes_of rs q ++ es) (ap (filter (λ f. f.xid == q)) made ∙ rw (xid, other) refl) ∙ append-nil (changes_of rs q));
       members = o.members;
       members_are = o.members_are;
       within = o.within;
@@ -119,55 +132,83 @@ push_kept l rs r x e h alive has behind keeps undoing ending naming made xid pos
 
 -- A ROLLBACK
 
+-- the transaction of an xid that has a strand
+top_above : (l : ByXid) (rs : List Record) (x : ℕ) → AreStrandsOf l rs → IsSome (l.strand x) → last_of x (above_of l x) ≡ top_of rs x
+top_above l rs x h some = by_option (l.strand x) refl some
+  where
+    by_option : (o : Option StrandState) → l.strand x ≡ o → IsSome o → last_of x (above_in (l.strand x)) ≡ top_of rs x
+    by_option None is has = let never : false ≡ true = has in cc
+    by_option (Some s) is has = let o : IsStrand l rs x s = h.strands x s is in ap (λ w. last_of x (above_in w)) is ∙ ap (last_of x) (sym o.chain)
+
+-- an xid under another stands behind it
+below_is : (l : ByXid) (rs : List Record) (x q : ℕ) (s : StrandState) → AreStrandsOf l rs → l.strand q ≡ Some s → is_in x s.above ≡ true → is_in q (behind x (back_from_last l x)) ≡ true
+below_is l rs x q s h is above =
+    let o : IsStrand l rs q s = h.strands q s is in
+    let w : IsTransaction l rs (last_of q s.above) o.members = h.transactions (last_of q s.above) o.members o.members_are in
+    let inn : is_in x o.members ≡ true = one_of (λ y. is_in y o.members ≡ true) x s.above o.within.1 above in
+    let top : last_of x (above_of l x) ≡ last_of q s.above = top_above l rs x h (w.strands x inn) ∙ w.tops x inn in
+    let back : back_from_last l x ≡ reverse o.members = ap (λ t. reverse (all_in (l.members t))) top ∙ ap (λ m. reverse (all_in m)) o.members_are in
+    ap (λ ys. is_in q (behind x ys)) back
+    ∙ stands_behind l x q (reverse o.members) w.ordered (in_reversed q o.members ∙ o.within.0) (ap (λ v. is_in x (above_in v)) is ∙ above)
+
+nothing_left : (b : Bool) (es : List Entry) → es ≡ [] → cond b [] es ≡ []
+nothing_left true es none = refl
+nothing_left false es none = none
+
+and_false : (a : Bool) → (a && false) ≡ false
+and_false true = refl
+and_false false = refl
+
 pub undo_kept : (l : ByXid) (rs : List Record) (r : Record) (x : ℕ) → AreStrandsOf l rs →
     KeepsChains r.body → ((y : ℕ) → undoes y r.body ≡ (x == y)) → ((y : ℕ) → ends y r.body ≡ false) → ((y : ℕ) → names y r.body ≡ (y == x)) →
     entry_at r.start r.body ≡ [] → AreStrandsOf (undone x l) (rs ++ r ∷ [])
 undo_kept l rs r x h keeps undoing ending naming none =
     record {
-      strands = λ q s. put_cases (λ o. o ≡ Some s → IsStrand (undone x l) (rs ++ r ∷ []) q s) x q (option_map without_changes (l.strand x)) l.strand
-          (λ same is. let m : Mapped without_changes (l.strand x) s = mapped without_changes (l.strand x) s is in
-          subst (λ (v : StrandState). IsStrand (undone x l) (rs ++ r ∷ []) q v) m.now_is
-          (subst (λ (y : ℕ). IsStrand (undone x l) (rs ++ r ∷ []) y (without_changes m.was)) same (dropped m.was (h.strands x m.was m.was_is))))
-          (λ other is. as_it_was q s other (h.strands q s is));
-      transactions = λ t xs is. strands_changed l (undone x l) rs r keeps ending
-          (λ q some. put_cases IsSome x q (option_map without_changes (l.strand x)) l.strand (λ same. some_of without_changes (l.strand x) (subst (λ (y : ℕ). IsSome (l.strand y)) (sym same) some)) (λ other. some))
-          t xs (h.transactions t xs is);
-      complete = λ q named kept running. put_cases IsSome x q (option_map without_changes (l.strand x)) l.strand
-          (λ same. let never : true ≡ false = sym (undone_here q same) ∙ kept in cc)
-          (λ other. h.complete q (was_named rs r x q (naming q) other named) (sym (undone_apart q other) ∙ kept) (sym (ended_same rs r keeps ending q) ∙ running));
+      strands = λ q s is. let m : Mapped (rolled_back x (back_from_last l x) q) (l.strand q) s = mapped (rolled_back x (back_from_last l x) q) (l.strand q) s is in
+          subst (λ (v : StrandState). IsStrand (undone x l) (rs ++ r ∷ []) q v) m.now_is (rolled q m.was m.was_is (h.strands q m.was m.was_is));
+      transactions = λ t xs is. strands_changed l (undone x l) rs r keeps ending (λ q some. some_of (rolled_back x (back_from_last l x) q) (l.strand q) some)
+          (λ q. above_mapped (rolled_back x (back_from_last l x) q) (l.strand q) (λ s. refl)) t xs (h.transactions t xs is);
+      complete = λ q named kept running. still q (x == q) refl named kept running;
       rising = subst (λ (es : List Entry). IsRising es) (sym (entries_push rs r ∙ ap (λ es. entries rs ++ es) none ∙ append-nil (entries rs))) h.rising;
     }
   where
-    chain_same : (q : ℕ) → chain (rs ++ r ∷ []) q ≡ chain rs q
-    chain_same q = chain-append rs r q ∙ keeps (chain rs) q
+    undone_more : (q : ℕ) → is_undone (rs ++ r ∷ []) q ≡ (is_undone rs q || (x == q))
+    undone_more q = is_undone-one rs r q ∙ ap (λ b. is_undone rs q || b) (undoing q)
 
-    undone_here : (q : ℕ) → x ≡ q → is_undone (rs ++ r ∷ []) q ≡ true
-    undone_here q same = is_undone-one rs r q ∙ ap (λ b. is_undone rs q || b) (undoing q ∙ eq-eqb x q same) ∙ or_true (is_undone rs q) true refl
+    dropped_more : (q : ℕ) → is_dropped (rs ++ r ∷ []) q ≡ (is_dropped rs q || is_in x (chain rs q))
+    dropped_more q = dropped-kept rs r keeps q ∙ ap (λ b. is_dropped rs q || b) (list_any_agrees (λ y. undoes y r.body) (λ y. x == y) undoing (chain rs q))
 
-    undone_apart : (q : ℕ) → (x == q) ≡ false → is_undone (rs ++ r ∷ []) q ≡ is_undone rs q
-    undone_apart q other = is_undone-one rs r q ∙ ap (λ b. is_undone rs q || b) (undoing q ∙ other) ∙ or_false (is_undone rs q)
+    still : (q : ℕ) (b : Bool) → (x == q) ≡ b → is_named (rs ++ r ∷ []) q ≡ true → is_undone (rs ++ r ∷ []) q ≡ false → has_ended (rs ++ r ∷ []) (top_of (rs ++ r ∷ []) q) ≡ false → IsSome (option_map (rolled_back x (back_from_last l x) q) (l.strand q))
+    still q true same named kept running = let never : true ≡ false = sym (or_true (is_undone rs q) (x == q) same) ∙ sym (undone_more q) ∙ kept in cc
+    still q false other named kept running =
+        some_of (rolled_back x (back_from_last l x) q) (l.strand q)
+        (h.complete q (was_named rs r x q (naming q) other named) (or_left (is_undone rs q) (x == q) (sym (undone_more q) ∙ kept)) (sym (ended_same rs r keeps ending q) ∙ running))
 
-    dropped : (s : StrandState) → IsStrand l rs x s → IsStrand (undone x l) (rs ++ r ∷ []) x (without_changes s)
-    dropped s o = record {
-      chain = chain_same x ∙ o.chain;
-      undone = sym (undone_here x refl);
-      changes = λ live. let never : true ≡ false = live in cc;
-      freed = λ undone. refl;
+    rolled : (q : ℕ) (s : StrandState) → l.strand q ≡ Some s → IsStrand l rs q s → IsStrand (undone x l) (rs ++ r ∷ []) q (rolled_back x (back_from_last l x) q s)
+    rolled q s is o = record {
+      chain = chain-append rs r q ∙ keeps (chain rs) q ∙ o.chain;
+      changes = λ live. kept_on (sym (dropped_more q) ∙ live);
+      freed = λ dropped. given_up (is_dropped rs q) refl (sym (dropped_more q) ∙ dropped);
       members = o.members;
       members_are = o.members_are;
       within = o.within;
     }
+      where
+        kept_on : (is_dropped rs q || is_in x (chain rs q)) ≡ false → (rolled_back x (back_from_last l x) q s).changes ≡ changes_of (rs ++ r ∷ []) q
+        kept_on both =
+            let apart : is_in x (q ∷ s.above) ≡ false = ap (is_in x) (sym o.chain) ∙ or_right (is_dropped rs q) (is_in x (chain rs q)) both in
+            rw (or_left (x == q) (is_in x s.above) apart, or_right (x == q) (is_in x s.above) apart, and_false (is_in q (behind x (back_from_last l x))))
+            (o.changes (or_left (is_dropped rs q) (is_in x (chain rs q)) both)
+            ∙ sym (changes_push rs r q ∙ ap (λ es. changes_of rs q ++ filter (λ f. f.xid == q) es) none ∙ append-nil (changes_of rs q)))
 
-    as_it_was : (q : ℕ) (s : StrandState) → (x == q) ≡ false → IsStrand l rs q s → IsStrand (undone x l) (rs ++ r ∷ []) q s
-    as_it_was q s other o = record {
-      chain = chain_same q ∙ o.chain;
-      undone = o.undone ∙ sym (undone_apart q other);
-      freed = o.freed;
-      changes = λ live. o.changes live ∙ sym (changes_push rs r q ∙ ap (λ es. changes_of rs q ++ filter (λ f. f.xid == q) es) none ∙ append-nil (changes_of rs q));
-      members = o.members;
-      members_are = o.members_are;
-      within = o.within;
-    }
+        under_it : (a b : Bool) → (x == q) ≡ a → is_in x s.above ≡ b → (a || b) ≡ true → (rolled_back x (back_from_last l x) q s).changes ≡ []
+        under_it true b same above both = rw same refl
+        under_it false true other above both = rw (other, below_is l rs x q s h is above, above) refl
+        under_it false false other above both = let never : false ≡ true = both in cc
+
+        given_up : (d : Bool) → is_dropped rs q ≡ d → (d || is_in x (chain rs q)) ≡ true → (rolled_back x (back_from_last l x) q s).changes ≡ []
+        given_up true dropped both = nothing_left ((x == q) || (is_in q (behind x (back_from_last l x)) && is_in x s.above)) s.changes (o.freed dropped)
+        given_up false live both = under_it (x == q) (is_in x s.above) refl refl (ap (is_in x) (sym o.chain) ∙ both)
 
 -- AN END
 
@@ -216,9 +257,8 @@ end_kept l rs r t h alone keeps undoing ending naming none =
         let o : IsStrand l rs q s = h.strands q s is in
         record {
           chain = chain-append rs r q ∙ keeps (chain rs) q ∙ o.chain;
-          undone = o.undone ∙ sym (undone_same q);
-          freed = o.freed;
-          changes = λ live. o.changes live ∙ sym (changes_push rs r q ∙ ap (λ es. changes_of rs q ++ filter (λ f. f.xid == q) es) none ∙ append-nil (changes_of rs q));
+          freed = λ dropped. o.freed (sym (dropped_same rs r keeps undoing q) ∙ dropped);
+          changes = λ live. o.changes (sym (dropped_same rs r keeps undoing q) ∙ live) ∙ sym (changes_push rs r q ∙ ap (λ es. changes_of rs q ++ filter (λ f. f.xid == q) es) none ∙ append-nil (changes_of rs q));
           members = o.members;
           members_are = put_cases (λ m. m ≡ Some o.members) t (last_of q s.above) None l.members
               (λ same. let never : true ≡ false = sym (ap (λ m. is_in q (all_in m)) (ap l.members same ∙ o.members_are) ∙ o.within.0) ∙ out in cc) (λ other. o.members_are);
@@ -230,6 +270,10 @@ end_kept l rs r t h alone keeps undoing ending naming none =
       running = has_ended-one rs r t' ∙ ap (λ b. has_ended rs t' || b) (ending t' ∙ other) ∙ or_false (has_ended rs t') ∙ o.running;
       own = o.own;
       distinct = o.distinct;
-      strands = λ q inn. stays q (not_member l rs t q h (ap (λ y. t == y) (o.tops q inn) ∙ other)) (o.strands q inn);
+      strands = λ q inn. stays q (apart q inn) (o.strands q inn);
       tops = λ q inn. top_same rs r keeps q ∙ o.tops q inn;
+      ordered = ordered_back l (ended t l) xs (λ q inn. rw (apart q inn) refl) o.ordered;
     }
+      where
+        apart : (q : ℕ) → is_in q xs ≡ true → is_in q (all_in (l.members t)) ≡ false
+        apart q inn = not_member l rs t q h (ap (λ y. t == y) (o.tops q inn) ∙ other)

@@ -1,32 +1,188 @@
--- What is kept as lists of entries, seen as functions of an xid.
-use Rattle.std.proofs.Common.{◌≡◌, ℕ, ◌==◌, List, ◌∷◌, Some, cond, refl, sym, ap, ◌∙◌}
+-- What is kept, seen as functions of an xid: its strand, with the changes that lie in the pool.
+use Rattle.std.proofs.Common.{◌≡◌, ℕ, ◌==◌, Bool, true, false, cond, ◌&&◌, ◌||◌, List, [], ◌∷◌, ◌++◌, reverse, Option, Some, None, map, refl, sym, ap, subst, ◌∙◌, eq-eqb}
+use Rattle.std.proofs.lemmas.Bool.{eqb-true}
+use Rattle.std.proofs.lemmas.List.{map-append}
+use Rattle.std.specs.List.{AllByRecursion, flat_map}
 use Rattle.std.specs.Map.{lookup}
 use Rattle.std.specs.Option.{option_map}
-use Rattle.std.specs.List.{flat_map}
-use Rattle.wal.specs.Log.{Entry, last_of}
-use Rattle.reorder.specs.Strands.{StrandState, StrandsState, IsSame, by_xid, put, fresh, above_of, all_in, kept_in, joined, with_member, without_changes, assigned, undone}
+use Rattle.wal.specs.Log.{last_of}
+use Rattle.reorder.specs.Entries.{entry_in}
+use Rattle.reorder.specs.Pool.{PoolState, entries_at, put, with_entries}
+use Rattle.reorder.specs.Strands.{StrandState, Standing, StrandsState, IsSame, all_in, by_xid, ended, fresh, above_of, is_in, kept_spots, spots_of, strand_at, with_change, with_changes, with_member, above_in, above_standing, back_from_last, back_in, behind, rolled_back, started, assigned, pushed, undone}
+use Rattle.reorder.specs.Ready.{SpotState}
+use Rattle.wal.proofs.Laws.{all_when}
+use Rattle.reorder.proofs.Named.{or_true}
+use Rattle.reorder.proofs.Opening.{put_cases}
 
-pub assigned_same : (s now : StrandsState) (sub parent top : ℕ) (above : List ℕ) (strands : List (ℕ × StrandState)) (members : List (ℕ × List ℕ)) → s ≡ now →
-    above ≡ parent ∷ above_of (by_xid now) parent → top ≡ last_of parent above →
-    ((x : ℕ) → lookup (λ k. x == k) strands ≡ cond (sub == x) (Some (fresh above)) (lookup (λ k. x == k) s.strands)) →
-    ((t : ℕ) → lookup (λ k. t == k) members ≡ put top (option_map (with_member sub) (lookup (λ k. top == k) s.members)) (λ t'. lookup (λ k. t' == k) s.members) t) →
-    IsSame (by_xid (record { strands = strands; members = members })) (assigned sub parent (by_xid now))
-assigned_same s now sub parent top above strands members same is last at all =
-    record {
-      strand = λ x. at x ∙ rw (same, is) refl;
-      members = λ t. all t ∙ rw (same, last, is) refl;
-    }
+-- where the entries of an xid stay, so does its strand
+pub shown_same : (pool pool' : PoolState) (x : ℕ) (o : Option Standing) → entries_at pool' x ≡ entries_at pool x → option_map (with_changes pool' x) o ≡ option_map (with_changes pool x) o
+shown_same pool pool' x None same = refl
+shown_same pool pool' x (Some s) same = rw same refl
 
-pub undone_same : (s now : StrandsState) (xid : ℕ) (strands : List (ℕ × StrandState)) → s ≡ now →
-    ((x : ℕ) → lookup (λ k. x == k) strands ≡ put xid (option_map without_changes (lookup (λ k. xid == k) s.strands)) (λ x'. lookup (λ k. x' == k) s.strands) x) →
-    IsSame (by_xid (record { strands = strands; members = s.members })) (undone xid (by_xid now))
-undone_same s now xid strands same at =
-    record {
-      strand = λ x. at x ∙ rw same refl;
-      members = λ t. rw same refl;
-    }
+abbrev at : List (ℕ × Standing) → ℕ → Option Standing
+at strands x = lookup (λ k. x == k) strands
 
-pub joined_same : (s now : StrandsState) (top : ℕ) (xids : List ℕ) (joined' : List Entry) → s ≡ now → lookup (λ k. top == k) s.members ≡ Some xids →
-    joined' ≡ flat_map (λ x. kept_in (by_xid s).strand ((by_xid s).strand x)) xids → joined' ≡ joined (by_xid now) top
-joined_same s now top xids joined' same at is =
-    is ∙ ap (λ o. flat_map (λ x. kept_in (by_xid s).strand ((by_xid s).strand x)) (all_in o)) (sym at) ∙ ap (λ (t : StrandsState). joined (by_xid t) top) same
+-- the strand of an xid, where that of one xid was put anew, and the entries of that xid too
+put_shown : (pool pool' : PoolState) (strands strands' : List (ℕ × Standing)) (xid : ℕ) (entries : List (List ℕ)) (w : Option Standing) (to : Option StrandState) →
+    ((x : ℕ) → entries_at pool' x ≡ with_entries pool xid entries x) → ((x : ℕ) → at strands' x ≡ put xid w (at strands) x) →
+    (entries_at pool' xid ≡ entries → option_map (with_changes pool' xid) w ≡ to) → (x : ℕ) → strand_at strands' pool' x ≡ put xid to (strand_at strands pool) x
+put_shown pool pool' strands strands' xid entries w to has puts here x = by_test (xid == x) refl
+  where
+    own : xid ≡ x → entries_at pool' xid ≡ entries
+    own same = has xid ∙ rw (eq-eqb xid xid refl) refl
+
+    by_test : (b : Bool) → (xid == x) ≡ b → strand_at strands' pool' x ≡ cond b to (strand_at strands pool x)
+    by_test true is =
+        let same : xid ≡ x = eqb-true xid x is in
+        ap (option_map (with_changes pool' x)) (puts x ∙ rw is refl) ∙ ap (λ z. option_map (with_changes pool' z) w) (sym same) ∙ here (own same)
+    by_test false is =
+        ap (option_map (with_changes pool' x)) (puts x ∙ rw is refl) ∙ shown_same pool pool' x (at strands x) (has x ∙ rw is refl)
+
+-- a change more
+pub pushed_same : (strands : List (ℕ × Standing)) (members : List (ℕ × List ℕ)) (pool pool' : PoolState) (xid : ℕ) (entry : List ℕ) →
+    ((x : ℕ) → entries_at pool' x ≡ with_entries pool xid (entries_at pool xid ++ entry ∷ []) x) →
+    IsSame (by_xid (record { strands = strands; members = members; pool = pool' })) (pushed xid (entry_in xid entry) (by_xid (record { strands = strands; members = members; pool = pool })))
+pushed_same strands members pool pool' xid entry has = record {
+  strand = put_shown pool pool' strands strands xid (entries_at pool xid ++ entry ∷ []) (at strands xid) (option_map (with_change (entry_in xid entry)) (strand_at strands pool xid)) has
+      (λ x. sym (put_cases (λ o. o ≡ at strands x) xid x (at strands xid) (at strands) (λ same. ap (at strands) same) (λ other. refl))) (grown (at strands xid));
+  members = λ t. refl;
+}
+  where
+    grown : (o : Option Standing) → entries_at pool' xid ≡ entries_at pool xid ++ entry ∷ [] →
+        option_map (with_changes pool' xid) o ≡ option_map (with_change (entry_in xid entry)) (option_map (with_changes pool xid) o)
+    grown None is = refl
+    grown (Some s) is = ap (λ es. Some (record { above = s.above; changes = es })) (ap (map (entry_in xid)) is ∙ map-append (entry_in xid) (entries_at pool xid) (entry ∷ []))
+
+pub started_same : (strands strands' : List (ℕ × Standing)) (members members' : List (ℕ × List ℕ)) (pool pool' : PoolState) (xid : ℕ) →
+    ((x : ℕ) → entries_at pool' x ≡ with_entries pool xid [] x) → ((x : ℕ) → at strands' x ≡ put xid (Some (record { above = [] })) (at strands) x) →
+    ((t : ℕ) → lookup (λ k. t == k) members' ≡ put xid (Some (xid ∷ [])) (λ t'. lookup (λ k. t' == k) members) t) →
+    IsSame (by_xid (record { strands = strands'; members = members'; pool = pool' })) (started xid (by_xid (record { strands = strands; members = members; pool = pool })))
+started_same strands strands' members members' pool pool' xid has puts all = record {
+  strand = put_shown pool pool' strands strands' xid [] (Some (record { above = [] })) (Some (fresh [])) has puts (λ is. ap (λ es. Some (record { above = []; changes = map (entry_in xid) es })) is);
+  members = all;
+}
+
+pub undone_same : (strands : List (ℕ × Standing)) (members : List (ℕ × List ℕ)) (pool pool' : PoolState) (xid : ℕ) →
+    ((x : ℕ) → entries_at pool' x ≡ cond ((xid == x) || (is_in x (behind xid (back_in (record { strands = strands; members = members; pool = pool }) xid)) && is_in xid (above_standing (at strands x)))) [] (entries_at pool x)) →
+    IsSame (by_xid (record { strands = strands; members = members; pool = pool' })) (undone xid (by_xid (record { strands = strands; members = members; pool = pool })))
+undone_same strands members pool pool' xid has = record {
+  strand = λ x. by_option x (at strands x) (has x);
+  members = λ t. refl;
+}
+  where
+    back_is : back_from_last (by_xid (record { strands = strands; members = members; pool = pool })) xid ≡ back_in (record { strands = strands; members = members; pool = pool }) xid
+    back_is = ap (λ above. reverse (all_in (lookup (λ k. last_of xid above == k) members))) (shown_above (at strands xid))
+      where
+        shown_above : (o : Option Standing) → above_in (option_map (with_changes pool xid) o) ≡ above_standing o
+        shown_above None = refl
+        shown_above (Some t) = refl
+
+    -- of one xid, where `gone` tells whether its entries went
+    shown : (x : ℕ) (gone : Bool) (t : Standing) → entries_at pool' x ≡ cond gone [] (entries_at pool x) →
+        with_changes pool' x t ≡ record { above = t.above; changes = cond gone [] (map (entry_in x) (entries_at pool x)) }
+    shown x true t same = rw same refl
+    shown x false t same = rw same refl
+
+    by_option : (x : ℕ) (o : Option Standing) → entries_at pool' x ≡ cond ((xid == x) || (is_in x (behind xid (back_in (record { strands = strands; members = members; pool = pool }) xid)) && is_in xid (above_standing o))) [] (entries_at pool x) →
+        option_map (with_changes pool' x) o ≡ option_map (rolled_back xid (back_from_last (by_xid (record { strands = strands; members = members; pool = pool })) xid) x) (option_map (with_changes pool x) o)
+    by_option x None same = refl
+    by_option x (Some t) same = rw back_is (ap Some (shown x ((xid == x) || (is_in x (behind xid (back_in (record { strands = strands; members = members; pool = pool }) xid)) && is_in xid t.above)) t same))
+
+-- the same where the entries of those under it went first
+pub undone_after : (s : StrandsState) (strands : List (ℕ × Standing)) (members : List (ℕ × List ℕ)) (pool pool' : PoolState) (xid : ℕ) → strands ≡ s.strands → members ≡ s.members →
+    ((x : ℕ) → entries_at pool x ≡ cond (is_in x (behind xid (back_in s xid)) && is_in xid (above_standing (at s.strands x))) [] (entries_at s.pool x)) →
+    ((x : ℕ) → entries_at pool' x ≡ with_entries pool xid [] x) → IsSame (by_xid (record { strands = strands; members = members; pool = pool' })) (undone xid (by_xid s))
+undone_after s strands members pool pool' xid same_strands same_members under has =
+    subst (λ (ss : List (ℕ × Standing)). IsSame (by_xid (record { strands = ss; members = members; pool = pool' })) (undone xid (by_xid s))) (sym same_strands)
+    (subst (λ (ms : List (ℕ × List ℕ)). IsSame (by_xid (record { strands = s.strands; members = ms; pool = pool' })) (undone xid (by_xid s))) (sym same_members)
+    (undone_same s.strands s.members s.pool pool' xid
+    (λ x. has x ∙ ap (λ es. cond (xid == x) [] es) (under x) ∙ either (xid == x) (is_in x (behind xid (back_in s xid)) && is_in xid (above_standing (at s.strands x))) (entries_at s.pool x))))
+  where
+    either : (a b : Bool) (es : List (List ℕ)) → cond a [] (cond b [] es) ≡ cond (a || b) [] es
+    either true b es = refl
+    either false b es = refl
+
+-- where the entries go of what stands behind an xid among those of its transaction
+pub given_back : (strands : List (ℕ × Standing)) (members : List (ℕ × List ℕ)) (pool pool' : PoolState) (xid top : ℕ) (ms xs : List ℕ) →
+    top ≡ last_of xid (above_standing (at strands xid)) → lookup (λ k. top == k) members ≡ Some ms → xs ≡ ms →
+    ((x : ℕ) → entries_at pool' x ≡ cond (is_in x (behind xid (reverse xs)) && is_in xid (above_standing (at strands x))) [] (entries_at pool x)) →
+    (x : ℕ) → entries_at pool' x ≡ cond (is_in x (behind xid (back_in (record { strands = strands; members = members; pool = pool }) xid)) && is_in xid (above_standing (at strands x))) [] (entries_at pool x)
+given_back strands members pool pool' xid top ms xs top_is found is each x =
+    each x ∙ ap (λ ys. cond (is_in x (behind xid (reverse ys)) && is_in xid (above_standing (at strands x))) [] (entries_at pool x))
+    (is ∙ sym (ap all_in (ap (λ t. lookup (λ k. t == k) members) (sym top_is) ∙ found)))
+
+-- a subtransaction comes under its parent
+pub assigned_same : (strands strands' : List (ℕ × Standing)) (members members' : List (ℕ × List ℕ)) (pool pool' : PoolState) (sub parent top : ℕ) (above : List ℕ) →
+    above ≡ parent ∷ above_of (by_xid (record { strands = strands; members = members; pool = pool })) parent → top ≡ last_of parent above →
+    ((x : ℕ) → entries_at pool' x ≡ with_entries pool sub [] x) → ((x : ℕ) → at strands' x ≡ put sub (Some (record { above = above })) (at strands) x) →
+    ((t : ℕ) → lookup (λ k. t == k) members' ≡ put top (option_map (with_member sub) (lookup (λ k. top == k) members)) (λ t'. lookup (λ k. t' == k) members) t) →
+    IsSame (by_xid (record { strands = strands'; members = members'; pool = pool' })) (assigned sub parent (by_xid (record { strands = strands; members = members; pool = pool })))
+assigned_same strands strands' members members' pool pool' sub parent top above is last has puts all = record {
+  strand = λ x. put_shown pool pool' strands strands' sub [] (Some (record { above = above })) (Some (fresh above)) has puts
+      (λ none. ap (λ es. Some (record { above = above; changes = map (entry_in sub) es })) none) x ∙ rw is refl;
+  members = λ t. all t ∙ rw (last, is) refl;
+}
+
+-- where xids go, and their entries
+pub ended_same : (strands strands' : List (ℕ × Standing)) (members members' : List (ℕ × List ℕ)) (pool pool' : PoolState) (top : ℕ) (xids : List ℕ) →
+    lookup (λ k. top == k) members ≡ Some xids → ((x : ℕ) → entries_at pool' x ≡ cond (is_in x xids) [] (entries_at pool x)) →
+    ((x : ℕ) → at strands' x ≡ cond (is_in x xids) None (at strands x)) → ((t : ℕ) → lookup (λ k. t == k) members' ≡ put top None (λ t'. lookup (λ k. t' == k) members) t) →
+    IsSame (by_xid (record { strands = strands'; members = members'; pool = pool' })) (ended top (by_xid (record { strands = strands; members = members; pool = pool })))
+ended_same strands strands' members members' pool pool' top xids is has puts all = record {
+  strand = λ x. rw is (by_test x (is_in x xids) (has x) (puts x));
+  members = all;
+}
+  where
+    by_test : (x : ℕ) (b : Bool) → entries_at pool' x ≡ cond b [] (entries_at pool x) → at strands' x ≡ cond b None (at strands x) → strand_at strands' pool' x ≡ cond b None (strand_at strands pool x)
+    by_test x true same gone = ap (option_map (with_changes pool' x)) gone
+    by_test x false same stays = ap (option_map (with_changes pool' x)) stays ∙ shown_same pool pool' x (at strands x) same
+
+-- the same with their entries where they are
+pub ended_but_entries : (strands strands' : List (ℕ × Standing)) (members members' : List (ℕ × List ℕ)) (pool : PoolState) (top : ℕ) (xids : List ℕ) →
+    all_in (lookup (λ k. top == k) members) ≡ xids → ((x : ℕ) → at strands' x ≡ cond (is_in x xids) None (at strands x)) →
+    ((t : ℕ) → lookup (λ k. t == k) members' ≡ put top None (λ t'. lookup (λ k. t' == k) members) t) →
+    IsSame (by_xid (record { strands = strands'; members = members'; pool = pool })) (ended top (by_xid (record { strands = strands; members = members; pool = pool })))
+ended_but_entries strands strands' members members' pool top xids is puts all = record {
+  strand = λ x. rw is (by_test x (is_in x xids) (puts x));
+  members = all;
+}
+  where
+    by_test : (x : ℕ) (b : Bool) → at strands' x ≡ cond b None (at strands x) → strand_at strands' pool x ≡ cond b None (strand_at strands pool x)
+    by_test x true gone = ap (option_map (with_changes pool x)) gone
+    by_test x false stays = ap (option_map (with_changes pool x)) stays
+
+pub spots_same : (strands : List (ℕ × Standing)) (members : List (ℕ × List ℕ)) (pool : PoolState) (top : ℕ) (xids : List ℕ) (spots : List SpotState) →
+    lookup (λ k. top == k) members ≡ Some xids → spots ≡ flat_map (kept_spots pool (at strands)) xids → spots ≡ spots_of (record { strands = strands; members = members; pool = pool }) top
+spots_same strands members pool top xids spots is all = all ∙ rw is refl
+
+strandless : (strands : List (ℕ × Standing)) (pool : PoolState) (x : ℕ) (ys : List ℕ) → AllByRecursion (λ y. strand_at strands pool y ≡ None) ys → is_in x ys ≡ true → strand_at strands pool x ≡ None
+strandless strands pool x [] all is = let never : false ≡ true = is in cc
+strandless strands pool x (y ∷ ys) all is = by_test (x == y) refl is (strandless strands pool x ys all.1)
+  where
+    by_test : (b : Bool) → (x == y) ≡ b → (b || is_in x ys) ≡ true → (is_in x ys ≡ true → strand_at strands pool x ≡ None) → strand_at strands pool x ≡ None
+    by_test true same one later = ap (strand_at strands pool) (eqb-true x y same) ∙ all.0
+    by_test false other one later = later one
+
+-- entries of xids without strands go unseen
+pub back_same : (strands : List (ℕ × Standing)) (members : List (ℕ × List ℕ)) (pool pool' : PoolState) (xids : List ℕ) →
+    AllByRecursion (λ x. strand_at strands pool x ≡ None) xids → ((x : ℕ) → entries_at pool' x ≡ cond (is_in x xids) [] (entries_at pool x)) →
+    IsSame (by_xid (record { strands = strands; members = members; pool = pool' })) (by_xid (record { strands = strands; members = members; pool = pool }))
+back_same strands members pool pool' xids none has = record { strand = λ x. by_test x (is_in x xids) refl (has x); members = λ t. refl }
+  where
+    without : (x : ℕ) (o : Option Standing) → option_map (with_changes pool x) o ≡ None → option_map (with_changes pool' x) o ≡ option_map (with_changes pool x) o
+    without x None is = refl
+    without x (Some s) is = let never : Some (with_changes pool x s) ≡ None = is in cc
+
+    by_test : (x : ℕ) (b : Bool) → is_in x xids ≡ b → entries_at pool' x ≡ cond b [] (entries_at pool x) → strand_at strands pool' x ≡ strand_at strands pool x
+    by_test x true is same = without x (at strands x) (strandless strands pool x xids none is)
+    by_test x false is same = shown_same pool pool' x (at strands x) same
+
+in_itself : (xs : List ℕ) → AllByRecursion (λ x. is_in x xs ≡ true) xs
+in_itself [] = tt
+in_itself (x ∷ xs) = (rw (eq-eqb x x refl) refl, all_when (λ y. is_in y xs ≡ true) (λ y. is_in y (x ∷ xs) ≡ true) (λ y is. or_true (y == x) (is_in y xs) is) xs (in_itself xs))
+
+-- xids whose strands are gone have none
+pub none_left : (strands strands' : List (ℕ × Standing)) (pool : PoolState) (xids : List ℕ) → ((x : ℕ) → at strands' x ≡ cond (is_in x xids) None (at strands x)) →
+    AllByRecursion (λ x. strand_at strands' pool x ≡ None) xids
+none_left strands strands' pool xids puts =
+    all_when (λ x. is_in x xids ≡ true) (λ x. strand_at strands' pool x ≡ None) (λ x is. ap (option_map (with_changes pool x)) (puts x ∙ ap (λ b. cond b None (at strands x)) is)) xids (in_itself xids)

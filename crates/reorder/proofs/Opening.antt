@@ -1,13 +1,16 @@
 -- What is kept, with an xid more.
 use Rattle.std.proofs.Common.{◌≡◌, ℕ, ◌==◌, Bool, true, false, cond, ◌||◌, List, [], ◌∷◌, Option, Some, None, is_some, refl, sym, ap, subst, ◌∙◌, eq-eqb}
 use Rattle.std.specs.Prelude.{IsSome}
+use Rattle.std.specs.List.{AllByRecursion}
 use Rattle.std.proofs.lemmas.Bool.{eqb-true}
 use Rattle.wal.specs.declared.record.Record.{Record}
 use Rattle.wal.specs.Log.{IsOpen, is_named, has_ended, chain, last_of, top_of}
 use Rattle.wal.proofs.Laws.{chain-unassigned}
-use Rattle.reorder.specs.Strands.{StrandState, StrandsState, ByXid, by_xid, IsSame, put, fresh, is_in, started}
+use Rattle.reorder.specs.Pool.{put}
+use Rattle.reorder.specs.Strands.{StrandState, StrandsState, ByXid, above_in, above_of, by_xid, IsSame, fresh, is_in, started}
 use Rattle.reorder.specs.Bookkeeping.{IsStrand, IsTransaction, AreStrandsOf}
-use Rattle.reorder.proofs.Named.{unassigned, not_undone, undropped, no_changes}
+use Rattle.reorder.proofs.Named.{unassigned, undropped, no_changes}
+use Rattle.reorder.proofs.Ordering.{ordered_back}
 
 pub put_cases : {A : Type 0} (P : Option A → Type 0) (k x : ℕ) (w : Option A) (f : ℕ → Option A) → (k ≡ x → P w) → ((k == x) ≡ false → P (f x)) → P (put k w f x)
 put_cases P k x w f here other = by_test (k == x) refl
@@ -69,7 +72,6 @@ start_kept l rs x h alive none =
     new_strand : IsStrand (started x l) rs x (fresh [])
     new_strand = record {
       chain = alone;
-      undone = sym (not_undone rs x unheard);
       changes = λ live. sym (no_changes rs x unheard);
       freed = λ undone. refl;
       members = x ∷ [];
@@ -80,7 +82,6 @@ start_kept l rs x h alive none =
     old_strand : (q : ℕ) (s : StrandState) → IsStrand l rs q s → IsStrand (started x l) rs q s
     old_strand q s o = record {
       chain = o.chain;
-      undone = o.undone;
       changes = o.changes;
       freed = o.freed;
       members = o.members;
@@ -96,6 +97,7 @@ start_kept l rs x h alive none =
       distinct = (refl, tt);
       strands = λ q inn. subst (λ (y : ℕ). IsSome ((started x l).strand y)) (in_one q x inn) (ap is_some (put_here x (Some (fresh [])) l.strand));
       tops = λ q inn. subst (λ (y : ℕ). top_of rs y ≡ x) (in_one q x inn) (ap (last_of x) alone);
+      ordered = (refl, subst (λ (ys : List ℕ). AllByRecursion (λ y. is_in y [] ≡ true) ys) (sym (ap above_in (put_here x (Some (fresh [])) l.strand))) tt, tt);
     }
 
     old_transaction : (t : ℕ) (xs : List ℕ) → IsTransaction l rs t xs → IsTransaction (started x l) rs t xs
@@ -105,15 +107,24 @@ start_kept l rs x h alive none =
       distinct = o.distinct;
       strands = λ q inn. put_cases IsSome x q (Some (fresh [])) l.strand (λ same. refl) (λ other. o.strands q inn);
       tops = o.tops;
+      ordered = ordered_back l (started x l) xs
+          (λ q inn. put_cases (λ w. above_in w ≡ above_of l q) x q (Some (fresh [])) l.strand (λ same. absurd (no_some (l.strand q) (ap l.strand (sym same) ∙ none) (o.strands q inn))) (λ other. refl)) o.ordered;
     }
 
 pub same_kept : (a b : ByXid) (rs : List Record) → IsSame a b → AreStrandsOf b rs → AreStrandsOf a rs
 same_kept a b rs same h =
     record {
       strands = λ q s is. let o : IsStrand b rs q s = h.strands q s (sym (same.strand q) ∙ is) in
-          record { chain = o.chain; undone = o.undone; changes = o.changes; freed = o.freed; members = o.members; members_are = same.members (last_of q s.above) ∙ o.members_are; within = o.within };
+          record { chain = o.chain; changes = o.changes; freed = o.freed; members = o.members; members_are = same.members (last_of q s.above) ∙ o.members_are; within = o.within };
       transactions = λ t xs is. let o : IsTransaction b rs t xs = h.transactions t xs (sym (same.members t) ∙ is) in
-          record { running = o.running; own = o.own; distinct = o.distinct; strands = λ q inn. ap is_some (same.strand q) ∙ o.strands q inn; tops = o.tops };
+          record {
+            running = o.running;
+            own = o.own;
+            distinct = o.distinct;
+            strands = λ q inn. ap is_some (same.strand q) ∙ o.strands q inn;
+            tops = o.tops;
+            ordered = ordered_back b a xs (λ q inn. ap above_in (same.strand q)) o.ordered;
+          };
       complete = λ q named kept running. ap is_some (same.strand q) ∙ h.complete q named kept running;
       rising = h.rising;
     }

@@ -1,6 +1,7 @@
 -- Each record leaves what is kept as the log with it has it, and a Commit gives what its transaction keeps.
 use Rattle.std.proofs.Common.{◌≡◌, ℕ, ℤ, ◌==◌, Bool, true, false, cond, ◌||◌, List, [], ◌∷◌, ◌++◌, Option, Some, None, refl, sym, ap, subst, ◌∙◌, nat_cmp}
 use Rattle.std.specs.Prelude.{IsSome}
+use Rattle.std.specs.Map.{lookup}
 use Rattle.std.specs.Option.{option_map}
 use Rattle.std.specs.List.Sorted.{IsNonDecreasingBy, IsStableByKey}
 use Rattle.tables.specs.declared.change.Change.{Change}
@@ -11,9 +12,10 @@ use Rattle.wal.specs.Log.{Entry, names, is_named, has_ended, last_of, top_of, ke
 use Rattle.wal.proofs.Lists.{eqb_comm}
 use Rattle.wal.proofs.Laws.{chain-unassigned, is_named-one}
 use Rattle.reorder.specs.Kept.{kept_entry}
-use Rattle.reorder.specs.Strands.{StrandsState, ByXid, IsSame, by_xid, put, fresh, above_of, is_in, all_in, with_change, without_changes, started, assigned, pushed, undone, ended, joined}
+use Rattle.reorder.specs.Pool.{put}
+use Rattle.reorder.specs.Strands.{StrandsState, ByXid, IsSame, by_xid, strand_at, fresh, above_of, is_in, all_in, back_from_last, rolled_back, with_change, started, assigned, pushed, undone, ended, joined}
 use Rattle.reorder.specs.Bookkeeping.{IsBookkeeping}
-use Rattle.reorder.specs.Taking.{ReorderState, HasTaken, MayCome, StartsBehind, Takes, promised}
+use Rattle.reorder.specs.Taking.{ReorderState, HasTaken, IsSameTaken, MayCome, StartsBehind, Takes, promised}
 use Rattle.reorder.proofs.Named.{or_left, or_right}
 use Rattle.reorder.proofs.Opening.{Opened, opened, same_kept}
 use Rattle.reorder.proofs.Assigning.{assign_kept}
@@ -30,16 +32,19 @@ has_taken s failed rs h = record {
   ready = h;
 }
 
-pub nothing_taken : (failed : Bool) → HasTaken (state (record { strands = []; members = [] }) failed) []
-nothing_taken failed = has_taken (record { strands = []; members = [] }) failed [] (record {
+pub nothing_taken : (s : StrandsState) (failed : Bool) → s.strands ≡ [] → s.members ≡ [] → HasTaken (state s failed) []
+nothing_taken s failed no_strands no_members = has_taken s failed [] (record {
   strands = record {
-    strands = λ x s is. let never : None ≡ Some s = is in cc;
-    transactions = λ t xs is. let never : None ≡ Some xs = is in cc;
+    strands = λ x t is. let never : None ≡ Some t = sym (none x) ∙ is in cc;
+    transactions = λ t xs is. let never : None ≡ Some xs = sym (ap (λ ms. lookup (λ k. t == k) ms) no_members) ∙ is in cc;
     complete = λ x named kept running. let never : false ≡ true = named in cc;
     rising = tt;
   };
-  unnamed = λ x unnamed. refl;
+  unnamed = λ x unnamed. none x;
 })
+  where
+    none : (x : ℕ) → (by_xid s).strand x ≡ None
+    none x = ap (λ ss. strand_at ss s.pool x) no_strands
 
 -- what the bookkeeping does with a record of this body that may come next is what `Takes` asks
 takes : (s now : StrandsState) (b d : Bool) (r : Record) (body : Body) (ready : Option (List Entry)) → r.body ≡ body →
@@ -104,7 +109,7 @@ taken_rollback s now b d r x body same = takes s now b d r (AbortSub x) None bod
           strands = same_kept (by_xid now) (undone x (by_xid s)) (before ++ r ∷ []) same
               (undo_kept (by_xid s) before r x h.strands (rw body (λ above y. refl)) (rw body (λ y. refl)) (rw body (λ y. refl)) (rw body (λ y. refl)) (rw body refl));
           unnamed = λ q unheard.
-              same.strand q ∙ put_apart x q (option_map without_changes ((by_xid s).strand x)) (by_xid s).strand (not_here before r (AbortSub x) q body unheard) ∙ h.unnamed q (before_too before r q unheard);
+              same.strand q ∙ ap (option_map (rolled_back x (back_from_last (by_xid s) x) q)) (h.unnamed q (before_too before r q unheard));
         }
 
 -- an xid that has no strand has none after an end either
@@ -144,3 +149,15 @@ taken_commit s now b d r t time sorted body up stable same =
     brings before h next =
         let top : top_of before t ≡ t = ap (last_of t) (chain-unassigned before t next.0) in
         ap Some (kept_merged (by_xid s) before t sorted h.strands (ap (has_ended before) (sym top) ∙ next.1.running) up stable)
+
+-- what stands as before has taken the same records
+pub same_taken : (s now : ReorderState) (rs : List Record) → IsSameTaken s now → HasTaken s rs → HasTaken now rs
+same_taken s now rs same h = has_taken now.strands now.failed rs (record {
+  strands = same_kept (by_xid now.strands) (by_xid s.strands) rs same.strands h.ready.strands;
+  unnamed = λ x unnamed. same.strands.strand x ∙ h.ready.unnamed x unnamed;
+})
+
+pub takes_same : (old mid now : ReorderState) (r : Record) (ready : Option (List Entry)) → Takes old mid r ready → IsSameTaken mid now → Takes old now r ready
+takes_same old mid now r ready takes same = record {
+  after = λ before h next behind. let both = takes.after before h next behind in (same_taken mid now (before ++ r ∷ []) same both.0, both.1);
+}

@@ -1,20 +1,37 @@
 -- What is kept between two records, xid by xid, and what each record does to it.
-use Rattle.std.specs.Prelude.{◌≡◌, ℕ, ◌==◌, Bool, true, false, ◌||◌, List, [], ◌∷◌, ◌++◌, Option, Some, None, if◌then◌else◌}
+use Rattle.std.specs.Prelude.{◌≡◌, ℕ, ◌==◌, Bool, false, ◌&&◌, ◌||◌, List, [], ◌∷◌, ◌++◌, map, reverse, Option, Some, None, if◌then◌else◌}
 use Rattle.std.specs.List.{list_any, flat_map}
 use Rattle.std.specs.Map.{lookup}
 use Rattle.std.specs.Option.{option_map}
+use Rattle.reorder.specs.Entries.{entry_in}
+use Rattle.reorder.specs.Pool.{PoolState, entries_at, put}
+use Rattle.reorder.specs.Ready.{SpotState, spots_from}
 use Rattle.wal.specs.Log.{Entry, last_of}
 
--- of an xid: those above it, from its parent to its transaction, whether it is rolled back, and if not, its changes
+-- of an xid: those above it, from its parent to its transaction, and its changes, unless it or one above it is rolled back
 pub record StrandState : Type 0 where
   pub above : List ℕ
-  pub undone : Bool
   pub changes : List Entry
 
--- the strands by their xids, and the xids of each transaction
+-- the same without its changes
+pub record Standing : Type 0 where
+  pub above : List ℕ
+
+-- the strands by their xids, the xids of each transaction, and where the changes of each xid lie
 pub record StrandsState : Type 0 where
-  pub strands : List (ℕ × StrandState)
+  pub strands : List (ℕ × Standing)
   pub members : List (ℕ × List ℕ)
+  pub pool : PoolState
+
+-- with the changes that lie in the pool
+abbrev pub changes_at : PoolState → ℕ → List Entry
+changes_at pool x = map (entry_in x) (entries_at pool x)
+
+abbrev pub with_changes : PoolState → ℕ → Standing → StrandState
+with_changes pool x s = record { above = s.above; changes = changes_at pool x }
+
+abbrev pub strand_at : List (ℕ × Standing) → PoolState → ℕ → Option StrandState
+strand_at strands pool x = option_map (with_changes pool x) (lookup (λ k. x == k) strands)
 
 -- the same as functions of an xid
 pub record ByXid : Type 0 where
@@ -23,28 +40,20 @@ pub record ByXid : Type 0 where
 
 -- the strand of an xid, and the xids of a transaction; none where nothing is kept
 abbrev pub by_xid : StrandsState → ByXid
-by_xid s = record { strand = λ x. lookup (λ k. x == k) s.strands; members = λ t. lookup (λ k. t == k) s.members }
+by_xid s = record { strand = strand_at s.strands s.pool; members = λ t. lookup (λ k. t == k) s.members }
 
 -- the same at every xid
 pub record IsSame (a b : ByXid) : Type 0 where
   pub strand : (x : ℕ) → a.strand x ≡ b.strand x
   pub members : (t : ℕ) → a.members t ≡ b.members t
 
--- f with w at k
-abbrev pub put : {A : Type 0} → ℕ → Option A → (ℕ → Option A) → ℕ → Option A
-put k w f x = if k == x then w else f x
-
 -- a strand without changes, under these xids
 abbrev pub fresh : List ℕ → StrandState
-fresh above = record { above = above; undone = false; changes = [] }
+fresh above = record { above = above; changes = [] }
 
 abbrev pub above_in : Option StrandState → List ℕ
 above_in None = []
 above_in (Some s) = s.above
-
-abbrev pub undone_in : Option StrandState → Bool
-undone_in None = false
-undone_in (Some s) = s.undone
 
 abbrev pub all_in : Option (List ℕ) → List ℕ
 all_in None = []
@@ -81,16 +90,25 @@ assigned sub parent l = record {
 abbrev pub with_change : Entry → StrandState → StrandState
 with_change e s = record s { changes = s.changes ++ e ∷ [] }
 
--- rolled back: its changes are given up
-abbrev pub without_changes : StrandState → StrandState
-without_changes s = record s { undone = true; changes = [] }
-
 -- a change more of the xid
 abbrev pub pushed : ℕ → Entry → ByXid → ByXid
 pushed x e l = record l { strand = put x (option_map (with_change e) (l.strand x)) l.strand }
 
+-- those behind the xid in a list that is told from its end
+abbrev pub behind : ℕ → List ℕ → List ℕ
+behind x [] = []
+behind x (y ∷ ys) = if y == x then [] else y ∷ behind x ys
+
+-- the xids of the transaction of this one, the last first
+abbrev pub back_from_last : ByXid → ℕ → List ℕ
+back_from_last l x = reverse (all_in (l.members (last_of x (above_of l x))))
+
+-- it and all under it are rolled back: their changes are given up
+abbrev pub rolled_back : ℕ → List ℕ → ℕ → StrandState → StrandState
+rolled_back x xs q s = record { above = s.above; changes = if (x == q) || (is_in q (behind x xs) && is_in x s.above) then [] else s.changes }
+
 abbrev pub undone : ℕ → ByXid → ByXid
-undone x l = record l { strand = put x (option_map without_changes (l.strand x)) l.strand }
+undone x l = record l { strand = λ q. option_map (rolled_back x (back_from_last l x) q) (l.strand q) }
 
 -- nothing is left of the transaction's xids
 abbrev pub ended : ℕ → ByXid → ByXid
@@ -101,11 +119,32 @@ ended t l = record {
 
 -- WHAT IS KEPT OF THEM
 
--- the changes of an xid, unless it or one above it is rolled back
-abbrev pub kept_in : (ℕ → Option StrandState) → Option StrandState → List Entry
-kept_in strand None = []
-kept_in strand (Some s) = if s.undone || list_any (λ y. undone_in (strand y)) s.above then [] else s.changes
+abbrev pub changes_in : Option StrandState → List Entry
+changes_in None = []
+changes_in (Some s) = s.changes
 
 -- the changes that a transaction keeps, xid after xid
 abbrev pub joined : ByXid → ℕ → List Entry
-joined l t = flat_map (λ x. kept_in l.strand (l.strand x)) (all_in (l.members t))
+joined l t = flat_map (λ x. changes_in (l.strand x)) (all_in (l.members t))
+
+-- WHERE IT LIES
+
+abbrev pub above_standing : Option Standing → List ℕ
+above_standing None = []
+above_standing (Some s) = s.above
+
+-- the xids of the transaction of this one, the last first
+abbrev pub back_in : StrandsState → ℕ → List ℕ
+back_in s x = reverse (all_in (lookup (λ k. last_of x (above_standing (lookup (λ k. x == k) s.strands)) == k) s.members))
+
+-- the spots of the changes of an xid
+abbrev pub spots_in : PoolState → ℕ → Option Standing → List SpotState
+spots_in pool x None = []
+spots_in pool x (Some s) = spots_from x 0 (entries_at pool x)
+
+abbrev pub kept_spots : PoolState → (ℕ → Option Standing) → ℕ → List SpotState
+kept_spots pool strand x = spots_in pool x (strand x)
+
+-- those of a transaction, xid after xid
+abbrev pub spots_of : StrandsState → ℕ → List SpotState
+spots_of s t = flat_map (kept_spots s.pool (λ x. lookup (λ k. x == k) s.strands)) (all_in (lookup (λ k. t == k) s.members))

@@ -7,7 +7,8 @@ use Rattle.wal.specs.declared.record.Record.{Record}
 use Rattle.wal.specs.declared.record.Body.{Body}
 use Rattle.wal.specs.declared.record.Body.TheVariants.{AbortSub, Commit}
 use Rattle.wal.specs.Log.{Entry, IsNext, IsOpen, has_ended, kept}
-use Rattle.reorder.specs.Strands.{StrandsState, by_xid, joined}
+use Rattle.reorder.specs.Ready.{IsReadyIn, ReadyState, ready_entries}
+use Rattle.reorder.specs.Strands.{IsSame, StrandsState, by_xid, joined}
 use Rattle.reorder.specs.Bookkeeping.{IsBookkeeping}
 use Rattle.reorder.specs.declared.ready.Step.{Step}
 use Rattle.reorder.specs.declared.ready.Step.TheVariants as steps
@@ -42,9 +43,23 @@ abbrev pub promised : List Record → Body → Option (List Entry)
 promised before (Commit xid time) = Some (kept before xid)
 promised before _ = None
 
-abbrev pub readied : Step → Option (List Entry)
-readied steps.Quiet = None
-readied (steps.Ready entries) = Some entries
+abbrev pub readied : ReorderState → Step → Option (List Entry)
+readied s steps.Quiet = None
+readied s (steps.Ready ready) = Some (ready_entries s.strands.pool ready)
+
+-- what is ready lies in the arena, and nothing of its xids is in progress
+pub record IsHeld (s : ReorderState) (ready : ReadyState) : Type 0 where
+  pub there : IsReadyIn s.strands.pool ready
+  pub gone : AllByRecursion (λ x. (by_xid s.strands).strand x ≡ None) ready.xids
+
+abbrev pub IsStepHeld : ReorderState → Step → Type 0
+IsStepHeld s steps.Quiet = Unit {0}
+IsStepHeld s (steps.Ready ready) = IsHeld s ready
+
+-- it stands as before, as far as records are concerned
+pub record IsSameTaken (old new : ReorderState) : Type 0 where
+  pub strands : IsSame (by_xid new.strands) (by_xid old.strands)
+  pub failed : new.failed ≡ old.failed
 
 -- Whatever records it had taken, if this one may come next, it has taken this one too, and has given what that makes ready.
 pub record Takes (old new : ReorderState) (r : Record) (ready : Option (List Entry)) : Type 0 where

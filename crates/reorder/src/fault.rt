@@ -9,6 +9,8 @@ use thiserror::Error;
 /// Why a record was not taken.
 #[derive(Clone, Copy, Debug, PartialEq, Eq, Error)]
 pub enum ReorderFault {
+    #[error("Q1: change arena is full")]
+    Full,
     #[error("Q2: out of memory")]
     Memory,
     #[error("Q3: an earlier record was not taken")]

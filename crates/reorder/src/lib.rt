@@ -1,8 +1,10 @@
 //! Changes regrouped by transaction: what a log interleaves, a subscriber gets whole at each commit.
 #![tactic(auto)]
 
+mod entry;
 mod fault;
 mod members;
+mod pool;
 mod ready;
 mod reorder;
 mod strand;

@@ -34,6 +34,13 @@ impl Members {
         self.xids.as_slice()
     }
 
+    pub(crate) fn into_xids(self) -> Vec<u32>
+        ensures { result.items ≡ self }
+    {
+        let Members { xids } = self;
+        xids
+    }
+
     pub(crate) fn push(&mut self, xid: u32) -> Result<(), AllocError>
         ensures { OnOk result (self.new ≡ self.old ++ xid ∷ []) }
     {

@@ -1,19 +1,23 @@
 //! Regrouping the changes of a log by transaction.
 
-ghost use Rattle.std.specs.Prelude.{◌≡◌, ◌<◌, [], length, false, true, Err, IfOk, OnErr, OnOk};
-ghost use Rattle.reorder.specs.Kept.{IsEntryAt};
-ghost use Rattle.reorder.specs.Taking.{HasTaken, Takes, readied};
+ghost use Rattle.std.specs.Prelude.{◌≡◌, ◌≢◌, ◌<◌, ◌+◌, ◌++◌, ℕ, List, [], None, length, replicate, false, true, Err, IfOk, OnErr, OnOk};
+ghost use Rattle.chgarena.specs.Strands.{fills};
+ghost use Rattle.wal.specs.declared.record.Record.{Record as Logged};
+ghost use Rattle.reorder.specs.Chunks.{IsTidy, LeavesNoRoom, held_with, live_chunks};
+ghost use Rattle.reorder.specs.Ready.{IsEntryAt, IsReadyIn, ready_entries};
+ghost use Rattle.reorder.specs.Taking.{HasTaken, IsHeld, IsStepHeld, IsSameTaken, MayCome, Takes, readied};
 
+use crate::entry::{body_of, write_entry};
 use crate::fault::ReorderFault;
-use crate::ready::{Kept, Ready, Step};
+use crate::ready::{Ready, Step};
 use crate::strands::Strands;
-use std::alloc::{AllocError, Global};
+use bytes::BytesMut;
+use chgarena::Arena;
+use std::alloc::Global;
 use std::marker::Model;
-use std::sync::Arc;
-use tables::Change;
 use wal::{Body, Record};
 
-/// The changes of the transactions in progress, by the xids that made them.
+/// The changes of the transactions in progress, by the xids that made them, in an arena.
 ///
 /// Records go in one by one and in log order, each by `take`. `Step::Quiet` means that nothing is to be published yet.
 /// `Step::Ready` comes with a commit: `entry` lends its changes one by one, and `finish` takes the `Ready` back.
@@ -21,10 +25,12 @@ use wal::{Body, Record};
 /// The first record may be any record of a log. Of a transaction in progress there only the changes from this record on are
 /// known. A subtransaction of it that began earlier counts as a transaction of its own, which never commits.
 ///
-/// An error is the end: Q2 is want of memory, and every `take` after it is Q3.
+/// An error is the end: Q1 is a full arena, Q2 is want of memory, and every `take` after either is Q3.
 #[derive(Drop)]
 pub struct Reorder {
     strands: Strands,
+    /// One entry, before it is copied into the arena.
+    scratch: BytesMut,
     failed: bool,
 }
 
@@ -37,23 +43,37 @@ impl Model for Reorder {
 }
 
 impl Reorder {
-    /// A regrouping that has taken no record.
-    pub fn new(alloc: Global) -> Self
+    /// A regrouping that has taken no record, over an arena of its own.
+    pub fn new(alloc: Global, arena: Arena) -> Self
         ensures untaken { HasTaken result [] }
+        ensures tidy { (count : ℕ) → arena ≡ replicate count None → IsTidy count [] result.strands }
         ensures running { result.failed ≡ false }
     {
         Reorder {
-            strands: Strands::new(alloc),
+            strands: Strands::new(alloc, arena),
+            scratch: BytesMut::new(alloc),
             failed: false,
         }
     }
 
+    /// How many chunks of the arena are free: all but those that changes of transactions in progress fill, unless rolled back, and those
+    /// of what is ready.
+    pub fn free_chunks(&self) -> usize
+        ensures free { result + fills self.now.strands.pool.arena ≡ length self.now.strands.pool.arena }
+        ensures exact { (rs : List Logged) (count : ℕ) → HasTaken self.now rs → IsTidy count [] self.now.strands → result + live_chunks rs ≡ count }
+    {
+        self.strands.free()
+    }
+
     /// Takes the next record of a log, and answers what it makes ready.
-    pub fn take(&mut self, next: &Arc<Record>) -> Result<Step, ReorderFault>
-        ensures ok { IfOk result (λ step. Takes self.old self.new next.now.value (readied step)) }
+    pub fn take(&mut self, next: &Record) -> Result<Step, ReorderFault>
+        ensures ok { IfOk result (λ step. Takes self.old self.new next.now (readied self.new step)) }
+        ensures held { IfOk result (λ step. IsStepHeld self.new step) }
         ensures running { OnOk result ((self.old.failed ≡ false) × (self.new.failed ≡ false)) }
         ensures fails { OnErr result (self.new.failed ≡ true) }
         ensures failed { result ≡ Err ReorderFault.Failed → (self.old.failed ≡ true) × (self.new ≡ self.old) }
+        ensures full { result ≡ Err ReorderFault.Full → (self.old.failed ≡ false) × ((rs : List Logged) (count : ℕ) → HasTaken self.old rs → MayCome rs next.now.body → IsTidy count [] self.old.strands → LeavesNoRoom count rs next.now) }
+        ensures tidy { IfOk result (λ step. (count : ℕ) (held : List ℕ) → IsTidy count held self.old.strands → IsTidy count (held_with held step) self.new.strands) }
         ensures memory { result ≡ Err ReorderFault.Memory → self.old.failed ≡ false }
     {
         if self.failed {
@@ -66,43 +86,48 @@ impl Reorder {
     }
 
     /// What the record does to the strands, and what it makes ready of them.
-    fn regroup(&mut self, next: &Arc<Record>) -> Result<Step, AllocError>
-        ensures takes { IfOk result (λ step. Takes self.old self.new next.now.value (readied step)) }
+    fn regroup(&mut self, next: &Record) -> Result<Step, ReorderFault>
+        ensures takes { IfOk result (λ step. Takes self.old self.new next.now (readied self.new step)) }
+        ensures held { IfOk result (λ step. IsStepHeld self.new step) }
         ensures failed { self.new.failed ≡ self.old.failed }
+        ensures full { result ≡ Err ReorderFault.Full → (rs : List Logged) (count : ℕ) → HasTaken self.old rs → MayCome rs next.now.body → IsTidy count [] self.old.strands → LeavesNoRoom count rs next.now }
+        ensures tidy { IfOk result (λ step. (count : ℕ) (held : List ℕ) → IsTidy count held self.old.strands → IsTidy count (held_with held step) self.new.strands) }
+        ensures running { result ≢ Err ReorderFault.Failed }
     {
         match &next.body {
             Body::Assign(sub, parent) => {
                 self.strands.open(*parent)?;
                 self.strands.assign(*sub, *parent)?;
             }
-            Body::Change(xid, _) => {
+            Body::Change(xid, change) => {
                 self.strands.open(*xid)?;
-                let kept = Kept::of(next)?;
-                self.strands.push(*xid, kept)?;
+                write_entry(&mut self.scratch, next.start, change)?;
+                self.strands.push(*xid, self.scratch.as_slice())?;
             }
             Body::AbortSub(xid) => self.strands.undo(*xid),
             Body::Abort(top) => self.strands.end(*top),
-            Body::Commit(top, _) => {
-                let changes = self.strands.kept(*top)?;
-                self.strands.end(*top);
-                return Ok(Step::Ready(Ready::new(changes)));
-            }
+            Body::Commit(top, _) => return Ok(Step::Ready(self.strands.make_ready(*top)?)),
         }
         Ok(Step::Quiet)
     }
 
-    /// The k-th change that is ready: the position at which its record starts, and the change.
-    pub fn entry<'a>(&self, ready: &'a Ready, k: usize) -> (u64, &'a Change)
-        requires { k < length ready.now }
-        ensures { IsEntryAt ready.now k result.0 result.1.now }
+    /// The k-th change that is ready: the position at which its record starts, and its body. It is lent from the arena.
+    pub fn entry<'a>(&'a self, ready: &Ready, k: usize) -> (u64, &'a [u8])
+        requires held { IsReadyIn self.now.strands.pool ready.now }
+        requires within { k < length ready.now.spots }
+        ensures { IsEntryAt (ready_entries self.now.strands.pool ready.now) k result.0 result.1.now }
     {
-        ready.entry(k)
+        let spot = &ready.spots()[k];
+        (spot.position, body_of(self.strands.entry(spot)))
     }
 
     /// Gives back what was ready.
     pub fn finish(&mut self, ready: Ready)
-        ensures { self.new ≡ self.old }
+        requires { IsHeld self.old ready }
+        ensures same { IsSameTaken self.old self.new }
+        ensures tidy { (count : ℕ) (held : List ℕ) → IsTidy count (ready.xids ++ held) self.old.strands → IsTidy count held self.new.strands }
     {
-        let _ = ready.into_changes();
+        let xids = ready.into_xids();
+        self.strands.give_back(xids.as_slice());
     }
 }

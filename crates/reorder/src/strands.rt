@@ -1,55 +1,85 @@
 //! What is kept of each xid, and which xids each transaction has.
 //!
 //! A record costs a look-up or two, whatever the length of the log. Only the end of a transaction goes over its xids,
-//! and then nothing of them is left.
+//! and then nothing of them is left but the changes that are ready.
 
-ghost use Rattle.std.specs.Prelude.{◌≡◌, ℕ, [], ◌∷◌, ◌++◌, Some, None, IsSome, IfOk, OnOk, nat_eq, if◌then◌else◌, ◌||◌};
+ghost use Rattle.std.specs.Prelude.{◌≡◌, ◌≢◌, ◌==◌, Err, ℕ, ◌+◌, ◌≤◌, [], ◌∷◌, ◌++◌, List, Some, None, false, IsSome, IfOk, OnOk, length, nat_eq, reverse, if◌then◌else◌, ◌&&◌, ◌||◌};
+ghost use Rattle.std.specs.Map.{lookup};
 ghost use Rattle.std.specs.HashMap.{get};
-ghost use Rattle.std.specs.List.{flat_map, list_any};
-ghost use Rattle.std.specs.Option.{option_map};
+ghost use Rattle.std.specs.List.{All, AllByRecursion, flat_map};
 ghost use Rattle.std.specs.List.Sorted.{IsNonDecreasingBy, IsStableByKey};
+ghost use Rattle.std.specs.Option.{option_map};
 ghost use Rattle.std.specs.Ordering.{nat_cmp};
 ghost use Rattle.wal.specs.Log.{last_of};
-ghost use Rattle.reorder.specs.Strands.{IsSame, above_of, assigned, ended, is_in, joined, kept_in, by_xid, pushed, put, started, undone, undone_in, with_member, without_changes};
+ghost use Rattle.reorder.specs.Entries.{IsEntry, entry_in};
+ghost use Rattle.chgarena.specs.Strands.{fills};
+ghost use Rattle.reorder.specs.Chunks.{HasNoRoom, IsTidy, StaysTidy, StaysWhole};
+ghost use Rattle.reorder.specs.Pool.{HoldEntries, IsPool, entries_at, put};
+ghost use Rattle.reorder.specs.Ready.{IsReadyIn, IsSpot, bytes_at, ready_entries, spots_from};
+ghost use Rattle.reorder.specs.Strands.{IsSame, above_of, above_standing, all_in, assigned, back_in, behind, ended, is_in, by_xid, joined, kept_spots, pushed, spots_of, started, undone, with_member};
 
+use crate::entry::position_of;
+use crate::fault::ReorderFault;
 use crate::members::Members;
-use crate::ready::Kept;
+use crate::pool::Pool;
+use crate::ready::{Ready, Spot};
 use crate::strand::Strand;
+use chgarena::{Arena, Entries};
 use std::alloc::{AllocError, Global};
 use std::collections::HashMap;
 use std::marker::Model;
 
-/// The strands of all xids of the transactions in progress.
+/// The strands of all xids of the transactions in progress, and the changes of these xids and of what is ready.
 #[derive(Drop)]
 pub(crate) struct Strands {
     alloc: Global,
     strands: HashMap<u32, Strand>,
     members: HashMap<u32, Members>,
+    pool: Pool,
 }
 
 impl Model for Strands {
+    ghost use Rattle.std.specs.Prelude.{ℕ};
+    ghost use Rattle.std.specs.List.{AllByRecursion};
+    ghost use Rattle.reorder.specs.Entries.{IsEntry};
+    ghost use Rattle.reorder.specs.Pool.{entries_at};
     ghost use Rattle.reorder.specs.Strands.{StrandsState};
 
     ghost Value = { StrandsState };
 
-    ghost view = { λ s. record { strands = s.strands.entries; members = s.members.entries } };
+    ghost view = { λ s. record { strands = s.strands.entries; members = s.members.entries; pool = s.pool } };
 }
 
 impl Strands {
-    pub(crate) fn new(alloc: Global) -> Self
-        ensures { result ≡ record { strands = []; members = [] } }
+    pub(crate) fn new(alloc: Global, arena: Arena) -> Self
+        ensures strands { result.strands ≡ [] }
+        ensures members { result.members ≡ [] }
+        ensures pool { (x : ℕ) → entries_at result.pool x ≡ [] }
+        ensures arena { result.pool.arena ≡ arena }
     {
         Strands {
             alloc,
             strands: HashMap::new(alloc),
             members: HashMap::new(alloc),
+            pool: Pool::new(alloc, arena),
         }
+    }
+
+    /// How many chunks of the arena are free.
+    pub(crate) fn free(&self) -> usize
+        ensures free { result + fills self.now.pool.arena ≡ length self.now.pool.arena }
+        ensures pool { IsPool self.now.pool.arena self.now.pool.strands }
+        ensures hold { HoldEntries self.now.pool.arena self.now.pool.strands }
+    {
+        self.pool.free()
     }
 
     /// Makes the xid a transaction, unless it has a strand.
     pub(crate) fn open(&mut self, xid: u32) -> Result<(), AllocError>
         ensures known { OnOk result (IsSome ((by_xid self.old).strand xid) → self.new ≡ self.old) }
         ensures fresh { OnOk result ((by_xid self.old).strand xid ≡ None → IsSame (by_xid self.new) (started xid (by_xid self.old))) }
+        ensures there { OnOk result (IsSome (lookup (λ k. xid == k) self.new.strands)) }
+        ensures tidy { OnOk result (StaysTidy self.old self.new) }
     {
         if self.strands.contains_key(&xid) {
             return Ok(());
@@ -59,41 +89,73 @@ impl Strands {
 
     /// Makes an xid without a strand a transaction.
     fn start(&mut self, xid: u32) -> Result<(), AllocError>
-        ensures { OnOk result (IsSame (by_xid self.new) (started xid (by_xid self.old))) }
+        ensures started { OnOk result (IsSame (by_xid self.new) (started xid (by_xid self.old))) }
+        ensures there { OnOk result (IsSome (lookup (λ k. xid == k) self.new.strands)) }
+        ensures tidy { OnOk result (StaysTidy self.old self.new) }
     {
         let members = Members::of(self.alloc, xid)?;
         self.members.insert(xid, members)?;
-        let strand = Strand::under(self.alloc, Vec::new(self.alloc));
-        self.strands.insert(xid, strand)?;
+        self.strands
+            .insert(xid, Strand::under(Vec::new(self.alloc)))?;
+        self.pool.give_back(xid);
         Ok(())
     }
 
-    /// Adds a change to the strand of an xid that has one.
-    pub(crate) fn push(&mut self, xid: u32, kept: Kept) -> Result<(), AllocError>
-        ensures { OnOk result (IsSame (by_xid self.new) (pushed xid kept (by_xid self.old))) }
+    /// Adds an entry to the strand of an xid that has one.
+    pub(crate) fn push(&mut self, xid: u32, entry: &[u8]) -> Result<(), ReorderFault>
+        requires entry { IsEntry entry.now }
+        requires fits { length entry.now ≤ 16380 }
+        ensures ok { OnOk result (IsSame (by_xid self.new) (pushed xid (entry_in xid entry.now) (by_xid self.old))) }
+        ensures tidy { OnOk result (IsSome (lookup (λ k. xid == k) self.old.strands) → StaysTidy self.old self.new) }
+        ensures full { result ≡ Err ReorderFault.Full → HasNoRoom self.old.pool xid (length entry.now) }
+        ensures running { result ≢ Err ReorderFault.Failed }
     {
-        if let Some(strand) = self.strands.get_mut(&xid) {
-            strand.push(kept)?;
-        }
-        Ok(())
+        self.pool.push(xid, entry)
     }
 
     /// Rolls back an xid that has a strand.
     pub(crate) fn undo(&mut self, xid: u32)
-        ensures { IsSame (by_xid self.new) (undone xid (by_xid self.old)) }
+        ensures undone { IsSame (by_xid self.new) (undone xid (by_xid self.old)) }
+        ensures tidy { StaysTidy self.old self.new }
     {
-        undo_at(&mut self.strands, self.alloc, xid);
+        self.give_back_under(xid);
+        self.pool.give_back(xid);
+    }
+
+    /// The transaction of an xid; one without a strand is its own.
+    fn top_of(&self, xid: u32) -> u32
+        ensures { result ≡ last_of xid (above_standing (lookup (λ k. xid == k) self.now.strands)) }
+    {
+        match self.strands.get(&xid) {
+            Some(strand) => last_or(xid, strand.above()),
+            None => xid,
+        }
+    }
+
+    /// Gives back the changes of all xids under this one.
+    fn give_back_under(&mut self, xid: u32)
+        ensures strands { self.new.strands ≡ self.old.strands }
+        ensures members { self.new.members ≡ self.old.members }
+        ensures pool { (x : ℕ) → entries_at self.new.pool x
+            ≡ (if is_in x (behind xid (back_in self.old xid)) && is_in xid (above_standing (lookup (λ k. x == k) self.old.strands)) then [] else entries_at self.old.pool x) }
+        ensures whole { StaysWhole self.old.pool self.new.pool }
+    {
+        let top = self.top_of(xid);
+        if let Some(members) = self.members.get(&top) {
+            give_back_behind(&mut self.pool, &self.strands, members.as_slice(), xid);
+        }
     }
 
     /// Puts an xid without a strand under another that has one.
     pub(crate) fn assign(&mut self, sub: u32, parent: u32) -> Result<(), AllocError>
-        ensures { OnOk result (IsSame (by_xid self.new) (assigned sub parent (by_xid self.old))) }
+        ensures assigned { OnOk result (IsSame (by_xid self.new) (assigned sub parent (by_xid self.old))) }
+        ensures tidy { OnOk result (StaysTidy self.old self.new) }
     {
         let above = self.chain(parent)?;
         let top = last_or(parent, above.as_slice());
         add_member(&mut self.members, top, sub)?;
-        let strand = Strand::under(self.alloc, above);
-        self.strands.insert(sub, strand)?;
+        self.strands.insert(sub, Strand::under(above))?;
+        self.pool.give_back(sub);
         Ok(())
     }
 
@@ -109,36 +171,77 @@ impl Strands {
         Ok(chain)
     }
 
-    /// Gives up all xids of a transaction.
+    /// Gives up all xids of a transaction, and their changes.
     pub(crate) fn end(&mut self, top: u32)
-        ensures { IsSame (by_xid self.new) (ended top (by_xid self.old)) }
+        ensures ended { IsSame (by_xid self.new) (ended top (by_xid self.old)) }
+        ensures tidy { StaysTidy self.old self.new }
     {
         if let Some(members) = self.members.remove(&top) {
             remove_all(&mut self.strands, members.as_slice());
+            give_back_all(&mut self.pool, members.as_slice());
         }
     }
 
-    /// The changes that a transaction keeps, in the order of their positions.
-    pub(crate) fn kept(&self, top: u32) -> Result<Vec<Kept>, AllocError>
-        ensures rising { IfOk result (λ v. IsNonDecreasingBy (λ e. e.position) v.items) }
-        ensures same { IfOk result (λ v. IsStableByKey (λ e. e.position) nat_cmp (joined (by_xid self.now) top) v.items) }
+    /// Gives up all xids of a transaction, but for their changes: those that it keeps are ready.
+    pub(crate) fn make_ready(&mut self, top: u32) -> Result<Ready, AllocError>
+        ensures ended { OnOk result (IsSame (by_xid self.new) (ended top (by_xid self.old))) }
+        ensures pool { self.new.pool ≡ self.old.pool }
+        ensures rising { IfOk result (λ r. IsNonDecreasingBy (λ e. e.position) (ready_entries self.new.pool r)) }
+        ensures same { IfOk result (λ r. IsStableByKey (λ e. e.position) nat_cmp (joined (by_xid self.old) top) (ready_entries self.new.pool r)) }
+        ensures ready { IfOk result (λ r. IsReadyIn self.new.pool r) }
+        ensures gone { IfOk result (λ r. AllByRecursion (λ x. (by_xid self.new).strand x ≡ None) r.xids) }
+        ensures tidy { IfOk result (λ r. (count : ℕ) (held : List ℕ) → IsTidy count held self.old → IsTidy count (r.xids ++ held) self.new) }
     {
-        let mut changes = self.joined(top)?;
-        changes.sort_by_key(|kept| kept.position())?;
-        Ok(changes)
+        let spots = self.spots(top)?;
+        let xids = remove_members(self.alloc, &mut self.members, top);
+        remove_all(&mut self.strands, xids.as_slice());
+        Ok(Ready::new(xids, spots))
     }
 
-    /// The changes that a transaction keeps, xid after xid.
-    fn joined(&self, top: u32) -> Result<Vec<Kept>, AllocError>
-        ensures { IfOk result (λ v. v.items ≡ joined (by_xid self.now) top) }
+    /// Where the changes lie that a transaction keeps, in the order of their positions.
+    fn spots(&self, top: u32) -> Result<Vec<Spot>, AllocError>
+        ensures rising { IfOk result (λ v. IsNonDecreasingBy (λ s. s.position) v.items) }
+        ensures same { IfOk result (λ v. IsStableByKey (λ s. s.position) nat_cmp (spots_of self.now top) v.items) }
+        ensures there { IfOk result (λ v. All (IsSpot self.now.pool) v.items) }
+    {
+        let mut spots = self.joined(top)?;
+        spots.sort_by_key(|spot| spot.position)?;
+        Ok(spots)
+    }
+
+    /// Where the changes lie that a transaction keeps, xid after xid.
+    fn joined(&self, top: u32) -> Result<Vec<Spot>, AllocError>
+        ensures { IfOk result (λ v. v.items ≡ spots_of self.now top) }
     {
         match self.members.get(&top) {
             Some(members) => {
-                let joined = joined_changes(self.alloc, &self.strands, members.as_slice())?;
+                let joined = joined_spots(
+                    self.alloc,
+                    &self.strands,
+                    &self.pool,
+                    members.as_slice(),
+                )?;
                 Ok(joined)
             }
             None => Ok(Vec::new(self.alloc)),
         }
+    }
+
+    /// The entry at a spot.
+    pub(crate) fn entry(&self, spot: &Spot) -> &[u8]
+        requires { IsSpot self.now.pool spot.now }
+        ensures value { result.now ≡ bytes_at self.now.pool spot.now }
+        ensures entry { IsEntry result.now }
+    {
+        self.pool.entry(spot.xid, spot.place, spot.near)
+    }
+
+    /// Gives back the changes of these xids, which have no strands.
+    pub(crate) fn give_back(&mut self, xids: &[u32])
+        ensures same { AllByRecursion (λ x. (by_xid self.old).strand x ≡ None) xids.now → IsSame (by_xid self.new) (by_xid self.old) }
+        ensures tidy { (count : ℕ) (held : List ℕ) → IsTidy count (xids.now ++ held) self.old → IsTidy count held self.new }
+    {
+        give_back_all(&mut self.pool, xids);
     }
 }
 
@@ -152,15 +255,6 @@ fn last_or(xid: u32, xids: &[u32]) -> u32
     }
 }
 
-/// Rolls the xid back, where it has a strand.
-fn undo_at(strands: &mut HashMap<u32, Strand>, alloc: Global, xid: u32)
-    ensures { (x : ℕ) → get nat_eq strands.new x ≡ put xid (option_map without_changes (get nat_eq strands.old xid)) (get nat_eq strands.old) x }
-{
-    if let Some(strand) = strands.get_mut(&xid) {
-        strand.undo(alloc);
-    }
-}
-
 /// Adds an xid to those of a transaction.
 fn add_member(members: &mut HashMap<u32, Members>, top: u32, sub: u32) -> Result<(), AllocError>
     ensures { OnOk result ((t : ℕ) → get nat_eq members.new t ≡ put top (option_map (with_member sub) (get nat_eq members.old top)) (get nat_eq members.old) t) }
@@ -169,6 +263,17 @@ fn add_member(members: &mut HashMap<u32, Members>, top: u32, sub: u32) -> Result
         xids.push(sub)?;
     }
     Ok(())
+}
+
+/// Gives up the xids of a transaction, and answers them.
+fn remove_members(alloc: Global, members: &mut HashMap<u32, Members>, top: u32) -> Vec<u32>
+    ensures xids { result.items ≡ all_in (get nat_eq members.old top) }
+    ensures gone { (t : ℕ) → get nat_eq members.new t ≡ put top None (get nat_eq members.old) t }
+{
+    match members.remove(&top) {
+        Some(members) => members.into_xids(),
+        None => Vec::new(alloc),
+    }
 }
 
 /// Gives up the strands of these xids.
@@ -180,48 +285,81 @@ fn remove_all(strands: &mut HashMap<u32, Strand>, xids: &[u32])
     }
 }
 
-/// Whether the strand is rolled back, or one above it is.
-fn is_dropped(strands: &HashMap<u32, Strand>, strand: &Strand) -> bool
-    ensures { result ≡ (strand.now.undone || list_any (λ y. undone_in (get nat_eq strands.now y)) strand.now.above) }
+/// Gives back the entries of these xids.
+fn give_back_all(pool: &mut Pool, xids: &[u32])
+    ensures entries { (x : ℕ) → entries_at pool.new x ≡ (if is_in x xids.now then [] else entries_at pool.old x) }
+    ensures whole { StaysWhole pool.old pool.new }
 {
-    if strand.is_undone() {
-        return true;
+    for xid in xids {
+        pool.give_back(*xid);
     }
-    for xid in strand.above() {
-        if let Some(above) = strands.get(xid) {
-            if above.is_undone() {
-                return true;
-            }
-        }
-    }
-    false
 }
 
-/// The changes that these xids keep, xid after xid.
-fn joined_changes(
+/// Gives back the entries of those xids that are under this one. They stand behind it.
+fn give_back_behind(pool: &mut Pool, strands: &HashMap<u32, Strand>, xids: &[u32], xid: u32)
+    ensures whole { StaysWhole pool.old pool.new }
+    ensures entries { (x : ℕ) → entries_at pool.new x
+        ≡ (if is_in x (behind xid (reverse xids.now)) && is_in xid (above_standing (get nat_eq strands.now x)) then [] else entries_at pool.old x) }
+{
+    let mut left = xids.len();
+    while left > 0 && xids[left - 1] != xid {
+        left -= 1;
+        if is_under(strands, xids[left], xid) {
+            pool.give_back(xids[left]);
+        }
+    }
+}
+
+/// Whether an xid is under another.
+fn is_under(strands: &HashMap<u32, Strand>, xid: u32, other: u32) -> bool
+    ensures { result ≡ is_in other (above_standing (get nat_eq strands.now xid)) }
+{
+    match strands.get(&xid) {
+        Some(strand) => strand.above().contains(&other),
+        None => false,
+    }
+}
+
+/// Where the changes lie that these xids keep, xid after xid.
+fn joined_spots(
     alloc: Global,
     strands: &HashMap<u32, Strand>,
+    pool: &Pool,
     xids: &[u32],
-) -> Result<Vec<Kept>, AllocError>
-    ensures { IfOk result (λ v. v.items ≡ flat_map (λ x. kept_in (get nat_eq strands.now) (get nat_eq strands.now x)) xids.now) }
+) -> Result<Vec<Spot>, AllocError>
+    ensures { IfOk result (λ v. v.items ≡ flat_map (kept_spots pool.now (get nat_eq strands.now)) xids.now) }
 {
     let mut joined = Vec::new(alloc);
     for xid in xids {
-        if let Some(strand) = strands.get(xid) {
-            if !is_dropped(strands, strand) {
-                add_copies(&mut joined, strand.changes())?;
-            }
+        if strands.contains_key(xid) {
+            add_spots(&mut joined, pool, *xid)?;
         }
     }
     Ok(joined)
 }
 
-/// Adds these changes, each of which shares its record.
-fn add_copies(joined: &mut Vec<Kept>, changes: &[Kept]) -> Result<(), AllocError>
-    ensures { OnOk result (joined.new.items ≡ joined.old.items ++ changes.now) }
+/// Adds where the changes of an xid lie.
+fn add_spots(joined: &mut Vec<Spot>, pool: &Pool, xid: u32) -> Result<(), AllocError>
+    ensures { OnOk result (joined.new.items ≡ joined.old.items ++ spots_from xid 0 (entries_at pool.now xid)) }
 {
-    for kept in changes {
-        joined.push(kept.copy()?)?;
+    match pool.entries(xid) {
+        Some(entries) => add_entries(joined, xid, entries),
+        None => Ok(()),
+    }
+}
+
+fn add_entries(joined: &mut Vec<Spot>, xid: u32, mut entries: Entries<'_>) -> Result<(), AllocError>
+    requires { AllByRecursion IsEntry entries }
+    ensures { OnOk result (joined.new.items ≡ joined.old.items ++ spots_from xid 0 entries.entry) }
+{
+    let before = joined.len();
+    while let Some(entry) = entries.next() {
+        joined.push(Spot {
+            position: position_of(entry),
+            xid,
+            place: joined.len() - before,
+            near: entries.chunk(),
+        })?;
     }
     Ok(())
 }

@@ -11,6 +11,7 @@ use Rattle.schedule.specs.declared.answer.Answer.TheVariants as answers
 use Rattle.slots.specs.Codes.{slot_code}
 
 abbrev pub sender_code : SendFault → List ℕ
+sender_code sends.ArenaFull = codes "G1"
 sender_code sends.Memory = codes "G2"
 sender_code sends.Failed = codes "G3"
 sender_code sends.Gap = codes "G4"

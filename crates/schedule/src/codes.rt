@@ -18,6 +18,7 @@ impl Answer {
             Answer::Slot(fault) => Some(fault.code()),
             Answer::NoReader => Some("L6"),
             Answer::Publication(fault) => Some(fault.code()),
+            Answer::Sender(SendFault::ArenaFull) => Some("G1"),
             Answer::Sender(SendFault::Memory) => Some("G2"),
             Answer::Sender(SendFault::Failed) => Some("G3"),
             Answer::Sender(SendFault::Gap) => Some("G4"),

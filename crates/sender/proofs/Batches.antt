@@ -1,7 +1,10 @@
 -- Reading records one by one and in batches comes to the same: exactly the blocks that all of them publish.
-use Rattle.std.proofs.Common.{◌≡◌, ◌<◌, ◌+◌, zero, suc, take, get_or, ℕ, ℤ, Bool, true, false, cond, List, [], ◌∷◌, ◌++◌, length, map, filter, refl, sym, ap, subst, ◌∙◌, append_assoc, arith}
+use Rattle.std.proofs.Common.{◌≡◌, ◌<◌, ◌+◌, zero, suc, take, get_or, ℕ, ℤ, Bool, true, false, cond, List, [], ◌∷◌, ◌++◌, Some, None, length, map, filter, refl, sym, ap, subst, ◌∙◌, append_assoc, arith}
 use Rattle.std.proofs.lemmas.List.{append-nil, take_all}
 use Rattle.std.proofs.lemmas.Grind.{flat_map-append}
+use Rattle.std.specs.Prelude.{slice_get}
+use Rattle.std.specs.Option.{option_map}
+use Rattle.std.proofs.lemmas.Option.{slice_get-get_or, slice_get-map}
 use Rattle.std.specs.Global.{Global}
 use Rattle.std.specs.List.{AllByRecursion}
 use Rattle.stream.proofs.Lists.{all_of_both}
@@ -13,14 +16,15 @@ use Rattle.wal.specs.declared.record.Body.{Body}
 use Rattle.wal.specs.declared.record.Body.TheVariants.{Assign, Change as Changed, AbortSub, Abort, Commit}
 use Rattle.wal.specs.Log.{committed_at, committed_from, end_of}
 use Rattle.wal.proofs.Laws.{end_of-append, committed_from-append}
-use Rattle.reorder.specs.Taking.{promised}
+use Rattle.reorder.specs.Chunks.{LeavesNoRoom}
+use Rattle.reorder.specs.Taking.{HasTaken, MayCome, promised}
 use Rattle.publication.specs.Selection.{relation}
 use Rattle.pgoutput.specs.declared.relation.Relation.{Relation}
 use Rattle.stream.specs.declared.published.Published.{Published}
 use Rattle.stream.specs.Words.{word_bytes, frames_of}
 use Rattle.stream.specs.Items.{Block, FitsPublished, words_of, item_words, spelled, relations_sent_by_all, relations_sent_through}
 use Rattle.sender.specs.Published.{published, published_as, published_from, has_message}
-use Rattle.sender.specs.Sending.{SenderState, MayFollow, HasRead, blocks, published_bytes, published_by_commit, ReadOne, ReadAll, RanOutOfMemory, OutputUnchanged, AddsPublished}
+use Rattle.sender.specs.Sending.{SenderState, MayFollow, HasChunks, HasRead, LacksRoom, blocks, published_bytes, published_by_commit, ReadOne, ReadAll, RanOut, OutputUnchanged, AddsPublished}
 
 -- ---- items behind items
 
@@ -165,7 +169,7 @@ length_shared (y ∷ records) = ap suc (length_shared records)
 
 -- a batch that stops at a refused record
 pub stopped_at : (clock : ℤ) (old mid stopped new : SenderState) (records : List (Arc Record Global)) (i : ℕ) → i < length records → ReadAll clock old mid (shared (take i records)) → OutputUnchanged mid stopped
-    → new.selection ≡ stopped.selection → new.start ≡ stopped.start → new.position ≡ stopped.position → new.held ≡ stopped.held → new.failed ≡ true → RanOutOfMemory clock old new (shared records)
+    → new.selection ≡ stopped.selection → new.start ≡ stopped.start → new.position ≡ stopped.position → new.held ≡ stopped.held → new.failed ≡ true → RanOut clock old new (shared records)
 stopped_at clock old mid stopped new records i lt front same selection start position held failed =
     let taken = shared_take records i in
     record {
@@ -178,4 +182,36 @@ stopped_at clock old mid stopped new records i lt front same selection start pos
           (let P : List Record → Type 0 = λ l. (before : List Record) → HasRead old before → MayFollow before l → AddsPublished clock old new.held before l in
           subst P taken (λ before has may. let front_adds = (front.after before has may).1 in record { adds = held ∙ same.held ∙ front_adds.adds; fit = front_adds.fit }));
       failed = failed;
+    }
+
+pub shared_at : (records : List (Arc Record Global)) (i : ℕ) (r : Arc Record Global) → i < length records → r ≡ get_or records i r → slice_get (shared records) i ≡ Some r.value
+shared_at records i r lt is =
+    slice_get-map (λ (a : Arc Record Global). a.value) records i ∙ ap (option_map (λ (a : Arc Record Global). a.value)) (slice_get-get_or records i r lt ∙ ap Some (sym is))
+
+-- a batch is what stands before a record of it, the record, and the rest
+parted : (rs : List Record) (i : ℕ) (r : Record) → slice_get rs i ≡ Some r → (rest : List Record) × (rs ≡ take i rs ++ r ∷ rest)
+parted [] i r is = let never : None ≡ Some r = is in cc
+parted (q ∷ rs) zero r is = let same : q ≡ r = cc in (rs, ap (λ p. p ∷ rs) same)
+parted (q ∷ rs) (suc i) r is = let more = parted rs i r is in (more.0, ap (λ l. q ∷ l) more.1)
+
+-- a batch that stops at a record for which no chunk is left
+pub lacks_room : (clock : ℤ) (old mid stopped new : SenderState) (records : List (Arc Record Global)) (i : ℕ) (r : Record) → i < length records → slice_get (shared records) i ≡ Some r →
+    ReadAll clock old mid (shared (take i records)) → OutputUnchanged mid stopped → new.position ≡ stopped.position → ((count : ℕ) → HasChunks old count → HasChunks mid count) →
+    ((rs : List Record) (count : ℕ) → HasTaken mid.reorder rs → MayCome rs r.body → HasChunks mid count → LeavesNoRoom count rs r) → LacksRoom old new (shared records)
+lacks_room clock old mid stopped new records i r lt at front same position chunks none =
+    let taken = shared_take records i in
+    let parts = parted (shared records) i r at in
+    record {
+      count = i;
+      next = r;
+      is = at;
+      position = position ∙ same.position ∙ front.position ∙ ap (end_of old.position) taken;
+      room = λ before count has may held.
+          let P : List Record → Type 0 = λ l. MayFollow before l in
+          let all : MayFollow before (take i (shared records) ++ r ∷ parts.0) = subst P parts.1 may in
+          let Q : List Record → Type 0 = λ l. HasRead mid (before ++ l) in
+          let Front : List Record → Type 0 = λ l. MayFollow before l in
+          let read : HasRead mid (before ++ take i (shared records)) =
+          subst Q taken (front.after before has (subst Front (sym taken) (MayFollow-front before (take i (shared records)) (r ∷ parts.0) all))).0 in
+          none (before ++ take i (shared records)) count read.taken (MayFollow-back before (take i (shared records)) (r ∷ parts.0) all).0 (chunks count held);
     }

@@ -3,8 +3,9 @@ use Rattle.std.proofs.Common.{◌≡◌, ◌<◌, ◌+◌, ℕ, zero, suc, List,
 use Rattle.std.specs.Prelude.{slice_get}
 use Rattle.publication.specs.Publications.{PublicationSet}
 use Rattle.tables.specs.declared.change.Change.{Change}
+use Rattle.tables.specs.Reading.{SpellsBody}
 use Rattle.wal.specs.Log.{Entry}
-use Rattle.reorder.specs.Kept.{IsEntryAt}
+use Rattle.reorder.specs.Ready.{IsEntryAt}
 use Rattle.publication.specs.Projection.{message}
 use Rattle.stream.specs.declared.published.PublishedChange.{PublishedChange}
 use Rattle.sender.specs.Published.{published_at, published_changes}
@@ -22,12 +23,14 @@ there (e ∷ entries) (suc k) lt =
     let next : suc k + 1 ≡ suc (k + 1) = omega arith in
     record { entry = t.entry; gets = t.gets; parts = t.parts ∙ ap (λ l. t.entry ∷ l) (ap (λ n. drop n (e ∷ entries)) (sym next)) }
 
-pub goes_on : (selection : PublicationSet) (entries : List Entry) (k position : ℕ) (change : Change) (items more : List PublishedChange) → k < length entries → IsEntryAt entries k position change
+pub goes_on : (selection : PublicationSet) (entries : List Entry) (k position : ℕ) (body : List ℕ) (change : Change) (items more : List PublishedChange) → k < length entries → IsEntryAt entries k position body →
+    ((spelled : Change) → SpellsBody body spelled → change ≡ spelled)
     → more ≡ items ++ published_at position (message selection change) → items ++ published_changes selection (drop k entries) ≡ published_changes selection entries
     → more ++ published_changes selection (drop (k + 1) entries) ≡ published_changes selection entries
-goes_on selection entries k position change items more lt is grown so_far =
+goes_on selection entries k position body change items more lt is read grown so_far =
     let t = there entries k lt in
-    let same = is t.entry t.gets in
+    let at = is t.entry t.gets in
+    let same : (position ≡ t.entry.position) × (change ≡ t.entry.change) = (at.0, read t.entry.change at.1) in
     let here = published_at position (message selection change) in
     let behind = published_changes selection (drop (k + 1) entries) in
     let one : published_changes selection (drop k entries) ≡ here ++ behind =

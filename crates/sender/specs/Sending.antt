@@ -1,16 +1,19 @@
 -- A sender between its calls, and what reading records does to it. The records may be those of a whole log or of a section of
 -- one, which begins behind earlier records of its transactions.
-use Rattle.std.specs.Prelude.{◌≡◌, ◌<◌, ℕ, ℤ, Bool, true, List, [], ◌∷◌, ◌++◌, length, take, map, filter, nat_le, Option, Some, None, if◌then◌else◌}
+use Rattle.std.specs.Prelude.{◌≡◌, ◌⊎◌, ◌<◌, ℕ, ℤ, Bool, true, List, [], ◌∷◌, ◌++◌, length, take, map, filter, nat_le, slice_get, Option, Some, None, if◌then◌else◌}
 use Rattle.std.specs.List.{AllByRecursion}
 use Rattle.publication.specs.Publications.{PublicationSet}
 use Rattle.wal.specs.declared.record.Record.{Record}
 use Rattle.wal.specs.declared.record.Body.{Body}
 use Rattle.wal.specs.declared.record.Body.TheVariants.{Commit}
 use Rattle.wal.specs.Log.{Entry, Transaction, end_of}
+use Rattle.reorder.specs.Chunks.{IsTidy, LeavesNoRoom}
 use Rattle.reorder.specs.Taking.{ReorderState, HasTaken, MayCome, StartsBehind, Takes}
 use Rattle.publication.specs.Selection.{relation}
 use Rattle.stream.specs.declared.published.Published.{Published}
 use Rattle.stream.specs.Items.{Item, Block, FitsPublished, spelled, relations_sent_through}
+use Rattle.sender.specs.declared.fault.SendFault.{SendFault}
+use Rattle.sender.specs.declared.fault.SendFault.TheVariants.{ArenaFull, Memory}
 use Rattle.sender.specs.Published.{published, published_as, published_from, has_message}
 
 -- what determines the bytes to come
@@ -54,8 +57,12 @@ pub record ReadAll (clock : ℤ) (old new : SenderState) (rs : List Record) : Ty
   pub position : new.position ≡ end_of old.position rs
   pub after : (before : List Record) → HasRead old before → MayFollow before rs → HasRead new (before ++ rs) × AddsPublished clock old new.held before rs
 
--- Some were read, what these publish is held, and at the next one memory was refused: the sender has failed.
-pub record RanOutOfMemory (clock : ℤ) (old new : SenderState) (rs : List Record) : Type 0 where
+-- what a sender may run out of
+abbrev pub IsOut : SendFault → Type 0
+IsOut fault = (fault ≡ ArenaFull) ⊎ (fault ≡ Memory)
+
+-- Some were read, what these publish is held, and for the next one the arena was full or memory was refused: the sender has failed.
+pub record RanOut (clock : ℤ) (old new : SenderState) (rs : List Record) : Type 0 where
   pub count : ℕ
   pub fewer : count < length rs
   pub selection : new.selection ≡ old.selection
@@ -63,6 +70,18 @@ pub record RanOutOfMemory (clock : ℤ) (old new : SenderState) (rs : List Recor
   pub position : new.position ≡ end_of old.position (take count rs)
   pub after : (before : List Record) → HasRead old before → MayFollow before (take count rs) → AddsPublished clock old new.held before (take count rs)
   pub failed : new.failed ≡ true
+
+-- the arena has so many chunks, and nothing lies in it but what transactions in progress changed
+abbrev pub HasChunks : SenderState → ℕ → Type 0
+HasChunks s count = IsTidy count [] s.reorder.strands
+
+-- Behind those of these records that were read, which the position tells, stands a change for which no chunk was left.
+pub record LacksRoom (old new : SenderState) (rs : List Record) : Type 0 where
+  pub count : ℕ
+  pub next : Record
+  pub is : slice_get rs count ≡ Some next
+  pub position : new.position ≡ end_of old.position (take count rs)
+  pub room : (before : List Record) (chunks : ℕ) → HasRead old before → MayFollow before rs → HasChunks old chunks → LeavesNoRoom chunks (before ++ take count rs) next
 
 -- ONE RECORD, NOT NEEDED BY A READER OF `feed`
 

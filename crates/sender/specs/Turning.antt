@@ -5,7 +5,7 @@ use Rattle.wal.specs.Log.{follows}
 use Rattle.sender.specs.declared.fault.SendFault.{SendFault}
 use Rattle.sender.specs.declared.fault.SendFault.TheVariants as sends
 use Rattle.sender.specs.declared.limits.TheConstants.{TURN_RECORDS}
-use Rattle.sender.specs.Sending.{SenderState, ReadAll, RanOutOfMemory}
+use Rattle.sender.specs.Sending.{SenderState, ReadAll, RanOut}
 
 -- the records from the place on, as many as a turn fetches, of what its reader sees
 abbrev pub fetched_from : ℕ → List Record → List Record
@@ -24,6 +24,7 @@ pub record ReadAndGave (clock : ℤ) (old new : SenderState) (rs : List Record) 
 
 -- why the sender refused these records, and how it is then
 abbrev pub IsRefused : ℤ → SenderState → SenderState → List Record → SendFault → Type 0
-IsRefused clock old new rs sends.Memory = (old.failed ≡ false) × RanOutOfMemory clock old new rs
+IsRefused clock old new rs sends.ArenaFull = (old.failed ≡ false) × RanOut clock old new rs
+IsRefused clock old new rs sends.Memory = (old.failed ≡ false) × RanOut clock old new rs
 IsRefused clock old new rs sends.Failed = (old.failed ≡ true) × (new ≡ old)
 IsRefused clock old new rs sends.Gap = (old.failed ≡ false) × (follows old.position rs ≡ false) × (new ≡ old)

@@ -9,6 +9,8 @@ use thiserror::Error;
 /// Why a sender refused a call.
 #[derive(Clone, Copy, Debug, PartialEq, Eq, Error)]
 pub enum SendFault {
+    #[error("G1: change arena is full")]
+    ArenaFull,
     #[error("G2: out of memory")]
     Memory,
     #[error("G3: the sender has failed")]

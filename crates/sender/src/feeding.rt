@@ -1,16 +1,20 @@
 //! Reading records one by one.
 
-ghost use Rattle.std.specs.Prelude.{◌≡◌, ◌++◌, Some, false, Err, IfErr, OnErr, OnOk};
+ghost use Rattle.std.specs.Prelude.{◌≡◌, ◌++◌, ℕ, List, Some, false, Err, IfErr, OnErr, OnOk};
 ghost use Rattle.std.specs.List.{AllByRecursion};
 ghost use Rattle.wal.specs.Records.{shared};
 ghost use Rattle.publication.specs.Selection.{relation};
 ghost use Rattle.stream.specs.Items.{FitsPublished, spelled, relations_sent_through};
-ghost use Rattle.sender.specs.Sending.{ReadAll, RanOutOfMemory, OutputUnchanged, ReadOne, published_by_commit, blocks};
+ghost use Rattle.reorder.specs.Ready.{IsReadyIn, ready_entries};
+ghost use Rattle.reorder.specs.Chunks.{LeavesNoRoom};
+ghost use Rattle.reorder.specs.Taking.{HasTaken, MayCome};
+ghost use Rattle.wal.specs.declared.record.Record.{Record as Logged};
+ghost use Rattle.sender.specs.Sending.{HasChunks, IsOut, LacksRoom, ReadAll, RanOut, OutputUnchanged, ReadOne, published_by_commit, blocks};
 
 use crate::fault::SendFault;
 use crate::publishing::transaction_of;
 use crate::sender::Sender;
-use reorder::{Ready, Step};
+use reorder::{Ready, ReorderFault, Step};
 use std::alloc::AllocError;
 use std::sync::Arc;
 use wal::Record;
@@ -20,28 +24,35 @@ impl Sender {
         requires { self.old.failed ≡ false }
         ensures ok { OnOk result (ReadAll clock self.old self.new (shared records.now)) }
         ensures running { OnOk result (self.new.failed ≡ false) }
-        ensures memory { OnErr result (RanOutOfMemory clock self.old self.new (shared records.now)) }
-        ensures err { IfErr result (λ e. e ≡ SendFault.Memory) }
+        ensures out { OnErr result (RanOut clock self.old self.new (shared records.now)) }
+        ensures err { IfErr result IsOut }
+        ensures room { result ≡ Err SendFault.ArenaFull → LacksRoom self.old self.new (shared records.now) }
+        ensures chunks { OnOk result ((count : ℕ) → HasChunks self.old count → HasChunks self.new count) }
     {
         for record in records {
             match self.take(record, clock) {
                 Ok(()) => {}
-                Err(_) => {
+                Err(fault) => {
                     self.failed = true;
-                    return Err(SendFault::Memory);
+                    return Err(fault);
                 }
             }
         }
         Ok(())
     }
 
-    fn take(&mut self, next: &Arc<Record>, clock: i64) -> Result<(), AllocError>
+    fn take(&mut self, next: &Arc<Record>, clock: i64) -> Result<(), SendFault>
         ensures ok { OnOk result (ReadOne clock self.old self.new next.now.value) }
         ensures err { OnErr result (OutputUnchanged self.old self.new) }
+        ensures out { IfErr result IsOut }
+        ensures room { result ≡ Err SendFault.ArenaFull →
+            (rs : List Logged) (count : ℕ) → HasTaken self.old.reorder rs → MayCome rs next.now.value.body → HasChunks self.old count → LeavesNoRoom count rs next.now.value }
+        ensures chunks { OnOk result ((count : ℕ) → HasChunks self.old count → HasChunks self.new count) }
         ensures failed { self.new.failed ≡ self.old.failed }
     {
         match self.reorder.take(next) {
-            Err(_) => return Err(AllocError),
+            Err(ReorderFault::Full) => return Err(SendFault::ArenaFull),
+            Err(_) => return Err(SendFault::Memory),
             Ok(Step::Quiet) => {
                 self.position = next.end;
                 return Ok(());
@@ -57,11 +68,12 @@ impl Sender {
     }
 
     fn publish(&mut self, next: &Record, ready: &Ready, clock: i64) -> Result<(), AllocError>
+        requires { IsReadyIn self.old.reorder.strands.pool ready.now }
         ensures held { OnOk result (self.new.held ≡ self.old.held ++ spelled (relation self.old.selection) self.old.relations_sent
-            (blocks clock (published_by_commit self.old.selection self.old.start next.now (Some ready.now)))) }
+            (blocks clock (published_by_commit self.old.selection self.old.start next.now (Some (ready_entries self.old.reorder.strands.pool ready.now))))) }
         ensures relations_sent { OnOk result (self.new.relations_sent ≡ relations_sent_through self.old.relations_sent
-            (published_by_commit self.old.selection self.old.start next.now (Some ready.now))) }
-        ensures fit { OnOk result (AllByRecursion (FitsPublished (relation self.old.selection)) (published_by_commit self.old.selection self.old.start next.now (Some ready.now))) }
+            (published_by_commit self.old.selection self.old.start next.now (Some (ready_entries self.old.reorder.strands.pool ready.now)))) }
+        ensures fit { OnOk result (AllByRecursion (FitsPublished (relation self.old.selection)) (published_by_commit self.old.selection self.old.start next.now (Some (ready_entries self.old.reorder.strands.pool ready.now)))) }
         ensures err { OnErr result (self.new.held ≡ self.old.held) }
         ensures selection { self.new.selection ≡ self.old.selection }
         ensures start { self.new.start ≡ self.old.start }

@@ -3,6 +3,9 @@
 ghost use Rattle.std.specs.Prelude.{◌≡◌, ◌+◌, ◌<◌, ◌++◌, ◌^◌, [], FitsSigned, IfOk, IfSome, OnOk, Some, length, option_to_list};
 ghost use Rattle.std.specs.Int.{w64};
 ghost use Rattle.std.specs.List.{AllByRecursion};
+ghost use Rattle.tables.specs.declared.change.Change.{Change as Changed};
+ghost use Rattle.tables.specs.Reading.{SpellsBody};
+ghost use Rattle.reorder.specs.Ready.{IsReadyIn, ready_entries};
 ghost use Rattle.publication.specs.Projection.{message};
 ghost use Rattle.publication.specs.Selection.{relation};
 ghost use Rattle.stream.specs.Items.{FitsPublished};
@@ -14,7 +17,7 @@ use publication::{Projected, Selection};
 use reorder::{Ready, Reorder};
 use std::alloc::{AllocError, Global};
 use stream::{Published, PublishedChange};
-use tables::Change;
+use tables::{Change, read_body};
 use wal::{Body, Record};
 
 /// The transaction that a record commits with these changes, if it starts at the start position or later and has a change
@@ -27,7 +30,8 @@ pub(crate) fn transaction_of(
     reorder: &Reorder,
     ready: &Ready,
 ) -> Result<Option<Published>, AllocError>
-    ensures value { IfOk result (λ o. option_to_list o ≡ published_by_commit selection.now start next.now (Some ready.now)) }
+    requires { IsReadyIn reorder.now.strands.pool ready.now }
+    ensures value { IfOk result (λ o. option_to_list o ≡ published_by_commit selection.now start next.now (Some (ready_entries reorder.now.strands.pool ready.now))) }
     ensures told { IfOk result (λ o. IfSome o (λ t. AllByRecursion (CanBeTold selection.now) t.changes)) }
     ensures fits { IfOk result (λ o. IfSome o (FitsPublished (relation selection.now))) }
 {
@@ -69,15 +73,24 @@ fn changes_of(
     reorder: &Reorder,
     ready: &Ready,
 ) -> Result<Vec<PublishedChange>, AllocError>
-    ensures value { IfOk result (λ v. v.items ≡ published_changes selection.now ready.now) }
+    requires { IsReadyIn reorder.now.strands.pool ready.now }
+    ensures value { IfOk result (λ v. v.items ≡ published_changes selection.now (ready_entries reorder.now.strands.pool ready.now)) }
     ensures told { IfOk result (λ v. AllByRecursion (CanBeTold selection.now) v.items) }
 {
     let mut changes = Vec::new(alloc);
     for k in 0..ready.count() {
-        let (position, change) = reorder.entry(ready, k);
-        add_published(&mut changes, selection, position, change)?;
+        let (position, body) = reorder.entry(ready, k);
+        let change = change_of(alloc, body)?;
+        add_published(&mut changes, selection, position, &change)?;
     }
     Ok(changes)
+}
+
+/// The change whose body these bytes are. Of such a body want of memory is the only fault.
+fn change_of(alloc: Global, body: &[u8]) -> Result<Change, AllocError>
+    ensures { (spelled : Changed) → SpellsBody body.now spelled → IfOk result (λ change. change ≡ spelled) }
+{
+    read_body(alloc, body).map_err(|_| AllocError)
 }
 
 /// Adds a change at its position, if it has a message.

@@ -1,17 +1,20 @@
 //! A sender: records in, the bytes of a stream out.
 
-ghost use Rattle.std.specs.Prelude.{◌≡◌, ◌≢◌, ◌↔◌, ◌++◌, ◌==◌, ◌<◌, ◌^◌, [], ℕ, false, true, not, min, take, drop, length, Err, IfOk, IsOk, OnErr, OnOk};
+ghost use Rattle.std.specs.Prelude.{◌≡◌, ◌≢◌, ◌↔◌, ◌++◌, ◌==◌, ◌<◌, ◌^◌, ◌+◌, [], List, None, replicate, ℕ, false, true, not, min, take, drop, length, Err, IfOk, IsOk, OnErr, OnOk};
 ghost use Rattle.wal.specs.Log.{follows};
 ghost use Rattle.wal.specs.Records.{shared};
 ghost use Rattle.stream.specs.Words.{word_bytes};
 ghost use Rattle.stream.specs.Items.{keepalive_word};
-ghost use Rattle.sender.specs.Sending.{HasRead, ReadAll, RanOutOfMemory};
+ghost use Rattle.sender.specs.Sending.{HasChunks, HasRead, LacksRoom, ReadAll, RanOut};
+ghost use Rattle.wal.specs.declared.record.Record.{Record as Logged};
+ghost use Rattle.reorder.specs.Chunks.{live_chunks};
 
 use crate::ended::Ended;
 use crate::fault::SendFault;
 use crate::outgoing::Outgoing;
 use crate::word::put_keepalive;
 use bytes::BytesMut;
+use chgarena::Arena;
 use publication::Selection;
 use reorder::Reorder;
 use std::alloc::{AllocError, Global};
@@ -25,9 +28,9 @@ use wal::Record;
 /// keepalive, `drain` and `drain_into` move held bytes out. `into_selection` ends it.
 ///
 /// Of `feed`, Ok means that all records were read. G4 means that they don't stand at `position()`, one behind the other: none
-/// was read, and the right ones may come next. G2 is want of memory: the records up to `position()` were read, and the sender
-/// has failed. A failed sender can still be drained; its `feed` and its `keepalive` are G3. A `keepalive` that is G2 has added
-/// nothing, and may be called again.
+/// was read, and the right ones may come next. G1 is a full arena and G2 want of memory: the records up to `position()` were
+/// read, and the sender has failed. A failed sender can still be drained; its `feed` and its `keepalive` are G3. A `keepalive`
+/// that is G2 has added nothing, and may be called again.
 #[derive(Drop)]
 pub struct Sender {
     pub(crate) selection: Selection,
@@ -71,6 +74,7 @@ impl Sender {
         selection: Selection,
         start: u64,
         first: u64,
+        arena: Arena,
     ) -> Result<Self, SendFault>
         ensures selection { IfOk result (λ s. s.selection ≡ selection) }
         ensures start { IfOk result (λ s. s.start ≡ start) }
@@ -78,24 +82,28 @@ impl Sender {
         ensures running { IfOk result (λ s. s.failed ≡ false) }
         ensures empty { IfOk result (λ s. s.held ≡ []) }
         ensures unread { IfOk result (λ s. HasRead s []) }
+        ensures chunks { IfOk result (λ s. (count : ℕ) → arena ≡ replicate count None → HasChunks s count) }
         ensures ok { IsOk result }
     {
         Ok(Sender {
             selection,
             start,
             position: first,
-            reorder: Reorder::new(alloc),
+            reorder: Reorder::new(alloc, arena),
             outgoing: Outgoing::new(alloc),
             failed: false,
         })
     }
 
-    /// Reads records. What they publish is held from then on, under this clock. Judged in this order: G3, G4, G2.
+    /// Reads records. What they publish is held from then on, under this clock. Judged in this order: G3, G4, then G1 and G2.
     pub fn feed(&mut self, records: &[Arc<Record>], clock: i64) -> Result<(), SendFault>
         ensures ok { OnOk result (ReadAll clock self.old self.new (shared records.now)) }
         ensures running { OnOk result (self.new.failed ≡ false) }
         ensures follow { OnOk result (follows self.old.position (shared records.now) ≡ true) }
-        ensures memory { result ≡ Err SendFault.Memory → RanOutOfMemory clock self.old self.new (shared records.now) }
+        ensures full { result ≡ Err SendFault.ArenaFull → RanOut clock self.old self.new (shared records.now) }
+        ensures room { result ≡ Err SendFault.ArenaFull → LacksRoom self.old self.new (shared records.now) }
+        ensures chunks { OnOk result ((count : ℕ) → HasChunks self.old count → HasChunks self.new count) }
+        ensures memory { result ≡ Err SendFault.Memory → RanOut clock self.old self.new (shared records.now) }
         ensures failed { (result ≡ Err SendFault.Failed) ↔ (self.old.failed ≡ true) }
         ensures gap { (result ≡ Err SendFault.Gap) ↔ ((self.old.failed ≡ false) × (follows self.old.position (shared records.now) ≡ false)) }
         ensures unchanged { self.old.failed ≡ true → self.new ≡ self.old }
@@ -116,6 +124,7 @@ impl Sender {
         ensures err { OnErr result (self.new ≡ self.old) }
         ensures failed { (result ≡ Err SendFault.Failed) ↔ (self.old.failed ≡ true) }
         ensures gap { result ≢ Err SendFault.Gap }
+        ensures full { result ≢ Err SendFault.ArenaFull }
         ensures fits { OnOk result (self.old.position < 2 ^ 64) }
     {
         if self.failed {
@@ -142,6 +151,14 @@ impl Sender {
         ensures err { OnErr result ((self.new ≡ self.old) × (out.new.items ≡ out.old.items)) }
     {
         self.outgoing.drain_into(max, out)
+    }
+
+    /// How many chunks of the arena are free: all but those that changes of transactions in progress fill, savepoints that were rolled
+    /// back left out.
+    pub fn free_chunks(&self) -> usize
+        ensures { (rs : List Logged) (count : ℕ) → HasRead self.now rs → HasChunks self.now count → result + live_chunks rs ≡ count }
+    {
+        self.reorder.free_chunks()
     }
 
     /// Whether any bytes are held.

@@ -8,7 +8,7 @@ use Rattle.wal.specs.Log.{IsWellFormedLog, end_of}
 use Rattle.sender.specs.declared.fault.SendFault.{SendFault}
 use Rattle.sender.specs.declared.fault.SendFault.TheVariants as sends
 use Rattle.sender.specs.Published.{published, published_from}
-use Rattle.sender.specs.Sending.{SenderState, published_bytes, ReadAll, RanOutOfMemory}
+use Rattle.sender.specs.Sending.{SenderState, published_bytes, ReadAll, RanOut}
 use Rattle.schedule.specs.declared.answer.Answer.{Answer}
 use Rattle.schedule.specs.declared.answer.Answer.TheVariants as answers
 use Rattle.walsender.specs.Serving.{IsServing, Reads, next_records}
@@ -48,7 +48,7 @@ fed_acts log place max clock name produced s new good serving running still fed 
     ∙ ap (λ l. after_reading log clock l (open_state name produced s)) (unread_is log place max s good r.0.at)
 
 broken_acts : (log : List Record) (place max : ℕ) (clock : ℤ) (name produced : List ℕ) (s new : SenderState) → IsWellFormedLog log → IsServing log place produced s
-    → s.failed ≡ false → RanOutOfMemory clock s new (next_records max place log) → BreaksDown log max clock (open_state name produced s) (open_state name produced new)
+    → s.failed ≡ false → RanOut clock s new (next_records max place log) → BreaksDown log max clock (open_state name produced s) (open_state name produced new)
 broken_acts log place max clock name produced s new good serving running fed =
     let r = reading log place produced s serving running in
     let section = take max (drop place log) in
@@ -71,6 +71,7 @@ answer_of (Err fault) = answers.Sender fault
 pub read_acts : (log : List Record) (place max : ℕ) (clock : ℤ) (name produced : List ℕ) (s new : SenderState) (r : Result (Unit {0}) SendFault) → IsWellFormedLog log → IsServing log place produced s
     → Reads clock s new (next_records max place log) r → Acts log (actions.Read max clock) (open_state name produced s) (answer_of r) (open_state name produced new)
 read_acts log place max clock name produced s new (Ok done) good serving reads = (reads.0, fed_acts log place max clock name produced s new good serving reads.0 reads.2 reads.1)
+read_acts log place max clock name produced s new (Err sends.ArenaFull) good serving reads = (reads.0, broken_acts log place max clock name produced s new good serving reads.0 reads.1)
 read_acts log place max clock name produced s new (Err sends.Memory) good serving reads = (reads.0, broken_acts log place max clock name produced s new good serving reads.0 reads.1)
 read_acts log place max clock name produced s new (Err sends.Failed) good serving reads = (refl, reads.0, ap (λ (t : SenderState). open_state name produced t) reads.1)
 read_acts log place max clock name produced s new (Err sends.Gap) good serving reads = absurd (no_gap log place max produced s good serving reads.0 reads.1)
@@ -85,14 +86,15 @@ abbrev failed_with : SendFault → Result (Unit {0}) SendFault
 failed_with fault = Err fault
 
 pub refused_keepalive : (log : List Record) (clock : ℤ) (name produced : List ℕ) (s new : SenderState) (r : Result (Unit {0}) SendFault) (fault : SendFault) → r ≡ Err fault → (r ≡ Err sends.Failed) ↔ (s.failed ≡ true)
-    → (r ≡ Err sends.Gap → ⊥) → new ≡ s → Acts log (actions.Keepalive clock) (open_state name produced s) (answers.Sender fault) (open_state name produced new)
-refused_keepalive log clock name produced s new r sends.Memory is failed gap same =
+    → (r ≡ Err sends.Gap → ⊥) → (r ≡ Err sends.ArenaFull → ⊥) → new ≡ s → Acts log (actions.Keepalive clock) (open_state name produced s) (answers.Sender fault) (open_state name produced new)
+refused_keepalive log clock name produced s new r sends.ArenaFull is failed gap full same = absurd (full is)
+refused_keepalive log clock name produced s new r sends.Memory is failed gap full same =
     (was_running s r failed (λ other. differ (sym is ∙ other)), ap (λ (t : SenderState). open_state name produced t) same)
   where
     differ : failed_with sends.Memory ≡ failed_with sends.Failed → ⊥
     differ e = cc
-refused_keepalive log clock name produced s new r sends.Failed is failed gap same = (refl, failed.0 is, ap (λ (t : SenderState). open_state name produced t) same)
-refused_keepalive log clock name produced s new r sends.Gap is failed gap same = absurd (gap is)
+refused_keepalive log clock name produced s new r sends.Failed is failed gap full same = (refl, failed.0 is, ap (λ (t : SenderState). open_state name produced t) same)
+refused_keepalive log clock name produced s new r sends.Gap is failed gap full same = absurd (gap is)
 
 -- ---- a longer log
 

@@ -44,7 +44,7 @@ after_action log (actions.Keepalive clock) s = record s { held = s.held ++ word_
 after_action log (actions.Drain n) s = record s { produced = s.produced ++ take n s.held; held = drop n s.held }
 after_action log actions.Cut s = record s { is_open = false; failed = false; held = [] }
 
--- a read under which memory was refused: some of its records were read, and the sender has failed
+-- a read under which the arena was full or memory was refused: some of its records were read, and the sender has failed
 pub record BreaksDown (log : List Record) (max : ℕ) (clock : ℤ) (old new : StartState) : Type 0 where
   pub count : ℕ
   pub fewer : count < length (take max (unread old.position log))
@@ -67,9 +67,15 @@ LacksMemory log (actions.Read max clock) old new = BreaksDown log max clock old 
 LacksMemory log (actions.Keepalive clock) old new = new ≡ old
 LacksMemory log action old new = ⊥
 
--- Done, or G2 by a sender that had not failed, or G3 by one that had. What a line reads always follows, so G4 doesn't come.
+-- what a read leaves for which the arena was full
+abbrev pub LacksRoom : List Record → Action → StartState → StartState → Type 0
+LacksRoom log (actions.Read max clock) old new = BreaksDown log max clock old new
+LacksRoom log action old new = ⊥
+
+-- Done, or G1 or G2 by a sender that had not failed, or G3 by one that had. What a line reads always follows, so G4 doesn't come.
 abbrev pub Acts : List Record → Action → StartState → Answer → StartState → Type 0
 Acts log action old answers.Done new = ((needs_running action && old.failed) ≡ false) × (new ≡ after_action log action old)
+Acts log action old (answers.Sender sends.ArenaFull) new = (old.failed ≡ false) × LacksRoom log action old new
 Acts log action old (answers.Sender sends.Memory) new = (old.failed ≡ false) × LacksMemory log action old new
 Acts log action old (answers.Sender sends.Failed) new = (needs_running action ≡ true) × (old.failed ≡ true) × (new ≡ old)
 Acts log action old answer new = ⊥

@@ -10,6 +10,7 @@ ghost use Rattle.starts.specs.Starts.{IsServed, is_open, seen_at, start_state};
 use crate::action::Action;
 use crate::reading::read_on;
 use bytes::BytesMut;
+use chgarena::Arena;
 use pqformat::Text;
 use publication::Selection;
 use schedule::{Answer, WorldFault};
@@ -36,13 +37,14 @@ pub(crate) enum Stage<L: LogName> {
 }
 
 impl<L: LogName> Start<L> {
-    /// A sender that reads the log from its first record on.
+    /// A sender that reads the log from its first record on, with an arena for its changes.
     pub fn new(
         alloc: Global,
         reader: LogReader<L>,
         connection: Text,
         selection: Selection,
         position: u64,
+        arena: Arena,
     ) -> Self
         ensures fresh { start_state result ≡ new_start connection selection position }
         ensures served { (log : List Record) → IsServed log result }
@@ -50,7 +52,7 @@ impl<L: LogName> Start<L> {
         Start {
             connection,
             produced: BytesMut::new(alloc),
-            stage: Stage::Open(Walsender::begin(alloc, reader, selection, position)),
+            stage: Stage::Open(Walsender::begin(alloc, reader, selection, position, arena)),
         }
     }
 

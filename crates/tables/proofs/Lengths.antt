@@ -9,6 +9,7 @@ use Rattle.tables.specs.declared.value.Value.TheVariants as values
 use Rattle.tables.specs.declared.table.Table.{Table}
 use Rattle.tables.specs.declared.change.Change.{Change}
 use Rattle.tables.specs.declared.change.Change.TheVariants as changes
+use Rattle.tables.specs.declared.change_body.TheConstants.{MAX_BODY_LENGTH}
 use Rattle.tables.specs.declared.row.TheConstants.{MAX_ROW_LENGTH}
 use Rattle.tables.specs.Reading.{IsCodedValue, IsCodedRow, IsCoded}
 use Rattle.tables.specs.Tables.{FitsChange, IsValue, table_of}
@@ -92,3 +93,10 @@ insert_length oid row = one_row_length 1 oid row
 
 pub delete_length : (oid : ℕ) (row : List Value) → body_length (changes.Delete oid row) ≡ 5 + row_length row
 delete_length oid row = one_row_length 3 oid row
+
+-- a short change has a short body
+pub body_bounded : (change : Change) → IsShort change → body_length change ≤ MAX_BODY_LENGTH
+body_bounded (changes.Insert oid row) short = omega (arith, insert_length oid row, short)
+body_bounded (changes.Update oid old row) short = omega (arith, two_rows_length oid old row, short.0, short.1)
+body_bounded (changes.Delete oid old) short = omega (arith, delete_length oid old, short)
+body_bounded (changes.Truncate oids) short = omega (arith, truncate_length oids, short)

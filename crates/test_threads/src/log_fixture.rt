@@ -1,5 +1,6 @@
 //! A log and its sessions, for tests.
 
+use chgarena::Arena;
 use pqformat::Text;
 use publication::{Publications, Selection};
 use sender::Sender;
@@ -12,6 +13,9 @@ use std::thread::{Threads, join};
 use tables::{Catalog, Row, Value};
 use txlog::{Opened, Publisher, Receipt, SessionFault};
 use wal::{Body, FIRST_POSITION, Record};
+
+/// The chunks of the arena in which the sender keeps changes.
+const CHUNKS: usize = 64;
 
 /// One table, and a publication of it.
 pub const CONFIGURATION: &str = "\
@@ -40,7 +44,8 @@ pub fn opened(alloc: Global, readers: usize) -> Result<Opened, Fail> {
 /// A sender of what the publication `p` publishes, from the beginning of the log on.
 pub fn sender_of_p(alloc: Global) -> Result<Sender, Fail> {
     let selection = selection_of_p(alloc)?;
-    Ok(Sender::start(alloc, selection, 0, FIRST_POSITION)?)
+    let arena = Arena::new(alloc, CHUNKS)?;
+    Ok(Sender::start(alloc, selection, 0, FIRST_POSITION, arena)?)
 }
 
 fn selection_of_p(alloc: Global) -> Result<Selection, Fail> {

@@ -70,9 +70,18 @@ const SESSION_FAULTS: [SessionFault; 13] = [
 
 const PUB_FAULTS: [PubFault; 2] = [PubFault::Unknown, PubFault::Memory];
 
-const REORDER_FAULTS: [ReorderFault; 2] = [ReorderFault::Memory, ReorderFault::Failed];
+const REORDER_FAULTS: [ReorderFault; 3] = [
+    ReorderFault::Full,
+    ReorderFault::Memory,
+    ReorderFault::Failed,
+];
 
-const SEND_FAULTS: [SendFault; 3] = [SendFault::Memory, SendFault::Failed, SendFault::Gap];
+const SEND_FAULTS: [SendFault; 4] = [
+    SendFault::ArenaFull,
+    SendFault::Memory,
+    SendFault::Failed,
+    SendFault::Gap,
+];
 
 const WORLD_FAULTS: [WorldFault; 3] = [
     WorldFault::BadEvent,
@@ -82,7 +91,7 @@ const WORLD_FAULTS: [WorldFault; 3] = [
 
 const CONFIG_FAULTS: [ConfigFault; 1] = [ConfigFault::Memory];
 
-const ANSWERS: [Answer; 25] = [
+const ANSWERS: [Answer; 26] = [
     Answer::Done,
     Answer::NoReader,
     Answer::Session(SessionFault::UnknownTable),
@@ -105,6 +114,7 @@ const ANSWERS: [Answer; 25] = [
     Answer::Slot(SlotFault::Memory),
     Answer::Publication(PubFault::Unknown),
     Answer::Publication(PubFault::Memory),
+    Answer::Sender(SendFault::ArenaFull),
     Answer::Sender(SendFault::Memory),
     Answer::Sender(SendFault::Failed),
     Answer::Sender(SendFault::Gap),

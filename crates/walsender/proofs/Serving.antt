@@ -19,7 +19,7 @@ use Rattle.stream.specs.Stream.{IsStream}
 use Rattle.sender.specs.declared.fault.SendFault.{SendFault}
 use Rattle.sender.specs.declared.fault.SendFault.TheVariants as sends
 use Rattle.sender.specs.Published.{published, published_from}
-use Rattle.sender.specs.Sending.{SenderState, HasRead, published_bytes, AddsPublished, ReadAll, RanOutOfMemory}
+use Rattle.sender.specs.Sending.{SenderState, HasRead, published_bytes, AddsPublished, ReadAll, RanOut}
 use Rattle.sender.specs.Turning.{IsRefused}
 use Rattle.sender.proofs.Sections.{all_back, starts_below}
 use Rattle.walsender.specs.Serving.{IsStreaming, IsServing, Reads, next_records}
@@ -71,9 +71,9 @@ fed_on log place section clock written s new part fits serving running fed =
 not_both : {b : Bool} → b ≡ true → b ≡ false → ⊥
 not_both p q = let never : true ≡ false = sym p ∙ q in cc
 
--- after a refusal for memory the place is of no use any more
+-- after a refusal for room or memory the place is of no use any more
 broken_on : (log : List Record) (place any : ℕ) (section : List Record) (clock : ℤ) (written : List ℕ) (s new : SenderState) → IsSection log place section → FitsSigned w64 clock
-    → IsServing log place written s → s.failed ≡ false → RanOutOfMemory clock s new section → IsServing log any written new
+    → IsServing log place written s → s.failed ≡ false → RanOut clock s new section → IsServing log any written new
 broken_on log place any section clock written s new part fits serving running fed =
     let r = reading log place written s serving running in
     let less = section_front log place fed.count section part in
@@ -93,6 +93,9 @@ no_gap log place max written s good serving running gap =
 
 refused_on : (log : List Record) (place any max : ℕ) (clock : ℤ) (written : List ℕ) (s new : SenderState) (fault : SendFault) → IsWellFormedLog log → FitsSigned w64 clock → IsServing log place written s
     → IsRefused clock s new (next_records max place log) fault → IsServing log any written new
+refused_on log place any max clock written s new sends.ArenaFull good fits serving refused =
+    let t = (reading log place written s serving refused.0).0 in
+    broken_on log place any (take max (drop place log)) clock written s new (section_of log place max t.within good) fits serving refused.0 refused.1
 refused_on log place any max clock written s new sends.Memory good fits serving refused =
     let t = (reading log place written s serving refused.0).0 in
     broken_on log place any (take max (drop place log)) clock written s new (section_of log place max t.within good) fits serving refused.0 refused.1
@@ -120,7 +123,8 @@ was_running s r failed other = false_from_ne_true s.failed (λ is. other (failed
 pub record Feeds (clock : ℤ) (s new : SenderState) (rs : List Record) (r : Result (Unit {0}) SendFault) : Type 0 where
   pub ok : OnOk r (ReadAll clock s new rs)
   pub running : OnOk r (new.failed ≡ false)
-  pub memory : r ≡ Err sends.Memory → RanOutOfMemory clock s new rs
+  pub full : r ≡ Err sends.ArenaFull → RanOut clock s new rs
+  pub memory : r ≡ Err sends.Memory → RanOut clock s new rs
   pub failed : (r ≡ Err sends.Failed) ↔ (s.failed ≡ true)
   pub unchanged : s.failed ≡ true → new ≡ s
   pub unread : r ≡ Err sends.Gap → new ≡ s
@@ -128,6 +132,7 @@ pub record Feeds (clock : ℤ) (s new : SenderState) (rs : List Record) (r : Res
 
 pub feeds : (clock : ℤ) (s new : SenderState) (rs : List Record) (r : Result (Unit {0}) SendFault) → Feeds clock s new rs r → Reads clock s new rs r
 feeds clock s new rs (Ok done) told = (was_running s (Ok done) told.failed (λ other. cc), told.ok, told.running)
+feeds clock s new rs (Err sends.ArenaFull) told = (was_running s (Err sends.ArenaFull) told.failed (λ other. cc), told.full refl)
 feeds clock s new rs (Err sends.Memory) told = (was_running s (Err sends.Memory) told.failed (λ other. cc), told.memory refl)
 feeds clock s new rs (Err sends.Failed) told = (told.failed.0 refl, told.unchanged (told.failed.0 refl))
 feeds clock s new rs (Err sends.Gap) told = (was_running s (Err sends.Gap) told.failed (λ other. cc), told.gap refl, told.unread refl)

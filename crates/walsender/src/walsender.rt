@@ -17,6 +17,7 @@ ghost use Rattle.sender.specs.Turning.{ReadAndGave, fetched_from};
 ghost use Rattle.walsender.specs.Serving.{Gives, GoesOn, Reads, ReadsOn, Serves, StaysOn, WritesFirst, next_records};
 
 use bytes::BytesMut;
+use chgarena::Arena;
 use publication::Selection;
 use sender::{Ended, SendFault, Sender, TurnFault, turn};
 use shared_log::{LogName, LogReader, ReadFault};
@@ -29,7 +30,7 @@ use wal::FIRST_POSITION;
 ///
 /// What was written since its start, followed by what is held, is a stream encoding of exactly the transactions that its
 /// selection publishes of the records up to its reader's place, and that commit at its start position or later. After `Err` of
-/// the sender for memory, it is one of a beginning of these records, and nothing more is read.
+/// the sender for room in its arena or for memory, it is one of a beginning of these records, and nothing more is read.
 #[derive(Drop)]
 pub struct Walsender<L: LogName> {
     pub(crate) sender: Sender,
@@ -38,14 +39,20 @@ pub struct Walsender<L: LogName> {
 
 impl<L: LogName> Walsender<L> {
     /// A stream of what the selection publishes of transactions that commit at `start` or later. It reads the log from its first
-    /// record on.
-    pub fn begin(alloc: Global, mut reader: LogReader<L>, selection: Selection, start: u64) -> Self
+    /// record on, and keeps the changes of transactions in progress in the arena.
+    pub fn begin(
+        alloc: Global,
+        mut reader: LogReader<L>,
+        selection: Selection,
+        start: u64,
+        arena: Arena,
+    ) -> Self
         ensures serves { (log : List Record) → Serves log [] result }
         ensures asked { (result.sender.selection ≡ selection) × (result.sender.start ≡ start) }
         ensures fresh { (result.sender.position ≡ FIRST_POSITION) × (result.sender.failed ≡ false) × (result.sender.held ≡ []) }
         ensures reader { (result.reader.place ≡ 0) × (seen_of result.reader ≡ seen_of reader) × (result.reader.told ≡ reader.told) }
     {
-        let Ok(sender) = Sender::start(alloc, selection, start, FIRST_POSITION) else {
+        let Ok(sender) = Sender::start(alloc, selection, start, FIRST_POSITION, arena) else {
             unreachable!();
         };
         reader.seek(0);
@@ -120,6 +127,7 @@ impl<L: LogName> Walsender<L> {
         ensures err { OnErr result (self.new.sender ≡ self.old.sender) }
         ensures failed { (result ≡ Err SendFault.Failed) ↔ (self.old.sender.failed ≡ true) }
         ensures gap { result ≢ Err SendFault.Gap }
+        ensures full { result ≢ Err SendFault.ArenaFull }
         ensures reader { self.new.reader ≡ self.old.reader }
         ensures serves { StaysOn self.old self.new }
     {

@@ -67,6 +67,10 @@ same_connection log (actions.Read max clock) old new (answers.Sender sends.Memor
 same_connection log (actions.Keepalive clock) old new (answers.Sender sends.Memory) acts = ap (λ (s : StartState). s.connection) acts.1
 same_connection log (actions.Drain n) old new (answers.Sender sends.Memory) acts = absurd acts.1
 same_connection log actions.Cut old new (answers.Sender sends.Memory) acts = absurd acts.1
+same_connection log (actions.Read max clock) old new (answers.Sender sends.ArenaFull) acts = ap (λ (s : StartState). s.connection) acts.1.is
+same_connection log (actions.Keepalive clock) old new (answers.Sender sends.ArenaFull) acts = absurd acts.1
+same_connection log (actions.Drain n) old new (answers.Sender sends.ArenaFull) acts = absurd acts.1
+same_connection log actions.Cut old new (answers.Sender sends.ArenaFull) acts = absurd acts.1
 same_connection log action old new (answers.Sender sends.Failed) acts = ap (λ (s : StartState). s.connection) acts.2
 same_connection log action old new (answers.Sender sends.Gap) acts = absurd acts
 same_connection log action old new (answers.Session fault) acts = absurd acts

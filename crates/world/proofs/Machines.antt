@@ -61,6 +61,9 @@ stays_open log actions.Cut old new a goes acts = let never : true ≡ false = go
 stays_open log (actions.Read max clock) old new (answers.Sender sends.Memory) goes acts = ap (λ (s : StartState). s.is_open) acts.1.is
 stays_open log (actions.Keepalive clock) old new (answers.Sender sends.Memory) goes acts = ap (λ (s : StartState). s.is_open) acts.1
 stays_open log (actions.Drain n) old new (answers.Sender sends.Memory) goes acts = absurd acts.1
+stays_open log (actions.Read max clock) old new (answers.Sender sends.ArenaFull) goes acts = ap (λ (s : StartState). s.is_open) acts.1.is
+stays_open log (actions.Keepalive clock) old new (answers.Sender sends.ArenaFull) goes acts = absurd acts.1
+stays_open log (actions.Drain n) old new (answers.Sender sends.ArenaFull) goes acts = absurd acts.1
 stays_open log action old new (answers.Sender sends.Failed) goes acts = ap (λ (s : StartState). s.is_open) acts.2
 stays_open log action old new (answers.Sender sends.Gap) goes acts = absurd acts
 stays_open log action old new (answers.Session fault) goes acts = absurd acts
@@ -72,6 +75,7 @@ stays_open log action old new (answers.Subscriber fault) goes acts = absurd acts
 is_closed : (log : List Record) (old new : StartState) (a : Answer) → Acts log actions.Cut old a new → new.is_open ≡ false
 is_closed log old new answers.Done acts = ap (λ (s : StartState). s.is_open) acts.1
 is_closed log old new (answers.Sender sends.Memory) acts = absurd acts.1
+is_closed log old new (answers.Sender sends.ArenaFull) acts = absurd acts.1
 is_closed log old new (answers.Sender sends.Failed) acts = let never : false ≡ true = acts.0 in cc
 is_closed log old new (answers.Sender sends.Gap) acts = absurd acts
 is_closed log old new (answers.Session fault) acts = absurd acts

@@ -19,6 +19,7 @@ use crate::limits::MAX_SENDERS;
 use crate::opening::{close, place_among};
 use crate::starting::StartFacts;
 use crate::subscriber::{Subscriber, place_of, reconnect, subscribe};
+use chgarena::Arena;
 use configuration::Config;
 use named_slots::{HeldSlots, let_go, slot_named, take};
 use pqformat::Text;
@@ -46,6 +47,8 @@ pub(crate) struct Machine<L: LogName + SlotName> {
     pub(crate) opened: Vec<usize>,
     pub(crate) readers: Vec<LogReader<L>>,
     pub(crate) subscribers: Vec<Subscriber>,
+    /// The chunks of a sender's arena.
+    pub(crate) chunks: u32,
 }
 
 impl<L: LogName + SlotName> Machine<L> {
@@ -75,6 +78,7 @@ impl<L: LogName + SlotName> Machine<L> {
                     opened: Vec::new(alloc),
                     readers,
                     subscribers: Vec::new(alloc),
+                    chunks: server.chunks as u32,
                 });
             }
             Err(_) => {
@@ -95,6 +99,7 @@ impl<L: LogName + SlotName> Machine<L> {
             opened: _,
             readers,
             subscribers: _,
+            chunks: _,
         } = self;
         slots.close();
         drop(starts);
@@ -256,10 +261,11 @@ impl<L: LogName + SlotName> Machine<L> {
         ensures err { OnErr result (shown self.new ≡ shown self.old) }
         ensures machine { IsMachine self.new }
     {
+        let arena = Arena::new(alloc, self.chunks as usize)?;
         let (subscriber, connection) = self.reserve(alloc, name, slot)?;
         match take(&mut self.slots, slot, position) {
             Ok(position) => {
-                self.add(alloc, subscriber, connection, selection, position);
+                self.add(alloc, subscriber, connection, selection, position, arena);
                 Ok(Answer::Done)
             }
             Err(_) => unreachable!(),
@@ -306,6 +312,7 @@ impl<L: LogName + SlotName> Machine<L> {
         connection: Text,
         selection: Selection,
         position: u64,
+        arena: Arena,
     )
         requires machine { IsMachine self.old }
         requires room { HasRoom self.old }
@@ -320,7 +327,7 @@ impl<L: LogName + SlotName> Machine<L> {
         let Some(reader) = self.readers.pop() else {
             unreachable!();
         };
-        let start = Start::new(alloc, reader, connection, selection, position);
+        let start = Start::new(alloc, reader, connection, selection, position, arena);
         let place = self.starts.as_slice().len();
         self.opened.push_reserved(place);
         self.starts.push_reserved(start);

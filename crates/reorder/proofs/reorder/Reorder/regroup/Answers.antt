@@ -1,15 +1,19 @@
-use Rattle.std.proofs.Common.{◌≡◌, List, Option, ◌∙◌, sym, ap, subst, Some, None}
+use Rattle.std.proofs.Common.{rules, ◌≡◌, [], length, List, Option, ◌∙◌, sym, ap, subst, Some, None}
 use Rattle.wal.specs.declared.record.Record.{Record}
 use Rattle.wal.specs.declared.record.Body.{Body}
-use Rattle.wal.specs.Log.{Entry}
-use Rattle.reorder.specs.Taking.{ReorderState, Takes}
+use Rattle.wal.specs.Log.{Entry, IsOpen}
+use Rattle.reorder.specs.Entries.{entry_in}
+use Rattle.reorder.specs.Ready.{ready_entries}
+use Rattle.reorder.specs.Strands.{IsSame, by_xid, pushed}
+use Rattle.reorder.specs.Taking.{MayCome, ReorderState, Takes}
+use Rattle.reorder.specs.Bookkeeping.{IsBookkeeping}
+use Rattle.reorder.specs.Chunks.{IsTidy}
+use Rattle.reorder.proofs.Coding.{entry_length, kept_again}
+use Rattle.reorder.proofs.Counting.{no_room_left}
+use Rattle.reorder.proofs.Opening.{Opened, opened}
 use Rattle.reorder.proofs.Steps.{state, taken_assign, taken_change, taken_rollback, taken_abort, taken_commit}
 use Rattle.reorder.proofs.reorder.Reorder.regroup.Goals as goal
-use Rattle.reorder.proofs.reorder.Reorder.regroup.Goals.{in-Assign+in_ok-open-in-Assign+in_ok-assign-in-Assign, in-Change+in_ok-open-in-Change+in_ok-kept-in-Change+in_ok-push-in-Change, in-AbortSub, in-Abort}
-
--- what the reference lends is the record
-same_body : (lent next : Record) (body : Body) → lent ≡ next → lent.body ≡ body → next.body ≡ body
-same_body lent next body same is = ap (λ (r : Record). r.body) (sym same) ∙ is
+use Rattle.reorder.proofs.reorder.Reorder.regroup.Goals.{in-Assign+in_ok-open-in-Assign+in_ok-assign-in-Assign, in-Change+in_ok-open-in-Change+in_ok-write_entry-in-Change+in_ok-push-in-Change, in-AbortSub, in-Abort}
 
 carried : (s old after now : ReorderState) (r : Record) (ready : Option (List Entry)) → s ≡ old → now ≡ after → Takes s after r ready → Takes old now r ready
 carried s old after now r ready same same' taken =
@@ -17,26 +21,54 @@ carried s old after now r ready same same' taken =
 
 pub returns-clause-takes : goal.returns-clause-takes
 returns-clause-takes c =
-    elim c.match-deref.branch [
+    elim c.match-next.branch [
       | in-Assign+in_ok-open-in-Assign+in_ok-assign-in-Assign w ↦
-          carried (state c.self.inside.strands c.self.inside.failed) c.args.self.now (state w.assign.new.self c.self.inside.failed) c.match-deref.self c.args.next.now.value None c.self.view_is w.self-is
-          (taken_assign c.self.inside.strands w.open.new.self w.assign.new.self c.self.inside.failed c.self.inside.failed c.args.next.now.value w.in-Assign.sub w.in-Assign.parent
-          (same_body _ _ _ c.deref.ensures w.in-Assign.is) w.in_ok-open-in-Assign.ensures.known w.in_ok-open-in-Assign.ensures.fresh w.in_ok-assign-in-Assign.ensures)
-      | in-Change+in_ok-open-in-Change+in_ok-kept-in-Change+in_ok-push-in-Change w ↦
-          carried (state c.self.inside.strands c.self.inside.failed) c.args.self.now (state w.push.new.self c.self.inside.failed) c.match-deref.self c.args.next.now.value None c.self.view_is w.self-is
-          (taken_change c.self.inside.strands w.open-in-Change.new.self w.push.new.self c.self.inside.failed c.self.inside.failed c.args.next.now.value w.in-Change.xid w.in-Change.field-1
-          (same_body _ _ _ c.deref.ensures w.in-Change.is) w.in_ok-open-in-Change.ensures.known w.in_ok-open-in-Change.ensures.fresh (rw (← w.in_ok-kept-in-Change.ensures) w.in_ok-push-in-Change.ensures))
+          carried (state c.self.inside.strands c.self.inside.failed) c.args.self.now (state w.assign.new.self c.self.inside.failed) c.match-next.self c.args.next.now None c.self.view_is w.self-is
+          (taken_assign c.self.inside.strands w.open.new.self w.assign.new.self c.self.inside.failed c.self.inside.failed c.args.next.now w.in-Assign.sub w.in-Assign.parent
+          w.in-Assign.is w.in_ok-open-in-Assign.ensures.known w.in_ok-open-in-Assign.ensures.fresh w.in_ok-assign-in-Assign.ensures.assigned)
+      | in-Change+in_ok-open-in-Change+in_ok-write_entry-in-Change+in_ok-push-in-Change w ↦
+          carried (state c.self.inside.strands c.self.inside.failed) c.args.self.now (state w.push.new.self c.self.inside.failed) c.match-next.self c.args.next.now None c.self.view_is w.self-is
+          (taken_change c.self.inside.strands w.open-in-Change.new.self w.push.new.self c.self.inside.failed c.self.inside.failed c.args.next.now w.in-Change.xid w.in-Change.change
+          w.in-Change.is w.in_ok-open-in-Change.ensures.known w.in_ok-open-in-Change.ensures.fresh
+          (subst (λ (e : Entry). IsSame (by_xid w.push.new.self) (pushed w.in-Change.xid e (by_xid w.open-in-Change.new.self)))
+          (ap (entry_in w.in-Change.xid) (w.as_slice.ensures ∙ w.in_ok-write_entry-in-Change.ensures.text)
+          ∙ kept_again c.args.next.now w.in-Change.xid w.in-Change.change w.in-Change.is w.write_entry.ensures.in_range w.write_entry.ensures.coded) w.in_ok-push-in-Change.ensures.ok))
       | in-AbortSub w ↦
-          carried (state c.self.inside.strands c.self.inside.failed) c.args.self.now (state w.undo.new.self c.self.inside.failed) c.match-deref.self c.args.next.now.value None c.self.view_is w.self-is
-          (taken_rollback c.self.inside.strands w.undo.new.self c.self.inside.failed c.self.inside.failed c.args.next.now.value w.in-AbortSub.xid (same_body _ _ _ c.deref.ensures w.in-AbortSub.is) w.undo.ensures)
+          carried (state c.self.inside.strands c.self.inside.failed) c.args.self.now (state w.undo.new.self c.self.inside.failed) c.match-next.self c.args.next.now None c.self.view_is w.self-is
+          (taken_rollback c.self.inside.strands w.undo.new.self c.self.inside.failed c.self.inside.failed c.args.next.now w.in-AbortSub.xid w.in-AbortSub.is w.undo.ensures.undone)
       | in-Abort w ↦
-          carried (state c.self.inside.strands c.self.inside.failed) c.args.self.now (state w.end.new.self c.self.inside.failed) c.match-deref.self c.args.next.now.value None c.self.view_is w.self-is
-          (taken_abort c.self.inside.strands w.end.new.self c.self.inside.failed c.self.inside.failed c.args.next.now.value w.in-Abort.top (same_body _ _ _ c.deref.ensures w.in-Abort.is) w.end.ensures)
+          carried (state c.self.inside.strands c.self.inside.failed) c.args.self.now (state w.end.new.self c.self.inside.failed) c.match-next.self c.args.next.now None c.self.view_is w.self-is
+          (taken_abort c.self.inside.strands w.end.new.self c.self.inside.failed c.self.inside.failed c.args.next.now w.in-Abort.top w.in-Abort.is w.end.ensures.ended)
     ]
 
 pub returns-in-Commit-clause-takes : goal.returns-in-Commit-clause-takes
 returns-in-Commit-clause-takes c =
-    rw c.new.ensures
-    (subst (λ (s : ReorderState). Takes s (state c.end-in-Commit.new.self c.self.inside.failed) c.args.next.now.value (Some c.in_ok-changes-in-Commit.changes.items)) c.self.view_is
-    (taken_commit c.self.inside.strands c.end-in-Commit.new.self c.self.inside.failed c.self.inside.failed c.args.next.now.value c.in-Commit.top c.in-Commit.field-1
-    c.in_ok-changes-in-Commit.changes.items (same_body _ _ _ c.deref.ensures c.in-Commit.is) c.in_ok-changes-in-Commit.ensures.rising c.in_ok-changes-in-Commit.ensures.same c.end-in-Commit.ensures))
+    subst (λ (s : ReorderState). Takes s (state c.make_ready.new.self c.self.inside.failed) c.args.next.now (Some (ready_entries c.make_ready.new.self.pool c.in_ok-make_ready-in-Commit.field-0))) c.self.view_is
+    (taken_commit c.self.inside.strands c.make_ready.new.self c.self.inside.failed c.self.inside.failed c.args.next.now c.in-Commit.top c.in-Commit.field-1
+    _ c.in-Commit.is c.in_ok-make_ready-in-Commit.ensures.rising c.in_ok-make_ready-in-Commit.ensures.same c.in_ok-make_ready-in-Commit.ensures.ended)
+
+pub returns-in_err-push-in-Change-clause-full : goal.returns-in_err-push-in-Change-clause-full
+returns-in_err-push-in-Change-clause-full c = λ is rs count taken next tidy.
+    let body : IsOpen rs c.in-Change.xid = subst (λ (b : Body). MayCome rs b) c.in-Change.is next in
+    let before : IsBookkeeping (by_xid c.self.inside.strands) rs = subst (λ (s : ReorderState). IsBookkeeping (by_xid s.strands) rs) (sym c.self.view_is) taken.ready in
+    let o : Opened (by_xid c.open-in-Change.new.self) (by_xid c.self.inside.strands) rs c.in-Change.xid =
+    opened c.self.inside.strands c.open-in-Change.new.self rs c.in-Change.xid before.strands body c.in_ok-open-in-Change.ensures.known c.in_ok-open-in-Change.ensures.fresh in
+    no_room_left c.open-in-Change.new.self rs count (length c.as_slice.result.now) c.args.next.now c.in-Change.xid c.in-Change.change o.kept
+    (c.in_ok-open-in-Change.ensures.tidy count [] (subst (λ (s : ReorderState). IsTidy count [] s.strands) (sym c.self.view_is) tidy)) c.in-Change.is
+    (ap length (c.as_slice.ensures ∙ c.in_ok-write_entry-in-Change.ensures.text) ∙ entry_length c.args.next.now.start c.in-Change.change) body.undropped o.some
+    (c.in_err-push-in-Change.ensures.full (search rules))
+
+pub returns-in-Commit-clause-tidy : goal.returns-in-Commit-clause-tidy
+returns-in-Commit-clause-tidy c = λ count held tidy. c.in_ok-make_ready-in-Commit.ensures.tidy count held (subst (λ (s : ReorderState). IsTidy count held s.strands) (sym c.self.view_is) tidy)
+
+pub returns-clause-tidy : goal.returns-clause-tidy
+returns-clause-tidy c = λ count held tidy.
+    let before : IsTidy count held c.self.inside.strands = subst (λ (s : ReorderState). IsTidy count held s.strands) (sym c.self.view_is) tidy in
+    elim c.match-next.branch [
+      | in-Assign+in_ok-open-in-Assign+in_ok-assign-in-Assign w ↦
+          subst (λ (s : ReorderState). IsTidy count held s.strands) (sym w.self-is) (w.in_ok-assign-in-Assign.ensures.tidy count held (w.in_ok-open-in-Assign.ensures.tidy count held before))
+      | in-Change+in_ok-open-in-Change+in_ok-write_entry-in-Change+in_ok-push-in-Change w ↦
+          subst (λ (s : ReorderState). IsTidy count held s.strands) (sym w.self-is) (w.in_ok-push-in-Change.ensures.tidy w.in_ok-open-in-Change.ensures.there count held (w.in_ok-open-in-Change.ensures.tidy count held before))
+      | in-AbortSub w ↦ subst (λ (s : ReorderState). IsTidy count held s.strands) (sym w.self-is) (w.undo.ensures.tidy count held before)
+      | in-Abort w ↦ subst (λ (s : ReorderState). IsTidy count held s.strands) (sym w.self-is) (w.end.ensures.tidy count held before)
+    ]

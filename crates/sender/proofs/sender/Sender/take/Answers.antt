@@ -1,8 +1,12 @@
-use Rattle.std.proofs.Common.{Some, ap, reverse, subst, ◌∙◌}
+use Rattle.std.proofs.Common.{◌≡◌, ◌++◌, [], Some, ap, reverse, sym, subst, ◌∙◌}
 use Rattle.std.specs.Int.{w64}
 use Rattle.std.proofs.lemmas.Int.{to_z-of_z}
 use Rattle.wal.specs.declared.record.Record.{Record}
-use Rattle.sender.specs.Sending.{SenderState, ReadOne}
+use Rattle.reorder.specs.Chunks.{IsTidy}
+use Rattle.reorder.specs.Ready.{ready_entries}
+use Rattle.reorder.specs.Taking.{IsSameTaken, ReorderState, Takes}
+use Rattle.reorder.proofs.Steps.{takes_same}
+use Rattle.sender.specs.Sending.{SenderState, HasChunks, ReadOne}
 use Rattle.sender.proofs.sender.Sender.take.Goals as goal
 
 pub returns-in-Ok-Ready-clause-ok : goal.returns-in-Ok-Ready-clause-ok
@@ -37,8 +41,10 @@ returns-in-Ok-Ready-clause-ok c =
     let taken = rw c.in-Ok-Ready.field-0-is at c.in-Ok-Ready.ensures.ok in
     let P : SenderState → Type 0 = λ a. ReadOne c.args.clock a new c.args.next.now.value in
     subst P c.self.view_is (record {
-      ready = Some c.in-Ok-Ready.ready;
-      takes = rw (c.finish.ensures, ap (λ (s : SenderState). s.reorder) e, told.reorder) taken;
+      ready = Some (ready_entries c.take.new.self.strands.pool c.in-Ok-Ready.ready);
+      takes = takes_same i.reorder c.take.new.self c.finish.new.self c.args.next.now.value (Some (ready_entries c.take.new.self.strands.pool c.in-Ok-Ready.ready))
+          (subst (λ (r : Record). Takes i.reorder c.take.new.self r (Some (ready_entries c.take.new.self.strands.pool c.in-Ok-Ready.ready))) c.deref.ensures taken)
+          (subst (λ (m : ReorderState). IsSameTaken m c.finish.new.self) (ap (λ (s : SenderState). s.reorder) e ∙ told.reorder) c.finish.ensures.same);
       selection = ap (λ (s : SenderState). s.selection) e ∙ told.selection;
       start = ap (λ (s : SenderState). s.start) e ∙ told.start;
       position = ap (λ (r : Record). r.end) c.deref-in-Ok-Ready-2.ensures;
@@ -46,3 +52,14 @@ returns-in-Ok-Ready-clause-ok c =
       fit = fit;
       relations_sent = ap (λ (s : SenderState). s.relations_sent) e ∙ relations_sent;
     })
+
+pub returns-in-Ok-Quiet-clause-chunks : goal.returns-in-Ok-Quiet-clause-chunks
+returns-in-Ok-Quiet-clause-chunks c = λ count chunks.
+    (rw c.in-Ok-Quiet.field-0-is at c.in-Ok-Quiet.ensures.tidy) count [] (subst (λ (s : SenderState). HasChunks s count) (sym c.self.view_is) chunks)
+
+pub returns-in-Ok-Ready-clause-chunks : goal.returns-in-Ok-Ready-clause-chunks
+returns-in-Ok-Ready-clause-chunks c = λ count chunks.
+    let before : IsTidy count [] c.self.inside.reorder.strands = subst (λ (s : SenderState). HasChunks s count) (sym c.self.view_is) chunks in
+    let taken = rw c.in-Ok-Ready.field-0-is at c.in-Ok-Ready.ensures.tidy in
+    let same : c.self-in-Ok-Ready.inside.reorder ≡ c.take.new.self = ap (λ (s : SenderState). s.reorder) c.self-in-Ok-Ready.view_is ∙ c.publish-published.ensures.reorder in
+    c.finish.ensures.tidy count [] (subst (λ (m : ReorderState). IsTidy count (c.in-Ok-Ready.ready.xids ++ []) m.strands) (sym same) (taken count [] before))

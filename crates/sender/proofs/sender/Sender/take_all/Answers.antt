@@ -3,11 +3,11 @@ use Rattle.std.specs.Int.{w64}
 use Rattle.std.proofs.lemmas.Int.{to_z-of_z}
 use Rattle.wal.specs.Records.{shared}
 use Rattle.sender.specs.Sending.{SenderState}
-use Rattle.sender.proofs.Batches.{ReadOne-ReadAll, ReadAll-append, shared_more, stopped_at}
+use Rattle.sender.proofs.Batches.{ReadOne-ReadAll, ReadAll-append, lacks_room, shared_at, shared_more, stopped_at}
 use Rattle.sender.proofs.sender.Sender.take_all.Goals as goal
 
-pub returns-in-Err-clause-memory : goal.returns-in-Err-clause-memory
-returns-in-Err-clause-memory c =
+pub returns-in-Err-clause-out : goal.returns-in-Err-clause-out
+returns-in-Err-clause-out c =
     let i = c.self.inside in
     let new : SenderState = record {
       selection = i.selection;
@@ -28,4 +28,21 @@ loop-record-preserved c =
       read = rw item (ReadAll-append _ c.args.self.now c.loop-record.self c.take.new.self (shared (take c.loop-record.record-index c.args.records.now)) (c.record-item.result.value ∷ [])
           c.loop-record.invariant.read (ReadOne-ReadAll _ c.loop-record.self c.take.new.self c.record-item.result.value c.in-Ok.ensures.ok));
       running = c.in-Ok.ensures.failed ∙ c.loop-record.invariant.running;
+      chunks = λ count before. c.in-Ok.ensures.chunks count (c.loop-record.invariant.chunks count before);
     }
+
+pub returns-in-Err-clause-room : goal.returns-in-Err-clause-room
+returns-in-Err-clause-room c = λ full.
+    let i = c.self.inside in
+    let new : SenderState = record {
+      selection = i.selection;
+      start = i.start;
+      position = i.position;
+      failed = true;
+      held = i.outgoing.held.items;
+      relations_sent = reverse i.outgoing.relations_sent.items;
+      reorder = i.reorder;
+    } in
+    lacks_room c.args.clock c.args.self.now c.loop-record.self c.take.new.self new c.args.records.now c.loop-record.record-index c.record-item.result.value (omega arith)
+    (shared_at c.args.records.now c.loop-record.record-index c.record-item.result (omega arith) c.record-item.is) (rw (to_z-of_z w64 c.args.clock c.ranges.clock) at c.loop-record.invariant.read) c.in-Err.ensures.err
+    (ap (λ (s : SenderState). s.position) c.self.view_is) c.loop-record.invariant.chunks (c.in-Err.ensures.room full)

@@ -45,4 +45,4 @@ returns-in-Err-clause-acts g c =
     let name = c.args.self.now.connection in
     let s : SenderState = c.in-Open.walsender.sender in
     let Q : Stage _ → Type 0 = λ o. Acts log (actions.Keepalive c.args.clock) (state_with name produced o) (answers.Sender c.in-Err.fault) (open_state name produced c.keepalive.new.self.sender) in
-    subst Q (sym c.in-Open.is) (refused_keepalive log c.args.clock name produced s c.keepalive.new.self.sender c.keepalive.result c.in-Err.fault c.in-Err.is c.keepalive.ensures.failed c.keepalive.ensures.gap c.in-Err.ensures.err)
+    subst Q (sym c.in-Open.is) (refused_keepalive log c.args.clock name produced s c.keepalive.new.self.sender c.keepalive.result c.in-Err.fault c.in-Err.is c.keepalive.ensures.failed c.keepalive.ensures.gap c.keepalive.ensures.full c.in-Err.ensures.err)

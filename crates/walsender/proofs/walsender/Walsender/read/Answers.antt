@@ -19,6 +19,7 @@ returns-clause-serves g c = λ log written max good same serving.
     (record {
       ok = rw (clocked, section_is) at told.ok;
       running = told.running;
+      full = rw (clocked, section_is) at told.full;
       memory = rw (clocked, section_is) at told.memory;
       failed = told.failed;
       unchanged = told.unchanged;

@@ -1,0 +1,63 @@
+//! How a change lies in the arena.
+
+ghost use Rattle.std.specs.Prelude.{◌≡◌, ◌≤◌, ◌<◌, ◌^◌, OnOk, length};
+ghost use Rattle.tables.specs.Reading.{IsCoded};
+ghost use Rattle.tables.specs.Spelling.{IsShort};
+ghost use Rattle.reorder.specs.Entries.{IsEntry, body_in, coded_entry, position_in};
+
+use bytes::{BufMut, BytesMut};
+use std::alloc::AllocError;
+use tables::{Change, write_body};
+use wal::LoggedChange;
+
+/// How many bytes the position has that an entry begins with.
+const POSITION_LENGTH: usize = 8;
+
+/// Writes the entry of a change at a position into a buffer, in the place of what it holds.
+#[tactic(auto, using(crate::proofs::Coding::entry_fits))]
+pub(crate) fn write_entry(
+    out: &mut BytesMut,
+    position: u64,
+    change: &LoggedChange,
+) -> Result<(), AllocError>
+    ensures text { OnOk result (out.new.items ≡ coded_entry position change.now) }
+    ensures entry { OnOk result (IsEntry out.new.items) }
+    ensures fits { OnOk result (length out.new.items ≤ 16380) }
+    ensures in_range { position < 2 ^ 64 }
+    ensures coded { IsCoded change.now }
+{
+    write_change(out, position, change.change())
+}
+
+#[tactic(auto, unfolding(pqformat::specs::Fields::int64))]
+fn write_change(out: &mut BytesMut, position: u64, change: &Change) -> Result<(), AllocError>
+    requires { IsShort change.now }
+    ensures text { OnOk result (out.new.items ≡ coded_entry position change.now) }
+    ensures in_range { position < 2 ^ 64 }
+{
+    out.clear();
+    out.put_u64(position)?;
+    write_body(change, out)
+}
+
+/// The position in an entry.
+#[tactic(auto, using(crate::proofs::Coding::long_entry))]
+pub(crate) fn position_of(entry: &[u8]) -> u64
+    requires { IsEntry entry.now }
+    ensures { result ≡ position_in entry.now }
+{
+    let (head, _) = entry.split_at(POSITION_LENGTH);
+    u64::from_be_bytes([
+        head[0], head[1], head[2], head[3], head[4], head[5], head[6], head[7],
+    ])
+}
+
+/// The body of the change in an entry.
+#[tactic(auto, using(crate::proofs::Coding::long_entry))]
+pub(crate) fn body_of(entry: &[u8]) -> &[u8]
+    requires { IsEntry entry.now }
+    ensures { result.now ≡ body_in entry.now }
+{
+    let (_, body) = entry.split_at(POSITION_LENGTH);
+    body
+}

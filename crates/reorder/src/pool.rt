@@ -1,0 +1,137 @@
+//! The entries of each xid, in an arena.
+
+ghost use Rattle.std.specs.Prelude.{◌≡◌, ◌≢◌, Err, ℕ, false, ◌+◌, ◌<◌, ◌≤◌, ◌++◌, ◌∷◌, [], get_or, length, IsSome, OnErr, OnOk};
+ghost use Rattle.std.specs.List.{AllByRecursion};
+ghost use Rattle.reorder.specs.Entries.{IsEntry};
+ghost use Rattle.chgarena.specs.Strands.{fills, has_room};
+ghost use Rattle.reorder.specs.Chunks.{HasNoRoom, IsWhole, StaysWhole};
+ghost use Rattle.reorder.specs.Pool.{HoldEntries, IsPool, IsSameAt, PushesAt, entries_at, entries_by, entries_in, strand_of, with_entries};
+
+use crate::fault::ReorderFault;
+use chgarena::{Arena, Entries, Full, Strand};
+use std::alloc::{AllocError, Global};
+use std::collections::HashMap;
+use std::marker::Model;
+
+/// The entries of each xid, in an arena. Contracts see them as lists.
+#[derive(Drop)]
+pub(crate) struct Pool {
+    arena: Arena,
+    strands: HashMap<u32, Strand>,
+}
+
+impl Model for Pool {
+    ghost use Rattle.reorder.specs.Pool.{HoldEntries, IsPool, PoolState};
+
+    ghost Value = { PoolState };
+
+    ghost view = { λ p. record { arena = p.arena; strands = p.strands.entries } };
+
+    ghost invariant = { λ p. IsPool p.arena p.strands.entries × HoldEntries p.arena p.strands.entries };
+}
+
+impl Pool {
+    /// No entries.
+    pub(crate) fn new(alloc: Global, arena: Arena) -> Self
+        ensures entries { (x : ℕ) → entries_at result x ≡ [] }
+        ensures arena { result.arena ≡ arena }
+    {
+        Pool {
+            arena,
+            strands: HashMap::new(alloc),
+        }
+    }
+
+    /// How many chunks are free.
+    pub(crate) fn free(&self) -> usize
+        ensures free { result + fills self.now.arena ≡ length self.now.arena }
+        ensures pool { IsPool self.now.arena self.now.strands }
+        ensures hold { HoldEntries self.now.arena self.now.strands }
+    {
+        self.arena.free()
+    }
+
+    /// Adds an entry to those of an xid.
+    pub(crate) fn push(&mut self, xid: u32, entry: &[u8]) -> Result<(), ReorderFault>
+        requires entry { IsEntry entry.now }
+        requires fits { length entry.now ≤ 16380 }
+        ensures ok { OnOk result ((x : ℕ) → entries_at self.new x ≡ with_entries self.old xid (entries_at self.old xid ++ entry.now ∷ []) x) }
+        ensures whole { OnOk result (StaysWhole self.old self.new) }
+        ensures full { result ≡ Err ReorderFault.Full → HasNoRoom self.old xid (length entry.now) }
+        ensures running { result ≢ Err ReorderFault.Failed }
+    {
+        self.open(xid)?;
+        match push_at(&mut self.arena, &mut self.strands, xid, entry) {
+            Ok(()) => Ok(()),
+            Err(Full) => Err(ReorderFault::Full),
+        }
+    }
+
+    /// Makes a place for the entries of an xid, unless it has one.
+    fn open(&mut self, xid: u32) -> Result<(), AllocError>
+        ensures same { OnOk result ((x : ℕ) → entries_at self.new x ≡ entries_at self.old x) }
+        ensures place { OnOk result (IsSome (strand_of self.new.strands xid)) }
+        ensures arena { OnOk result (self.new.arena ≡ self.old.arena) }
+        ensures whole { OnOk result (IsWhole self.old → IsWhole self.new) }
+        ensures pool { IsPool self.old.arena self.old.strands }
+        ensures hold { HoldEntries self.old.arena self.old.strands }
+    {
+        if !self.strands.contains_key(&xid) {
+            self.strands.insert(xid, self.arena.strand())?;
+        }
+        Ok(())
+    }
+
+    /// Gives back the entries of an xid.
+    pub(crate) fn give_back(&mut self, xid: u32)
+        ensures entries { (x : ℕ) → entries_at self.new x ≡ with_entries self.old xid [] x }
+        ensures whole { StaysWhole self.old self.new }
+    {
+        if let Some(strand) = self.strands.remove(&xid) {
+            self.arena.give_back(strand);
+        }
+    }
+
+    /// The k-th entry of an xid. It is found at once where it lies in the chunk `near`.
+    pub(crate) fn entry(&self, xid: u32, k: usize, near: usize) -> &[u8]
+        requires { k < length (entries_at self.now xid) }
+        ensures value { result.now ≡ get_or (entries_at self.now xid) k [] }
+        ensures entry { IsEntry result.now }
+    {
+        match self.strands.get(&xid) {
+            Some(strand) => self.arena.entry_near(strand, k, near),
+            None => unreachable!(),
+        }
+    }
+
+    /// The entries of an xid, in the order in which they were pushed.
+    pub(crate) fn entries(&self, xid: u32) -> Option<Entries<'_>>
+        ensures value { entries_in result ≡ entries_at self.now xid }
+        ensures entries { AllByRecursion IsEntry (entries_in result) }
+    {
+        match self.strands.get(&xid) {
+            Some(strand) => Some(self.arena.entries(strand)),
+            None => None,
+        }
+    }
+}
+
+/// Adds an entry to those of an xid that has a place.
+fn push_at(
+    arena: &mut Arena,
+    strands: &mut HashMap<u32, Strand>,
+    xid: u32,
+    entry: &[u8],
+) -> Result<(), Full>
+    requires pool { IsPool arena.old strands.old.entries }
+    requires place { IsSome (strand_of strands.old.entries xid) }
+    requires fits { length entry.now ≤ 16380 }
+    ensures ok { OnOk result (PushesAt xid entry.now arena.old strands.old.entries arena.new strands.new.entries) }
+    ensures err { OnErr result ((arena.new ≡ arena.old) × IsSameAt xid strands.old.entries strands.new.entries) }
+    ensures full { OnErr result ((has_room (entries_by arena.old (strand_of strands.old.entries xid)) (length entry.now) ≡ false) × (fills arena.old ≡ length arena.old)) }
+{
+    match strands.get_mut(&xid) {
+        Some(strand) => arena.push(strand, entry),
+        None => unreachable!(),
+    }
+}
