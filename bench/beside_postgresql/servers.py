@@ -67,7 +67,7 @@ class Pubd:
 [server]
 systemid = '42'
 records = 300000
-chunks = 64
+chunks = 4096
 [[table]]
 oid = 16384
 schema = 'public'

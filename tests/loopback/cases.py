@@ -28,6 +28,8 @@ THREADS = 2
 ENOUGH = 200
 # The greatest length of a startup, its own four bytes counted.
 LONGEST_STARTUP = 10_000
+# Those of a stream, as the configuration has it; each has room for two of the longest rows.
+CHUNKS = 64
 # Where the log begins.
 FIRST = 0x1000000
 
@@ -245,6 +247,23 @@ def a_slow_reader_holds_up_nobody(pubd, subcat):
         return ["the slow reader got something else"] * (got != due) + server.end()
 
 
+def a_transaction_that_is_too_large_ends_its_stream(pubd, subcat):
+    """One that needs all chunks of a stream is sent; one of a row more ends the stream behind it, also where it is asked for again."""
+    rows, long = 2 * CHUNKS, "n" * 7900
+    more = [f"insert T public.item ({k},'{long}',7)" for k in range(rows + 1, 2 * rows + 2)]
+    with Server(pubd, 2, [*inserts(rows, rows, long), "begin T", *more, "commit T 9"], awaited=1) as server:
+        wrong = []
+        for attempt in ("at first", "again"):
+            client = Connection(server.port)
+            if attempt == "at first":
+                client.create("s")
+            client.start_when_free("s")
+            sent, code = len(list(client.messages(1))), client.refusal()
+            client.close()
+            wrong += [f"{attempt}: {sent} messages are sent, and then it ends by {code}"] * ((sent, code) != (rows + 3, "53400"))
+        return wrong + server.end()
+
+
 def two_followers_print_what_a_script_commits(pubd, subcat):
     """100 transactions on a script's thread, followed from two slots, and a line behind them that is refused."""
     count = 100
@@ -359,6 +378,7 @@ ALL = [
     statuses_that_ask_cost_no_memory,
     a_broken_connection_leaves_the_others,
     a_slow_reader_holds_up_nobody,
+    a_transaction_that_is_too_large_ends_its_stream,
     two_followers_print_what_a_script_commits,
     an_acknowledgement_holds_over_a_close,
     an_acknowledgement_holds_over_a_blocked_write,

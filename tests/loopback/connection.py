@@ -27,6 +27,11 @@ class Refused(Exception):
     """What an ErrorResponse said: its code."""
 
 
+def code_of(error):
+    """The code of the body of an ErrorResponse."""
+    return next(field[1:].decode() for field in error.split(b"\0") if field[:1] == b"C")
+
+
 def position(text):
     high, low = text.split("/")
     return int(high, 16) << 32 | int(low, 16)
@@ -71,8 +76,7 @@ class Connection:
             frames.append(self.frame())
             kind, body = frames[-1]
             if kind == b"E":
-                fields = dict((field[:1], field[1:].decode()) for field in body.split(b"\0") if field)
-                refused, last = fields[b"C"], b"Z"
+                refused, last = code_of(body), b"Z"
         if refused:
             raise Refused(refused)
         return frames
@@ -110,6 +114,13 @@ class Connection:
     def commits(self, count):
         """Where each of so many transactions of a stream ends."""
         return [int.from_bytes(each[10:18], "big") for each in self.messages(count) if each[:1] == b"C"]
+
+    def refusal(self):
+        """The code of the ErrorResponse that ends a stream, and the connection."""
+        kind, body = self.frame()
+        while kind != b"E":
+            kind, body = self.frame()
+        return code_of(body) if self.bytes.read(1) == b"" else "followed by more"
 
     def break_off(self):
         """Without a word, and with what wasn't read."""

@@ -4,7 +4,7 @@ import pathlib
 import re
 
 HERE = pathlib.Path(__file__).resolve().parent
-RECORDS = 65536
+RECORDS, CHUNKS = 65536, 64
 
 
 @dataclasses.dataclass
@@ -18,13 +18,15 @@ class Case:
 
 
 def config_of(head):
-    records, tables = RECORDS, ""
+    records, chunks, tables = RECORDS, CHUNKS, ""
     for line in head:
         if line.startswith("records "):
             records = int(line[len("records "):])
+        elif line.startswith("chunks "):
+            chunks = int(line[len("chunks "):])
         elif line.startswith("| "):
             tables += line[2:] + "\n"
-    server = f"[server]\nsystemid = '1'\nrecords = {records}\nchunks = 1\n"
+    server = f"[server]\nsystemid = '1'\nrecords = {records}\nchunks = {chunks}\n"
     return server + (tables or (HERE / "tables.toml").read_text())
 
 
