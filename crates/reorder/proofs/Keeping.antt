@@ -151,7 +151,7 @@ below_is l rs x q s h is above =
     ap (λ ys. is_in q (behind x ys)) back
     ∙ stands_behind l x q (reverse o.members) w.ordered (in_reversed q o.members ∙ o.within.0) (ap (λ v. is_in x (above_in v)) is ∙ above)
 
-nothing_left : (b : Bool) (es : List Entry) → es ≡ [] → cond b [] es ≡ []
+pub nothing_left : {A : Type 0} (b : Bool) (es : List A) → es ≡ [] → cond b [] es ≡ []
 nothing_left true es none = refl
 nothing_left false es none = none
 

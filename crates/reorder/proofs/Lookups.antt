@@ -88,6 +88,11 @@ undone_same strands members pool pool' xid has = record {
     by_option x None same = refl
     by_option x (Some t) same = rw back_is (ap Some (shown x ((xid == x) || (is_in x (behind xid (back_in (record { strands = strands; members = members; pool = pool }) xid)) && is_in xid t.above)) t same))
 
+-- entries that go by either test
+pub either : (a b : Bool) (es : List (List ℕ)) → cond a [] (cond b [] es) ≡ cond (a || b) [] es
+either true b es = refl
+either false b es = refl
+
 -- the same where the entries of those under it went first
 pub undone_after : (s : StrandsState) (strands : List (ℕ × Standing)) (members : List (ℕ × List ℕ)) (pool pool' : PoolState) (xid : ℕ) → strands ≡ s.strands → members ≡ s.members →
     ((x : ℕ) → entries_at pool x ≡ cond (is_in x (behind xid (back_in s xid)) && is_in xid (above_standing (at s.strands x))) [] (entries_at s.pool x)) →
@@ -97,10 +102,6 @@ undone_after s strands members pool pool' xid same_strands same_members under ha
     (subst (λ (ms : List (ℕ × List ℕ)). IsSame (by_xid (record { strands = s.strands; members = ms; pool = pool' })) (undone xid (by_xid s))) (sym same_members)
     (undone_same s.strands s.members s.pool pool' xid
     (λ x. has x ∙ ap (λ es. cond (xid == x) [] es) (under x) ∙ either (xid == x) (is_in x (behind xid (back_in s xid)) && is_in xid (above_standing (at s.strands x))) (entries_at s.pool x))))
-  where
-    either : (a b : Bool) (es : List (List ℕ)) → cond a [] (cond b [] es) ≡ cond (a || b) [] es
-    either true b es = refl
-    either false b es = refl
 
 -- where the entries go of what stands behind an xid among those of its transaction
 pub given_back : (strands : List (ℕ × Standing)) (members : List (ℕ × List ℕ)) (pool pool' : PoolState) (xid top : ℕ) (ms xs : List ℕ) →

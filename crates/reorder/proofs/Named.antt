@@ -5,7 +5,7 @@ use Rattle.std.proofs.lemmas.Bool.{eqb-true}
 use Rattle.wal.specs.declared.record.Record.{Record}
 use Rattle.wal.specs.declared.record.Body.{Body}
 use Rattle.wal.specs.declared.record.Body.TheVariants.{Assign, Change as Changed, AbortSub, Abort, Commit}
-use Rattle.wal.specs.Log.{Entry, names, is_named, assigns, is_assigned, chain_step, chain_back, undoes, is_undone, is_dropped, entry_at, entries}
+use Rattle.wal.specs.Log.{Entry, names, is_named, assigns, is_assigned, chain_step, chain_back, is_undone, is_dropped, entry_at, entries}
 use Rattle.wal.proofs.Lists.{eqb_comm, all_append}
 use Rattle.wal.proofs.Laws.{all_when}
 use Rattle.reorder.specs.Bookkeeping.{changes_of}
@@ -35,18 +35,8 @@ assigns_named x (AbortSub xid) none = refl
 assigns_named x (Abort xid) none = refl
 assigns_named x (Commit xid time) none = refl
 
-undoes_named : (x : ℕ) (body : Body) → names x body ≡ false → undoes x body ≡ false
-undoes_named x (Assign sub parent) none = refl
-undoes_named x (Changed xid change) none = refl
-undoes_named x (AbortSub xid) none = eqb_comm xid x ∙ none
-undoes_named x (Abort xid) none = refl
-undoes_named x (Commit xid time) none = refl
-
 pub unassigned : (log : List Record) (x : ℕ) → is_named log x ≡ false → is_assigned log x ≡ false
 unassigned log x none = unnamed assigns x (assigns_named x) log none
-
-pub not_undone : (log : List Record) (x : ℕ) → is_named log x ≡ false → is_undone log x ≡ false
-not_undone log x none = unnamed undoes x (undoes_named x) log none
 
 -- a chain begins with its xid
 pub none_first : (p : ℕ → Bool) (older : List Record) (x : ℕ) → list_any p (chain_back older x) ≡ false → p x ≡ false

@@ -6,12 +6,10 @@ use Rattle.chgarena.specs.Strands.{Strands as Arena, IsHead, entries_of, without
 use Rattle.reorder.specs.Pool.{PoolState, PushesAt, put, strand_of}
 use Rattle.reorder.specs.Chunks.{IsOwned, IsWhole}
 use Rattle.reorder.proofs.Opening.{put_cases}
+use Rattle.reorder.proofs.Pooling.{some_same}
 
 abbrev pub of : Arena → List (ℕ × Option ℕ) → PoolState
 of arena strands = record { arena = arena; strands = strands }
-
-some_same : {A : Type 0} (x y : A) → Some x ≡ Some y → x ≡ y
-some_same x y is = cc
 
 -- an xid that keeps its strand
 kept_by : (arena arena' : Arena) (strands strands' : List (ℕ × Option ℕ)) (xid : ℕ) (new : Option (Option ℕ)) (head : ℕ) → ((x : ℕ) → strand_of strands' x ≡ put xid new (strand_of strands) x) →
@@ -28,11 +26,8 @@ whole_opened arena strands strands' xid none puts whole = λ head within entries
     kept_by arena arena strands strands' xid (Some None) head puts o
     (λ same. let never : None ≡ Some (Some head) = sym none ∙ ap (strand_of strands) same ∙ o.is in cc)
 
-chunks_pushed : (arena arena' : Arena) (head : ℕ) (new : Option (List (List ℕ))) → arena' ≡ set arena head new → length arena' ≡ length arena
-chunks_pushed arena arena' head new is = ap length is ∙ length-set arena head new
-
 pub pushed_chunks : (xid : ℕ) (entry : List ℕ) (arena arena' : Arena) (strands strands' : List (ℕ × Option ℕ)) → PushesAt xid entry arena strands arena' strands' → length arena' ≡ length arena
-pushed_chunks xid entry arena arena' strands strands' p = chunks_pushed arena arena' p.pushed.head _ p.pushed.strands
+pushed_chunks xid entry arena arena' strands strands' p = ap length p.pushed.strands ∙ length-set arena p.pushed.head _
 
 pub whole_pushed : (xid : ℕ) (entry : List ℕ) (arena arena' : Arena) (strands strands' : List (ℕ × Option ℕ)) → PushesAt xid entry arena strands arena' strands' →
     IsWhole (of arena strands) → IsWhole (of arena' strands')

@@ -61,7 +61,7 @@ apart_at arena strands pool xid x o r was is other q at_r at_o =
     let same : xid ≡ x = pool.apart xid x q (was ∙ ap Some at_o) (is ∙ ap Some at_r) in
     let never : true ≡ false = sym (eq-eqb xid x same) ∙ other in cc
 
-some_same : {A : Type 0} (x y : A) → Some x ≡ Some y → x ≡ y
+pub some_same : {A : Type 0} (x y : A) → Some x ≡ Some y → x ≡ y
 some_same x y is = cc
 
 pub pool_pushed : (xid : ℕ) (entry : List ℕ) (arena : Arena) (strands : List (ℕ × Option ℕ)) (arena' : Arena) (strands' : List (ℕ × Option ℕ)) →

@@ -7,6 +7,8 @@ use Rattle.std.proofs.lemmas.List.Folds.{list_any-append}
 use Rattle.reorder.specs.Pool.{PoolState, entries_at, put, with_entries}
 use Rattle.reorder.specs.Strands.{Standing, StrandsState, is_in}
 use Rattle.reorder.specs.Chunks.{IsTidy, IsWhole, StaysTidy, StaysWhole}
+use Rattle.reorder.proofs.Keeping.{nothing_left}
+use Rattle.reorder.proofs.Lookups.{either}
 use Rattle.reorder.proofs.Named.{or_left, or_right}
 use Rattle.reorder.proofs.Opening.{no_some}
 
@@ -41,14 +43,10 @@ tidy_pushed s s' xid entries whole same there has = λ count held. tidy_by s s' 
     by_test x held out old true is none = absurd (no_some (at s xid) (ap (at s) (eqb-true xid x is) ∙ none) there)
     by_test x held out old false other none = has x ∙ rw other (old out none)
 
-cleared : (b : Bool) (entries : List (List ℕ)) → entries ≡ [] → cond b [] entries ≡ []
-cleared true entries none = refl
-cleared false entries none = none
-
 -- entries go, and strands stay
 pub tidy_cleared : (s s' : StrandsState) (gone : ℕ → Bool) → StaysWhole s.pool s'.pool → ((x : ℕ) → at s' x ≡ None → at s x ≡ None) →
     ((x : ℕ) → entries_at s'.pool x ≡ cond (gone x) [] (entries_at s.pool x)) → StaysTidy s s'
-tidy_cleared s s' gone whole same has = λ count held. tidy_by s s' count held held whole (λ x out none old. has x ∙ cleared (gone x) (entries_at s.pool x) (old out (same x none)))
+tidy_cleared s s' gone whole same has = λ count held. tidy_by s s' count held held whole (λ x out none old. has x ∙ nothing_left (gone x) (entries_at s.pool x) (old out (same x none)))
 
 -- the entries of those under an xid go, and then its own
 pub tidy_undone : (s : StrandsState) (strands : List (ℕ × Standing)) (members : List (ℕ × List ℕ)) (pool pool' : PoolState) (xid : ℕ) → strands ≡ s.strands → StaysWhole s.pool pool → StaysWhole pool pool' →
@@ -58,10 +56,6 @@ tidy_undone s strands members pool pool' xid same first then gone under has =
     tidy_cleared s (record { strands = strands; members = members; pool = pool' }) (λ x. (xid == x) || gone x) (stays_whole s.pool pool pool' first then)
     (λ x none. sym (ap (λ (ss : List (ℕ × Standing)). lookup (λ k. x == k) ss) same) ∙ none)
     (λ x. has x ∙ ap (λ es. cond (xid == x) [] es) (under x) ∙ either (xid == x) (gone x) (entries_at s.pool x))
-  where
-    either : (a b : Bool) (es : List (List ℕ)) → cond a [] (cond b [] es) ≡ cond (a || b) [] es
-    either true b es = refl
-    either false b es = refl
 
 -- the strands of these xids go, with their entries
 pub tidy_ended : (s s' : StrandsState) (xids : List ℕ) → StaysWhole s.pool s'.pool → ((x : ℕ) → at s' x ≡ cond (is_in x xids) None (at s x)) →
