@@ -13,9 +13,9 @@ use Rattle.tables.specs.declared.identity.Identity.TheVariants as identities
 use Rattle.tables.specs.declared.table.Table.{Table}
 use Rattle.tables.specs.Config.{and_then, document_of, is_column, is_more_than, name_in, names_in}
 use Rattle.tables.specs.Tables.{table_named}
-use Rattle.rowfilter.specs.declared.fault.FilterFault.{FilterFault}
+use Rattle.conditions.specs.declared.fault.FilterFault.{FilterFault}
 use Rattle.rowfilter.specs.Answers.{read_filter}
-use Rattle.rowfilter.specs.Conditions.{Condition, names}
+use Rattle.conditions.specs.Conditions.{Condition, names}
 use Rattle.publication_config.specs.declared.config_fault.Place.{Place}
 use Rattle.publication_config.specs.declared.config_fault.Member.{Member}
 use Rattle.publication_config.specs.declared.config_fault.Member.TheVariants as members

@@ -4,22 +4,22 @@ use Rattle.std.proofs.lemmas.Bool.{ltb-false, ltb-true}
 use Rattle.std.specs.Prelude.{MatchResult}
 use Rattle.std.specs.List.{list_any}
 use Rattle.tables.specs.declared.table.Table.{Table}
-use Rattle.rowfilter.specs.declared.fault.FilterFault.{FilterFault}
-use Rattle.rowfilter.specs.declared.fault.FilterFault.TheVariants.{Syntax, UnknownColumn, TypeMismatch, NumberRange, TooDeep, Memory}
-use Rattle.rowfilter.specs.declared.sort.Sort.{Sort}
-use Rattle.rowfilter.specs.declared.sort.Sort.TheVariants.{Any, Truths, Numbers, Texts}
-use Rattle.rowfilter.specs.declared.token.Token.{Token}
+use Rattle.conditions.specs.declared.fault.FilterFault.{FilterFault}
+use Rattle.conditions.specs.declared.fault.FilterFault.TheVariants.{Syntax, UnknownColumn, TypeMismatch, NumberRange, TooDeep, Memory}
+use Rattle.conditions.specs.declared.sort.Sort.{Sort}
+use Rattle.conditions.specs.declared.sort.Sort.TheVariants.{Any, Truths, Numbers, Texts}
+use Rattle.conditions.specs.declared.token.Token.{Token}
 use Rattle.rowfilter.specs.Answers.{Answers, condition_of, if_sorted, judged, judged_if, read_filter, read_tokens, tokens_in, tokens_within, with_more, without_levels}
-use Rattle.rowfilter.specs.Conditions.{Condition}
-use Rattle.rowfilter.specs.Grammar.{Phrase, IsInRange, levels, HasLargeNumber, HasManyLevels, IsRefused, MOST_BYTES, MOST_LEVELS, SpellsCondition, SpellsFilter, SpellsPhrase}
-use Rattle.rowfilter.specs.Kinds.{are_known, is_truth, of_one, sort_of}
-use Rattle.rowfilter.specs.Lexing.{Lexes, is_stray, token_at}
-use Rattle.rowfilter.specs.Parts.{Grown}
-use Rattle.rowfilter.specs.Tokens.{Spells}
+use Rattle.conditions.specs.Conditions.{Condition}
+use Rattle.conditions.specs.Grammar.{Phrase, IsInRange, levels, HasLargeNumber, HasManyLevels, IsRefused, MOST_BYTES, MOST_LEVELS, SpellsCondition, SpellsFilter, SpellsPhrase}
+use Rattle.conditions.specs.Kinds.{are_known, is_truth, of_one, sort_of}
+use Rattle.conditions.specs.Lexing.{Lexes, is_stray, token_at}
+use Rattle.conditions.specs.Parts.{Grown}
+use Rattle.conditions.specs.Tokens.{Spells}
 use Rattle.rowfilter.proofs.Filters.{condition_read, fault_read, nothing_read, refused_filter, same_condition, same_phrase, spelled_filter, tree_read}
-use Rattle.rowfilter.proofs.Growing.{IsTree}
-use Rattle.rowfilter.proofs.Lexemes.{token_smaller, tokens_found, tokens_none}
-use Rattle.rowfilter.proofs.Sayings.{reading_of, read_found}
+use Rattle.conditions.proofs.Growing.{IsTree}
+use Rattle.conditions.proofs.Lexemes.{token_smaller, tokens_found, tokens_none}
+use Rattle.conditions.proofs.Sayings.{reading_of, read_found}
 
 -- ---- the tokens of a text
 

@@ -5,26 +5,26 @@ use Rattle.std.proofs.lemmas.Option.{slice_get_within}
 use Rattle.std.specs.Prelude.{MatchResult, option_map, slice_get}
 use Rattle.tables.specs.declared.column.Column.{Column as TableColumn}
 use Rattle.tables.specs.declared.table.Table.{Table}
-use Rattle.rowfilter.specs.declared.fault.FilterFault.{FilterFault}
-use Rattle.rowfilter.specs.declared.fault.FilterFault.TheVariants.{Syntax, UnknownColumn, TypeMismatch, NumberRange, TooDeep, Memory}
-use Rattle.rowfilter.specs.declared.expression.Expression.{Expression}
-use Rattle.rowfilter.specs.Shapes.{shape}
-use Rattle.rowfilter.specs.declared.token.Token.{Token}
-use Rattle.rowfilter.specs.Conditions.{Condition, Column, Literal, Compare, Is, Not, And, Or}
-use Rattle.rowfilter.specs.Grammar.{Phrase, written, IsInRange, levels, meant, SpellsPhrase, SpellsCondition, SpellsFilter, IsRefused, MOST_BYTES, MOST_LEVELS}
-use Rattle.rowfilter.specs.Kinds.{are_known, sort_of_kind, sort_of, are_compared, is_asked, is_truth, of_one, of_two, IsCondition}
-use Rattle.rowfilter.specs.declared.sort.Sort.{Sort}
-use Rattle.rowfilter.specs.declared.sort.Sort.TheVariants.{Truths}
-use Rattle.rowfilter.specs.Parts.{Grown, grown}
+use Rattle.conditions.specs.declared.fault.FilterFault.{FilterFault}
+use Rattle.conditions.specs.declared.fault.FilterFault.TheVariants.{Syntax, UnknownColumn, TypeMismatch, NumberRange, TooDeep, Memory}
+use Rattle.conditions.specs.declared.expression.Expression.{Expression}
+use Rattle.conditions.specs.Shapes.{shape}
+use Rattle.conditions.specs.declared.token.Token.{Token}
+use Rattle.conditions.specs.Conditions.{Condition, Column, Literal, Compare, Is, Not, And, Or}
+use Rattle.conditions.specs.Grammar.{Phrase, written, IsInRange, levels, meant, SpellsPhrase, SpellsCondition, SpellsFilter, IsRefused, MOST_BYTES, MOST_LEVELS}
+use Rattle.conditions.specs.Kinds.{are_known, sort_of_kind, sort_of, are_compared, is_asked, is_truth, of_one, of_two, IsCondition}
+use Rattle.conditions.specs.declared.sort.Sort.{Sort}
+use Rattle.conditions.specs.declared.sort.Sort.TheVariants.{Truths}
+use Rattle.conditions.specs.Parts.{Grown, grown}
 use Rattle.rowfilter.specs.Readings.{GivesFilter, IsUnread, expression_of, tree_expression}
-use Rattle.rowfilter.specs.declared.part.Part.{Part}
-use Rattle.rowfilter.specs.declared.part.Tree.{Tree}
-use Rattle.rowfilter.specs.Views.{GivesPart, seen_tree}
-use Rattle.rowfilter.specs.Tokens.{Spells}
-use Rattle.rowfilter.specs.Words.{said_by_all}
-use Rattle.rowfilter.proofs.Lexemes.{spelled_once}
-use Rattle.rowfilter.proofs.Growing.{IsTree, grown_tree}
-use Rattle.rowfilter.proofs.Sayings.{reading_of, IsRead, read_once, read_found, one_phrase}
+use Rattle.conditions.specs.declared.part.Part.{Part}
+use Rattle.conditions.specs.declared.part.Tree.{Tree}
+use Rattle.conditions.specs.Views.{GivesPart, seen_tree}
+use Rattle.conditions.specs.Tokens.{Spells}
+use Rattle.conditions.specs.Words.{said_by_all}
+use Rattle.conditions.proofs.Lexemes.{spelled_once}
+use Rattle.conditions.proofs.Growing.{IsTree, grown_tree}
+use Rattle.conditions.proofs.Sayings.{reading_of, IsRead, read_once, read_found, one_phrase}
 
 -- ---- one phrase, one condition
 

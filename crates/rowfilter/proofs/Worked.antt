@@ -4,21 +4,21 @@ use Rattle.std.specs.Prelude.{codes}
 use Rattle.tables.specs.declared.column.Column.{Column as TableColumn}
 use Rattle.tables.specs.declared.kind.Kind.TheVariants as kinds
 use Rattle.tables.specs.declared.value.Value.TheVariants as values
-use Rattle.rowfilter.specs.declared.comparison.Comparison.TheVariants.{Equal, Greater}
-use Rattle.rowfilter.specs.declared.question.Question.TheVariants as questions
-use Rattle.rowfilter.specs.declared.token.Token.{Token}
-use Rattle.rowfilter.specs.declared.token.Token.TheVariants.{Word, Number, Mark}
-use Rattle.rowfilter.specs.declared.truth.Truth.TheVariants.{True, False, Unknown}
-use Rattle.rowfilter.specs.declared.fault.FilterFault.TheVariants.{Syntax, UnknownColumn, TypeMismatch, NumberRange}
+use Rattle.conditions.specs.declared.comparison.Comparison.TheVariants.{Equal, Greater}
+use Rattle.conditions.specs.declared.question.Question.TheVariants as questions
+use Rattle.conditions.specs.declared.token.Token.{Token}
+use Rattle.conditions.specs.declared.token.Token.TheVariants.{Word, Number, Mark}
+use Rattle.conditions.specs.declared.truth.Truth.TheVariants.{True, False, Unknown}
+use Rattle.conditions.specs.declared.fault.FilterFault.TheVariants.{Syntax, UnknownColumn, TypeMismatch, NumberRange}
 use Rattle.tables.specs.declared.identity.Identity.TheVariants as identities
 use Rattle.tables.specs.declared.table.Table.{Table}
 use Rattle.rowfilter.specs.Answers.{read_filter}
-use Rattle.rowfilter.specs.Conditions.{Number, Column, Literal, Compare}
-use Rattle.rowfilter.specs.Truth.{truth}
-use Rattle.rowfilter.specs.Lexing.{token_at}
-use Rattle.rowfilter.specs.Tokens.{Spells}
-use Rattle.rowfilter.specs.Kinds.{sort_of, IsCondition}
-use Rattle.rowfilter.specs.Grammar.{Phrase, InName, InNumber, InText, InCompare, InIs, InNot, InOr, levels, meant, SpellsPhrase}
+use Rattle.conditions.specs.Conditions.{Number, Column, Literal, Compare}
+use Rattle.conditions.specs.Truth.{truth}
+use Rattle.conditions.specs.Lexing.{token_at}
+use Rattle.conditions.specs.Tokens.{Spells}
+use Rattle.conditions.specs.Kinds.{sort_of, IsCondition}
+use Rattle.conditions.specs.Grammar.{Phrase, InName, InNumber, InText, InCompare, InIs, InNot, InOr, levels, meant, SpellsPhrase}
 
 abbrev columns : List TableColumn
 columns = record { name = codes "k"; kind = kinds.Text; is_key = true } ∷ record { name = codes "v"; kind = kinds.Int4; is_key = false } ∷ []

@@ -3,16 +3,16 @@ use Rattle.std.specs.Prelude.{◌≡◌, ℕ, nat_lt, List, [], ◌∷◌, lengt
 use Rattle.std.specs.List.{list_any}
 use Rattle.tables.specs.declared.column.Column.{Column as TableColumn}
 use Rattle.tables.specs.declared.table.Table.{Table}
-use Rattle.rowfilter.specs.declared.fault.FilterFault.{FilterFault}
-use Rattle.rowfilter.specs.declared.fault.FilterFault.TheVariants.{Syntax, UnknownColumn, TypeMismatch, Memory}
-use Rattle.rowfilter.specs.declared.sort.Sort.{Sort}
-use Rattle.rowfilter.specs.declared.token.Token.{Token}
-use Rattle.rowfilter.specs.Conditions.{Condition}
-use Rattle.rowfilter.specs.Grammar.{MOST_BYTES}
-use Rattle.rowfilter.specs.Kinds.{are_known, is_truth, of_one, sort_of}
-use Rattle.rowfilter.specs.Lexing.{is_stray, token_at}
-use Rattle.rowfilter.specs.Parts.{Grown, parts, word_at}
-use Rattle.rowfilter.specs.Stacks.{Wanting, run}
+use Rattle.conditions.specs.declared.fault.FilterFault.{FilterFault}
+use Rattle.conditions.specs.declared.fault.FilterFault.TheVariants.{Syntax, UnknownColumn, TypeMismatch, Memory}
+use Rattle.conditions.specs.declared.sort.Sort.{Sort}
+use Rattle.conditions.specs.declared.token.Token.{Token}
+use Rattle.conditions.specs.Conditions.{Condition}
+use Rattle.conditions.specs.Grammar.{MOST_BYTES}
+use Rattle.conditions.specs.Kinds.{are_known, is_truth, of_one, sort_of}
+use Rattle.conditions.specs.Lexing.{is_stray, token_at}
+use Rattle.conditions.specs.Parts.{Grown, parts, word_at}
+use Rattle.conditions.specs.Stacks.{Wanting, run}
 
 abbrev pub with_more : Option (Token × List ℕ) → (List ℕ → List Token) → List Token
 with_more None more = []

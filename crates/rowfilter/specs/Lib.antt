@@ -1,14 +1,3 @@
-pub mod Conditions
-pub mod Truth
-pub mod Tokens
-pub mod Words
-pub mod Kinds
-pub mod Grammar
-pub mod Lexing
-pub mod Shapes
-pub mod Stacks
-pub mod Parts
-pub mod Views
 pub mod Readings
 pub mod Codes
 pub mod Answers

@@ -1,16 +1,16 @@
 -- What the steps of reading a filter say of its text. No reader of the promise needs these.
 use Rattle.std.specs.Prelude.{◌≡◌, ◌≤◌, ℕ, List, length, true, false, Result, Ok, Err}
 use Rattle.tables.specs.declared.column.Column.{Column as TableColumn}
-use Rattle.rowfilter.specs.declared.fault.FilterFault.{FilterFault}
-use Rattle.rowfilter.specs.declared.fault.FilterFault.TheVariants.{Syntax, UnknownColumn, TypeMismatch, NumberRange, TooDeep, Memory}
-use Rattle.rowfilter.specs.declared.expression.Expression.{Expression}
-use Rattle.rowfilter.specs.declared.part.Part.{Part}
-use Rattle.rowfilter.specs.declared.part.Tree.{Tree}
-use Rattle.rowfilter.specs.declared.token.Token.{Token}
-use Rattle.rowfilter.specs.Conditions.{Condition}
-use Rattle.rowfilter.specs.Grammar.{Phrase, SpellsPhrase, HasLargeNumber, HasManyLevels, MOST_BYTES}
-use Rattle.rowfilter.specs.Kinds.{are_known, IsCondition}
-use Rattle.rowfilter.specs.Tokens.{Spells}
+use Rattle.conditions.specs.declared.fault.FilterFault.{FilterFault}
+use Rattle.conditions.specs.declared.fault.FilterFault.TheVariants.{Syntax, UnknownColumn, TypeMismatch, NumberRange, TooDeep, Memory}
+use Rattle.conditions.specs.declared.expression.Expression.{Expression}
+use Rattle.conditions.specs.declared.part.Part.{Part}
+use Rattle.conditions.specs.declared.part.Tree.{Tree}
+use Rattle.conditions.specs.declared.token.Token.{Token}
+use Rattle.conditions.specs.Conditions.{Condition}
+use Rattle.conditions.specs.Grammar.{Phrase, SpellsPhrase, HasLargeNumber, HasManyLevels, MOST_BYTES}
+use Rattle.conditions.specs.Kinds.{are_known, IsCondition}
+use Rattle.conditions.specs.Tokens.{Spells}
 
 -- A call that gives this filter, unless memory ran out.
 abbrev pub GivesFilter : Result Condition FilterFault → Condition → Type 0

@@ -1,16 +1,15 @@
 //! The filter of a table.
 
 ghost use Rattle.std.specs.Prelude.{◌≡◌, IfOk};
-ghost use Rattle.rowfilter.specs.Truth.{truth as truth_in};
-ghost use Rattle.rowfilter.specs.Conditions.{AreNamed, names};
-ghost use Rattle.rowfilter.specs.Shapes.{shape};
+ghost use Rattle.conditions.specs.Truth.{truth as truth_in};
+ghost use Rattle.conditions.specs.Conditions.{AreNamed, names};
+ghost use Rattle.conditions.specs.Shapes.{shape};
 
-use crate::expression::Expression;
-use crate::truth::Truth;
+use conditions::{Expression, Truth};
 use pqformat::Items;
 use std::alloc::{AllocError, Global};
 use std::marker::Model;
-use tables::Row;
+use tables::{Row, RowRef};
 
 /// A condition over the rows of a table. Contracts see it as the tree that it is.
 #[derive(Drop)]
@@ -23,8 +22,8 @@ impl Model for Filter {
     ghost use Rattle.std.specs.Prelude.{◌≡◌, []};
     ghost use Rattle.std.specs.Coded.{codes};
     ghost use Rattle.rowfilter.specs.Codes.{condition_code};
-    ghost use Rattle.rowfilter.specs.Conditions.{Condition};
-    ghost use Rattle.rowfilter.specs.Shapes.{gathered, shape};
+    ghost use Rattle.conditions.specs.Conditions.{Condition};
+    ghost use Rattle.conditions.specs.Shapes.{gathered, shape};
 
     ghost Value = { Condition };
 
@@ -61,7 +60,14 @@ impl Filter {
     pub fn truth(&self, row: &Row) -> Truth
         ensures { result ≡ truth_in self.now row.now }
     {
-        self.expression.truth(row.values())
+        self.expression.truth(&RowRef::of(row))
+    }
+
+    /// The same of a row that is read where it lies.
+    pub fn truth_in(&self, row: &RowRef<'_>) -> Truth
+        ensures { result ≡ truth_in self.now row.now }
+    {
+        self.expression.truth(row)
     }
 
     /// Whether the filter names the column at this place of its table.

@@ -2,15 +2,10 @@
 
 ghost use Rattle.std.specs.Prelude.{◌≡◌, ◌≤◌, IfOk, length};
 
-use crate::expression::Expression;
-use crate::fault::FilterFault;
-use crate::lexer::{behind_blanks, token_of};
-use crate::part::{MOST_LEVELS, Part};
-use crate::pending::Pending;
-use crate::place::Place;
 use crate::reading::{MOST_BYTES, condition_of};
-use crate::token::Token;
-use crate::word::Word;
+use conditions::{
+    FilterFault, MOST_LEVELS, Part, Pending, Place, Token, Word, behind_blanks, token_of,
+};
 use std::alloc::{AllocError, Global};
 use std::mem;
 use tables::{Column, Table};

@@ -2,24 +2,17 @@
 
 ghost use Rattle.std.specs.Prelude.{[], ◌≡◌, ◌≤◌, IfErr, IfOk, length, map, MatchResult};
 ghost use Rattle.rowfilter.specs.Answers.{Answers, read_filter};
-ghost use Rattle.rowfilter.specs.Conditions.{Condition};
-ghost use Rattle.rowfilter.specs.Grammar.{IsRefused, MOST_BYTES, SpellsCondition, SpellsFilter};
-ghost use Rattle.rowfilter.specs.Parts.{parts, word_at};
+ghost use Rattle.conditions.specs.Conditions.{Condition};
+ghost use Rattle.conditions.specs.Grammar.{IsRefused, MOST_BYTES, SpellsCondition, SpellsFilter};
+ghost use Rattle.conditions.specs.Parts.{parts, word_at};
 ghost use Rattle.rowfilter.specs.Readings.{GivesFilter, IsJudged, IsUnspelled, IsUnread, expression_of};
-ghost use Rattle.rowfilter.specs.Shapes.{shape};
-ghost use Rattle.rowfilter.specs.Stacks.{Wanting, run, step};
-ghost use Rattle.rowfilter.specs.Tokens.{Spells};
-ghost use Rattle.rowfilter.specs.Views.{GivesPart, Moves, state_of};
+ghost use Rattle.conditions.specs.Shapes.{shape};
+ghost use Rattle.conditions.specs.Stacks.{Wanting, run, step};
+ghost use Rattle.conditions.specs.Tokens.{Spells};
+ghost use Rattle.conditions.specs.Views.{GivesPart, Moves, state_of};
 
-use crate::expression::Expression;
-use crate::fault::FilterFault;
 use crate::filter::Filter;
-use crate::lexer::read_tokens;
-use crate::part::Part;
-use crate::pending::Pending;
-use crate::place::{Place, whole};
-use crate::token::Token;
-use crate::word::Word;
+use conditions::{Expression, FilterFault, Part, Pending, Place, Token, Word, read_tokens, whole};
 use std::alloc::Global;
 use tables::{Column, Table};
 

@@ -3,6 +3,8 @@ pub mod Catalogs
 pub mod Catalogued
 pub mod ChangeBodies
 pub mod Lengths
+pub mod Lent
 pub mod Members
 pub mod Names
 pub mod RowBodies
+pub mod Sides

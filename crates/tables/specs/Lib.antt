@@ -1,5 +1,6 @@
 pub mod Config
 pub mod Reading
+pub mod Refs
 pub mod Spelling
 pub mod Tables
 pub use Rattle.pqformat.specs.Fields

@@ -1,9 +1,11 @@
 //! A column of a table, and the values that it takes.
 
 ghost use Rattle.std.specs.Prelude.{◌≡◌, IfOk};
+ghost use Rattle.tables.specs.Refs.{value_of};
 ghost use Rattle.tables.specs.Tables.{fits_column};
 
 use crate::kind::Kind;
+use crate::row_ref::ValueRef;
 use crate::value::Value;
 use pqformat::Text;
 use std::alloc::{AllocError, Global};
@@ -31,8 +33,15 @@ impl Column {
     pub fn takes(&self, value: &Value) -> bool
         ensures { result ≡ fits_column self.now value.now }
     {
+        self.takes_ref(value.lend())
+    }
+
+    /// The same of a value that is read where it lies.
+    pub(crate) fn takes_ref(&self, value: ValueRef<'_>) -> bool
+        ensures { result ≡ fits_column self.now (value_of value.entry) }
+    {
         match value {
-            Value::Null => !self.is_key,
+            ValueRef::Null => !self.is_key,
             _ => self.kind.holds(value),
         }
     }

@@ -26,7 +26,10 @@ pub(crate) fn is_name(text: &str) -> bool
     ensures named { result ≡ true → IsName text.now }
 {
     let length = text.as_bytes().len();
-    1 <= length && length <= MAX_NAME_LENGTH && is_without_zero(text) && is_without_dot(text)
+    1 <= length
+        && length <= MAX_NAME_LENGTH
+        && is_without_zero(text.as_bytes())
+        && is_without_dot(text)
 }
 
 fn is_without_dot(text: &str) -> bool

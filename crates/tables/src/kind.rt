@@ -1,9 +1,10 @@
 //! The types of columns, and the values of each.
 
 ghost use Rattle.std.specs.Prelude.{◌≡◌};
+ghost use Rattle.tables.specs.Refs.{value_of};
 ghost use Rattle.tables.specs.Tables.{has_no_zero, is_of_kind};
 
-use crate::value::Value;
+use crate::row_ref::ValueRef;
 
 /// The type of a column.
 #[derive(Clone, Copy, Debug)]
@@ -16,20 +17,20 @@ pub enum Kind {
 
 impl Kind {
     /// Whether the value is one of this kind. A text has no zero byte; null is of no kind.
-    pub fn holds(self, value: &Value) -> bool
-        ensures { result ≡ is_of_kind self value.now }
+    pub fn holds(self, value: ValueRef<'_>) -> bool
+        ensures { result ≡ is_of_kind self (value_of value.entry) }
     {
         match self {
-            Kind::Bool => matches!(value, Value::Bool(_)),
-            Kind::Int4 => matches!(value, Value::Int4(_)),
-            Kind::Int8 => matches!(value, Value::Int8(_)),
-            Kind::Text => matches!(value, Value::Text(text) if is_without_zero(text.as_str())),
+            Kind::Bool => matches!(value, ValueRef::Bool(_)),
+            Kind::Int4 => matches!(value, ValueRef::Int4(_)),
+            Kind::Int8 => matches!(value, ValueRef::Int8(_)),
+            Kind::Text => matches!(value, ValueRef::Text(text) if is_without_zero(text)),
         }
     }
 }
 
-pub(crate) fn is_without_zero(text: &str) -> bool
+pub(crate) fn is_without_zero(text: &[u8]) -> bool
     ensures { result ≡ has_no_zero text.now }
 {
-    text.as_bytes().iter().all(|b| *b != 0)
+    text.iter().all(|b| *b != 0)
 }

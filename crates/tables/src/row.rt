@@ -48,7 +48,7 @@ impl Row {
     pub fn copy(&self, alloc: Global) -> Result<Self, AllocError>
         ensures { IfOk result (λ r. r ≡ self.now) }
     {
-        let mut copies = Vec::new(alloc);
+        let mut copies = Vec::with_capacity(alloc, self.values.len())?;
         for value in self.values() {
             copies.push(value.copy(alloc)?)?;
         }

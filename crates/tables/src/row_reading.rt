@@ -50,7 +50,7 @@ fn value_of(alloc: Global, cursor: &mut Cursor<'_>) -> Result<Value, BodyFault>
     }
 }
 
-fn bool_in(cursor: &mut Cursor<'_>) -> Result<bool, BodyFault>
+pub(crate) fn bool_in(cursor: &mut Cursor<'_>) -> Result<bool, BodyFault>
     ensures exact { Gives result cursor.new (letter_at Short BadBool bool_of cursor.old) }
     ensures no_memory { result ≢ Err Memory }
 {
@@ -61,7 +61,7 @@ fn bool_in(cursor: &mut Cursor<'_>) -> Result<bool, BodyFault>
     }
 }
 
-fn i32_in(cursor: &mut Cursor<'_>) -> Result<i32, BodyFault>
+pub(crate) fn i32_in(cursor: &mut Cursor<'_>) -> Result<i32, BodyFault>
     ensures exact { Gives result cursor.new (signed_at Short w32 cursor.old) }
     ensures no_memory { result ≢ Err Memory }
 {
@@ -69,7 +69,7 @@ fn i32_in(cursor: &mut Cursor<'_>) -> Result<i32, BodyFault>
     Ok(n.cast_signed())
 }
 
-fn i64_in(cursor: &mut Cursor<'_>) -> Result<i64, BodyFault>
+pub(crate) fn i64_in(cursor: &mut Cursor<'_>) -> Result<i64, BodyFault>
     ensures exact { Gives result cursor.new (signed_at Short w64 cursor.old) }
     ensures no_memory { result ≢ Err Memory }
 {

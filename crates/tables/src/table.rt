@@ -1,6 +1,6 @@
 //! A table: its names, its columns, and the rows that it takes.
 
-ghost use Rattle.std.specs.Prelude.{◌≡◌, ◌∷◌, IfOk, filter};
+ghost use Rattle.std.specs.Prelude.{◌≡◌, ◌∷◌, IfOk, filter, length};
 ghost use Rattle.std.specs.List.{list_all, zip};
 ghost use Rattle.std.specs.Str.{bytes_eq};
 ghost use Rattle.tables.specs.Tables.{fits_column, fits_key, fits_table, full_name};
@@ -8,6 +8,7 @@ ghost use Rattle.tables.specs.Tables.{fits_column, fits_key, fits_table, full_na
 use crate::column::Column;
 use crate::identity::Identity;
 use crate::row::Row;
+use crate::row_ref::RowRef;
 use crate::value::Value;
 use pqformat::{Items, Text};
 use std::alloc::{AllocError, Global};
@@ -47,6 +48,17 @@ impl Table {
         all_take(columns, values)
     }
 
+    /// The same of a row that is read where it lies.
+    pub fn takes_ref(&self, row: &RowRef<'_>) -> bool
+        ensures { result ≡ fits_table self.now row.now }
+    {
+        let columns = self.columns.as_slice();
+        if columns.len() != row.len() {
+            return false;
+        }
+        all_take_refs(columns, row)
+    }
+
     /// Whether the values may stand in the columns of the primary key, in table order.
     pub fn takes_key(&self, key: &Row) -> bool
         ensures { result ≡ fits_key self.now key.now }
@@ -84,6 +96,19 @@ fn all_take(columns: &[Column], values: &[Value]) -> bool
 {
     let mut pairs = columns.iter().zip(values);
     pairs.all(|(column, value)| column.takes(value))
+}
+
+fn all_take_refs(columns: &[Column], row: &RowRef<'_>) -> bool
+    requires { length columns.now ≡ length row.now }
+    ensures { result ≡ list_all (λ p. fits_column p.0 p.1) (zip columns.now row.now) }
+{
+    for i in 0..columns.len() {
+        match row.get(i) {
+            Some(value) if columns[i].takes_ref(value) => {}
+            _ => return false,
+        }
+    }
+    true
 }
 
 fn all_take_keys(columns: &[Column], values: &[Value]) -> bool

@@ -1,8 +1,8 @@
 use Rattle.std.proofs.Common.{List, subst}
-use Rattle.rowfilter.specs.declared.token.Token.{Token}
-use Rattle.rowfilter.specs.Views.{GivesPart}
+use Rattle.conditions.specs.declared.token.Token.{Token}
+use Rattle.conditions.specs.Views.{GivesPart}
 use Rattle.rowfilter.proofs.Filters.{condition_given}
-use Rattle.rowfilter.proofs.Sayings.{reading_of}
+use Rattle.conditions.proofs.Sayings.{reading_of}
 use Rattle.rowfilter.proofs.reading.condition_of.Goals as goal
 
 -- src/reading.rt:89:1

@@ -1,6 +1,6 @@
 use Rattle.std.proofs.Common.{◌∙◌}
-use Rattle.rowfilter.specs.Views.{state_of}
-use Rattle.rowfilter.proofs.Stacking.{word_read}
+use Rattle.conditions.specs.Views.{state_of}
+use Rattle.conditions.proofs.Stacking.{word_read}
 use Rattle.rowfilter.proofs.reading.part_of.Goals as goal
 
 pub loop-token-preserved : goal.loop-token-preserved

@@ -1,7 +1,7 @@
 use Rattle.std.proofs.Common.{◌≡◌, [], drop, map}
-use Rattle.rowfilter.specs.Parts.{parts, word_at}
-use Rattle.rowfilter.specs.Stacks.{Wanting, run}
-use Rattle.rowfilter.specs.Views.{state_of}
+use Rattle.conditions.specs.Parts.{parts, word_at}
+use Rattle.conditions.specs.Stacks.{Wanting, run}
+use Rattle.conditions.specs.Views.{state_of}
 use Rattle.rowfilter.proofs.reading.part_of.Given as goal
 
 abbrev pub invariant-loop-token : goal.invariant-loop-token

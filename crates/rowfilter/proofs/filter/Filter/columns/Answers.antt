@@ -1,5 +1,5 @@
 use Rattle.std.proofs.Common.{◌∙◌}
-use Rattle.rowfilter.proofs.Columns.{are_named}
+use Rattle.conditions.proofs.Columns.{are_named}
 use Rattle.rowfilter.proofs.filter.Filter.columns.Goals as goal
 
 -- src/filter.rt:59:5

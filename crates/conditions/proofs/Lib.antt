@@ -1,0 +1,9 @@
+pub mod Columns
+pub mod Pieces
+pub mod Lexemes
+pub mod Phrases
+pub mod Growing
+pub mod Stacking
+pub mod Numbers
+pub mod Sayings
+pub mod Truths

@@ -1,0 +1,92 @@
+-- Reading tokens from the front of a text. Where none begins, the rest of the text is one of its own, which no filter has.
+use Rattle.std.specs.Prelude.{Result, Ok, Err, ◌≡◌, ℕ, ◌==◌, List, [], ◌∷◌, ◌++◌, Option, Some, None, option_map, Bool, true, false, if◌then◌else◌}
+use Rattle.std.specs.declared.vec.Vec.{Vec}
+use Rattle.std.specs.declared.alloc.Global.{Global}
+use Rattle.conditions.specs.declared.fault.FilterFault.{FilterFault}
+use Rattle.conditions.specs.declared.fault.FilterFault.TheVariants.{Memory}
+use Rattle.std.specs.Borrow.{Bor}
+use Rattle.std.specs.Char.{is_ascii_digit}
+use Rattle.conditions.specs.declared.class.Class.{Class}
+use Rattle.conditions.specs.declared.class.Class.TheVariants as classes
+use Rattle.conditions.specs.declared.token.Token.{Token}
+use Rattle.conditions.specs.declared.token.Token.TheVariants.{Word, Number, Quoted, Text, Mark, Pair, Stray}
+use Rattle.conditions.specs.declared.token.TheConstants.{NAME_QUOTE, TEXT_QUOTE, MINUS}
+use Rattle.conditions.specs.Tokens.{is_blank, is_first, is_later, is_mark, is_pair, begins}
+
+abbrev pub is_of : Class → ℕ → Bool
+is_of classes.Blank b = is_blank b
+is_of classes.Later b = is_later b
+is_of classes.Digit b = is_ascii_digit b
+
+-- the bytes of a class at the front, and what follows them
+abbrev pub run_of : Class → List ℕ → List ℕ
+run_of class [] = []
+run_of class (b ∷ bytes) = if is_of class b then b ∷ run_of class bytes else []
+
+abbrev pub after_run : Class → List ℕ → List ℕ
+after_run class [] = []
+after_run class (b ∷ bytes) = if is_of class b then after_run class bytes else b ∷ bytes
+
+abbrev pub in_front : List ℕ → Option (List ℕ × List ℕ) → Option (List ℕ × List ℕ)
+in_front front found = option_map (λ x. (front ++ x.0, x.1)) found
+
+-- the text up to the closing quote, and what follows it; the flag says that a quote was just read
+abbrev pub quoted_at : Bool → ℕ → List ℕ → Option (List ℕ × List ℕ)
+quoted_at false quote [] = None
+quoted_at true quote [] = Some ([], [])
+quoted_at false quote (b ∷ bytes) = if b == quote then quoted_at true quote bytes else in_front (b ∷ []) (quoted_at false quote bytes)
+quoted_at true quote (b ∷ bytes) = if b == quote then in_front (b ∷ []) (quoted_at false quote bytes) else Some ([], b ∷ bytes)
+
+abbrev pub closed : (List ℕ → Token) → Option (List ℕ × List ℕ) → Token × List ℕ
+closed make None = (Stray, [])
+closed make (Some found) = (make found.0, found.1)
+
+-- the digits behind a minus
+abbrev pub signed_at : List ℕ → Token × List ℕ
+signed_at bytes = if begins is_ascii_digit bytes then (Number (MINUS ∷ run_of classes.Digit bytes), after_run classes.Digit bytes) else (Stray, [])
+
+abbrev pub one_mark : ℕ → List ℕ → Token × List ℕ
+one_mark b bytes = if is_mark b then (Mark b, bytes) else (Stray, [])
+
+abbrev pub mark_at : ℕ → List ℕ → Token × List ℕ
+mark_at b [] = one_mark b []
+mark_at b (c ∷ bytes) = if is_pair b c then (Pair b c, bytes) else one_mark b (c ∷ bytes)
+
+abbrev pub token_behind : ℕ → List ℕ → Token × List ℕ
+token_behind b bytes =
+    if b == NAME_QUOTE then closed (λ n. Quoted n) (quoted_at false NAME_QUOTE bytes)
+    else if b == TEXT_QUOTE then closed (λ t. Text t) (quoted_at false TEXT_QUOTE bytes)
+    else if is_first b then (Word (run_of classes.Later (b ∷ bytes)), after_run classes.Later (b ∷ bytes))
+    else if is_ascii_digit b then (Number (run_of classes.Digit (b ∷ bytes)), after_run classes.Digit (b ∷ bytes))
+    else if b == MINUS then signed_at bytes
+    else mark_at b bytes
+
+abbrev pub token_from : List ℕ → Option (Token × List ℕ)
+token_from [] = None
+token_from (b ∷ bytes) = Some (token_behind b bytes)
+
+-- the first token, and what follows it; None where only blanks are left
+unfoldable pub token_at : List ℕ → Option (Token × List ℕ)
+token_at bytes = token_from (after_run classes.Blank bytes)
+
+-- all tokens of a text, one behind the other
+abbrev pub Lexes : List ℕ → List Token → Type 0
+Lexes text [] = token_at text ≡ None
+Lexes text (token ∷ tokens) = (rest : List ℕ) × (token_at text ≡ Some (token, rest)) × Lexes rest tokens
+
+-- a token, and the text behind it that a reader lends
+abbrev pub lent_token : Token × Bor (List ℕ) → Token × List ℕ
+lent_token found = (found.0, found.1.now)
+
+abbrev pub lent : Option (Token × Bor (List ℕ)) → Option (Token × List ℕ)
+lent found = option_map (λ x. (x.0, x.1.now)) found
+
+abbrev pub is_stray : Token → Bool
+is_stray Stray = true
+is_stray _ = false
+
+-- A call that gives these tokens, unless memory ran out.
+abbrev pub GivesTokens : Result (Vec Token Global) FilterFault → List Token → Type 0
+GivesTokens (Ok x) tokens = x.items ≡ tokens
+GivesTokens (Err Memory) tokens = Unit {0}
+GivesTokens (Err _) tokens = ⊥

@@ -1,0 +1,11 @@
+pub mod Conditions
+pub mod Truth
+pub mod Tokens
+pub mod Words
+pub mod Kinds
+pub mod Grammar
+pub mod Lexing
+pub mod Shapes
+pub mod Stacks
+pub mod Parts
+pub mod Views

@@ -1,0 +1,99 @@
+//! What an operand of a condition is in a row.
+
+ghost use Rattle.std.specs.Prelude.{◌≡◌, option_map};
+ghost use Rattle.tables.specs.Refs.{value_of};
+ghost use Rattle.conditions.specs.Truth.{asked, compared, datum_of, datum_of_truth, ordering_of, truth_of};
+ghost use Rattle.conditions.specs.Shapes.{literal_datum, seen};
+
+use crate::comparison::Comparison;
+use crate::literal::Literal;
+use crate::question::Question;
+use crate::truth::Truth;
+use std::cmp::Ordering;
+use tables::ValueRef;
+
+/// A value as conditions see it: numbers of both widths are alike, and a text is lent. Unknown is null.
+#[derive(Clone, Copy)]
+pub(crate) enum Operand<'a> {
+    Null,
+    Bool(bool),
+    Number(i64),
+    Text(&'a [u8]),
+}
+
+impl<'a> Operand<'a> {
+    pub(crate) fn of_value(value: ValueRef<'a>) -> Operand<'a>
+        ensures { seen result ≡ datum_of (value_of value.entry) }
+    {
+        match value {
+            ValueRef::Null => Operand::Null,
+            ValueRef::Bool(b) => Operand::Bool(b),
+            ValueRef::Int4(n) => Operand::Number(i64::from(n)),
+            ValueRef::Int8(n) => Operand::Number(n),
+            ValueRef::Text(text) => Operand::Text(text),
+        }
+    }
+
+    pub(crate) fn of_literal(literal: &'a Literal) -> Operand<'a>
+        ensures { seen result ≡ literal_datum literal.now }
+    {
+        match literal {
+            Literal::Null => Operand::Null,
+            Literal::Bool(b) => Operand::Bool(*b),
+            Literal::Number(n) => Operand::Number(*n),
+            Literal::Text(bytes) => Operand::Text(bytes.as_slice()),
+        }
+    }
+
+    pub(crate) fn of_truth(truth: Truth) -> Operand<'a>
+        ensures { seen result ≡ datum_of_truth truth }
+    {
+        match truth {
+            Truth::True => Operand::Bool(true),
+            Truth::False => Operand::Bool(false),
+            Truth::Unknown => Operand::Null,
+        }
+    }
+
+    pub(crate) fn truth(self) -> Truth
+        ensures { result ≡ truth_of (seen self.entry) }
+    {
+        match self {
+            Operand::Bool(holds) => Truth::of(holds),
+            _ => Truth::Unknown,
+        }
+    }
+
+    /// How the two stand to each other; None where one is null, or they are of kinds that aren't compared.
+    fn order(self, other: Operand<'a>) -> Option<Ordering>
+        ensures { result ≡ ordering_of (seen self.entry) (seen other.entry) }
+    {
+        match (self, other) {
+            (Operand::Bool(a), Operand::Bool(b)) => Some(a.cmp(&b)),
+            (Operand::Number(m), Operand::Number(n)) => Some(m.cmp(&n)),
+            (Operand::Text(s), Operand::Text(t)) => Some(s.cmp(t)),
+            _ => None,
+        }
+    }
+
+    pub(crate) fn compared(self, how: Comparison, other: Operand<'a>) -> Truth
+        ensures { result ≡ compared how (seen self.entry) (seen other.entry) }
+    {
+        match self.order(other) {
+            Some(order) => Truth::of(how.holds(order)),
+            None => Truth::Unknown,
+        }
+    }
+
+    /// The answer to what IS asks of it, which is never unknown.
+    pub(crate) fn is(self, question: Question) -> bool
+        ensures { result ≡ asked question (seen self.entry) }
+    {
+        match (question, self) {
+            (Question::Null | Question::Unknown, Operand::Null) => true,
+            (Question::True, Operand::Bool(holds)) => holds,
+            (Question::False, Operand::Bool(holds)) => !holds,
+            _ => false,
+        }
+    }
+}

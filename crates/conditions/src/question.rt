@@ -1,0 +1,9 @@
+//! What IS asks.
+
+#[derive(Clone, Copy)]
+pub enum Question {
+    Null,
+    True,
+    False,
+    Unknown,
+}
