@@ -17,16 +17,16 @@ use Rattle.pgoutput.specs.Reading.{one_of}
 use Rattle.pgoutput.specs.Begin.{begin, FitsBegin, begin_at}
 use Rattle.pgoutput.specs.Commit.{commit, FitsCommit, commit_at}
 use Rattle.pgoutput.specs.Relation.{column, FitsColumn, column_at, columns_at, relation, FitsRelation, relation_at, identity_of, identity_letter, is_key_of, key_flag}
-use Rattle.pgoutput.specs.Tuple.{cell, FitsCell, cell_at, tuple, FitsTuple, tuple_at}
+use Rattle.pgoutput.specs.Tuple.{cell, FitsCell, cell_at, FitsSentCell, sent_cell_at, tuple, FitsTuple, tuple_at, FitsSentTuple, sent_tuple_at}
 use Rattle.pgoutput.specs.Insert.{insert, FitsInsert, insert_at}
 use Rattle.pgoutput.specs.Truncate.{options_letter, options_of, options}
 use Rattle.pgoutput.specs.Layout as layout
-use Rattle.pgoutput.specs.Layout.{Field, spell_field, spell_fields, IsAtFault, mark, flags, identities, cell_letters, row_letters, old_letters, begin_fields, commit_fields, column_fields, relation_fields, cell_fields, tuple_fields, insert_fields, row_fields, update_fields, old_fields, delete_fields, truncate_fields, oid_field}
+use Rattle.pgoutput.specs.Layout.{Field, spell_field, spell_fields, IsAtFault, mark, flags, identities, cell_letters, row_letters, old_letters, begin_fields, commit_fields, column_fields, relation_fields, cell_fields, tuple_fields, sent_letters, sent_cell_fields, sent_fields, insert_fields, row_fields, update_fields, old_fields, delete_fields, truncate_fields, oid_field}
 use Rattle.pgoutput.specs.Layout.Field.{Letter, Count16, Count32, Name, Text}
 use Rattle.pgoutput.proofs.Wires as wires
 use Rattle.pgoutput.proofs.Wires.{FitRows, FitTuples, Rows, Tuples, rows, tuples}
 use Rattle.pgoutput.proofs.Stopping.{Told, field, last_field, free_field, told_of, spell-cons}
-use Rattle.pgoutput.proofs.StoppingLists.{no_choice, choice, chosen_stands, letter_stands, choice_told, none_of_three}
+use Rattle.pgoutput.proofs.StoppingLists.{no_choice, choice, chosen_stands, letter_stands, choice_told, none_of_two, none_of_three}
 use Rattle.pgoutput.proofs.StoppingFields.{number32, number64, signed32, signed64, list}
 use Rattle.pgoutput.proofs.StoppingTexts.{name, text, letter, one_letter, nothing}
 
@@ -148,10 +148,42 @@ pub tuple_told : Told tuple_at tuple FitsTuple tuple_fields
 unfolding tuple_at
 tuple_told = list cell_told
 
+-- ---- the tuple of an Insert
+
+sent_cell_spelled : (x : Cell) → spell_fields (sent_cell_fields x) ≡ cell x
+sent_cell_spelled cells.Null = refl
+sent_cell_spelled cells.Unchanged = refl
+sent_cell_spelled (cells.Text t) = spell-cons (Letter sent_letters TEXT) (Count32 (length t) ∷ Text t ∷ []) ∙ ap (λ (l : List ℕ). TEXT ∷ l) (text.spelled t)
+
+other_sent_cell : (b : ℕ) (bytes : List ℕ) → list_any (λ l. b == l) sent_letters ≡ false → sent_cell_at (b ∷ bytes) ≡ Err BadMark
+unfolding sent_cell_at
+other_sent_cell b bytes why = none_of_two (eqb b NULL) (eqb b TEXT) _ _ _ why
+
+sent_cell_stands : (x : Cell) → FitsSentCell x → (before : List Field) (next : Field) (after : List Field) (rest : List ℕ) (e : OutFault) → sent_cell_fields x ≡ before ++ next ∷ after → IsAtFault e next rest
+    → sent_cell_at (spell_fields before ++ rest) ≡ Err e
+unfolding sent_cell_at
+sent_cell_stands cells.Null fits before next after rest e parts at =
+    chosen_stands nothing NULL (Letter sent_letters NULL) (λ _. cells.Null) sent_cell_at refl (λ bytes. refl) (letter_stands sent_cell_at sent_letters NULL refl other_sent_cell) tt tt before next after rest e parts at
+sent_cell_stands cells.Unchanged fits before next after rest e parts at = absurd fits
+sent_cell_stands (cells.Text t) fits before next after rest e parts at =
+    chosen_stands text TEXT (Letter sent_letters TEXT) (λ t. cells.Text t) sent_cell_at refl (λ bytes. refl) (letter_stands sent_cell_at sent_letters TEXT refl other_sent_cell) t fits before next after rest e parts at
+
+sent_cell_told : Told sent_cell_at cell FitsSentCell sent_cell_fields
+unfolding sent_cell_at
+sent_cell_told = choice_told sent_letters NULL [] wires.sent_cell_wire (
+    choice NULL (Letter sent_letters NULL) refl nothing (λ _. cells.Null) sent_cell_fields FitsSentCell (λ _. refl) (λ _ fits. fits) (
+    choice TEXT (Letter sent_letters TEXT) refl text (λ t. cells.Text t) sent_cell_fields FitsSentCell (λ _. refl) (λ _ fits. fits) (
+    no_choice BadMark sent_cell_fields FitsSentCell)))
+    (record { value = cells.Null; fits = tt }) refl sent_cell_spelled sent_cell_stands
+
+sent_tuple_told : Told sent_tuple_at tuple FitsSentTuple sent_fields
+unfolding sent_tuple_at
+sent_tuple_told = list sent_cell_told
+
 pub insert_told : Told insert_at insert FitsInsert insert_fields
 unfolding insert_at
 insert_told = told_of wires.insert_wire (
     field number32 (λ m. m.oid) _ _ _ _ _ (λ oid _.
     free_field (one_letter NEW) (λ _. tt) (λ _. tt) _ _ _ _ _ (λ letter _.
-    last_field tuple_told (λ m. m.new) _ (λ new. record { oid = oid; new = new })
+    last_field sent_tuple_told (λ m. m.new) _ (λ new. record { oid = oid; new = new })
     (λ _. refl) (λ _ _. (refl, (refl, tt))))))

@@ -28,7 +28,7 @@ use Rattle.pgoutput.specs.declared.truncate.TheConstants.{TRUNCATE}
 use Rattle.pgoutput.specs.Begin.{begin, FitsBegin, begin_at}
 use Rattle.pgoutput.specs.Commit.{commit, FitsCommit, commit_at}
 use Rattle.pgoutput.specs.Relation.{column, FitsColumn, column_at, columns_at, relation, FitsRelation, relation_at, identity_of, identity_letter, is_key_of, key_flag}
-use Rattle.pgoutput.specs.Tuple.{cell, FitsCell, cell_at, tuple, FitsTuple, tuple_at}
+use Rattle.pgoutput.specs.Tuple.{cell, FitsCell, cell_at, FitsSentCell, sent_cell_at, tuple, FitsTuple, tuple_at, FitsSentTuple, sent_tuple_at}
 use Rattle.pgoutput.specs.Insert.{insert, FitsInsert, insert_at}
 use Rattle.pgoutput.specs.OldTuple.{old_tuple, FitsOldTuple, old_tuple_at}
 use Rattle.pgoutput.specs.Update.{old_if_any, update, FitsIfAny, FitsUpdate, tuples_at, rows_at, update_at}
@@ -129,12 +129,35 @@ tuple_wire : Wire tuple_at tuple FitsTuple
 unfolding tuple_at
 tuple_wire = list_wire cell_wire
 
+sent_cell_again : (x : Cell) (rest : List ℕ) → FitsSentCell x → sent_cell_at (cell x ++ rest) ≡ Ok (x, rest)
+unfolding sent_cell_at
+sent_cell_again cells.Null rest fits = refl
+sent_cell_again cells.Unchanged rest fits = absurd fits
+sent_cell_again (cells.Text t) rest fits = rw (text_wire.codec.again t rest fits) refl
+
+sent_cell_cut : (x : Cell) (n : ℕ) → FitsSentCell x → suc n < length (cell x) → sent_cell_at (take (suc n) (cell x)) ≡ Err Short
+unfolding sent_cell_at
+sent_cell_cut cells.Null n fits lt = absurd (omega arith)
+sent_cell_cut cells.Unchanged n fits lt = absurd fits
+sent_cell_cut (cells.Text t) n fits lt = rw (text_wire.cut t n fits (omega arith)) refl
+
+pub sent_cell_wire : Wire sent_cell_at cell FitsSentCell
+unfolding sent_cell_at
+sent_cell_wire = choice_wire (
+    choice NULL nothing (λ _. cells.Null) cell FitsSentCell (λ _. refl) (λ _ fits. fits) (
+    choice TEXT text_wire (λ t. cells.Text t) cell FitsSentCell (λ _. refl) (λ _ fits. fits) (
+    no_choice BadMark cell FitsSentCell))) tt sent_cell_again sent_cell_cut
+
+sent_tuple_wire : Wire sent_tuple_at tuple FitsSentTuple
+unfolding sent_tuple_at
+sent_tuple_wire = list_wire sent_cell_wire
+
 pub insert_wire : Wire insert_at insert FitsInsert
 unfolding insert_at
 insert_wire = wire_of (
     field number32 (λ m. m.oid) _ _ _ _ (λ oid.
     free_field (expected_wire NEW) (λ _. tt) (λ _. tt) _ _ _ _ (λ letter.
-    last_field tuple_wire (λ m. m.new) _ (λ new. record { oid = oid; new = new })
+    last_field sent_tuple_wire (λ m. m.new) _ (λ new. record { oid = oid; new = new })
     (λ _. refl) (λ _ _. (refl, (refl, tt))) (λ m known. rw (← known.1.0) refl))))
 
 -- ---- old rows

@@ -89,8 +89,20 @@ cell_fields (cells.Text text) = Letter cell_letters TEXT ∷ Count32 (length tex
 abbrev pub tuple_fields : List Cell → List Field
 tuple_fields cells = Count16 (length cells) ∷ flat_map cell_fields cells
 
+-- Of an Insert every value is sent.
+abbrev pub sent_letters : List ℕ
+sent_letters = NULL ∷ TEXT ∷ []
+
+abbrev pub sent_cell_fields : Cell → List Field
+sent_cell_fields cells.Null = Letter sent_letters NULL ∷ []
+sent_cell_fields cells.Unchanged = Letter sent_letters UNCHANGED ∷ []
+sent_cell_fields (cells.Text text) = Letter sent_letters TEXT ∷ Count32 (length text) ∷ Text text ∷ []
+
+abbrev pub sent_fields : List Cell → List Field
+sent_fields cells = Count16 (length cells) ∷ flat_map sent_cell_fields cells
+
 abbrev pub insert_fields : Insert → List Field
-insert_fields m = Number (int32 m.oid) ∷ mark NEW ∷ tuple_fields m.new
+insert_fields m = Number (int32 m.oid) ∷ mark NEW ∷ sent_fields m.new
 
 abbrev pub row_letters : List ℕ
 row_letters = NEW ∷ KEY ∷ OLD ∷ []

@@ -33,6 +33,14 @@ FitsCell _ = Unit {0}
 abbrev pub FitsTuple : List Cell → Type 0
 FitsTuple cells = (length cells < 2 ^ 15) × AllByRecursion FitsCell cells
 
+-- the cells of a row that nobody has yet, of which every value is sent
+abbrev pub FitsSentCell : Cell → Type 0
+FitsSentCell cells.Unchanged = ⊥
+FitsSentCell cell = FitsCell cell
+
+abbrev pub FitsSentTuple : List Cell → Type 0
+FitsSentTuple cells = (length cells < 2 ^ 15) × AllByRecursion FitsSentCell cells
+
 -- what a writer asks: the count and the lengths fit their fields
 abbrev pub IsShortCell : Cell → Type 0
 IsShortCell (cells.Text text) = length text < 2 ^ 31
@@ -50,3 +58,12 @@ cell_at bytes = short (byte_at bytes) >>= λ b.
 
 unfoldable pub tuple_at : List ℕ → Result (List Cell × List ℕ) OutFault
 tuple_at bytes = count16_at bytes >>= λ n. repeat_at cell_at n.0 n.1
+
+unfoldable pub sent_cell_at : List ℕ → Result (Cell × List ℕ) OutFault
+sent_cell_at bytes = short (byte_at bytes) >>= λ b.
+    if b.0 == NULL then Ok (cells.Null, b.1)
+    else if b.0 == TEXT then (text_at b.1 >>= λ t. Ok (cells.Text t.0, t.1))
+    else Err BadMark
+
+unfoldable pub sent_tuple_at : List ℕ → Result (List Cell × List ℕ) OutFault
+sent_tuple_at bytes = count16_at bytes >>= λ n. repeat_at sent_cell_at n.0 n.1

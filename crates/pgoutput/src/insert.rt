@@ -7,7 +7,7 @@ ghost use Rattle.pgoutput.specs.Insert.{insert, insert_at, IsShortInsert};
 
 use crate::fault::OutFault;
 use crate::fields::{expected_of, number32_of};
-use crate::tuple::{Cell, put_tuple, tuple_of};
+use crate::tuple::{Cell, put_tuple, sent_tuple_of};
 use bytes::BytesMut;
 use pqformat::{Cursor, Items, put_byte, put_int32};
 use std::alloc::{AllocError, Global};
@@ -27,7 +27,7 @@ pub const NEW: u8 = b'N';
 pub struct Insert {
     /// The OID of the table.
     pub oid: u32,
-    /// The new row, a cell for each column of the table's Relation.
+    /// The new row, a cell for each column of the table's Relation. Each value is sent: none is `Unchanged`.
     pub new: Items<Cell>,
 }
 
@@ -37,7 +37,7 @@ pub(crate) fn insert_of(alloc: Global, cursor: &mut Cursor<'_>) -> Result<Insert
 {
     let oid = number32_of(cursor)?;
     expected_of(cursor, NEW)?;
-    let new = tuple_of(alloc, cursor)?;
+    let new = sent_tuple_of(alloc, cursor)?;
     Ok(Insert { oid, new })
 }
 

@@ -13,21 +13,23 @@ use pqformat::{Cursor, Items, put_int16};
 use std::alloc::{AllocError, Global};
 
 /// What stands in a list, as it is read.
-pub(crate) trait ReadItem: Sized {
+pub(crate) trait ReadItem {
     ghost use Rattle.std.specs.Prelude.{List, ℕ, Result};
     ghost use Rattle.pgoutput.specs.declared.fault.OutFault.{OutFault};
 
-    ghost item_at: { List ℕ → Result (Self × List ℕ) OutFault };
+    type Item: Drop;
 
-    fn read(alloc: Global, cursor: &mut Cursor<'_>) -> Result<Self, OutFault>
+    ghost item_at: { List ℕ → Result (Self.Item × List ℕ) OutFault };
+
+    fn read(alloc: Global, cursor: &mut Cursor<'_>) -> Result<Self::Item, OutFault>
         ensures { Gives result cursor.new (item_at cursor.old) };
 }
 
-pub(crate) fn items_of<T: ReadItem + Drop>(
+pub(crate) fn items_of<T: ReadItem>(
     alloc: Global,
     cursor: &mut Cursor<'_>,
     count: usize,
-) -> Result<Items<T>, OutFault>
+) -> Result<Items<T::Item>, OutFault>
     ensures { Gives result cursor.new (repeat_at T.item_at count cursor.old) }
 {
     let mut items = Vec::new(alloc);

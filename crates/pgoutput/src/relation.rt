@@ -108,7 +108,7 @@ fn columns_of(alloc: Global, cursor: &mut Cursor<'_>) -> Result<Items<Column>, O
     ensures { Gives result cursor.new (columns_at cursor.old) }
 {
     let count = count16_of(cursor)?;
-    items_of(alloc, cursor, count as usize)
+    items_of::<Column>(alloc, cursor, count as usize)
 }
 
 #[tactic(auto, unfolding(crate::specs::Relation::column_at))]
@@ -171,9 +171,11 @@ fn letter_of(identity: Identity) -> u8
 impl ReadItem for Column {
     ghost use Rattle.pgoutput.specs.Relation.{column_at};
 
+    type Item = Column;
+
     ghost item_at = { column_at };
 
-    fn read(alloc: Global, cursor: &mut Cursor<'_>) -> Result<Self, OutFault> {
+    fn read(alloc: Global, cursor: &mut Cursor<'_>) -> Result<Column, OutFault> {
         column_of(alloc, cursor)
     }
 }

@@ -51,7 +51,7 @@ pub(crate) fn truncate_of(alloc: Global, cursor: &mut Cursor<'_>) -> Result<Trun
 {
     let count = count32_of(cursor)?;
     let options = options_of(cursor)?;
-    let oids = items_of(alloc, cursor, count as usize)?;
+    let oids = items_of::<u32>(alloc, cursor, count as usize)?;
     Ok(Truncate { options, oids })
 }
 
@@ -104,9 +104,11 @@ pub(crate) fn put_truncate(out: &mut BytesMut, message: &Truncate) -> Result<(),
 impl ReadItem for u32 {
     ghost use Rattle.pgoutput.specs.Truncate.{oid_at};
 
+    type Item = u32;
+
     ghost item_at = { oid_at };
 
-    fn read(_alloc: Global, cursor: &mut Cursor<'_>) -> Result<Self, OutFault> {
+    fn read(_alloc: Global, cursor: &mut Cursor<'_>) -> Result<u32, OutFault> {
         number32_of(cursor)
     }
 }

@@ -3,7 +3,7 @@
 ghost use Rattle.std.specs.Prelude.{◌≡◌};
 ghost use Rattle.pqformat.specs.Putting.{Puts};
 ghost use Rattle.pgoutput.specs.Reading.{Gives};
-ghost use Rattle.pgoutput.specs.Tuple.{cell_at, tuple, tuple_at, IsShortTuple};
+ghost use Rattle.pgoutput.specs.Tuple.{cell_at, sent_cell_at, sent_tuple_at, tuple, tuple_at, IsShortTuple};
 
 use crate::fault::OutFault;
 use crate::fields::{byte_of, count16_of, put_text, text_of};
@@ -29,7 +29,7 @@ pub const TEXT: u8 = b't';
 #[derive(Debug, Drop, PartialEq)]
 pub enum Cell {
     Null,
-    /// A long value that didn't change and isn't sent.
+    /// A long value that didn't change and isn't sent, in the new row of an Update. An Insert has none.
     Unchanged,
     Text(Text),
 }
@@ -46,12 +46,33 @@ fn cell_of(alloc: Global, cursor: &mut Cursor<'_>) -> Result<Cell, OutFault>
     }
 }
 
+/// A cell of an Insert, whose value is sent: null, or a text.
+#[tactic(auto, unfolding(crate::specs::Tuple::sent_cell_at))]
+fn sent_cell_of(alloc: Global, cursor: &mut Cursor<'_>) -> Result<Cell, OutFault>
+    ensures { Gives result cursor.new (sent_cell_at cursor.old) }
+{
+    match byte_of(cursor)? {
+        NULL => Ok(Cell::Null),
+        TEXT => Ok(Cell::Text(text_of(alloc, cursor)?)),
+        _ => Err(OutFault::BadMark),
+    }
+}
+
 #[tactic(auto, unfolding(crate::specs::Tuple::tuple_at))]
 pub(crate) fn tuple_of(alloc: Global, cursor: &mut Cursor<'_>) -> Result<Items<Cell>, OutFault>
     ensures { Gives result cursor.new (tuple_at cursor.old) }
 {
     let count = count16_of(cursor)?;
-    items_of(alloc, cursor, count as usize)
+    items_of::<Cell>(alloc, cursor, count as usize)
+}
+
+/// The tuple of an Insert, of which every value is sent.
+#[tactic(auto, unfolding(crate::specs::Tuple::sent_tuple_at))]
+pub(crate) fn sent_tuple_of(alloc: Global, cursor: &mut Cursor<'_>) -> Result<Items<Cell>, OutFault>
+    ensures { Gives result cursor.new (sent_tuple_at cursor.old) }
+{
+    let count = count16_of(cursor)?;
+    items_of::<SentCell>(alloc, cursor, count as usize)
 }
 
 pub(crate) fn put_tuple(out: &mut BytesMut, cells: &Items<Cell>) -> Result<(), AllocError>
@@ -64,10 +85,27 @@ pub(crate) fn put_tuple(out: &mut BytesMut, cells: &Items<Cell>) -> Result<(), A
 impl ReadItem for Cell {
     ghost use Rattle.pgoutput.specs.Tuple.{cell_at};
 
+    type Item = Cell;
+
     ghost item_at = { cell_at };
 
-    fn read(alloc: Global, cursor: &mut Cursor<'_>) -> Result<Self, OutFault> {
+    fn read(alloc: Global, cursor: &mut Cursor<'_>) -> Result<Cell, OutFault> {
         cell_of(alloc, cursor)
+    }
+}
+
+/// Reads a cell of an Insert.
+struct SentCell;
+
+impl ReadItem for SentCell {
+    ghost use Rattle.pgoutput.specs.Tuple.{sent_cell_at};
+
+    type Item = Cell;
+
+    ghost item_at = { sent_cell_at };
+
+    fn read(alloc: Global, cursor: &mut Cursor<'_>) -> Result<Cell, OutFault> {
+        sent_cell_of(alloc, cursor)
     }
 }
 

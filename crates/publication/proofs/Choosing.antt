@@ -19,7 +19,7 @@ use Rattle.publication_config.specs.Published.{is_listed}
 use Rattle.publication.specs.Selection.{chosen, narrowed, FitsTable}
 use Rattle.pgoutput.specs.declared.tuple.Cell.{Cell}
 use Rattle.pgoutput.specs.declared.tuple.Cell.TheVariants as cells
-use Rattle.publication.specs.Tuples.{cell_of, changes_key, same_value}
+use Rattle.publication.specs.Tuples.{cell_behind, cell_of, changes_key, same_value}
 use Rattle.publication.specs.Projection.{stands_in}
 use Rattle.publication.proofs.Rows.{both_true}
 
@@ -34,7 +34,7 @@ front_by [] (suc i) x xs = refl
 front_by (listed ∷ flags) zero x xs = refl
 front_by (listed ∷ flags) (suc i) x xs = front_by flags i x xs
 
-next_by : {A : Type 0} (flags : List Bool) (xs : List A) (i : ℕ) (x : A) → i < length xs → x ≡ get_or xs i x
+pub next_by : {A : Type 0} (flags : List Bool) (xs : List A) (i : ℕ) (x : A) → i < length xs → x ≡ get_or xs i x
     → chosen (drop i flags) (drop i xs) ≡ cond (is_listed flags i) (x ∷ chosen (drop (i + 1) flags) (drop (i + 1) xs)) (chosen (drop (i + 1) flags) (drop (i + 1) xs))
 next_by flags xs i x lt is =
     let behind : ℕ → List Bool = λ k. drop k flags in
@@ -54,7 +54,7 @@ passed f kept more whole flags xs i x lt is listed same so_far =
     let rest = chosen (drop (i + 1) flags) (drop (i + 1) xs) in
     ap (λ l. l ++ map f rest) same ∙ ap (λ l. kept ++ map f l) (sym (next_by flags xs i x lt is ∙ ap (λ (b : Bool). cond b (x ∷ rest) rest) listed)) ∙ so_far
 
-none_left : {A : Type 0} (flags : List Bool) → Path (List A) (chosen flags []) []
+pub none_left : {A : Type 0} (flags : List Bool) → Path (List A) (chosen flags []) []
 none_left [] = refl
 none_left (listed ∷ flags) = refl
 
@@ -65,6 +65,10 @@ all_taken f kept whole flags xs i past so_far =
 -- the cell of a column in a key
 abbrev pub key_cell_of : Column × Value → Cell
 key_cell_of p = if p.0.is_key then cell_of p.1 else cells.Null
+
+-- the cell of a value beside the one whose place it took
+abbrev pub behind_cell : Value × Value → Cell
+behind_cell p = cell_behind p.0 p.1
 
 -- ---- two lists beside each other
 

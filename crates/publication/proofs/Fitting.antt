@@ -28,10 +28,10 @@ use Rattle.publication_config.specs.declared.operations.Operation.TheVariants.{I
 use Rattle.publication_config.specs.declared.publication.Publication.{Publication}
 use Rattle.publication_config.specs.Published.{PublicationSet, has, publishes}
 use Rattle.publication.specs.Selection.{has_table, list_by, narrowed, relation, relation_column, selected_table, whole_table, FitsTable, FitTables}
-use Rattle.publication.specs.Tuples.{old_by, replaced_by, tuple_of}
+use Rattle.publication.specs.Tuples.{old_by, replaced_by, tuple_behind, tuple_of}
 use Rattle.publication.specs.Projection.{delete_message, insert_message, is_published, may_be_emptied, message, message_by, only_if, passes, shown, stands, stands_in, truncate_message, update_message, updated, AreValues, MessageFits}
 use Rattle.publication.proofs.Choosing.{all_chosen, narrowed_fits, narrowed_stands}
-use Rattle.publication.proofs.Rows.{both_true, OldFits, TupleFits, old_fits, replaced_fits, tuple_fits}
+use Rattle.publication.proofs.Rows.{both_true, OldFits, TupleFits, old_fits, replaced_fits, sent_fits, tuple_behind_fits, tuple_fits}
 use Rattle.publication.proofs.Relations.{found_table, relation_tells, some_is}
 
 -- ---- a message
@@ -71,12 +71,12 @@ shown_by s oid t all e = by_table (has_table s oid) refl (table_of oid s.tables)
 told_count : (s : PublicationSet) (t : Table) (cells : List Cell) → Found s t → TupleFits t cells → length cells ≡ length (relation s t.oid).columns
 told_count s t cells found tuple = rw found.selected (tuple.count ∙ sym (length-map t.columns (relation_column t.identity)))
 
-insert_fits : (s : PublicationSet) (t : Table) (new : List Cell) → Found s t → TupleFits t new → MessageFits s (logical.Insert (record { oid = t.oid; new = new }))
-insert_fits s t new found tuple_new = record {
+insert_fits : (s : PublicationSet) (t : Table) (row : List Value) → Found s t → TupleFits t (tuple_of row) → MessageFits s (insert_message row t)
+insert_fits s t row found tuple_new = record {
   known = (rw found.selected refl, tt);
-  of_change = told_count s t new found tuple_new;
-  fits = (found.fits.oid, tuple_new.fits);
-  short = omega (arith, tuple_new.short, length-int32 t.oid, length-append (int32 t.oid) ((78 ∷ []) ++ tuple new));
+  of_change = told_count s t (tuple_of row) found tuple_new;
+  fits = (found.fits.oid, sent_fits row tuple_new.fits);
+  short = omega (arith, tuple_new.short, length-int32 t.oid, length-append (int32 t.oid) ((78 ∷ []) ++ tuple (tuple_of row)));
   relations = (relation_tells s t found.selected found.fits, tt);
 }
 
@@ -205,7 +205,7 @@ inserted_fits s oid row m all in_range is (Some t) found e =
     let u = shown_by s oid t all found in
     let P : Logical → Type 0 = λ n. MessageFits s n in
     subst P (some_is (insert_message (shown s oid row) t) m e)
-    (insert_fits s t (tuple_of (shown s oid row)) u.found (tuple_fits t (shown s oid row) u.found.fits (shown_values s oid row in_range) (u.stay row is)))
+    (insert_fits s t (shown s oid row) u.found (tuple_fits t (shown s oid row) u.found.fits (shown_values s oid row in_range) (u.stay row is)))
 
 replaced_row_fits : (s : PublicationSet) (oid : ℕ) (old new : List Value) (m : Logical) → FitTables s → AllByRecursion IsValue old → AllByRecursion IsValue new → stands (table_of oid s.tables) old ≡ true
     → stands (table_of oid s.tables) new ≡ true → (o : Option Table) → selected_table s oid ≡ o → option_map (update_message (shown s oid old) (shown s oid new)) o ≡ Some m → MessageFits s m
@@ -216,8 +216,8 @@ replaced_row_fits s oid old new m all old_values new_values is_old is_new (Some 
     let b = shown s oid new in
     let P : Logical → Type 0 = λ n. MessageFits s n in
     subst P (some_is (update_message a b t) m e)
-    (update_fits s t (replaced_by t.identity t a b) (tuple_of b) u.found (replaced_fits t t.identity a b u.found.fits (shown_values s oid old old_values) (u.stay old is_old))
-    (tuple_fits t b u.found.fits (shown_values s oid new new_values) (u.stay new is_new)))
+    (update_fits s t (replaced_by t.identity t a b) (tuple_behind a b) u.found (replaced_fits t t.identity a b u.found.fits (shown_values s oid old old_values) (u.stay old is_old))
+    (tuple_behind_fits t a b u.found.fits (shown_values s oid new new_values) (u.stay old is_old) (u.stay new is_new)))
 
 deleted_row_fits : (s : PublicationSet) (oid : ℕ) (old : List Value) (m : Logical) → FitTables s → AllByRecursion IsValue old → stands (table_of oid s.tables) old ≡ true → (o : Option Table)
     → selected_table s oid ≡ o → option_and_then (delete_message (shown s oid old)) o ≡ Some m → MessageFits s m

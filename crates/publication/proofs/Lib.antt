@@ -1,7 +1,12 @@
+pub mod Bounds
 pub mod Catalogued
 pub mod Choosing
+pub mod Fields
 pub mod Fitting
+pub mod Oids
 pub mod Relations
 pub mod Repeats
 pub mod Rows
+pub mod Standing
 pub mod Worked
+pub mod Written

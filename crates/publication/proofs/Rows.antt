@@ -15,7 +15,7 @@ use Rattle.pqformat.proofs.Numbers.{length-int16, length-int32, length-int64}
 use Rattle.pgoutput.specs.declared.tuple.Cell.{Cell}
 use Rattle.pgoutput.specs.declared.tuple.Cell.TheVariants as cells
 use Rattle.pgoutput.specs.declared.old_tuple.OldTuple.{OldTuple}
-use Rattle.pgoutput.specs.Tuple.{cell, tuple, FitsCell, FitsTuple}
+use Rattle.pgoutput.specs.Tuple.{cell, tuple, FitsCell, FitsSentCell, FitsSentTuple, FitsTuple}
 use Rattle.pgoutput.specs.OldTuple.{cells_of}
 use Rattle.tables.specs.declared.row.TheConstants.{MAX_ROW_LENGTH}
 use Rattle.tables.specs.declared.identity.Identity.{Identity}
@@ -27,7 +27,7 @@ use Rattle.tables.specs.declared.table.Table.{Table}
 use Rattle.tables.specs.Spelling.{spell_value, row_length}
 use Rattle.tables.specs.Tables.{fits_table, IsValue}
 use Rattle.publication.specs.Selection.{FitsTable}
-use Rattle.publication.specs.Tuples.{cell_of, changes_key, key_tuple_of, old_by, replaced_by, tuple_of}
+use Rattle.publication.specs.Tuples.{cell_behind, cell_of, changes_key, is_long, key_tuple_of, old_by, replaced_by, same_value, tuple_behind, tuple_of}
 use Rattle.publication.specs.Projection.{stands, stands_in}
 
 pub both_true : (a b : Bool) → (a && b) ≡ true → (a ≡ true) × (b ≡ true)
@@ -107,6 +107,48 @@ cells_fit (v ∷ row) in_range short =
     let others = cells_fit row in_range.1 (omega arith) in
     record { fits = (first.fits, others.fits); short = omega (arith, first.short, others.short) }
 
+-- a cell of a row that took the place of another one, which isn't sent where it is kept
+record KeptCellFits (is_kept : Bool) (v : Value) : Type 0 where
+  fits : FitsCell (cond is_kept cells.Unchanged (cell_of v))
+  short : length (cell (cond is_kept cells.Unchanged (cell_of v))) ≤ 4 * length (spell_value v)
+
+kept_cell_fits : (is_kept : Bool) (v : Value) → IsValue v → length (spell_value v) ≤ MAX_ROW_LENGTH → KeptCellFits is_kept v
+kept_cell_fits true v in_range short = record { fits = tt; short = omega (arith, some_byte v) }
+kept_cell_fits false v in_range short = let f = cell_fits v in_range short in record { fits = f.fits; short = f.short }
+
+record BehindFits (old new : List Value) : Type 0 where
+  count : length (tuple_behind old new) ≡ length new
+  fits : AllByRecursion FitsCell (tuple_behind old new)
+  short : length (flat_map cell (tuple_behind old new)) ≤ 4 * length (flat_map spell_value new)
+
+behind_fits : (old new : List Value) → length old ≡ length new → AllByRecursion IsValue new → length (flat_map spell_value new) ≤ MAX_ROW_LENGTH → BehindFits old new
+behind_fits [] [] counts in_range short = record { count = refl; fits = tt; short = omega arith }
+behind_fits [] (v ∷ new) counts in_range short = absurd cc
+behind_fits (o ∷ old) [] counts in_range short = absurd cc
+behind_fits (o ∷ old) (v ∷ new) counts in_range short =
+    let spelled : length (flat_map spell_value (v ∷ new)) ≡ length (spell_value v) + length (flat_map spell_value new) = ap length (flat_map-cons spell_value v new) ∙ length-append (spell_value v) (flat_map spell_value new) in
+    let first = kept_cell_fits (is_long v && same_value o v) v in_range.0 (omega arith) in
+    let others = behind_fits old new (omega (arith, counts)) in_range.1 (omega arith) in
+    let one = cell_behind o v in
+    let told : length (flat_map cell (tuple_behind (o ∷ old) (v ∷ new))) ≡ length (cell one) + length (flat_map cell (tuple_behind old new)) =
+    ap length (flat_map-cons cell one (tuple_behind old new)) ∙ length-append (cell one) (flat_map cell (tuple_behind old new)) in
+    record { count = ap suc others.count; fits = (first.fits, others.fits); short = omega (arith, spelled, told, first.short, others.short) }
+
+-- of a row that stands by itself every value is sent
+sent_cell : (v : Value) → FitsCell (cell_of v) → FitsSentCell (cell_of v)
+sent_cell values.Null fits = tt
+sent_cell (values.Bool b) fits = fits
+sent_cell (values.Int4 z) fits = fits
+sent_cell (values.Int8 z) fits = fits
+sent_cell (values.Text text) fits = fits
+
+sent_cells : (row : List Value) → AllByRecursion FitsCell (map cell_of row) → AllByRecursion FitsSentCell (map cell_of row)
+sent_cells [] fits = tt
+sent_cells (v ∷ row) fits = (sent_cell v fits.0, sent_cells row fits.1)
+
+pub sent_fits : (row : List Value) → FitsTuple (tuple_of row) → FitsSentTuple (tuple_of row)
+sent_fits row fits = (fits.0, sent_cells row fits.1)
+
 -- ---- tuples
 
 pub record TupleFits (t : Table) (cells : List Cell) : Type 0 where
@@ -140,6 +182,13 @@ tuple_fits t row table in_range stands =
     let cells = cells_fit row in_range s.short in
     let count : length (tuple_of row) ≡ length t.columns = length-map row cell_of ∙ sym s.counts in
     record { count = count; fits = (omega (arith, count, table.count), cells.fits); short = cells_short (tuple_of row) (omega (arith, cells.short, s.short)) }
+
+pub tuple_behind_fits : (t : Table) (old new : List Value) → FitsTable t → AllByRecursion IsValue new → stands_in t old ≡ true → stands_in t new ≡ true → TupleFits t (tuple_behind old new)
+tuple_behind_fits t old new table in_range is_old is_new =
+    let s = stood t new is_new in
+    let cells = behind_fits old new (sym (whole_row t old is_old) ∙ s.counts) in_range s.short in
+    let count : length (tuple_behind old new) ≡ length t.columns = cells.count ∙ sym s.counts in
+    record { count = count; fits = (omega (arith, count, table.count), cells.fits); short = cells_short (tuple_behind old new) (omega (arith, cells.short, s.short)) }
 
 -- of a key, each cell is that of the row, or shorter
 key_cells_fit : (columns : List Column) (row : List Value) → length columns ≡ length row → AllByRecursion IsValue row → length (flat_map spell_value row) ≤ MAX_ROW_LENGTH → KeyFits columns row

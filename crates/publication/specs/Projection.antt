@@ -19,7 +19,7 @@ use Rattle.publication_config.specs.declared.operations.Operation.TheVariants.{I
 use Rattle.publication_config.specs.Published.{PublicationSet, has, publishes}
 use Rattle.publication.specs.Publications.{passes_in}
 use Rattle.publication.specs.Selection.{chosen, list_by, selected_table, relation}
-use Rattle.publication.specs.Tuples.{tuple_of, old_by, replaced_by}
+use Rattle.publication.specs.Tuples.{tuple_of, tuple_behind, old_by, replaced_by}
 use Rattle.publication.specs.declared.projection.Projected.{Projected}
 use Rattle.publication.specs.declared.projection.Projected.TheVariants.{Nothing, Message}
 
@@ -58,7 +58,7 @@ abbrev pub insert_message : List Value → Table → Logical
 insert_message row t = logical.Insert (record { oid = t.oid; new = tuple_of row })
 
 abbrev pub update_message : (old new : List Value) → Table → Logical
-update_message old new t = logical.Update (record { oid = t.oid; old = replaced_by t.identity t old new; new = tuple_of new })
+update_message old new t = logical.Update (record { oid = t.oid; old = replaced_by t.identity t old new; new = tuple_behind old new })
 
 -- without an identity nothing can be told of a row that is gone
 abbrev pub delete_message : List Value → Table → Option Logical

@@ -3,10 +3,10 @@ use Rattle.std.specs.Prelude.{ℕ, ◌==◌, Bool, true, false, ◌&&◌, not, L
 use Rattle.std.specs.List.{list_any}
 use Rattle.std.specs.Str.{bytes_eq}
 use Rattle.tables.specs.declared.value.Value.{Value}
-use Rattle.rowfilter.specs.Conditions.{Condition}
-use Rattle.rowfilter.specs.declared.truth.Truth.{Truth}
-use Rattle.rowfilter.specs.declared.truth.Truth.TheVariants as truths
-use Rattle.rowfilter.specs.Truth.{truth}
+use Rattle.conditions.specs.Conditions.{Condition}
+use Rattle.conditions.specs.declared.truth.Truth.{Truth}
+use Rattle.conditions.specs.declared.truth.Truth.TheVariants as truths
+use Rattle.conditions.specs.Truth.{truth}
 use Rattle.publication_config.specs.declared.operations.Operation.{Operation}
 use Rattle.publication_config.specs.declared.published_table.PublishedTable.{PublishedTable}
 use Rattle.publication_config.specs.declared.publication.Publication.{Publication}

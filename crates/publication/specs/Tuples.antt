@@ -1,5 +1,5 @@
 -- The tuples of rows (PostgreSQL 15, 55.9): each value as a text, and which of an old row is sent.
-use Rattle.std.specs.Prelude.{◌&&◌, ℕ, ℤ, Bool, not, true, false, List, map, codes, Option, Some, None, if◌then◌else◌}
+use Rattle.std.specs.Prelude.{◌&&◌, ℕ, ℤ, Bool, not, true, false, List, length, map, nat_lt, codes, Option, Some, None, if◌then◌else◌}
 use Rattle.std.specs.Fmt.{signed_decimal}
 use Rattle.std.specs.List.{list_any, zip}
 use Rattle.std.specs.Ordering.{int_eq}
@@ -14,6 +14,7 @@ use Rattle.tables.specs.declared.value.Value.{Value}
 use Rattle.tables.specs.declared.value.Value.TheVariants as values
 use Rattle.tables.specs.declared.column.Column.{Column}
 use Rattle.tables.specs.declared.table.Table.{Table}
+use Rattle.publication.specs.declared.cells.TheConstants.{MOST_RESENT}
 
 -- bool is t or f, an integer its decimal digits, a text its bytes
 abbrev pub cell_of : Value → Cell
@@ -57,6 +58,19 @@ same_value (values.Bool a) value = is_the_bool a value
 same_value (values.Int4 a) value = is_the_int4 a value
 same_value (values.Int8 a) value = is_the_int8 a value
 same_value (values.Text a) value = is_the_text a value
+
+-- a text of more bytes than are sent once more where they didn't change
+abbrev pub is_long : Value → Bool
+is_long (values.Text text) = nat_lt MOST_RESENT (length text)
+is_long value = false
+
+-- the cell of a value that took the place of another one: a long text that stayed the same isn't sent
+abbrev pub cell_behind : (old new : Value) → Cell
+cell_behind old new = if is_long new && same_value old new then cells.Unchanged else cell_of new
+
+-- the tuple of a row that took the place of another one
+abbrev pub tuple_behind : (old new : List Value) → List Cell
+tuple_behind old new = map (λ p. cell_behind p.0 p.1) (zip old new)
 
 -- whether a column of the primary key has one value in the one row and another one in the other
 abbrev pub changes_key : List Column → (old new : List Value) → Bool

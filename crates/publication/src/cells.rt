@@ -4,13 +4,18 @@ ghost use Rattle.std.specs.Prelude.{◌≡◌, ◌++◌, ◌&&◌, not, IfOk, le
 ghost use Rattle.std.specs.List.{list_any, zip};
 ghost use Rattle.pgoutput.specs.declared.tuple.Cell.TheVariants as cells;
 ghost use Rattle.publication.specs.Selection.{chosen, narrowed};
-ghost use Rattle.publication.specs.Tuples.{cell_of, changes_key, key_tuple_of, old_by, replaced_by, same_value, tuple_of};
+ghost use Rattle.tables.specs.Refs.{value_of};
+ghost use Rattle.publication.specs.Tuples.{cell_behind, cell_of, changes_key, is_long, key_tuple_of, old_by, replaced_by, same_value, tuple_behind, tuple_of};
 
 use pgoutput::{Cell, OldTuple};
 use pqformat::{Items, Text};
 use publication_config::is_listed;
 use std::alloc::{AllocError, Global};
-use tables::{Column, Identity, Row, Table, Value};
+use tables::{Column, Identity, Row, Table, Value, ValueRef};
+
+/// The longest text that the new tuple of an Update repeats though it didn't change, in bytes. PostgreSQL leaves out what it keeps
+/// out of line, which begins at about this length.
+pub(crate) const MOST_RESENT: usize = 2000;
 
 /// The tuple of the listed columns of a row: bool is `t` or `f`, an integer its decimal digits, a text its bytes.
 pub(crate) fn tuple_of(
@@ -40,6 +45,44 @@ fn cell(alloc: Global, value: &Value) -> Result<Cell, AllocError>
         Value::Int8(n) => Cell::Text(Text::new(n.to_string(alloc)?)),
         Value::Text(text) => Cell::Text(text.copy(alloc)?),
     })
+}
+
+/// The tuple of the listed columns of a row that took the place of another one: a long text that stayed the same isn't sent.
+pub(crate) fn tuple_behind(
+    alloc: Global,
+    listed: &[bool],
+    old: &[Value],
+    new: &[Value],
+) -> Result<Items<Cell>, AllocError>
+    requires { length old.now ≡ length new.now }
+    ensures { IfOk result (λ cells. cells ≡ tuple_behind (chosen listed.now old.now) (chosen listed.now new.now)) }
+{
+    let mut cells = Vec::with_capacity(alloc, new.len())?;
+    for (i, before) in old.iter().enumerate() {
+        let value = &new[i];
+        if is_listed(listed, i) {
+            cells.push(cell_behind(alloc, before, value)?)?;
+        }
+    }
+    Ok(Items::new(cells))
+}
+
+fn cell_behind(alloc: Global, old: &Value, new: &Value) -> Result<Cell, AllocError>
+    ensures { IfOk result (λ c. c ≡ cell_behind old.now new.now) }
+{
+    if is_long(new.lend()) && is_same(old.lend(), new.lend()) {
+        return Ok(Cell::Unchanged);
+    }
+    cell(alloc, new)
+}
+
+pub(crate) fn is_long(value: ValueRef<'_>) -> bool
+    ensures { result ≡ is_long (value_of value.entry) }
+{
+    match value {
+        ValueRef::Null | ValueRef::Bool(_) | ValueRef::Int4(_) | ValueRef::Int8(_) => false,
+        ValueRef::Text(text) => text.len() > MOST_RESENT,
+    }
 }
 
 /// What is sent of a row that is gone: its key, the whole of it, or nothing, by the table's identity.
@@ -94,18 +137,19 @@ fn has_other_key(columns: &[Column], listed: &[bool], old: &[Value], new: &[Valu
     ensures { result ≡ list_any (λ p. p.0 && (p.1.0.is_key && not (same_value p.1.1.0 p.1.1.1))) (zip listed.now (zip columns.now (zip old.now new.now))) }
 {
     let mut cells = listed.iter().zip(columns.iter().zip(old.iter().zip(new)));
-    cells.any(|(listed, (column, (old, new)))| *listed && (column.is_key && !is_same(old, new)))
+    cells.any(|(listed, (column, (old, new)))| *listed
+        && (column.is_key && !is_same(old.lend(), new.lend())))
 }
 
-fn is_same(a: &Value, b: &Value) -> bool
-    ensures { result ≡ same_value a.now b.now }
+pub(crate) fn is_same(a: ValueRef<'_>, b: ValueRef<'_>) -> bool
+    ensures { result ≡ same_value (value_of a.entry) (value_of b.entry) }
 {
     match a {
-        Value::Null => matches!(b, Value::Null),
-        Value::Bool(a) => matches!(b, Value::Bool(b) if a == b),
-        Value::Int4(a) => matches!(b, Value::Int4(b) if a == b),
-        Value::Int8(a) => matches!(b, Value::Int8(b) if a == b),
-        Value::Text(a) => matches!(b, Value::Text(b) if a.as_str() == b.as_str()),
+        ValueRef::Null => matches!(b, ValueRef::Null),
+        ValueRef::Bool(a) => matches!(b, ValueRef::Bool(b) if a == b),
+        ValueRef::Int4(a) => matches!(b, ValueRef::Int4(b) if a == b),
+        ValueRef::Int8(a) => matches!(b, ValueRef::Int8(b) if a == b),
+        ValueRef::Text(a) => matches!(b, ValueRef::Text(b) if a == b),
     }
 }
 

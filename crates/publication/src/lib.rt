@@ -6,11 +6,18 @@ mod messages;
 mod passing;
 mod projection;
 mod publications;
+mod put_messages;
+mod putting;
 mod relation;
+mod row_reading;
 mod selection;
+mod spelling;
+mod truncating;
+mod tuples;
 
 pub use projection::Projected;
 pub use publication_config::{Member, Misfit, Place, PubFault, TableMember, explained};
 pub use publications::Publications;
+pub use putting::MAX_MESSAGE_LENGTH;
 pub use relation::{BOOL_OID, INT4_OID, INT8_OID, NO_MODIFIER, TEXT_OID};
 pub use selection::Selection;

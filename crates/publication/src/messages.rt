@@ -4,7 +4,7 @@ ghost use Rattle.std.specs.Prelude.{◌≡◌, IfOk, length};
 ghost use Rattle.publication.specs.Selection.{chosen, narrowed};
 ghost use Rattle.publication.specs.Projection.{delete_message, insert_message, truncate_message, update_message};
 
-use crate::cells::{old_of, replaced_of, tuple_of};
+use crate::cells::{old_of, replaced_of, tuple_behind, tuple_of};
 use pgoutput::{Delete, Insert, Logical, Truncate, TruncateOptions, Update};
 use pqformat::Items;
 use std::alloc::{AllocError, Global};
@@ -31,13 +31,14 @@ pub(crate) fn replacement(
     old: &Row,
     new: &Row,
 ) -> Result<Logical, AllocError>
-    requires { length table.now.columns ≡ length old.now }
+    requires columns { length table.now.columns ≡ length old.now }
+    requires rows { length old.now ≡ length new.now }
     ensures { IfOk result (λ m. m ≡ update_message (chosen listed.now old.now) (chosen listed.now new.now) (narrowed listed.now table.now)) }
 {
     Ok(Logical::Update(Update {
         oid: table.oid,
         old: replaced_of(alloc, table, listed, old, new)?,
-        new: tuple_of(alloc, listed, new.values())?,
+        new: tuple_behind(alloc, listed, old.values(), new.values())?,
     }))
 }
 

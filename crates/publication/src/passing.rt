@@ -6,17 +6,22 @@ ghost use Rattle.publication.specs.Publications.{admits, lets_pass, passes_in};
 
 use publication_config::{Operation, Publication, PublishedTable};
 use rowfilter::Truth;
-use tables::Row;
+use tables::RowRef;
 
 /// Whether the publication publishes the operation for the table of this OID, and lets the row pass.
-pub(crate) fn passes(publication: &Publication, operation: Operation, oid: u32, row: &Row) -> bool
+pub(crate) fn passes(
+    publication: &Publication,
+    operation: Operation,
+    oid: u32,
+    row: &RowRef<'_>,
+) -> bool
     ensures { result ≡ passes_in operation oid row.now publication.now }
 {
     publication.operations.has(operation) && has_passed(publication, oid, row)
 }
 
 /// Whether the publication has the table, and lets the row pass.
-fn has_passed(publication: &Publication, oid: u32, row: &Row) -> bool
+fn has_passed(publication: &Publication, oid: u32, row: &RowRef<'_>) -> bool
     ensures { result ≡ list_any (admits oid row.now) publication.now.tables }
 {
     let mut tables = publication.tables.as_slice().iter();
@@ -24,18 +29,18 @@ fn has_passed(publication: &Publication, oid: u32, row: &Row) -> bool
 }
 
 /// Whether it is the table of this OID, and lets the row pass.
-fn admits(table: &PublishedTable, oid: u32, row: &Row) -> bool
+fn admits(table: &PublishedTable, oid: u32, row: &RowRef<'_>) -> bool
     ensures { result ≡ admits oid row.now table.now }
 {
     table.oid == oid && lets_pass(table, row)
 }
 
 /// Whether the filter is true of the row. One that is unknown doesn't let it pass.
-fn lets_pass(table: &PublishedTable, row: &Row) -> bool
+fn lets_pass(table: &PublishedTable, row: &RowRef<'_>) -> bool
     ensures { result ≡ lets_pass table.now.filter row.now }
 {
     match &table.filter {
-        Some(filter) => filter.truth(row) == Truth::True,
+        Some(filter) => filter.truth_in(row) == Truth::True,
         None => true,
     }
 }

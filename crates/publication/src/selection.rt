@@ -22,7 +22,7 @@ use pqformat::Items;
 use publication_config::{Operation, Publication};
 use std::alloc::{AllocError, Global};
 use std::marker::Model;
-use tables::{Change, MAX_TRUNCATED, Row, Table, repeats};
+use tables::{Change, MAX_TRUNCATED, Row, RowRef, Table, repeats};
 
 /// The publications that a sender was asked for.
 ///
@@ -33,7 +33,7 @@ use tables::{Change, MAX_TRUNCATED, Row, Table, repeats};
 pub struct Selection {
     alloc: Global,
     /// All tables of the catalogue.
-    tables: Items<Table>,
+    pub(crate) tables: Items<Table>,
     publications: Items<Publication>,
     oids: Items<u32>,
 }
@@ -128,7 +128,7 @@ impl Selection {
         let Some(table) = self.table(oid) else {
             return Ok(None);
         };
-        if !stands(table, row) || !self.passes(Operation::Insert, oid, row) {
+        if !stands(table, row) || !self.passes(Operation::Insert, oid, &RowRef::of(row)) {
             return Ok(None);
         }
         let listed = self.listed(oid);
@@ -146,8 +146,8 @@ impl Selection {
             return Ok(None);
         }
         let listed = self.listed(oid);
-        let old_passes = self.passes(Operation::Update, oid, old);
-        let new_passes = self.passes(Operation::Update, oid, new);
+        let old_passes = self.passes(Operation::Update, oid, &RowRef::of(old));
+        let new_passes = self.passes(Operation::Update, oid, &RowRef::of(new));
         match (old_passes, new_passes) {
             (true, true) => Ok(Some(replacement(self.alloc, table, listed, old, new)?)),
             (false, true) => Ok(Some(insertion(self.alloc, table, listed, new)?)),
@@ -163,7 +163,7 @@ impl Selection {
         let Some(table) = self.table(oid) else {
             return Ok(None);
         };
-        if !stands(table, old) || !self.passes(Operation::Delete, oid, old) {
+        if !stands(table, old) || !self.passes(Operation::Delete, oid, &RowRef::of(old)) {
             return Ok(None);
         }
         let listed = self.listed(oid);
@@ -206,7 +206,7 @@ impl Selection {
     }
 
     /// The table of this OID, with all its columns, if the selection has it.
-    fn table(&self, oid: u32) -> Option<&Table>
+    pub(crate) fn table(&self, oid: u32) -> Option<&Table>
         ensures value { option_copied result ≡ whole_table self.now oid }
         ensures fits { IfSome result (λ table. FitsTable table.now) }
     {
@@ -217,20 +217,20 @@ impl Selection {
     }
 
     /// The column list for the table of this OID.
-    fn listed(&self, oid: u32) -> &[bool]
+    pub(crate) fn listed(&self, oid: u32) -> &[bool]
         ensures { result.now ≡ list_by self.now.publications oid }
     {
         list_by(self.publications.as_slice(), oid)
     }
 
-    fn publishes(&self, operation: Operation, oid: u32) -> bool
+    pub(crate) fn publishes(&self, operation: Operation, oid: u32) -> bool
         ensures { result ≡ is_published self.now operation oid }
     {
         let mut publications = self.publications.as_slice().iter();
         publications.any(|publication| publication.publishes(operation, oid))
     }
 
-    fn passes(&self, operation: Operation, oid: u32, row: &Row) -> bool
+    pub(crate) fn passes(&self, operation: Operation, oid: u32, row: &RowRef<'_>) -> bool
         ensures { result ≡ passes self.now operation oid row.now }
     {
         let mut publications = self.publications.as_slice().iter();
@@ -296,7 +296,7 @@ fn stands(table: &Table, row: &Row) -> bool
 }
 
 /// Whether a truncate may name these tables.
-fn may_be_emptied(tables: &[Table], oids: &[u32]) -> bool
+pub(crate) fn may_be_emptied(tables: &[Table], oids: &[u32]) -> bool
     ensures { result ≡ may_be_emptied tables.now oids.now }
 {
     are_known(tables, oids) && !oids.is_empty() && !repeats(oids) && oids.len() <= MAX_TRUNCATED

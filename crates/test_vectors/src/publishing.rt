@@ -2,8 +2,9 @@
 
 use crate::answer::bytes_of;
 use anyhow::{Context, Result, bail};
+use pgoutput::read_logical;
 use pqformat::Text;
-use publication::{PubFault, Publications, Selection, explained};
+use publication::{MAX_MESSAGE_LENGTH, Projected, PubFault, Publications, Selection, explained};
 use std::alloc::{AllocError, Global};
 use tables::{Catalog, Change, read_body, read_document};
 use toml::Value;
@@ -85,16 +86,36 @@ fn add_message(
 ) -> Result<()> {
     let bytes = bytes_of(alloc, body)?;
     let change = read_body(alloc, bytes.as_slice())?;
-    Ok(add_projected(selection, &change, answer)?)
+    let projected = projected(alloc, selection, &change)?;
+    let put = put(alloc, selection, bytes.as_slice())?;
+    write!(answer, " {projected}")?;
+    if put != projected {
+        write!(answer, " but is put as {put}")?;
+    }
+    Ok(())
 }
 
-fn add_projected(
-    selection: &Selection,
-    change: &Change,
-    answer: &mut String,
-) -> Result<(), AllocError> {
+/// The message that is made of a change.
+fn projected(alloc: Global, selection: &Selection, change: &Change) -> Result<String, AllocError> {
     let message = selection.project(change)?;
-    write!(answer, " {message:?}")
+    told(alloc, &message)
+}
+
+/// The message that is written straight from its body.
+fn put(alloc: Global, selection: &Selection, body: &[u8]) -> Result<String> {
+    let mut out = [0; MAX_MESSAGE_LENGTH];
+    let Some(count) = selection.put(body, &mut out) else {
+        return Ok(told(alloc, &Projected::Nothing)?);
+    };
+    let (message, _) = out.split_at_checked(count).context("is put past its room")?;
+    let message = Projected::Message(read_logical(alloc, message)?);
+    Ok(told(alloc, &message)?)
+}
+
+fn told(alloc: Global, message: &Projected) -> Result<String, AllocError> {
+    let mut text = String::new(alloc);
+    write!(text, "{message:?}")?;
+    Ok(text)
 }
 
 /// `TABLES|PUBLICATIONS`: the same for whoever wrote a text that is refused.

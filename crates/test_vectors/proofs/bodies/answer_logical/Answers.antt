@@ -8,7 +8,7 @@ use Rattle.pgoutput.specs.declared.logical.Logical.TheVariants as logical
 use Rattle.pgoutput.specs.declared.tuple.Cell.{Cell}
 use Rattle.pgoutput.specs.declared.tuple.Cell.TheVariants as cells
 use Rattle.pgoutput.specs.declared.old_tuple.OldTuple.{OldTuple}
-use Rattle.pgoutput.specs.Tuple.{FitsCell, FitsTuple, IsShortCell, IsShortTuple}
+use Rattle.pgoutput.specs.Tuple.{FitsCell, FitsSentCell, FitsSentTuple, FitsTuple, IsShortCell, IsShortTuple}
 use Rattle.pgoutput.specs.OldTuple.{cells_of}
 use Rattle.pgoutput.specs.Update.{FitsIfAny, IsShortIfAny}
 use Rattle.pgoutput.specs.Logical.{FitsLogical, IsShort, SpellsLogical}
@@ -26,6 +26,18 @@ short_cells (c ∷ cs) all = (short_cell c all.0, short_cells cs all.1)
 short_tuple : (cs : List Cell) → FitsTuple cs → IsShortTuple cs
 short_tuple cs fits = (fits.0, short_cells cs fits.1)
 
+short_sent_cell : (c : Cell) → FitsSentCell c → IsShortCell c
+short_sent_cell (cells.Text text) fits = fits.0
+short_sent_cell cells.Null fits = tt
+short_sent_cell cells.Unchanged fits = absurd fits
+
+short_sent_cells : (cs : List Cell) → AllByRecursion FitsSentCell cs → AllByRecursion IsShortCell cs
+short_sent_cells [] all = tt
+short_sent_cells (c ∷ cs) all = (short_sent_cell c all.0, short_sent_cells cs all.1)
+
+short_sent_tuple : (cs : List Cell) → FitsSentTuple cs → IsShortTuple cs
+short_sent_tuple cs fits = (fits.0, short_sent_cells cs fits.1)
+
 short_if_any : (old : Option OldTuple) → FitsIfAny old → IsShortIfAny old
 short_if_any None fits = tt
 short_if_any (Some old) fits = short_tuple (cells_of old) fits
@@ -34,7 +46,7 @@ short_of : (m : Logical) → FitsLogical m → IsShort m
 short_of (logical.Begin m) fits = tt
 short_of (logical.Commit m) fits = tt
 short_of (logical.Relation m) fits = fits.1.1.1.0
-short_of (logical.Insert m) fits = short_tuple m.new fits.1
+short_of (logical.Insert m) fits = short_sent_tuple m.new fits.1
 short_of (logical.Update m) fits = (short_if_any m.old fits.1.0, short_tuple m.new fits.1.1)
 short_of (logical.Delete m) fits = short_tuple (cells_of m.old) fits.1
 short_of (logical.Truncate m) fits = fits.0

@@ -1,0 +1,181 @@
+-- A row that is larger than any of a table stands in none, and the message of one that stands in one has room.
+use Rattle.std.proofs.Common.{◌≡◌, ◌⊎◌, ℕ, suc, ◌≤◌, Bool, true, false, cond, eqb, leb, List, [], ◌∷◌, ◌++◌, Option, Some, None, length, inl, inr, refl, sym, ap, subst, ◌∙◌, arith}
+use Rattle.std.specs.Prelude.{◌&&◌}
+use Rattle.std.specs.List.{AllByRecursion}
+use Rattle.std.proofs.lemmas.Bool.{eqb-true, leb-true, le-leb}
+use Rattle.std.proofs.lemmas.List.{length-append}
+use Rattle.pqformat.specs.Fields.{int32}
+use Rattle.pqformat.proofs.Numbers.{length-int32}
+use Rattle.std.specs.Option.{option_map}
+use Rattle.pgoutput.specs.declared.logical.Logical.{Logical}
+use Rattle.pgoutput.specs.declared.logical.Logical.TheVariants as logical
+use Rattle.pgoutput.specs.declared.old_tuple.OldTuple.{OldTuple}
+use Rattle.pgoutput.specs.declared.old_tuple.OldTuple.TheVariants.{Key, Full}
+use Rattle.pgoutput.specs.OldTuple.{old_tuple}
+use Rattle.pgoutput.specs.Update.{old_if_any}
+use Rattle.tables.specs.declared.identity.Identity.{Identity}
+use Rattle.tables.specs.declared.identity.Identity.TheVariants as identities
+use Rattle.pgoutput.specs.Logical.{spell_logical}
+use Rattle.pgoutput.specs.Tuple.{tuple}
+use Rattle.tables.specs.declared.row.TheConstants.{MAX_ROW_LENGTH}
+use Rattle.tables.specs.declared.table.Table.{Table}
+use Rattle.tables.specs.declared.value.Value.{Value}
+use Rattle.tables.specs.declared.value.Value.TheVariants as values
+use Rattle.tables.specs.Reading.{IsCodedValue}
+use Rattle.tables.specs.Refs.{IsLarge}
+use Rattle.tables.specs.Spelling.{row_length}
+use Rattle.tables.specs.Tables.{IsValue, fits_table, table_of}
+use Rattle.publication_config.specs.Published.{PublicationSet}
+use Rattle.publication.specs.Projection.{delete_message, insert_message, only_if, stands, stands_in, update_message}
+use Rattle.publication.specs.Selection.{FitTables, FitsTable, chosen, narrowed}
+use Rattle.publication.specs.Spelling.{FitsRoom, HasRoom, IsShortRow, IsWritten}
+use Rattle.publication.specs.Tuples.{changes_key, key_tuple_of, old_by, replaced_by, tuple_behind, tuple_of}
+use Rattle.publication.proofs.Bounds.{behind_bound, key_bound, tuple_bound}
+use Rattle.publication.proofs.Choosing.{all_chosen, narrowed_stands}
+use Rattle.publication.proofs.Relations.{found_table}
+use Rattle.publication.proofs.Rows.{both_true}
+use Rattle.publication.proofs.Written.{chosen_short}
+
+some_is : {A : Type 0} (a b : A) → Some a ≡ Some b → a ≡ b
+some_is a b e = cc
+
+both_are : (a b : Bool) → a ≡ true → b ≡ true → (a && b) ≡ true
+both_are true true one other = refl
+both_are true false one other = absurd cc
+both_are false b one other = absurd cc
+
+not_both : (a b : Bool) → (a ≡ true → b ≡ true → ⊥) → (a && b) ≡ false
+not_both a b never = by_first a refl
+  where
+    by_second : a ≡ true → (c : Bool) → b ≡ c → c ≡ false
+    by_second first true is = absurd (never first is)
+    by_second first false is = refl
+
+    by_first : (c : Bool) → a ≡ c → (c && b) ≡ false
+    by_first true is = by_second is b refl
+    by_first false is = refl
+
+columns_are : (t : Table) (row : List Value) → fits_table t row ≡ true → length t.columns ≡ length row
+columns_are t row e = eqb-true (length t.columns) (length row) (both_true (eqb (length t.columns) (length row)) _ e).0
+
+-- no table has it
+large : (t : Table) (row : List Value) → FitsTable t → IsLarge row → stands_in t row ≡ false
+large t row fits (inl wide) = not_both (fits_table t row) (leb (row_length row) MAX_ROW_LENGTH) (λ is _. omega (arith, columns_are t row is, fits.count, wide))
+large t row fits (inr long) = not_both (fits_table t row) (leb (row_length row) MAX_ROW_LENGTH) (λ _ short. omega (arith, leb-true (row_length row) MAX_ROW_LENGTH short, long))
+
+pub large_stands : (s : PublicationSet) (oid : ℕ) (row : List Value) → FitTables s → IsLarge row → stands (table_of oid s.tables) row ≡ false
+large_stands s oid row all is = by_table (table_of oid s.tables) refl
+  where
+    by_table : (o : Option Table) → table_of oid s.tables ≡ o → stands o row ≡ false
+    by_table None found = refl
+    by_table (Some t) found = large t row (found_table FitsTable oid s.tables t all found).0 is
+
+pub nothing_if : (o : Option Logical) (b : Bool) → b ≡ false → only_if o b ≡ None
+nothing_if None b e = refl
+nothing_if (Some m) true e = absurd cc
+nothing_if (Some m) false e = refl
+
+-- ---- rows that stand
+
+value_is : (v : Value) → IsCodedValue v → IsValue v
+value_is values.Null is = tt
+value_is (values.Bool b) is = tt
+value_is (values.Int4 n) is = is
+value_is (values.Int8 n) is = is
+value_is (values.Text text) is = is.1
+
+pub values_are : (row : List Value) → AllByRecursion IsCodedValue row → AllByRecursion IsValue row
+values_are [] all = tt
+values_are (v ∷ row) all = (value_is v all.0, values_are row all.1)
+
+alike : {A B : Type 0} (flags : List Bool) (xs : List A) (ys : List B) → length xs ≡ length ys → length (chosen flags xs) ≡ length (chosen flags ys)
+alike [] xs ys same = refl
+alike (listed ∷ flags) [] [] same = refl
+alike (listed ∷ flags) [] (y ∷ ys) same = absurd (omega (arith, same))
+alike (listed ∷ flags) (x ∷ xs) [] same = absurd (omega (arith, same))
+alike (true ∷ flags) (x ∷ xs) (y ∷ ys) same = ap suc (alike flags xs ys (omega (arith, same)))
+alike (false ∷ flags) (x ∷ xs) (y ∷ ys) same = alike flags xs ys (omega (arith, same))
+
+module _ (flags : List Bool) (t : Table) (row : List Value) (fits : FitsTable t) (is : fits_table t row ≡ true) (short : IsShortRow row) where
+  pub values_chosen : AllByRecursion IsValue (chosen flags row)
+  values_chosen = all_chosen IsValue flags row (values_are row short.0.1)
+
+  pub few : length (chosen flags row) ≤ 64
+  few = omega (arith, chosen_short flags row, columns_are t row is, fits.count)
+
+  pub still_short : row_length (chosen flags row) ≤ 8000
+  still_short =
+      let whole : stands_in t row ≡ true = both_are (fits_table t row) (leb (row_length row) MAX_ROW_LENGTH) is (le-leb (row_length row) MAX_ROW_LENGTH short.1) in
+      leb-true (row_length (chosen flags row)) MAX_ROW_LENGTH (both_true (fits_table (narrowed flags t) (chosen flags row)) _ (narrowed_stands flags t row whole)).1
+
+  pub insertion_room : (out : List ℕ) → HasRoom out → FitsRoom 0 out (spell_logical (insert_message (chosen flags row) (narrowed flags t)))
+  insertion_room out room =
+      let bound = tuple_bound (chosen flags row) values_chosen few still_short in
+      (omega (arith, bound, room.0, length-int32 t.oid, length-append (int32 t.oid) ((78 ∷ []) ++ tuple (tuple_of (chosen flags row)))), room.1)
+
+letter_and : (letter : ℕ) (cells : List ℕ) → length cells ≤ 9024 → length (letter ∷ cells) ≤ 9025
+letter_and letter cells bound = omega (arith, bound)
+
+-- what is told of a row that is gone or replaced
+module _ (flags : List Bool) (t : Table) (old : List Value) (fits : FitsTable t) (is_old : fits_table t old ≡ true) (short_old : IsShortRow old) where
+  abbrev row : List Value
+  row = chosen flags old
+
+  abbrev seen : Table
+  seen = narrowed flags t
+
+  key_told : length (tuple (key_tuple_of seen.columns row)) ≤ 9024
+  key_told = key_bound seen.columns row (values_chosen flags t old fits is_old short_old) (few flags t old fits is_old short_old) (still_short flags t old fits is_old short_old)
+
+  all_told : length (tuple (tuple_of row)) ≤ 9024
+  all_told = tuple_bound row (values_chosen flags t old fits is_old short_old) (few flags t old fits is_old short_old) (still_short flags t old fits is_old short_old)
+
+  if_any : (o : Option OldTuple) → o ≡ None ⊎ ((o ≡ Some (Key (key_tuple_of seen.columns row))) ⊎ (o ≡ Some (Full (tuple_of row)))) → length (old_if_any o) ≤ 9025
+  if_any o (inl none) = subst (λ x. length (old_if_any x) ≤ 9025) (sym none) (omega arith)
+  if_any o (inr (inl key)) = subst (λ x. length (old_if_any x) ≤ 9025) (sym key) (letter_and 75 (tuple (key_tuple_of seen.columns row)) key_told)
+  if_any o (inr (inr full)) = subst (λ x. length (old_if_any x) ≤ 9025) (sym full) (letter_and 79 (tuple (tuple_of row)) all_told)
+
+  replaced : (i : Identity) (new : List Value) → replaced_by i seen row new ≡ None ⊎ ((replaced_by i seen row new ≡ Some (Key (key_tuple_of seen.columns row))) ⊎ (replaced_by i seen row new ≡ Some (Full (tuple_of row))))
+  replaced identities.Default new = by_test (changes_key seen.columns row new)
+    where
+      by_test : (b : Bool) → cond b (Some (Key (key_tuple_of seen.columns row))) None ≡ None ⊎ ((cond b (Some (Key (key_tuple_of seen.columns row))) None ≡ Some (Key (key_tuple_of seen.columns row))) ⊎ (cond b (Some (Key (key_tuple_of seen.columns row))) None ≡ Some (Full (tuple_of row))))
+      by_test true = inr (inl refl)
+      by_test false = inl refl
+  replaced identities.Nothing new = inl refl
+  replaced identities.Full new = inr (inr refl)
+
+  pub gone_room : (out : List ℕ) → HasRoom out → (m : Logical) → delete_message row seen ≡ Some m → FitsRoom 0 out (spell_logical m)
+  gone_room out room m e = by_identity t.identity e
+    where
+      told : (old : OldTuple) → length (old_tuple old) ≤ 9025 → ◌≡◌ {A = Option Logical} (Some (logical.Delete (record { oid = t.oid; old = old }))) (Some m) → FitsRoom 0 out (spell_logical m)
+      told old bound is =
+          subst (λ (n : Logical). FitsRoom 0 out (spell_logical n)) (some_is (logical.Delete (record { oid = t.oid; old = old })) m is)
+          (omega (arith, bound, room.0, length-int32 t.oid, length-append (int32 t.oid) (old_tuple old)), room.1)
+
+      by_identity : (i : Identity) → option_map (λ o. logical.Delete (record { oid = t.oid; old = o })) (old_by i seen row) ≡ Some m → FitsRoom 0 out (spell_logical m)
+      by_identity identities.Default is = told (Key (key_tuple_of seen.columns row)) (letter_and 75 (tuple (key_tuple_of seen.columns row)) key_told) is
+      by_identity identities.Nothing is = absurd cc
+      by_identity identities.Full is = told (Full (tuple_of row)) (letter_and 79 (tuple (tuple_of row)) all_told) is
+
+  pub replacement_room : (new : List Value) → fits_table t new ≡ true → IsShortRow new → (out : List ℕ) → HasRoom out → FitsRoom 0 out (spell_logical (update_message row (chosen flags new) seen))
+  replacement_room new is_new short_new out room =
+      let same : length row ≡ length (chosen flags new) = alike flags old new (sym (columns_are t old is_old) ∙ columns_are t new is_new) in
+      let bound = behind_bound row (chosen flags new) same (values_chosen flags t new fits is_new short_new) (few flags t new fits is_new short_new) (still_short flags t new fits is_new short_new) in
+      let told = old_if_any (replaced_by t.identity seen row (chosen flags new)) in
+      let first : length told ≤ 9025 = if_any _ (replaced t.identity (chosen flags new)) in
+      let last = tuple (tuple_behind row (chosen flags new)) in
+      (omega (arith, bound, first, room.0, length-int32 t.oid, length-append (int32 t.oid) (told ++ ((78 ∷ []) ++ last)), length-append told ((78 ∷ []) ++ last)), room.1)
+
+either_false : (a b : Bool) → (a ≡ false) ⊎ (b ≡ false) → (a && b) ≡ false
+either_false true b (inl e) = absurd cc
+either_false false b (inl e) = refl
+either_false true b (inr e) = e
+either_false false b (inr e) = refl
+
+pub large_stand : (s : PublicationSet) (oid : ℕ) (old new : List Value) → FitTables s → IsLarge old ⊎ IsLarge new → (stands (table_of oid s.tables) old && stands (table_of oid s.tables) new) ≡ false
+large_stand s oid old new all (inl is) = either_false _ _ (inl (large_stands s oid old all is))
+large_stand s oid old new all (inr is) = either_false _ _ (inr (large_stands s oid new all is))
+
+-- nothing is written where there is no message
+pub none_written : (r : Option ℕ) (out : List ℕ) (m : Option Logical) → r ≡ None → m ≡ None → IsWritten r out out m
+none_written r out m answers none = subst (λ o. IsWritten r out out o) (sym none) (subst (λ o. IsWritten o out out None) (sym answers) refl)

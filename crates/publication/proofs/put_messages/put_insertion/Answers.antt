@@ -1,0 +1,11 @@
+use Rattle.std.proofs.Common.{[], ◌∷◌, ◌++◌}
+use Rattle.pgoutput.specs.declared.insert.TheConstants.{INSERT, NEW}
+use Rattle.pgoutput.specs.Tuple.{tuple}
+use Rattle.publication.specs.Selection.{chosen}
+use Rattle.publication.specs.Tuples.{tuple_of}
+use Rattle.publication.proofs.Written.{then_int32}
+use Rattle.publication.proofs.put_messages.put_insertion.Goals as goal
+
+pub put_int32-oid-requires : goal.put_int32-oid-requires
+put_int32-oid-requires c =
+    then_int32 0 c.put_byte-kind.result INSERT c.args.out.now c.put_byte-kind.new.out c.args.table.now.oid ((NEW ∷ []) ++ tuple (tuple_of (chosen c.args.listed.now c.args.row.now))) c.put_byte-kind.ensures c.requires.room

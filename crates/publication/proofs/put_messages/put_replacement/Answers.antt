@@ -1,0 +1,16 @@
+use Rattle.std.proofs.Common.{[], ◌∷◌, ◌++◌}
+use Rattle.pgoutput.specs.declared.insert.TheConstants.{NEW}
+use Rattle.pgoutput.specs.declared.update.TheConstants.{UPDATE}
+use Rattle.pgoutput.specs.Tuple.{tuple}
+use Rattle.pgoutput.specs.Update.{old_if_any}
+use Rattle.publication.specs.Selection.{chosen, narrowed}
+use Rattle.publication.specs.Tuples.{replaced_by, tuple_behind}
+use Rattle.publication.proofs.Written.{then_int32}
+use Rattle.publication.proofs.put_messages.put_replacement.Goals as goal
+
+pub put_int32-oid-requires : goal.put_int32-oid-requires
+put_int32-oid-requires c =
+    let old = chosen c.args.listed.now c.args.old.now in
+    let new = chosen c.args.listed.now c.args.new.now in
+    let told = old_if_any (replaced_by c.args.table.now.identity (narrowed c.args.listed.now c.args.table.now) old new) in
+    then_int32 0 c.put_byte-kind.result UPDATE c.args.out.now c.put_byte-kind.new.out c.args.table.now.oid (told ++ ((NEW ∷ []) ++ tuple (tuple_behind old new))) c.put_byte-kind.ensures c.requires.room

@@ -1,0 +1,43 @@
+-- What a writer does to a slice that has room.
+use Rattle.std.specs.Prelude.{Option, Some, None, Result, Ok, [], ◌≡◌, ℕ, ◌+◌, ◌<◌, ◌≤◌, ◌^◌, List, ◌++◌, length, take}
+use Rattle.tables.specs.declared.fault.BodyFault.{BodyFault}
+use Rattle.tables.specs.declared.row.TheConstants.{MAX_ROW_LENGTH}
+use Rattle.tables.specs.declared.value.Value.{Value}
+use Rattle.tables.specs.Reading.{IsCodedRow}
+use Rattle.tables.specs.Spelling.{row_length}
+use Rattle.pgoutput.specs.declared.logical.Logical.{Logical}
+use Rattle.pgoutput.specs.Logical.{spell_logical}
+
+-- The text stands at the place, behind what stood before it there, and ends here. Nothing is told of what stands behind it.
+pub record Writes (at to : ℕ) (old new text : List ℕ) : Type 0 where
+  pub ends : to ≡ at + length text
+  pub front : take to new ≡ take at old ++ text
+  pub same : length new ≡ length old
+
+-- There is room for the text from the place on, in a slice whose length fits a field.
+abbrev pub FitsRoom : ℕ → List ℕ → List ℕ → Type 0
+FitsRoom at out text = (at + length text ≤ length out) × (length out < 2 ^ 31)
+
+-- the message at the front of the slice, where there is one
+abbrev pub IsWritten : Option ℕ → List ℕ → List ℕ → Option Logical → Type 0
+IsWritten (Some end) old new (Some m) = Writes 0 end old new (spell_logical m)
+IsWritten None old new None = length new ≡ length old
+IsWritten _ old new _ = ⊥
+
+-- what `put` answers of a body that spells a change
+abbrev pub IsPut : Option ℕ → List ℕ → Option Logical → Type 0
+IsPut (Some count) out (Some m) = (count ≤ length out) × (take count out ≡ spell_logical m)
+IsPut None out None = Unit {0}
+IsPut _ out _ = ⊥
+
+-- room for any message of a change, in a slice whose length fits a field
+abbrev pub HasRoom : List ℕ → Type 0
+HasRoom out = (32000 ≤ length out) × (length out < 2 ^ 31)
+
+-- all of it was read
+abbrev pub IsReadWhole : {A : Type 0} → Result (A × List ℕ) BodyFault → Type 0
+IsReadWhole {A} read = (x : A) × (read ≡ Ok (x, []))
+
+-- a row that was read from the log, of at most 8,000 bytes there
+abbrev pub IsShortRow : List Value → Type 0
+IsShortRow row = IsCodedRow row × (row_length row ≤ MAX_ROW_LENGTH)

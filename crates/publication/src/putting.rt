@@ -1,0 +1,141 @@
+//! The message of a change, written straight from the body that the log keeps.
+
+ghost use Rattle.std.specs.Prelude.{◌≡◌, ◌≤◌, [], ℕ, List, IfSome, Ok, length};
+ghost use Rattle.tables.specs.Reading.{SpellsBody, change_tagged, insert_at, update_at};
+ghost use Rattle.tables.specs.declared.change.Change.{Change as Changed};
+ghost use Rattle.tables.specs.declared.value.Value.{Value as Datum};
+ghost use Rattle.publication.specs.Projection.{message};
+ghost use Rattle.publication.specs.Spelling.{HasRoom, IsPut, IsReadWhole, IsShortRow, IsWritten};
+
+use crate::put_messages::{put_deletion, put_insertion, put_replacement};
+use crate::row_reading::{one_row, two_rows};
+use crate::selection::Selection;
+use publication_config::Operation;
+use tables::{DELETE_TAG, INSERT_TAG, RowRef, TRUNCATE_TAG, UPDATE_TAG};
+
+/// The longest message of a change, in bytes.
+pub const MAX_MESSAGE_LENGTH: usize = 32_000;
+
+impl Selection {
+    /// Writes the message of the change whose body these bytes are to the front of `out`, and answers how long it is. None where the
+    /// change has no message, and where the bytes are the body of none that the catalogue's tables have. It takes no memory.
+    pub fn put(&self, body: &[u8], out: &mut [u8]) -> Option<usize>
+        requires { MAX_MESSAGE_LENGTH ≤ length out.old }
+        ensures message { (c : Changed) → SpellsBody body.now c → IsPut result out.new (message self.now c) }
+        ensures found { IfSome result (λ _. (c : Changed) × SpellsBody body.now c) }
+        ensures same { length out.new ≡ length out.old }
+    {
+        let (tag, fields) = body.split_first()?;
+        self.put_tagged(*tag, fields, &mut out[..MAX_MESSAGE_LENGTH])
+    }
+
+    fn put_tagged(&self, tag: u8, fields: &[u8], out: &mut [u8]) -> Option<usize>
+        requires { HasRoom out.old }
+        ensures told { (c : Changed) → change_tagged tag fields.now ≡ Ok (c, []) → IsWritten result out.old out.new (message self.now c) }
+        ensures found { IfSome result (λ _. IsReadWhole (change_tagged tag fields.now)) }
+        ensures same { length out.new ≡ length out.old }
+    {
+        match tag {
+            INSERT_TAG => self.put_inserted(fields, out),
+            UPDATE_TAG => self.put_updated(fields, out),
+            DELETE_TAG => self.put_deleted(fields, out),
+            TRUNCATE_TAG => self.put_truncated(fields, out),
+            _ => None,
+        }
+    }
+
+    /// The message of an insert, of which these are the OID and the row.
+    pub(crate) fn put_inserted(&self, fields: &[u8], out: &mut [u8]) -> Option<usize>
+        requires { HasRoom out.old }
+        ensures told { (m : ℕ × List Datum) → insert_at fields.now ≡ Ok (m, []) → IsWritten result out.old out.new (message self.now (Changed.Insert m.0 m.1)) }
+        ensures found { IfSome result (λ _. IsReadWhole (insert_at fields.now)) }
+        ensures same { length out.new ≡ length out.old }
+    {
+        // All tables fit: here the prover learns it.
+        let _ = &self.tables;
+        let mut row = RowRef::new();
+        let oid = one_row(fields, &mut row)?;
+        self.put_insert(oid, &row, out)
+    }
+
+    fn put_insert(&self, oid: u32, row: &RowRef<'_>, out: &mut [u8]) -> Option<usize>
+        requires room { HasRoom out.old }
+        requires short { IsShortRow row.now }
+        ensures told { IsWritten result out.old out.new (message self.now (Changed.Insert oid row.now)) }
+        ensures same { length out.new ≡ length out.old }
+    {
+        let table = self.table(oid)?;
+        if !table.takes_ref(row) || !self.passes(Operation::Insert, oid, row) {
+            return None;
+        }
+        Some(put_insertion(out, table, self.listed(oid), row))
+    }
+
+    /// The message of an update, of which these are the OID, the old row and the new one.
+    pub(crate) fn put_updated(&self, fields: &[u8], out: &mut [u8]) -> Option<usize>
+        requires { HasRoom out.old }
+        ensures told { (m : (ℕ × List Datum) × List Datum) → update_at fields.now ≡ Ok (m, []) → IsWritten result out.old out.new (message self.now (Changed.Update m.0.0 m.0.1 m.1)) }
+        ensures found { IfSome result (λ _. IsReadWhole (update_at fields.now)) }
+        ensures same { length out.new ≡ length out.old }
+    {
+        let _ = &self.tables;
+        let mut old = RowRef::new();
+        let mut new = RowRef::new();
+        let oid = two_rows(fields, &mut old, &mut new)?;
+        self.put_update(oid, &old, &new, out)
+    }
+
+    fn put_update(
+        &self,
+        oid: u32,
+        old: &RowRef<'_>,
+        new: &RowRef<'_>,
+        out: &mut [u8],
+    ) -> Option<usize>
+        requires room { HasRoom out.old }
+        requires old { IsShortRow old.now }
+        requires new { IsShortRow new.now }
+        ensures told { IsWritten result out.old out.new (message self.now (Changed.Update oid old.now new.now)) }
+        ensures same { length out.new ≡ length out.old }
+    {
+        let table = self.table(oid)?;
+        if !table.takes_ref(old) || !table.takes_ref(new) {
+            return None;
+        }
+        let listed = self.listed(oid);
+        let old_passes = self.passes(Operation::Update, oid, old);
+        let new_passes = self.passes(Operation::Update, oid, new);
+        match (old_passes, new_passes) {
+            (true, true) => Some(put_replacement(out, table, listed, old, new)),
+            (false, true) => Some(put_insertion(out, table, listed, new)),
+            (true, false) => put_deletion(out, table, listed, old),
+            (false, false) => None,
+        }
+    }
+
+    /// The message of a delete, of which these are the OID and the old row.
+    pub(crate) fn put_deleted(&self, fields: &[u8], out: &mut [u8]) -> Option<usize>
+        requires { HasRoom out.old }
+        ensures told { (m : ℕ × List Datum) → insert_at fields.now ≡ Ok (m, []) → IsWritten result out.old out.new (message self.now (Changed.Delete m.0 m.1)) }
+        ensures found { IfSome result (λ _. IsReadWhole (insert_at fields.now)) }
+        ensures same { length out.new ≡ length out.old }
+    {
+        let _ = &self.tables;
+        let mut old = RowRef::new();
+        let oid = one_row(fields, &mut old)?;
+        self.put_delete(oid, &old, out)
+    }
+
+    fn put_delete(&self, oid: u32, old: &RowRef<'_>, out: &mut [u8]) -> Option<usize>
+        requires room { HasRoom out.old }
+        requires short { IsShortRow old.now }
+        ensures told { IsWritten result out.old out.new (message self.now (Changed.Delete oid old.now)) }
+        ensures same { length out.new ≡ length out.old }
+    {
+        let table = self.table(oid)?;
+        if !table.takes_ref(old) || !self.passes(Operation::Delete, oid, old) {
+            return None;
+        }
+        put_deletion(out, table, self.listed(oid), old)
+    }
+}
