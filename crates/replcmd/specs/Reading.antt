@@ -20,7 +20,7 @@ use Rattle.replcmd.specs.declared.setting.Setting.{Setting}
 use Rattle.replcmd.specs.declared.setting.Setting.TheVariants.{Version, Publications}
 use Rattle.replcmd.specs.declared.command.Command.{Command}
 use Rattle.replcmd.specs.declared.command.Command.TheVariants.{Identify, Create, Start, Drop}
-use Rattle.replcmd.specs.Lexing.{token_from, Lexes}
+use Rattle.replcmd.specs.Lexing.{after_blanks, token_at, Lexes}
 use Rattle.replcmd.specs.Words.{lower, is_keyword, is_bare, is_slot_name}
 
 infixl 10 ◌>>=◌
@@ -133,13 +133,16 @@ separated item more (suc n) s = do
 
 unfoldable pub front_name : List ℕ → Result (List ℕ × List ℕ) CmdFault
 front_name text = do
-  token ← ok_or (token_from text) BadOption
+  token ← ok_or (token_at text) BadOption
   name ← ok_or (name_of token.0) BadOption
   Ok (name, token.1)
 
+abbrev pub comma_at : List ℕ → Result (Bool × List ℕ) CmdFault
+comma_at [] = Ok (false, [])
+comma_at (b ∷ bytes) = if b == COMMA then Ok (true, bytes) else Err BadOption
+
 abbrev pub more_names : List ℕ → Result (Bool × List ℕ) CmdFault
-more_names [] = Ok (false, [])
-more_names (b ∷ bytes) = if b == COMMA then Ok (true, bytes) else Err BadOption
+more_names text = comma_at (after_blanks text)
 
 unfoldable pub names_of : List ℕ → Result (List (List ℕ)) CmdFault
 names_of text = separated front_name more_names (suc (length text)) text >>= λ names. Ok names.0

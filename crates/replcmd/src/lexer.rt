@@ -28,7 +28,7 @@ fn is_plain(b: u8) -> bool
     !(is_blank(b) || is_mark(b) || b == NAME_QUOTE || b == VALUE_QUOTE)
 }
 
-fn after_blanks(text: &[u8]) -> &[u8]
+pub(crate) fn after_blanks(text: &[u8]) -> &[u8]
     ensures { result.now ≡ after_blanks text.now }
 {
     let mut rest = text;
@@ -148,7 +148,7 @@ fn nothing_of(text: &[u8]) -> &[u8]
 
 /// The first token, and what follows it; None where only blanks are left.
 #[tactic(auto, unfolding(crate::specs::Lexing::token_at))]
-fn token_of(alloc: Global, text: &[u8]) -> Result<Option<(Token, &[u8])>, AllocError>
+pub(crate) fn token_of(alloc: Global, text: &[u8]) -> Result<Option<(Token, &[u8])>, AllocError>
     requires { IsUtf8 text.now }
     ensures { IfOk result (λ x. lent x ≡ token_at text.now) }
 {
@@ -156,10 +156,7 @@ fn token_of(alloc: Global, text: &[u8]) -> Result<Option<(Token, &[u8])>, AllocE
 }
 
 /// The token that begins at once, with no blanks before it.
-pub(crate) fn token_at_front(
-    alloc: Global,
-    text: &[u8],
-) -> Result<Option<(Token, &[u8])>, AllocError>
+fn token_at_front(alloc: Global, text: &[u8]) -> Result<Option<(Token, &[u8])>, AllocError>
     requires { IsUtf8 text.now }
     ensures { IfOk result (λ x. lent x ≡ token_from text.now) }
 {

@@ -1,10 +1,10 @@
-//! The value of publication_names: the names of publications with commas between them.
+//! The value of publication_names: the names of publications with commas between them, and blanks round each.
 
 ghost use Rattle.std.specs.Str.{IsUtf8};
 ghost use Rattle.replcmd.specs.Reading.{Answers, LendsName, front_name, names_of};
 
 use crate::fault::CmdFault;
-use crate::lexer::token_at_front;
+use crate::lexer::{after_blanks, token_of};
 use crate::name::Name;
 use crate::names::Names;
 use crate::token::COMMA;
@@ -21,7 +21,7 @@ pub(crate) fn names_of(alloc: Global, text: &str) -> Result<Names, CmdFault>
     loop {
         let (name, behind) = front_name(alloc, place)?;
         names.push(name)?;
-        let Some((b, rest)) = behind.split_first() else {
+        let Some((b, rest)) = after_blanks(behind).split_first() else {
             return Ok(Names::new(names));
         };
         if *b != COMMA {
@@ -37,7 +37,7 @@ fn front_name(alloc: Global, text: &[u8]) -> Result<(Name, &[u8]), CmdFault>
     requires { IsUtf8 text.now }
     ensures { LendsName result (front_name text.now) }
 {
-    let (token, rest) = token_at_front(alloc, text)?.ok_or(CmdFault::BadOption)?;
+    let (token, rest) = token_of(alloc, text)?.ok_or(CmdFault::BadOption)?;
     let name = name_of(alloc, &token)?.ok_or(CmdFault::BadOption)?;
     Ok((name, rest))
 }

@@ -18,6 +18,8 @@ pub(crate) fn row_in(alloc: Global, text: &str) -> Result<(Items<Literal>, &str)
         let (value, ending) = literal_of(alloc, rest)?;
         values.push(value)?;
         if let Some(behind) = ending.strip_prefix(')') {
+            // A script keeps its rows to its end.
+            values.shrink_to_fit();
             return Ok((Items::new(values), behind));
         }
         rest = ending.strip_prefix(',').ok_or(WorldFault::BadEvent)?;

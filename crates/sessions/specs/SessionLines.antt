@@ -1,5 +1,5 @@
 -- What a session's line asks of the publisher: the one call that it names, with its refusal and what it leaves.
-use Rattle.std.specs.Prelude.{◌≡◌, ℕ, List, [], ◌∷◌, ◌++◌, Option, Some, None, option_map}
+use Rattle.std.specs.Prelude.{◌≡◌, ℕ, Bool, true, false, is_some, List, [], ◌∷◌, ◌++◌, Option, Some, None, option_map}
 use Rattle.tables.specs.declared.table.Table.{Table}
 use Rattle.tables.specs.declared.change.Change.TheVariants as changes
 use Rattle.tables.specs.Tables.{table_named}
@@ -125,6 +125,19 @@ step_ask t step p ts = if_known (xid_of t ts) (asks t step p ts)
 abbrev pub ask_of : Event → PublisherState → List NamedTx → Option Ask
 ask_of (events.Session t step) p ts = step_ask t step p ts
 ask_of event p ts = None
+
+-- a step that keeps its name, or a row, a key or OIDs: it may be refused for memory of its own, unless its table is not known
+abbrev pub takes_memory : SessionStep → PublisherState → Bool
+takes_memory steps.Begin p = true
+takes_memory (steps.Insert table row) p = is_some (table_named table p.tables)
+takes_memory (steps.Update table key row) p = is_some (table_named table p.tables)
+takes_memory (steps.Delete table key) p = is_some (table_named table p.tables)
+takes_memory (steps.Truncate names) p = true
+takes_memory step p = false
+
+abbrev pub line_takes_memory : Event → PublisherState → Bool
+line_takes_memory (events.Session t step) p = takes_memory step p
+line_takes_memory event p = false
 
 -- what session lines see and change
 pub record SessionState : Type 0 where

@@ -3,7 +3,7 @@
 ghost use Rattle.std.specs.Prelude.{◌≡◌, ◌<◌, IfOk, OnErr, is_some, length, map, false, true};
 ghost use Rattle.schedule.specs.declared.event.Event.TheVariants.{Session as OfSession};
 ghost use Rattle.sessions.specs.Transactions.{xid_of};
-ghost use Rattle.sessions.specs.SessionLines.{receipt_due, step_ask};
+ghost use Rattle.sessions.specs.SessionLines.{receipt_due, step_ask, takes_memory};
 ghost use Rattle.sessions.specs.Sessions.{Grows, IsNamedAt, IsStepOf, is_within, named_tx, sessions_state};
 
 use crate::session::{Session, place_of};
@@ -27,6 +27,7 @@ pub(crate) fn call<L: LogName, R: Wait>(
     ensures calls { IfOk result (λ a. IsStepOf name.now step.now publisher.old sessions.old.items a.0 publisher.new sessions.new.items) }
     ensures receipt { IfOk result (λ a. a.1 ≡ receipt_due (OfSession name.now step.now) (sessions_state publisher.old sessions.old.items) a.0) }
     ensures err { OnErr result (sessions_state publisher.new sessions.new.items ≡ sessions_state publisher.old sessions.old.items) }
+    ensures memory { OnErr result (takes_memory step.now publisher.old ≡ true) }
     ensures grows { Grows publisher.old.log publisher.new.log }
 {
     let answer = match step {
@@ -100,6 +101,7 @@ fn act<L: LogName, R: Wait>(
     requires within { is_within step.now ≡ true }
     ensures calls { IfOk result (λ a. IsStepOf name.now step.now publisher.old sessions.old.items a publisher.new sessions.new.items) }
     ensures err { OnErr result (sessions_state publisher.new sessions.new.items ≡ sessions_state publisher.old sessions.old.items) }
+    ensures memory { OnErr result (takes_memory step.now publisher.old ≡ true) }
     ensures grows { Grows publisher.old.log publisher.new.log }
 {
     let place = known_place(sessions.as_slice(), name);

@@ -1,9 +1,9 @@
 //! A session: a transaction by its name.
 
-ghost use Rattle.std.specs.Prelude.{◌≡◌, ◌<◌, map, length, None, IfErr, IfOk, IfSome, OnErr, OnOk, true};
+ghost use Rattle.std.specs.Prelude.{◌≡◌, ◌<◌, map, length, None, IfErr, IfOk, IfSome, OnErr, OnOk, is_some, true};
 ghost use Rattle.tables.specs.Tables.{table_named};
 ghost use Rattle.txlog.specs.Publishing.{IsRefusalOrMemory, receipt_of, saved, rolled_back, released, after_commit, after_abort, savepoint_refusal, rollback_refusal, release_refusal, end_refusal};
-ghost use Rattle.sessions.specs.SessionLines.{after_step, delete_refused, deleted_in, insert_refused, inserted_in, oids_named, step_refusal, truncate_refused, truncated_in, update_refused, updated_in};
+ghost use Rattle.sessions.specs.SessionLines.{after_step, delete_refused, deleted_in, insert_refused, inserted_in, oids_named, step_refusal, takes_memory, truncate_refused, truncated_in, update_refused, updated_in};
 ghost use Rattle.sessions.specs.Sessions.{Called, Grows, is_within, named_tx, place_from};
 
 use crate::rows::{key_of, row_of};
@@ -34,6 +34,7 @@ impl Session {
         ensures called { IfOk result (λ a. Called (step_refusal step.now self.old.tx publisher.old) (after_step step.now self.old.tx publisher.old) publisher.old a publisher.new) }
         ensures same { self.new ≡ self.old }
         ensures err { OnErr result (publisher.new ≡ publisher.old) }
+        ensures memory { OnErr result (takes_memory step.now publisher.old ≡ true) }
         ensures grows { Grows publisher.old.log publisher.new.log }
     {
         match step {
@@ -66,6 +67,7 @@ impl Session {
         ensures called { IfOk result (λ a. Called (insert_refused (table_named table.now publisher.old.tables) self.old.tx row.now publisher.old) (inserted_in (table_named table.now publisher.old.tables) self.old.tx row.now publisher.old) publisher.old a publisher.new) }
         ensures same { self.new ≡ self.old }
         ensures err { OnErr result (publisher.new ≡ publisher.old) }
+        ensures memory { OnErr result (is_some (table_named table.now publisher.old.tables) ≡ true) }
         ensures grows { Grows publisher.old.log publisher.new.log }
     {
         let Some(table) = publisher.catalog().named(table.as_str()) else {
@@ -92,6 +94,7 @@ impl Session {
         ensures called { IfOk result (λ a. Called (update_refused (table_named table.now publisher.old.tables) self.old.tx key.now row.now publisher.old) (updated_in (table_named table.now publisher.old.tables) self.old.tx key.now row.now publisher.old) publisher.old a publisher.new) }
         ensures same { self.new ≡ self.old }
         ensures err { OnErr result (publisher.new ≡ publisher.old) }
+        ensures memory { OnErr result (is_some (table_named table.now publisher.old.tables) ≡ true) }
         ensures grows { Grows publisher.old.log publisher.new.log }
     {
         let Some(table) = publisher.catalog().named(table.as_str()) else {
@@ -117,6 +120,7 @@ impl Session {
         ensures called { IfOk result (λ a. Called (delete_refused (table_named table.now publisher.old.tables) self.old.tx key.now publisher.old) (deleted_in (table_named table.now publisher.old.tables) self.old.tx key.now publisher.old) publisher.old a publisher.new) }
         ensures same { self.new ≡ self.old }
         ensures err { OnErr result (publisher.new ≡ publisher.old) }
+        ensures memory { OnErr result (is_some (table_named table.now publisher.old.tables) ≡ true) }
         ensures grows { Grows publisher.old.log publisher.new.log }
     {
         let Some(table) = publisher.catalog().named(table.as_str()) else {

@@ -1,9 +1,9 @@
 //! Sessions, which do the lines of a script.
 
-ghost use Rattle.std.specs.Prelude.{◌≡◌, ◌≢◌, ◌↔◌, [], Err, IfOk, IsNone, OnErr, is_some, not};
+ghost use Rattle.std.specs.Prelude.{◌≡◌, ◌≢◌, ◌↔◌, [], Err, IfOk, IsNone, OnErr, is_some, not, true};
 ghost use Rattle.txlog.specs.Publishing.{PublisherState};
 ghost use Rattle.sessions.specs.Transactions.{xid_of};
-ghost use Rattle.sessions.specs.SessionLines.{IsCalled, IsLine, ask_of, receipt_due, state_of, step_ask};
+ghost use Rattle.sessions.specs.SessionLines.{IsCalled, IsLine, ask_of, line_takes_memory, receipt_due, state_of, step_ask, takes_memory};
 ghost use Rattle.sessions.specs.Sessions.{Grows};
 
 use crate::calls::{call, is_known};
@@ -69,7 +69,7 @@ impl Sessions {
     }
 
     /// Does a session's line, and answers what a commit tells too. V1 exactly where the line is of another kind, its name is
-    /// unknown, or it begins a second time; else V2 where memory is refused. Either changes nothing.
+    /// unknown, or it begins a second time; else V2 where memory is refused for what the line keeps. Either changes nothing.
     pub fn line<L: LogName, R: Wait>(
         &mut self,
         rt: &R,
@@ -80,6 +80,7 @@ impl Sessions {
         ensures receipt { IfOk result (λ made. made.1 ≡ receipt_due event.now (state_of publisher.old self.old) made.0) }
         ensures bad { (result ≡ Err WorldFault.BadEvent) ↔ IsNone (ask_of event.now publisher.old self.old) }
         ensures entered { result ≢ Err WorldFault.NoEntry }
+        ensures memory { result ≡ Err WorldFault.Memory → line_takes_memory event.now publisher.old ≡ true }
         ensures err { OnErr result (state_of publisher.new self.new ≡ state_of publisher.old self.old) }
         ensures grows { Grows publisher.old.log publisher.new.log }
     {
@@ -100,6 +101,7 @@ impl Sessions {
         ensures receipt { IfOk result (λ made. made.1 ≡ receipt_due (Event.Session name.now step.now) (state_of publisher.old self.old) made.0) }
         ensures bad { (result ≡ Err WorldFault.BadEvent) ↔ IsNone (step_ask name.now step.now publisher.old self.old) }
         ensures entered { result ≢ Err WorldFault.NoEntry }
+        ensures memory { result ≡ Err WorldFault.Memory → takes_memory step.now publisher.old ≡ true }
         ensures err { OnErr result (state_of publisher.new self.new ≡ state_of publisher.old self.old) }
         ensures grows { Grows publisher.old.log publisher.new.log }
     {

@@ -153,7 +153,7 @@ impl Slots {
         ensures noted { IfOk result (λ undos. undos ≡ noted_of (Some top) ((place.now, row) ∷ []) self.old) }
         ensures err { OnErr result (SameSlots self.old self.new) }
     {
-        let mut undos = Vec::new(*self.by_place.allocator());
+        let mut undos = Vec::with_capacity(*self.by_place.allocator(), 1)?;
         self.note(&mut undos, Some(top), place, row)?;
         Ok(Items::new(undos))
     }
@@ -171,7 +171,7 @@ impl Slots {
         ensures noted { IfOk result (λ undos. undos ≡ noted_of (Some top) ((from.now, None) ∷ (to.now, Some row) ∷ []) self.old) }
         ensures err { OnErr result (SameSlots self.old self.new) }
     {
-        let mut undos = Vec::new(*self.by_place.allocator());
+        let mut undos = Vec::with_capacity(*self.by_place.allocator(), 2)?;
         self.note(&mut undos, Some(top), from, None)?;
         match self.note(&mut undos, Some(top), to, Some(row)) {
             Ok(()) => Ok(Items::new(undos)),
