@@ -1,5 +1,7 @@
 pub mod Book
 pub mod Fronts
+pub mod Kept
+pub mod Openings
 pub mod Readers
 pub mod Sharing
 pub mod Telling

@@ -2,7 +2,6 @@
 
 ghost use Rattle.std.specs.Prelude.{◌≡◌, ◌++◌, ◌∷◌, [], take};
 ghost use Rattle.std.specs.Arc.{arc_value};
-ghost use Rattle.wal.specs.Records.{shared};
 
 use crate::entry::Entry;
 use crate::law::Law;
@@ -13,10 +12,18 @@ use std::alloc::AllocError;
 use std::sync::Arc;
 use wal::Record;
 
-/// A copy of the log: its records, shared with the other copy, and the beginning of the history that says so.
+/// A record as it lies in a copy, shared with the other one.
+#[derive(Drop)]
+pub struct Logged {
+    pub(crate) entry: Arc<Record>,
+    /// The place from which whoever starts behind the record begins to read.
+    pub(crate) restart: usize,
+}
+
+/// A copy of the log: its records, and the beginning of the history that says so.
 #[derive(Drop)]
 pub struct LogCopy {
-    pub(crate) records: Vec<Arc<Record>>,
+    pub(crate) records: Vec<Logged>,
     pub(crate) mark: Mark,
 }
 
@@ -25,26 +32,30 @@ pub struct LogCopy {
 pub struct Put {
     pub(crate) place: usize,
     pub(crate) entry: Arc<Record>,
+    pub(crate) restart: usize,
     pub(crate) mark: Mark,
 }
 
 impl Absorb<Put> for LogCopy {
     // A clause reads an array as a list, of any length.
-    type State = ([Record; 0], Seen<Entry, u64, Law>);
+    type State = ([(Record, usize); 0], Seen<Entry, u64, Law>);
 
     ghost use Rattle.std.specs.Prelude.{◌++◌, ◌∷◌, [], take};
     ghost use Rattle.std.specs.Arc.{arc_value};
-    ghost use Rattle.wal.specs.Records.{shared};
+    ghost use Rattle.shared_log.specs.Kept.{kept_in};
 
-    ghost state = { λ c. (shared c.records.items, c.mark.seen) };
+    ghost state = { λ c. (kept_in c.records.items, c.mark.seen) };
 
-    ghost applied = { λ s put. (take put.place s.0 ++ arc_value put.entry ∷ [], put.mark.seen) };
+    ghost applied = { λ s put. (take put.place s.0 ++ (arc_value put.entry, put.restart) ∷ [], put.mark.seen) };
 
     fn absorb_first(&mut self, operation: &Put, _other: &LogCopy) -> Result<(), AllocError> {
         self.records.reserve(1)?;
-        let share = Arc::try_clone(&operation.entry)?;
+        let entry = Arc::try_clone(&operation.entry)?;
         self.records.truncate(operation.place);
-        self.records.push_reserved(share);
+        self.records.push_reserved(Logged {
+            entry,
+            restart: operation.restart,
+        });
         self.mark = operation.mark.again();
         Ok(())
     }
@@ -53,9 +64,14 @@ impl Absorb<Put> for LogCopy {
         if self.records.reserve(1).is_err() {
             return Err(operation);
         }
-        let Put { place, entry, mark } = operation;
+        let Put {
+            place,
+            entry,
+            restart,
+            mark,
+        } = operation;
         self.records.truncate(place);
-        self.records.push_reserved(entry);
+        self.records.push_reserved(Logged { entry, restart });
         self.mark = mark;
         Ok(())
     }

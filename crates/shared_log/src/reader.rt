@@ -5,8 +5,9 @@ ghost use mathlib.Core.List.{IsPrefix};
 ghost use Rattle.wal.specs.Log.{IsWellFormedLog};
 ghost use Rattle.wal.specs.Records.{shared};
 ghost use Rattle.shared_log.specs.Fronts.{ends_confirmed, settled};
+ghost use Rattle.shared_log.specs.Kept.{records_in};
 
-use crate::copy::LogCopy;
+use crate::copy::{LogCopy, Logged};
 use crate::fault::ReadFault;
 use crate::front::Front;
 use crate::name::LogName;
@@ -140,12 +141,12 @@ impl<L: LogName> LogReader<L> {
 }
 
 /// Shares of the records.
-fn shares(alloc: Global, records: &[Arc<Record>]) -> Result<Vec<Arc<Record>>, AllocError>
-    ensures { IfOk result (λ v. shared v.items ≡ shared records.now) }
+fn shares(alloc: Global, records: &[Logged]) -> Result<Vec<Arc<Record>>, AllocError>
+    ensures { IfOk result (λ v. shared v.items ≡ records_in records.now) }
 {
     let mut copies = Vec::new(alloc);
-    for record in records {
-        copies.push(Arc::try_clone(record)?)?;
+    for logged in records {
+        copies.push(Arc::try_clone(&logged.entry)?)?;
     }
     Ok(copies)
 }

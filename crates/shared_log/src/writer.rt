@@ -2,12 +2,13 @@
 
 ghost use Rattle.std.specs.Prelude.{◌≡◌, ◌+◌, ◌<◌, ◌≤◌, ◌^◌, ◌++◌, ◌∷◌, [], length, true, vec_len, IfOk, OnErr};
 ghost use mathlib.Core.List.{IsPrefix};
-ghost use Rattle.wal.specs.Log.{IsWellFormedLog, end_of, size_of};
+ghost use Rattle.wal.specs.Log.{IsWellFormedLog, end_of, size_of, top_of, xid_in};
 ghost use Rattle.wal.specs.Records.{record_after};
 ghost use Rattle.wal.specs.declared.record.TheConstants.{FIRST_POSITION};
 ghost use Rattle.std.specs.Arc.{arc_value};
 ghost use Rattle.std.specs.List.{AllByRecursion};
 ghost use Rattle.shared_log.specs.Fronts.{ends_confirmed, settled};
+ghost use Rattle.shared_log.specs.Openings.{is_end};
 ghost use Rattle.shared_log.specs.Telling.{TellsOf};
 ghost use Rattle.shared_log.specs.declared.entry.Entry.TheVariants.{Confirmed};
 
@@ -16,6 +17,7 @@ use crate::front::Front;
 use crate::history::History;
 use crate::name::LogName;
 use crate::opened::Opened;
+use crate::openings::Openings;
 use crate::reader::LogReader;
 use crate::receipt::Receipt;
 use crate::rule::{Published, Sees, View};
@@ -42,30 +44,34 @@ pub struct LogWriter<L: LogName> {
     sure: Front<L>,
     count: usize,
     end: u64,
+    /// The transactions in progress, by which each record is told where to begin behind it.
+    openings: Openings,
 }
 
 impl<L: LogName> Model for LogWriter<L> {
     ghost use Rattle.std.specs.Prelude.{List, drop};
     ghost use Rattle.wal.specs.declared.record.Record.{Record as Written};
-    ghost use Rattle.wal.specs.Records.{shared};
     ghost use Rattle.shared_log.specs.Fronts.{settled};
+    ghost use Rattle.shared_log.specs.Kept.{kept_in};
+    ghost use Rattle.shared_log.specs.Openings.{AreOpenings};
     ghost use Rattle.shared_log.specs.Writing.{Stands};
 
     ghost Value = { List Written };
 
     ghost view = { λ w. settled w.front };
 
-    ghost invariant = { λ w. Stands (shared w.writer.desk.shown.value.records.items) (drop w.writer.behind w.writer.log.items) w.count w.end w.front w.sure };
+    ghost invariant = { λ w. Stands (kept_in w.writer.desk.shown.value.records.items) (drop w.writer.behind w.writer.log.items) w.count w.end w.front w.sure × AreOpenings (settled w.front) w.openings.items.items };
 }
 
 impl<L: LogName> LogWriter<L> {
     ghost use Rattle.shared_log.specs.Readers.{seen_of};
 
-    /// An empty log, and as many readers. Where memory is refused, nothing is left of it.
+    /// An empty log with room for so many records, and as many readers. Where memory is refused, nothing is left of it.
     pub fn open<R: Wait>(
         rt: &R,
         alloc: Global,
         opened: Opened,
+        records: usize,
         readers: usize,
     ) -> Result<(Self, Vec<LogReader<L>>), AllocError>
         requires name { opened.seen.book ≡ L.book }
@@ -76,12 +82,13 @@ impl<L: LogName> LogWriter<L> {
     {
         let (history, front) = opened.named::<L>();
         let mark = front.mark();
+        let openings = Openings::new(alloc)?;
         let first = LogCopy {
-            records: Vec::new(alloc),
+            records: Vec::with_capacity(alloc, records)?,
             mark: mark.again(),
         };
         let second = LogCopy {
-            records: Vec::new(alloc),
+            records: Vec::with_capacity(alloc, records)?,
             mark,
         };
         let writer = Writer::new(alloc, first, second, readers)?;
@@ -95,6 +102,7 @@ impl<L: LogName> LogWriter<L> {
                     front,
                     count: 0,
                     end: FIRST_POSITION,
+                    openings,
                 };
                 Ok((writer, made))
             }
@@ -141,32 +149,37 @@ impl<L: LogName> LogWriter<L> {
             sure: _,
             count: _,
             end: _,
+            openings: _,
         } = self;
         drop(writer.take(rt));
     }
 
-    /// Adds a record at the end, or, where memory is refused, nothing. It waits for readers that are in an older copy.
-    pub fn push<R: Wait>(&mut self, rt: &R, body: Body) -> Result<Receipt<L>, AllocError>
+    /// Adds a record of the transaction `top` at the end, or, where memory is refused, nothing. It waits for readers that are in an
+    /// older copy.
+    pub fn push<R: Wait>(&mut self, rt: &R, top: u32, body: Body) -> Result<Receipt<L>, AllocError>
         requires fits { end_of FIRST_POSITION self.old + size_of body < 2 ^ 64 }
         requires good { IsWellFormedLog (self.old ++ record_after self.old body ∷ []) }
+        requires top { top_of (self.old ++ record_after self.old body ∷ []) (xid_in body) ≡ top }
         ensures ok { IfOk result (λ r. (self.new ≡ self.old ++ record_after self.old body ∷ []) × TellsOf (record_after self.old body) r.start r.end × (r.place ≡ length self.old) × (settled r.front ≡ self.new)) }
         ensures err { OnErr result (self.new ≡ self.old) }
     {
-        mem::replace_with(self, (rt, body), |writer, about: (&R, Body)| {
-            writer.pushed(about.0, about.1)
+        mem::replace_with(self, (rt, top, body), |writer, about: (&R, u32, Body)| {
+            writer.pushed(about.0, about.1, about.2)
         })
     }
 
-    fn pushed<R: Wait>(self, rt: &R, body: Body) -> (Self, Result<Receipt<L>, AllocError>)
+    fn pushed<R: Wait>(self, rt: &R, top: u32, body: Body) -> (Self, Result<Receipt<L>, AllocError>)
         requires fits { end_of FIRST_POSITION self + size_of body < 2 ^ 64 }
         requires good { IsWellFormedLog (self ++ record_after self body ∷ []) }
+        requires top { top_of (self ++ record_after self body ∷ []) (xid_in body) ≡ top }
         ensures ok { IfOk result.1 (λ r. (result.0 ≡ self ++ record_after self body ∷ []) × TellsOf (record_after self body) r.start r.end × (r.place ≡ length self) × (settled r.front ≡ result.0)) }
         ensures err { OnErr result.1 (result.0 ≡ self) }
     {
         let start = self.end;
         let end = start + body.size();
+        let ends = matches!(body, Body::Commit(_, _) | Body::Abort(_));
         match Arc::new(self.alloc, Record { start, end, body }) {
-            Ok(entry) => return self.offered(rt, entry, start, end),
+            Ok(entry) => return self.offered(rt, entry, (start, end), (top, ends)),
             Err(_) => return (self, Err(AllocError)),
         }
     }
@@ -176,11 +189,13 @@ impl<L: LogName> LogWriter<L> {
         self,
         rt: &R,
         entry: Arc<Record>,
-        start: u64,
-        end: u64,
+        bounds: (u64, u64),
+        about: (u32, bool),
     ) -> (Self, Result<Receipt<L>, AllocError>)
-        requires tells { TellsOf (arc_value entry) start end }
+        requires tells { TellsOf (arc_value entry) bounds.0 bounds.1 }
         requires good { IsWellFormedLog (self ++ arc_value entry ∷ []) }
+        requires top { top_of (self ++ arc_value entry ∷ []) (xid_in (arc_value entry).body) ≡ about.0 }
+        requires ends { is_end (arc_value entry).body ≡ about.1 }
         ensures ok { IfOk result.1 (λ r. (result.0 ≡ self ++ arc_value entry ∷ []) × TellsOf (arc_value entry) r.start r.end × (r.place ≡ length self) × (settled r.front ≡ result.0)) }
         ensures err { OnErr result.1 (result.0 ≡ self) }
     {
@@ -192,7 +207,23 @@ impl<L: LogName> LogWriter<L> {
             sure,
             count,
             end: before,
+            mut openings,
         } = self;
+        let (start, end) = bounds;
+        let (top, ends) = about;
+        if openings.reserve().is_err() {
+            let unchanged = LogWriter {
+                alloc,
+                writer,
+                history,
+                front,
+                sure,
+                count,
+                end: before,
+                openings,
+            };
+            return (unchanged, Err(AllocError));
+        }
         let mut next = front.again();
         if front.count >= MOST_STEPS || !next.offer(&history, &entry) {
             let same = LogWriter {
@@ -203,12 +234,14 @@ impl<L: LogName> LogWriter<L> {
                 sure,
                 count,
                 end: before,
+                openings,
             };
             return (same, Err(AllocError));
         }
         let put = Put {
             place: count,
             entry,
+            restart: openings.restart_after(top, ends, count),
             mark: next.mark(),
         };
         match writer.append(put) {
@@ -222,6 +255,7 @@ impl<L: LogName> LogWriter<L> {
                     sure,
                     count,
                     end: before,
+                    openings,
                 };
                 return (same, Err(AllocError));
             }
@@ -238,10 +272,12 @@ impl<L: LogName> LogWriter<L> {
                     sure,
                     count,
                     end: before,
+                    openings,
                 };
                 return (same, Err(AllocError));
             }
         }
+        openings.note(top, ends, count);
         let sure = confirmed(rt, &history, next);
         let receipt = Receipt {
             place: count,
@@ -257,6 +293,7 @@ impl<L: LogName> LogWriter<L> {
             sure,
             count: count + 1,
             end,
+            openings,
         };
         (grown, Ok(receipt))
     }

@@ -137,7 +137,7 @@ mark_at P [] n s is all = absurd cc
 mark_at P (p ∷ savepoints) zero s is all = subst P (some_is p s is) all.0
 mark_at P (p ∷ savepoints) (suc n) s is all = mark_at P savepoints n s is all.1
 
-xid_at : (savepoints : List Savepoint) (n : ℕ) (s : Savepoint) → slice_get savepoints n ≡ Some s → slice_index (xids savepoints) n ≡ s.xid
+pub xid_at : (savepoints : List Savepoint) (n : ℕ) (s : Savepoint) → slice_get savepoints n ≡ Some s → slice_index (xids savepoints) n ≡ s.xid
 xid_at [] n s is = absurd cc
 xid_at (p ∷ savepoints) zero s is = ap (λ (q : Savepoint). q.xid) (some_is p s is)
 xid_at (p ∷ savepoints) (suc n) s is = xid_at savepoints n s is

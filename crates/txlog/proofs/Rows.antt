@@ -13,6 +13,7 @@ use Rattle.wal.specs.declared.record.Body.TheVariants.{Assign, Change as Changed
 use Rattle.store.specs.History.{is_key_held}
 use Rattle.txlog.specs.Rows.{history_of, rows_of}
 use Rattle.wal.specs.Log.{Entry, Transaction, IsWellFormedLog, committed}
+use Rattle.wal.specs.Restart.{restart}
 use Rattle.wal.proofs.LiveChanges.{live_changes}
 
 -- inserts into public.item of a row with this id, name and quantity
@@ -131,6 +132,29 @@ released-committed = refl
 
 released-live : live_changes released ≡ []
 released-live = refl
+
+-- WHERE A STREAM BEGINS TO READ
+
+-- the first transaction began before the other one committed, and both have ended behind its Commit
+interleaved-from_last_commit : restart 0x10000B0 interleaved ≡ 0x1000000
+interleaved-from_last_commit = refl
+
+interleaved-behind_last_commit : restart 0x10000B1 interleaved ≡ 0x10000D0
+interleaved-behind_last_commit = refl
+
+interleaved-from_end : restart 0x10000D0 interleaved ≡ 0x10000D0
+interleaved-from_end = refl
+
+-- where only a savepoint of it has written, a transaction began with the savepoint
+rolled_back-from_change : restart 0x1000018 rolled_back ≡ 0x1000000
+rolled_back-from_change = refl
+
+-- what was rolled back was its own still
+rolled_back-from_commit : restart 0x10000D8 rolled_back ≡ 0x1000000
+rolled_back-from_commit = refl
+
+rolled_back-from_end : restart 0x10000F8 rolled_back ≡ 0x10000F8
+rolled_back-from_end = refl
 
 -- THE ROWS THAT A LOG LEAVES
 

@@ -6,7 +6,7 @@ ghost use Rattle.store.specs.Keeping.{Keeps};
 ghost use Rattle.tables.specs.Reading.{IsCoded};
 ghost use Rattle.tables.specs.Spelling.{IsShort};
 ghost use Rattle.txlog.specs.Invariants.{IsPublisher};
-ghost use Rattle.wal.specs.Log.{IsWellFormedLog, end_of};
+ghost use Rattle.wal.specs.Log.{IsWellFormedLog, end_of, top_of};
 ghost use Rattle.wal.specs.Records.{record_after};
 ghost use Rattle.txlog.specs.Publishing.{RefusedOrMemory, changed, deleted, delete_refusal, fault_at, innermost, insert_refusal, is_live, room, truncate_refusal, update_refusal, updated};
 ghost use Rattle.txlog.specs.Rows.{history_of};
@@ -150,6 +150,7 @@ fn write<L: LogName, R: Wait>(
     requires coded { IsCoded change }
     requires fits { end_of FIRST_POSITION log.old + 2 ^ 14 < 2 ^ 64 }
     requires good { 0 < at.room → IsWellFormedLog (log.old ++ record_after log.old (Body.Change at.innermost change) ∷ []) }
+    requires top { top_of log.old at.innermost ≡ at.xid }
     ensures ok { OnOk result ((log.new ≡ log.old ++ record_after log.old (Body.Change at.innermost change) ∷ []) × (store.new ≡ store.old)) }
     ensures room { OnOk result (0 < at.room) }
     ensures err { OnErr result (log.new ≡ log.old) }
@@ -161,7 +162,8 @@ fn write<L: LogName, R: Wait>(
         store.undo_to(at.xid, at.mark);
         return Err(SessionFault::LogFull);
     }
-    match log.push(rt, Body::Change(at.innermost, LoggedChange::of(change))) {
+    let body = Body::Change(at.innermost, LoggedChange::of(change));
+    match log.push(rt, at.xid, body) {
         Ok(_) => Ok(()),
         Err(_) => {
             store.undo_to(at.xid, at.mark);

@@ -71,7 +71,7 @@ impl<L: LogName> Publisher<L> {
             readers,
             history,
         } = opened;
-        match LogWriter::open(rt, alloc, history, readers) {
+        match LogWriter::open(rt, alloc, history, capacity, readers) {
             Ok((log, made)) => {
                 let publisher = Publisher {
                     store: Store::new(alloc, catalog),
@@ -174,7 +174,7 @@ impl<L: LogName> Publisher<L> {
         if !self.live.contains(xid) {
             return Err((tx, SessionFault::NoTransaction));
         }
-        let told = match self.log.push(rt, Body::Commit(xid, time)) {
+        let told = match self.log.push(rt, xid, Body::Commit(xid, time)) {
             Ok(told) => told,
             Err(_) => return Err((tx, SessionFault::Memory)),
         };
@@ -195,7 +195,7 @@ impl<L: LogName> Publisher<L> {
         if !self.live.contains(xid) {
             return Err((tx, SessionFault::NoTransaction));
         }
-        match self.log.push(rt, Body::Abort(xid)) {
+        match self.log.push(rt, xid, Body::Abort(xid)) {
             Ok(_) => {}
             Err(_) => return Err((tx, SessionFault::Memory)),
         }
@@ -225,7 +225,7 @@ impl<L: LogName> Publisher<L> {
             mark,
         };
         self.live.push_savepoint(xid, opened)?;
-        match self.log.push(rt, Body::Assign(savepoint, parent)) {
+        match self.log.push(rt, xid, Body::Assign(savepoint, parent)) {
             Ok(_) => {}
             Err(_) => {
                 self.live.truncate_savepoints(xid, depth);
@@ -271,7 +271,7 @@ impl<L: LogName> Publisher<L> {
     {
         let xid = tx.xid();
         let savepoint = self.test_rollback(xid, depth as usize)?;
-        self.log.push(rt, Body::AbortSub(savepoint.xid))?;
+        self.log.push(rt, xid, Body::AbortSub(savepoint.xid))?;
         self.store.undo_to(xid, savepoint.mark);
         self.live.truncate_savepoints(xid, depth as usize - 1);
         Ok(())

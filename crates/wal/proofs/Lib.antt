@@ -3,4 +3,5 @@ pub mod Laws
 pub mod Lists
 pub mod LiveChanges
 pub mod Places
+pub mod Restarts
 pub mod Sections

@@ -1,5 +1,5 @@
 -- A section of a well-formed log, behind records that were skipped: what it commits of transactions that have no record there.
-use Rattle.std.proofs.Common.{◌≡◌, ℕ, ℤ, ◌==◌, Bool, true, false, cond, ◌&&◌, ◌||◌, not, List, [], ◌∷◌, ◌++◌, reverse, refl, sym, ap, subst, ◌∙◌, append_assoc, eq-eqb, ◌⊎◌, inl, inr}
+use Rattle.std.proofs.Common.{◌≡◌, ℕ, ℤ, ◌==◌, Bool, true, false, cond, ◌&&◌, ◌||◌, not, List, [], ◌∷◌, ◌++◌, reverse, refl, sym, ap, subst, ◌∙◌, append_assoc, eq-eqb, inl, inr}
 use Rattle.std.specs.List.{filter, list_any, AllByRecursion}
 use Rattle.std.specs.Prelude.{nat_le}
 use Rattle.std.proofs.lemmas.Bool.{ne_eqb, eqb-true}
@@ -10,10 +10,10 @@ use Rattle.std.proofs.lemmas.List.Sorted.{list_any-IsPermutation, IsPermutation-
 use Rattle.wal.specs.declared.record.Record.{Record}
 use Rattle.wal.specs.declared.record.Body.{Body}
 use Rattle.wal.specs.declared.record.Body.TheVariants.{Assign, Change as Changed, AbortSub, Abort, Commit}
-use Rattle.wal.specs.Log.{names, is_named, xid_in, assigns, is_assigned, chain_step, chain_back, chain, last_of, top_of, undoes, is_undone, is_dropped, Entry, entry_at, entries, is_kept, kept, Transaction, committed_at, committed_by, committed_from, committed, IsNext, WellFormedAfter, IsWellFormedLog}
+use Rattle.wal.specs.Log.{names, is_named, xid_in, assigns, is_assigned, chain_step, chain_back, last_of, top_of, undoes, is_undone, is_dropped, Entry, entry_at, entries, is_kept, kept, Transaction, committed_at, committed_by, committed_from, committed, IsNext, WellFormedAfter, IsWellFormedLog}
 use Rattle.wal.specs.Places.{committed_by_places, commits_at, commits_from, SkipsNone}
 use Rattle.wal.proofs.Lists.{filter_agrees, filter_none, eqb_comm, all_both, each}
-use Rattle.wal.proofs.Laws.{is_named-append, is_named-one, is_assigned-append, is_undone-append, entries-append, all_when, chain_back-unassigned, chain-unassigned, chain-append, chain-quiet, committed_from-append, WellFormedAfter-front, WellFormedAfter-back}
+use Rattle.wal.proofs.Laws.{is_named-append, is_named-one, is_assigned-append, is_undone-append, entries-append, all_when, chain_back-unassigned, chain-unassigned, chain-quiet, committed_from-append, WellFormedAfter-front, WellFormedAfter-back}
 use Rattle.wal.proofs.Places.{or_of, or_left, or_right, next-assigns, chain-stable, changes-named, assigned-named, committed-by_places}
 
 -- CHAINS, the newest record first
@@ -268,7 +268,7 @@ commit_counts log before rest r s xid time whole good is late =
         ∙ or_right (commits_from before s xid) (commits_from (r ∷ rest) s xid) (or_left (commits_at s xid r.start r.body) (commits_from rest s xid) here)
 
 -- what each record of a section commits, with what was skipped before it or without
-commits_alike : (log : List Record) (s : ℕ) (skipped before rest : List Record) → log ≡ skipped ++ (before ++ rest) → SkipsNone log s skipped →
+pub commits_alike : (log : List Record) (s : ℕ) (skipped before rest : List Record) → log ≡ skipped ++ (before ++ rest) → SkipsNone log s skipped →
     WellFormedAfter skipped (before ++ rest) → committed_from s (skipped ++ before) rest ≡ committed_from s before rest
 commits_alike log s skipped before [] whole none good = refl
 commits_alike log s skipped before (r ∷ rest) whole none good =
@@ -306,7 +306,7 @@ commits_alike log s skipped before (r ∷ rest) whole none good =
         by_test false early = refl
 
 -- and those that were skipped commit nothing that counts
-skipped_none : (log : List Record) (s : ℕ) (before skipped rest : List Record) → log ≡ before ++ (skipped ++ rest) → WellFormedAfter before (skipped ++ rest) →
+pub skipped_none : (log : List Record) (s : ℕ) (before skipped rest : List Record) → log ≡ before ++ (skipped ++ rest) → WellFormedAfter before (skipped ++ rest) →
     SkipsNone log s skipped → committed_from s before skipped ≡ []
 skipped_none log s before [] rest whole good none = refl
 skipped_none log s before (r ∷ skipped) rest whole good none =

@@ -1,9 +1,10 @@
 //! The law of logs: read record by record, a log says what the whole of it says by places.
 
-ghost use Rattle.std.specs.Prelude.{◌≡◌, ◌++◌, ℕ, List};
+ghost use Rattle.std.specs.Prelude.{◌≡◌, ◌++◌, ℕ, List, take};
 ghost use Rattle.wal.specs.declared.record.Record.{Record};
 ghost use Rattle.wal.specs.Log.{IsWellFormedLog, chain, committed};
 ghost use Rattle.wal.specs.Places.{IsChain, SkipsNone, committed_by_places};
+ghost use Rattle.wal.specs.Restart.{restart_place};
 
 /// Of a well-formed log, `committed` and `chain`, which judge each record by those before it, are what `specs/Places.antt`
 /// says of the log as a whole.
@@ -17,4 +18,10 @@ pub fn a_log_has_one_reading()
     ensures chain { (log : List Record) (x : ℕ) → IsWellFormedLog log → IsChain log x (chain log x) }
     // and there is no other.
     ensures one_chain { (log : List Record) (x : ℕ) (xs : List ℕ) → IsWellFormedLog log → IsChain log x xs → xs ≡ chain log x }
+{}
+
+/// What stands before the restart position of a log can be skipped: no transaction that commits at the start position or later
+/// has a record there, and none will, however the log goes on.
+pub fn a_start_may_skip()
+    ensures { (log more : List Record) (s : ℕ) → IsWellFormedLog (log ++ more) → SkipsNone (log ++ more) s (take (restart_place s log) log) }
 {}

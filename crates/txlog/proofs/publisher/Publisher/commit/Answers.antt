@@ -1,4 +1,4 @@
-use Rattle.std.proofs.Common.{◌≡◌, true, List, sym, subst, arith, ◌∙◌}
+use Rattle.std.proofs.Common.{◌≡◌, true, List, refl, sym, subst, arith, ◌∙◌}
 use Rattle.std.specs.Int.{w64}
 use Rattle.std.proofs.lemmas.Int.{to_z-of_z}
 use Rattle.wal.specs.declared.record.Record.{Record}
@@ -6,6 +6,7 @@ use Rattle.txlog.specs.Publishing.{PublisherState}
 use Rattle.txlog.specs.Receipts.{has_commit}
 use Rattle.txlog.specs.Rows.{history_of}
 use Rattle.txlog.proofs.Calls.{commit_good, committed_is, committed_kept, record_fits}
+use Rattle.txlog.proofs.Tops.{ended-top}
 use Rattle.txlog.proofs.Receipts.{commit_told}
 use Rattle.txlog.proofs.publisher.Publisher.commit.Goals as goal
 
@@ -15,6 +16,7 @@ push-requires g c =
     record {
       fits = record_fits s _ c.self.invariant.publisher (omega arith);
       good = commit_good c.self.inside.store s c.xid-xid.result c.args.time _ c.self.invariant c.if-not-contains.ensures (record { sfits = c.ranges.time.sfits }) (to_z-of_z w64 c.args.time (record { sfits = c.ranges.time.sfits }));
+      top = ended-top s s c.xid-xid.result _ refl c.self.invariant.publisher (sym c.if-not-contains.ensures) refl;
     }
 
 pub new-requires : goal.new-requires

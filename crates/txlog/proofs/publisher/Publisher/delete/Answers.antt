@@ -5,6 +5,7 @@ use Rattle.txlog.specs.Publishing.{PublisherState}
 use Rattle.txlog.proofs.Calls.{record_fits}
 use Rattle.txlog.specs.Rows.{history_of}
 use Rattle.txlog.proofs.Changes.{delete_short, change_good, change_written, ok_refused, err_refused}
+use Rattle.txlog.proofs.Tops.{changing-top}
 use Rattle.txlog.proofs.publisher.Publisher.delete.Goals as goal
 
 pub write-requires : goal.write-requires
@@ -19,6 +20,7 @@ write-requires g c =
       coded = coded_of_fits s.tables c.in-Ok.change fits;
       fits = record_fits s (2 ^ 14) c.self.invariant.publisher (omega arith);
       good = change_good c.self.inside.store s c.args.self.now c.args.tx.now c.in_ok-at.at c.in-Ok.change c.self.view_is c.self.invariant at.live at.innermost at.room fits short;
+      top = changing-top s c.args.self.now c.args.tx.now c.in_ok-at.at c.self.view_is c.self.invariant.publisher at.live at.innermost;
     }
 
 pub invariant_of-self : goal.invariant_of-self

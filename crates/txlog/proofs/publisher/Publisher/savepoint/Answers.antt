@@ -3,6 +3,7 @@ use Rattle.txlog.specs.Invariants.{KeepsLog}
 use Rattle.txlog.specs.Publishing.{PublisherState}
 use Rattle.txlog.specs.Rows.{history_of}
 use Rattle.txlog.proofs.Calls.{saved_kept, unsaved, saved_good, record_fits}
+use Rattle.txlog.proofs.Tops.{saved-top}
 use Rattle.txlog.proofs.publisher.Publisher.savepoint.Goals as goal
 
 pub push-requires : goal.push-requires
@@ -12,6 +13,7 @@ push-requires g c =
     record {
       fits = record_fits s _ c.self.invariant.publisher (omega arith);
       good = saved_good c.self.inside.store s c.args.self.now c.xid-xid.result c.innermost-parent.result c.in_ok-depth.depth c.self.view_is c.self.invariant test.live test.room test.depth.0 test.depth.1 c.innermost-parent.ensures;
+      top = saved-top s c.args.self.now c.xid-xid.result _ c.innermost-parent.result c.self.view_is c.self.invariant.publisher test.live c.innermost-parent.ensures;
     }
 
 pub returns-in-Err-clause-err : goal.returns-in-Err-clause-err
