@@ -14,7 +14,7 @@ use Rattle.chgarena.proofs.arena.Arena.TheSendSync as arena
 use Rattle.pqformat.proofs.items.Items.TheSendSync as items
 use Rattle.pqformat.proofs.text.Text.TheSendSync as text
 use Rattle.tables.proofs.table.Table.TheSendSync as table
-use Rattle.rowfilter.proofs.expression.Expression.TheLaws.TheKnot as tree
+use Rattle.conditions.proofs.expression.Expression.TheLaws.TheKnot as tree
 use Rattle.rowfilter.specs.contracts.filter.Filter as filter
 use Rattle.publication_config.specs.contracts.published_table.PublishedTable as published
 use Rattle.publication_config.specs.contracts.publication.Publication as publication
@@ -102,7 +102,7 @@ module _ (L : RattleType) (s : slot_name.Ghosts L.Denot) (l : log_name.Ghosts L.
   hold_send = declared_send (hold.the_type L s) (seat.the_send L s, (lease.the_send L s, tt))
 
   grant_send : IsSend (grant.the_row L s l)
-  grant_send = declared_send (grant.the_type L s l) (selection_send, (search sendable, (reader.the_send L l, (hold_send, (search sendable, (arena.the_send, tt))))))
+  grant_send = declared_send (grant.the_type L s l) (selection_send, (search sendable, (search sendable, (reader.the_send L l, (hold_send, (search sendable, (arena.the_send, tt)))))))
 
   -- what the two threads of a connection have in common
   pub line_sync : IsSync (line.the_row L s l)

@@ -1,4 +1,5 @@
 pub mod Crossing
 pub mod Dropping
+pub mod Resuming
 pub mod Streams
 pub mod Turns

@@ -28,4 +28,5 @@ of_start starts.NoSlot = desks.SlotMissing
 of_start (starts.Publication fault) = of_publications fault
 of_start starts.NoReader = desks.NoReader
 of_start (starts.Claim (claims.Slot fault)) = of_slot fault
+of_start (starts.Claim claims.NoEntry) = desks.NoReader
 of_start (starts.Claim claims.Memory) = desks.Memory

@@ -1,7 +1,10 @@
 //! What a START was granted, before its stream.
 
-ghost use Rattle.std.specs.Prelude.{◌≡◌, ℕ, ◌<◌, IfOk, max};
+ghost use Rattle.std.specs.Prelude.{◌≡◌, ℕ, ◌<◌, IfOk, max, take};
 ghost use Rattle.publication.specs.Publications.{selected};
+ghost use Rattle.shared_log.specs.Readers.{seen_of};
+ghost use Rattle.wal.specs.Restart.{restart, restart_place};
+ghost use Rattle.hub.specs.declared.grant.TheConstants.{LIMIT};
 ghost use Rattle.slots.specs.Rule.{slot_step, with_step};
 ghost use Rattle.slots.specs.Standings.{held_by};
 ghost use Rattle.slots.specs.declared.step.SlotKind.TheVariants.{Claim, Read, Release};
@@ -15,6 +18,9 @@ use shared_log::{LogName, LogReader};
 use slots::{SlotName, SlotTable};
 use std::alloc::Global;
 use walsender::ClaimFault;
+
+/// How many records of the log count for where a stream begins: all that its reader sees.
+const LIMIT: usize = usize::MAX;
 
 /// What a stream is made of beside its slot and its reader: what these names select, and an arena of so many chunks.
 #[derive(Drop)]
@@ -41,17 +47,21 @@ impl<'a> Means<'a> {
 pub(crate) struct StreamGrant<L: LogName + SlotName> {
     pub selection: Selection,
     pub start: u64,
+    /// Where its reader begins.
+    pub first: u64,
     pub reader: LogReader<L>,
     pub hold: Hold<L>,
     /// Which latch wakes its stream.
     pub latch: usize,
     /// Where its sender keeps the changes of transactions in progress.
     pub arena: Arena,
+    ghost place: { reader.place ≡ restart_place start (take LIMIT (seen_of reader)) },
+    ghost begins: { first ≡ restart start (take LIMIT (seen_of reader)) },
 }
 
 impl<L: LogName + SlotName> StreamGrant<L> {
     /// Claims the slot at this place for what these names select, and begins at the position, or at a later one that the slot
-    /// has confirmed. What is refused gives the pair back, and the slot is as free as it was.
+    /// has confirmed. Its reader goes to where it begins to read for that, in all of the log that it sees. What is refused gives the pair back, and the slot is as free as it was.
     pub fn claim(
         slots: &SlotTable<L>,
         pair: Pair<L>,
@@ -65,7 +75,6 @@ impl<L: LogName + SlotName> StreamGrant<L> {
             × (b.start ≡ max position confirmed)) }
         ensures place { IfOk result (λ b. b.hold.lease.place ≡ place) }
         ensures selection { IfOk result (λ b. b.selection ≡ selected means.now.publications.now means.now.names.now) }
-        ensures reader { IfOk result (λ b. b.reader.place ≡ 0) }
     {
         let Pair {
             mut reader,
@@ -95,10 +104,21 @@ impl<L: LogName + SlotName> StreamGrant<L> {
             }
         };
         let start = position.max(hold.confirmed(slots));
-        reader.seek(0);
+        let first = match reader.resume(start, LIMIT) {
+            Ok(first) => first,
+            Err(_) => {
+                let pair = Pair {
+                    reader,
+                    seat: hold.release(slots),
+                    latch,
+                };
+                return Err((pair, ClaimFault::NoEntry));
+            }
+        };
         Ok(StreamGrant {
             selection,
             start,
+            first,
             reader,
             hold,
             latch,
@@ -114,6 +134,7 @@ impl<L: LogName + SlotName> StreamGrant<L> {
         let StreamGrant {
             selection: _,
             start: _,
+            first: _,
             reader,
             hold,
             latch,

@@ -29,6 +29,7 @@ pub(crate) fn of_start(fault: StartFault) -> DeskFault
         StartFault::Publication(fault) => of_publications(fault),
         StartFault::NoReader => DeskFault::NoReader,
         StartFault::Claim(ClaimFault::Slot(fault)) => of_slot(fault),
+        StartFault::Claim(ClaimFault::NoEntry) => DeskFault::NoReader,
         StartFault::Claim(ClaimFault::Memory) => DeskFault::Memory,
     }
 }

@@ -6,6 +6,9 @@ ghost use Rattle.slots.specs.Rule.{slot_step, with_step};
 ghost use Rattle.slots.specs.Seats.{DidAt};
 ghost use Rattle.slots.specs.Standings.{held_by};
 ghost use Rattle.slots.specs.declared.step.SlotKind.TheVariants.{Raise, Release};
+ghost use mathlib.Core.List.{IsPrefix};
+ghost use Rattle.shared_log.specs.Readers.{seen_of};
+ghost use Rattle.wal.specs.Log.{IsWellFormedLog};
 ghost use Rattle.wal.specs.declared.record.Record.{Record};
 ghost use Rattle.walsender.specs.Serving.{Gives, Serves, StaysOn, WritesFirst};
 ghost use Rattle.hub.specs.declared.streaming.TheConstants.{CLOCK};
@@ -48,12 +51,13 @@ impl<L: LogName + SlotName> Stream<L> {
     /// The stream of a grant, which has read nothing.
     pub fn open(alloc: Global, grant: StreamGrant<L>) -> Self
         ensures asked { (result.walsender.sender.selection ≡ grant.selection) × (result.walsender.sender.start ≡ grant.start) }
-        ensures serves { (log : List Record) → Serves log [] result.walsender }
+        ensures serves { (log : List Record) → IsPrefix (seen_of grant.reader) log → IsWellFormedLog log → Serves log [] result.walsender }
         ensures hold { result.hold ≡ grant.hold }
     {
         let StreamGrant {
             selection,
             start,
+            first,
             reader,
             hold,
             latch,
@@ -61,7 +65,7 @@ impl<L: LogName + SlotName> Stream<L> {
         } = grant;
         Stream {
             alloc,
-            walsender: Walsender::begin(alloc, reader, selection, start, arena),
+            walsender: Walsender::begin(alloc, reader, selection, start, first, arena),
             hold,
             latch,
             flushed: start,

@@ -7,7 +7,9 @@ use Rattle.std.proofs.lemmas.Slice.Eq.{bytes_eq-Decides}
 use Rattle.slots.specs.declared.directory.Directory.{Directory}
 use Rattle.slots.specs.Directories as names
 use Rattle.named_slots.specs.declared.slot.Slot.{Slot}
-use Rattle.named_slots.specs.Keeping.{IsNamed, noted, place_in, places_in}
+use Rattle.named_slots.specs.State.{NamedSlot, confirmed_of, slot_of}
+use Rattle.named_slots.specs.Words.{confirmed_in}
+use Rattle.named_slots.specs.Keeping.{IsNamed, confirmed_slot, noted, place_in, places_in}
 
 -- ---- Noting, slot by slot.
 
@@ -162,3 +164,13 @@ module _ (d e : Directory) (ss : List Slot) (s : Slot) (named : IsNamed d ss s.p
     one = one_name;
     below = below_new;
   }
+
+-- ---- How far slots are confirmed.
+
+pub confirmed-named : (name : List ℕ) (named : List NamedSlot) → confirmed_in name (map confirmed_slot named) ≡ confirmed_of (slot_of name named)
+confirmed-named name [] = refl
+confirmed-named name (s ∷ named) = by_test (bytes_eq s.name name) (confirmed-named name named)
+  where
+    by_test : (b : Bool) → confirmed_in name (map confirmed_slot named) ≡ confirmed_of (slot_of name named) → cond b s.confirmed (confirmed_in name (map confirmed_slot named)) ≡ confirmed_of (cond b (Some s) (slot_of name named))
+    by_test true rest = refl
+    by_test false rest = rest

@@ -1,6 +1,7 @@
 -- What a start says of a slot: the word that names one or none, and what becomes of that slot.
-use Rattle.std.specs.Prelude.{ℕ, max, not, is_some, codes, Bool, false, List, Option, Some, None, if◌then◌else◌}
+use Rattle.std.specs.Prelude.{ℕ, max, not, is_some, codes, Bool, false, List, [], ◌∷◌, Option, Some, None, if◌then◌else◌}
 use Rattle.std.specs.Str.{bytes_eq}
+use Rattle.named_slots.specs.declared.slot.Slot.{Slot}
 use Rattle.named_slots.specs.State.{SlotsState, claimed, confirmed_of, is_in_use, raised_for, released_for, slot_of}
 
 -- the slot that a start names; `-` is none
@@ -23,6 +24,11 @@ taken (Some name) slots = claimed name slots
 abbrev pub start_from : Option (List ℕ) → ℕ → SlotsState → ℕ
 start_from None position slots = position
 start_from (Some name) position slots = max position (confirmed_of (slot_of name slots.slots))
+
+-- how far the first of these of this name is confirmed
+abbrev pub confirmed_in : List ℕ → List Slot → ℕ
+confirmed_in name [] = 0
+confirmed_in name (s ∷ slots) = if bytes_eq s.name name then s.confirmed else confirmed_in name slots
 
 -- a start without a slot confirms nothing
 abbrev pub confirmed_by : Option (List ℕ) → ℕ → SlotsState → SlotsState

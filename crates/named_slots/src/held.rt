@@ -1,6 +1,7 @@
 //! Slots by name, with the leases of those that are held.
 
 ghost use Rattle.std.specs.Prelude.{◌≡◌, IfErr, IfOk, OnErr, OnOk, Some, false, is_some, map};
+ghost use Rattle.named_slots.specs.Words.{confirmed_in};
 ghost use Rattle.named_slots.specs.State.{IsHeldAs, IsOnlyAt, RefusedExactly, RefusedOrMemory, claim_refusal, claimed, confirmed_of, create_refusal, created, is_in_use, no_slots, place_of, raised_for, refused, released_for, slot_of};
 ghost use Rattle.named_slots.specs.Keeping.{confirmed_slot};
 
@@ -85,6 +86,13 @@ impl<L: SlotName> HeldSlots<L> {
         self.leases[place].is_some()
     }
 
+    /// How far the slot of this name is confirmed, or 0 where there is none.
+    pub fn confirmed(&self, name: &str) -> u64
+        ensures { result ≡ confirmed_of (slot_of name.now self.now.slots) }
+    {
+        confirmed_in(self.slots(), name)
+    }
+
     /// Takes the slot of this name, and answers its confirmed position. It takes no memory. L1 where there is none, L2 where it is in use.
     pub fn claim(&mut self, name: &str) -> Result<u64, SlotFault>
         ensures ok { OnOk result (self.new ≡ claimed name.now self.old) }
@@ -148,4 +156,16 @@ fn confirm_free<L: SlotName>(slots: &mut NamedSlots<L>, name: &str, place: usize
     };
     let _confirmed = slots.confirm(&mut lease, position);
     slots.release(lease);
+}
+
+/// How far the first of these of this name is confirmed, or 0 where there is none.
+fn confirmed_in(slots: &[Slot], name: &str) -> u64
+    ensures { result ≡ confirmed_in name.now slots.now }
+{
+    for slot in slots {
+        if slot.name() == name {
+            return slot.confirmed();
+        }
+    }
+    0
 }

@@ -10,4 +10,4 @@ mod slot_word;
 pub use held::HeldSlots;
 pub use named::NamedSlots;
 pub use slot::Slot;
-pub use slot_word::{confirm, is_held, is_missing, let_go, slot_named, take};
+pub use slot_word::{confirm, is_held, is_missing, let_go, slot_named, start_from, take};

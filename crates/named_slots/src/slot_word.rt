@@ -58,6 +58,16 @@ pub fn take<L: SlotName>(
     Ok(position.max(confirmed))
 }
 
+/// Where a stream begins that asked for this position and streams from the slot that the word names, if it names one.
+pub fn start_from<L: SlotName>(slots: &HeldSlots<L>, word: &Text, position: u64) -> u64
+    ensures { result ≡ start_from (slot_named word.now) position slots.now }
+{
+    if word.as_str() == NO_SLOT {
+        return position;
+    }
+    position.max(slots.confirmed(word.as_str()))
+}
+
 /// Confirms the position at the slot, if there is one.
 pub fn confirm<L: SlotName>(slots: &mut HeldSlots<L>, slot: &Option<Text>, position: u64)
     ensures { slots.new ≡ confirmed_by slot.now position slots.old }

@@ -12,7 +12,8 @@ use Rattle.sender.specs.Sending.{SenderState, published_bytes, ReadAll, RanOut}
 use Rattle.schedule.specs.declared.answer.Answer.{Answer}
 use Rattle.schedule.specs.declared.answer.Answer.TheVariants as answers
 use Rattle.walsender.specs.Serving.{IsServing, Reads, next_records}
-use Rattle.walsender.proofs.Sections.{next_part, section_front, section_of}
+use Rattle.walsender.proofs.Sections.{section_front, section_of}
+use Rattle.walsender.proofs.Skipping.{adds_whole, reads_behind}
 use Rattle.walsender.proofs.Serving.{grown, grown_streaming, no_gap, reading}
 use Rattle.starts.specs.declared.action.Action.TheVariants as actions
 use Rattle.starts.specs.declared.start.Stage.{Stage}
@@ -43,20 +44,22 @@ fed_acts : (log : List Record) (place max : ℕ) (clock : ℤ) (name produced : 
 fed_acts log place max clock name produced s new good serving running still fed =
     let r = reading log place produced s serving running in
     let section = take max (drop place log) in
-    let may = (next_part log place section (section_of log place max r.0.within good)).may in
-    read_is log place clock name produced s new section good r.0.at fed.selection fed.start fed.position (still ∙ sym running) (fed.after (take place log) r.1 may).1.adds
-    ∙ ap (λ l. after_reading log clock l (open_state name produced s)) (unread_is log place max s good r.0.at)
+    let behind = reads_behind s.selection s.start serving.from place log section (section_of log place max r.streaming.within good) serving.reads_from r.since in
+    let added = adds_whole clock s new.held serving.from place log section behind (fed.after (drop serving.from (take place log)) r.read behind.may).1 in
+    read_is log place clock name produced s new section good r.streaming.at fed.selection fed.start fed.position (still ∙ sym running) added.adds
+    ∙ ap (λ l. after_reading log clock l (open_state name produced s)) (unread_is log place max s good r.streaming.at)
 
 broken_acts : (log : List Record) (place max : ℕ) (clock : ℤ) (name produced : List ℕ) (s new : SenderState) → IsWellFormedLog log → IsServing log place produced s
     → s.failed ≡ false → RanOut clock s new (next_records max place log) → BreaksDown log max clock (open_state name produced s) (open_state name produced new)
 broken_acts log place max clock name produced s new good serving running fed =
     let r = reading log place produced s serving running in
     let section = take max (drop place log) in
-    let less = section_front log place fed.count section (section_of log place max r.0.within good) in
-    let may = (next_part log place (take fed.count section) less).may in
-    let section_is = unread_is log place max s good r.0.at in
+    let less = section_front log place fed.count section (section_of log place max r.streaming.within good) in
+    let behind = reads_behind s.selection s.start serving.from place log (take fed.count section) less serving.reads_from r.since in
+    let added = adds_whole clock s new.held serving.from place log (take fed.count section) behind (fed.after (drop serving.from (take place log)) r.read behind.may) in
+    let section_is = unread_is log place max s good r.streaming.at in
     let sound : SenderState = record new { failed = s.failed } in
-    let same = read_is log place clock name produced s sound (take fed.count section) good r.0.at fed.selection fed.start fed.position refl (fed.after (take place log) r.1 may).adds in
+    let same = read_is log place clock name produced s sound (take fed.count section) good r.streaming.at fed.selection fed.start fed.position refl added.adds in
     let N : ℕ → Type 0 = λ n. fed.count < n in
     record {
       count = fed.count;

@@ -1,6 +1,5 @@
 -- What a connection's line does to its sender.
 use Rattle.std.specs.Prelude.{◌≡◌, ◌<◌, ℕ, ℤ, true, false, List, [], ◌∷◌, ◌++◌, length, take, drop, nat_le, if◌then◌else◌, Bool, ◌&&◌}
-use Rattle.wal.specs.declared.record.TheConstants.{FIRST_POSITION}
 use Rattle.wal.specs.declared.record.Record.{Record}
 use Rattle.wal.specs.Log.{end_of}
 use Rattle.publication.specs.Publications.{PublicationSet}
@@ -15,10 +14,10 @@ use Rattle.starts.specs.declared.action.Action.{Action}
 use Rattle.starts.specs.declared.action.Action.TheVariants as actions
 use Rattle.starts.specs.State.{StartState}
 
--- the sender reads the log from its first record on
-abbrev pub new_start : List ℕ → PublicationSet → ℕ → StartState
-new_start connection selection start =
-    record { connection = connection; is_open = true; selection = selection; start = start; position = FIRST_POSITION; failed = false; produced = []; held = [] }
+-- the sender reads the log from this position on
+abbrev pub new_start : List ℕ → PublicationSet → ℕ → ℕ → StartState
+new_start connection selection start first =
+    record { connection = connection; is_open = true; selection = selection; start = start; position = first; failed = false; produced = []; held = [] }
 
 -- the records that end at a position or before it: what a sender at that position has read
 abbrev pub read_by : ℕ → List Record → List Record
@@ -54,6 +53,12 @@ pub record BreaksDown (log : List Record) (max : ℕ) (clock : ℤ) (old new : S
 abbrev pub is_read : Action → Bool
 is_read (actions.Read max clock) = true
 is_read action = false
+
+-- what takes memory of its own: a read for the records, a drain for the bytes
+abbrev pub takes_memory : Action → Bool
+takes_memory (actions.Read max clock) = true
+takes_memory (actions.Drain n) = true
+takes_memory action = false
 
 -- what a sender that has failed refuses
 abbrev pub needs_running : Action → Bool

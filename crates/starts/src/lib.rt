@@ -6,4 +6,5 @@ mod reading;
 mod start;
 
 pub use action::Action;
+pub use reading::resume;
 pub use start::Start;

@@ -1,17 +1,34 @@
 //! What a start reads of the publisher's log.
 
-ghost use Rattle.std.specs.Prelude.{◌≡◌, ◌-◌, List, ℕ, IfErr, IfOk, OnErr, length};
+ghost use Rattle.std.specs.Prelude.{◌≡◌, ◌-◌, ◌≢◌, Err, List, ℕ, IfErr, IfOk, OnErr, length};
 ghost use mathlib.Core.List.{IsPrefix};
 ghost use Rattle.shared_log.specs.Fronts.{settled};
 ghost use Rattle.shared_log.specs.Readers.{HasSeen, seen_of};
 ghost use Rattle.txlog.specs.Invariants.{IsPublisher};
-ghost use Rattle.walsender.specs.Serving.{Reads, Serves, next_records};
+ghost use Rattle.wal.specs.Restart.{restart};
+ghost use Rattle.walsender.specs.Serving.{BeginsAt, Reads, Serves, next_records};
 
 use sender::SendFault;
 use shared_log::{LogName, LogReader, ReadFault};
 use std::alloc::Global;
 use txlog::Publisher;
 use walsender::Walsender;
+
+/// Puts the reader where a stream that starts at this position begins to read the log as it stands, and answers the position
+/// there. E1 changes nothing. It takes no memory.
+pub fn resume<L: LogName>(
+    publisher: &mut Publisher<L>,
+    reader: &mut LogReader<L>,
+    start: u64,
+) -> Result<u64, ReadFault>
+    ensures same { publisher.new ≡ publisher.old }
+    ensures first { IfOk result (λ first. first ≡ restart start publisher.old.log) }
+    ensures begins { IfOk result (λ first. BeginsAt publisher.old.log start first reader.new.place) }
+    ensures entry { result ≢ Err ReadFault.Memory }
+{
+    let count = publisher.tell(reader);
+    reader.resume(start, count)
+}
 
 /// Reads up to `max` records of the log.
 pub(crate) fn read_on<L: LogName>(

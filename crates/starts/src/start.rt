@@ -3,8 +3,9 @@
 ghost use Rattle.std.specs.Prelude.{◌≡◌, ◌≢◌, ◌+◌, ◌<◌, ◌∷◌, [], List, true, false, Err, IfOk, OnErr, vec_capacity, vec_len};
 ghost use mathlib.Core.List.{IsPrefix};
 ghost use Rattle.wal.specs.declared.record.Record.{Record};
+ghost use Rattle.walsender.specs.Serving.{BeginsAt};
 ghost use Rattle.starts.specs.State.{is_open_for, running};
-ghost use Rattle.starts.specs.Acting.{Acts, is_read, new_start};
+ghost use Rattle.starts.specs.Acting.{Acts, is_read, new_start, takes_memory};
 ghost use Rattle.starts.specs.Starts.{IsServed, is_open, seen_at, start_state};
 
 use crate::action::Action;
@@ -37,22 +38,23 @@ pub(crate) enum Stage<L: LogName> {
 }
 
 impl<L: LogName> Start<L> {
-    /// A sender that reads the log from its first record on, with an arena for its changes.
+    /// A sender of a reader that was resumed for its start position, with where that is and an arena for its changes.
     pub fn new(
         alloc: Global,
         reader: LogReader<L>,
         connection: Text,
         selection: Selection,
         position: u64,
+        first: u64,
         arena: Arena,
     ) -> Self
-        ensures fresh { start_state result ≡ new_start connection selection position }
-        ensures served { (log : List Record) → IsServed log result }
+        ensures fresh { start_state result ≡ new_start connection selection position first }
+        ensures served { (log : List Record) → BeginsAt log position first reader.place → IsServed log result }
     {
         Start {
             connection,
             produced: BytesMut::new(alloc),
-            stage: Stage::Open(Walsender::begin(alloc, reader, selection, position, arena)),
+            stage: Stage::Open(Walsender::begin(alloc, reader, selection, position, first, arena)),
         }
     }
 
@@ -108,6 +110,7 @@ impl<L: LogName> Start<L> {
         ensures err { OnErr result (start_state self.new ≡ start_state self.old) }
         ensures happens { result ≢ Err WorldFault.BadEvent }
         ensures entry { result ≡ Err WorldFault.NoEntry → is_read action ≡ true }
+        ensures memory { result ≡ Err WorldFault.Memory → takes_memory action ≡ true }
         ensures served { IsServed publisher.old.log self.new }
         ensures same { publisher.new ≡ publisher.old }
         ensures readers { vec_len readers.new + running (start_state self.new ∷ []) ≡ vec_len readers.old + running (start_state self.old ∷ []) }

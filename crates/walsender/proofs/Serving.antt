@@ -3,7 +3,7 @@ use Rattle.std.proofs.Common.{◌≡◌, ◌<◌, ◌≤◌, ◌+◌, ◌^◌, �
 use Rattle.std.specs.Prelude.{FitsSigned, ◌↔◌, Result, Ok, Err, OnOk, OnErr}
 use Rattle.std.specs.Int.{w64}
 use Rattle.std.proofs.lemmas.Bool.{false_from_ne_true}
-use Rattle.std.proofs.lemmas.List.{append-nil, take-append-drop, take_at, length-append, length-take}
+use Rattle.std.proofs.lemmas.List.{append-nil, drop_all, take-append-drop, take_at, length-append, length-take}
 use Rattle.std.specs.Global.{Global}
 use Rattle.std.specs.declared.sync.Arc.{Arc}
 use mathlib.Core.List.{IsPrefix}
@@ -13,6 +13,7 @@ use Rattle.wal.specs.declared.record.Record.{Record}
 use Rattle.wal.specs.Log.{IsWellFormedLog, IsSized, follows, end_of}
 use Rattle.wal.proofs.Laws.{end_of-append}
 use Rattle.publication.specs.Selection.{relation}
+use Rattle.stream.specs.declared.published.Published.{Published}
 use Rattle.stream.specs.Words.{word_bytes}
 use Rattle.stream.specs.Items.{keepalive_word}
 use Rattle.stream.specs.Stream.{IsStream}
@@ -22,9 +23,10 @@ use Rattle.sender.specs.Published.{published, published_from}
 use Rattle.sender.specs.Sending.{SenderState, HasRead, published_bytes, AddsPublished, ReadAll, RanOut}
 use Rattle.sender.specs.Turning.{IsRefused}
 use Rattle.sender.proofs.Sections.{all_back, starts_below}
-use Rattle.walsender.specs.Serving.{IsStreaming, IsServing, Reads, next_records}
+use Rattle.walsender.specs.Serving.{BeginsAt, ReadsFrom, IsStreaming, IsServing, Reads, next_records}
 use Rattle.walsender.proofs.Late.{published_late}
 use Rattle.walsender.proofs.Sections.{IsSection, next_part, section_front, section_of, take_section, within_section}
+use Rattle.walsender.proofs.Skipping.{adds_whole, drop_section, from_grown, from_within, nothing_skipped, reads_behind}
 use Rattle.walsender.proofs.Streams.{stream_read, stream_kept_alive, stream_moved, stream_new}
 
 -- ---- reading on
@@ -49,23 +51,34 @@ grown_stream log place section clock written s new part fits t selection start p
       stream = rw (selection, start, position, take_section log place section part) stream;
     }
 
--- a sender that has not failed streams up to its reader's place
-pub reading : (log : List Record) (place : ℕ) (written : List ℕ) (s : SenderState) → IsServing log place written s → s.failed ≡ false → IsStreaming log place written s × HasRead s (take place log)
+-- A sender that has not failed streams up to its reader's place, and is as these records leave one.
+pub record IsReading (log : List Record) (place from : ℕ) (written : List ℕ) (s : SenderState) : Type 0 where
+  pub streaming : IsStreaming log place written s
+  pub read : HasRead s (drop from (take place log))
+  pub since : from ≤ place
+
+pub reading : (log : List Record) (place : ℕ) (written : List ℕ) (s : SenderState) (serving : IsServing log place written s) → s.failed ≡ false → IsReading log place serving.from written s
 reading log place written s serving running =
     let r = serving.running running in
     let P : ℕ → Type 0 = λ n. IsStreaming log n written s in
-    (subst P r.0 serving.streaming, r.1)
+    record { streaming = subst P r.0 serving.streaming; read = r.1; since = omega (arith, serving.since, r.0) }
 
 fed_on : (log : List Record) (place : ℕ) (section : List Record) (clock : ℤ) (written : List ℕ) (s new : SenderState) → IsSection log place section → FitsSigned w64 clock
     → IsServing log place written s → s.failed ≡ false → ReadAll clock s new section → IsServing log (place + length section) written new
 fed_on log place section clock written s new part fits serving running fed =
     let r = reading log place written s serving running in
-    let done = fed.after (take place log) r.1 (next_part log place section part).may in
+    let behind = reads_behind s.selection s.start serving.from place log section part serving.reads_from r.since in
+    let done = fed.after (drop serving.from (take place log)) r.read behind.may in
     let P : List Record → Type 0 = λ l. HasRead new l in
+    let now : drop serving.from (take (place + length section) log) ≡ drop serving.from (take place log) ++ section =
+    ap (drop serving.from) (take_section log place section part) ∙ drop_section log section serving.from place (omega (arith, r.since, part.len)) in
     record {
+      from = serving.from;
+      reads_from = subst (λ (n : ℕ). ReadsFrom log n serving.from) (sym fed.start) serving.reads_from;
       count = place + length section;
-      streaming = grown_stream log place section clock written s new part fits r.0 fed.selection fed.start fed.position done.1;
-      running = λ still. (refl, subst P (sym (take_section log place section part)) done.0);
+      since = omega (arith, r.since);
+      streaming = grown_stream log place section clock written s new part fits r.streaming fed.selection fed.start fed.position (adds_whole clock s new.held serving.from place log section behind done.1);
+      running = λ still. (refl, subst P (sym now) done.0);
     }
 
 not_both : {b : Bool} → b ≡ true → b ≡ false → ⊥
@@ -77,16 +90,21 @@ broken_on : (log : List Record) (place any : ℕ) (section : List Record) (clock
 broken_on log place any section clock written s new part fits serving running fed =
     let r = reading log place written s serving running in
     let less = section_front log place fed.count section part in
+    let behind = reads_behind s.selection s.start serving.from place log (take fed.count section) less serving.reads_from r.since in
+    let added = fed.after (drop serving.from (take place log)) r.read behind.may in
     record {
+      from = serving.from;
+      reads_from = subst (λ (n : ℕ). ReadsFrom log n serving.from) (sym fed.start) serving.reads_from;
       count = place + length (take fed.count section);
-      streaming = grown_stream log place (take fed.count section) clock written s new less fits r.0 fed.selection fed.start fed.position (fed.after (take place log) r.1 (next_part log place (take fed.count section) less).may);
+      since = omega (arith, r.since);
+      streaming = grown_stream log place (take fed.count section) clock written s new less fits r.streaming fed.selection fed.start fed.position (adds_whole clock s new.held serving.from place log (take fed.count section) behind added);
       running = λ still. absurd (not_both fed.failed still);
     }
 
 -- what is next follows, so no gap is answered
 pub no_gap : (log : List Record) (place max : ℕ) (written : List ℕ) (s : SenderState) → IsWellFormedLog log → IsServing log place written s → s.failed ≡ false → follows s.position (next_records max place log) ≡ false → ⊥
 no_gap log place max written s good serving running gap =
-    let t = (reading log place written s serving running).0 in
+    let t = (reading log place written s serving running).streaming in
     let next = next_part log place (take max (drop place log)) (section_of log place max t.within good) in
     let P : ℕ → Type 0 = λ p. follows p (take max (drop place log)) ≡ true in
     not_both (subst P (sym t.at) next.follows_on) gap
@@ -94,21 +112,21 @@ no_gap log place max written s good serving running gap =
 refused_on : (log : List Record) (place any max : ℕ) (clock : ℤ) (written : List ℕ) (s new : SenderState) (fault : SendFault) → IsWellFormedLog log → FitsSigned w64 clock → IsServing log place written s
     → IsRefused clock s new (next_records max place log) fault → IsServing log any written new
 refused_on log place any max clock written s new sends.ArenaFull good fits serving refused =
-    let t = (reading log place written s serving refused.0).0 in
+    let t = (reading log place written s serving refused.0).streaming in
     broken_on log place any (take max (drop place log)) clock written s new (section_of log place max t.within good) fits serving refused.0 refused.1
 refused_on log place any max clock written s new sends.Memory good fits serving refused =
-    let t = (reading log place written s serving refused.0).0 in
+    let t = (reading log place written s serving refused.0).streaming in
     broken_on log place any (take max (drop place log)) clock written s new (section_of log place max t.within good) fits serving refused.0 refused.1
 refused_on log place any max clock written s new sends.Failed good fits serving refused =
     let P : SenderState → Type 0 = λ t. IsServing log any written t in
-    subst P (sym refused.1) (record { count = serving.count; streaming = serving.streaming; running = λ still. absurd (not_both refused.0 still) })
+    subst P (sym refused.1) (record { from = serving.from; reads_from = serving.reads_from; count = serving.count; since = serving.since; streaming = serving.streaming; running = λ still. absurd (not_both refused.0 still) })
 refused_on log place any max clock written s new sends.Gap good fits serving refused = absurd (no_gap log place max written s good serving refused.0 refused.1)
 
 -- whatever a sender made of the records that it was fed
 pub read_on : (log : List Record) (place any max : ℕ) (clock : ℤ) (written : List ℕ) (s new : SenderState) (result : Result (Unit {0}) SendFault) → IsWellFormedLog log → FitsSigned w64 clock
     → any ≡ place + length (next_records max place log) → Reads clock s new (next_records max place log) result → IsServing log place written s → IsServing log any written new
 read_on log place any max clock written s new (Ok done) good fits moved reads serving =
-    let t = (reading log place written s serving reads.0).0 in
+    let t = (reading log place written s serving reads.0).streaming in
     let P : ℕ → Type 0 = λ n. IsServing log n written new in
     subst P (sym moved) (fed_on log place (take max (drop place log)) clock written s new (section_of log place max t.within good) fits serving reads.0 reads.1)
 read_on log place any max clock written s new (Err fault) good fits moved reads serving = refused_on log place any max clock written s new fault good fits serving reads
@@ -150,7 +168,10 @@ kept_alive log place clock ask written s serving fits lt =
     let word = word_bytes (keepalive_word s.position clock ask) in
     let all = published s.selection (take serving.count log) s.start in
     record {
+      from = serving.from;
+      reads_from = serving.reads_from;
       count = serving.count;
+      since = serving.since;
       streaming = record {
         within = t.within;
         at = t.at;
@@ -172,7 +193,10 @@ given log place written bytes s new parts rest serving =
     let t = serving.streaming in
     let P : SenderState → Type 0 = λ n. IsServing log place (written ++ bytes) n in
     subst P (sym rest) (record {
+      from = serving.from;
+      reads_from = serving.reads_from;
       count = serving.count;
+      since = serving.since;
       streaming = record {
         within = t.within;
         at = t.at;
@@ -182,16 +206,35 @@ given log place written bytes s new parts rest serving =
       running = λ still. let r = serving.running still in (r.0, record { taken = r.1.taken; relations_sent = r.1.relations_sent });
     })
 
+-- bytes from the front of what was held are moved out
+pub drained : (log : List Record) (place max : ℕ) (written : List ℕ) (s new : SenderState) → new ≡ record s { held = drop max s.held } → IsServing log place written s → IsServing log place (written ++ take max s.held) new
+drained log place max written s new is serving =
+    let P : SenderState → Type 0 = λ n. IsServing log place (written ++ take max s.held) n in
+    subst P (sym is) (given log place written (take max s.held) s (record s { held = drop max s.held }) (sym (take-append-drop max s.held)) refl serving)
+
+pub ok_then : {A E : Type 0} (P Q : Type 0) (r : Result A E) → (P → Q) → OnOk r P → OnOk r Q
+ok_then P Q (Ok a) f p = f p
+ok_then P Q (Err e) f p = tt
+
 -- nothing was written
 pub nothing_given : (log : List Record) (place : ℕ) (written : List ℕ) (s : SenderState) → IsServing log place written s → IsServing log place (written ++ []) s
 nothing_given log place written s serving = let P : List ℕ → Type 0 = λ l. IsServing log place l s in subst P (sym (append-nil written)) serving
 
-pub started : (log : List Record) (s : SenderState) → s.position ≡ FIRST_POSITION → s.held ≡ [] → HasRead s [] → IsServing log 0 [] s
-started log s position held reads = record {
-  count = 0;
-  streaming = record { within = omega arith; at = position; stream = stream_moved (relation s.selection) [] s.held [] s.position (stream_new (relation s.selection) s.position) held };
-  running = λ still. (refl, reads);
-}
+pub started : (log : List Record) (s : SenderState) (start first from : ℕ) → BeginsAt log start first from → s.start ≡ start → s.position ≡ first → s.held ≡ [] → HasRead s [] → IsServing log from [] s
+started log s start first from begins start_is position held reads =
+    let reads_from = subst (λ (n : ℕ). ReadsFrom log n from) (sym start_is) begins.reads_from in
+    let within = from_within log s.start from reads_from in
+    let none : published s.selection (take from log) s.start ≡ [] = nothing_skipped s.selection log s.start from reads_from begins.good in
+    let empty : drop from (take from log) ≡ [] = drop_all from (take from log) (omega (arith, length-take from log, within)) in
+    let S : List Published → Type 0 = λ ts. IsStream (relation s.selection) ([] ++ s.held) ts s.position in
+    record {
+      from = from;
+      reads_from = reads_from;
+      count = from;
+      since = omega arith;
+      streaming = record { within = within; at = position ∙ begins.position; stream = subst S (sym none) (stream_moved (relation s.selection) [] s.held [] s.position (stream_new (relation s.selection) s.position) held) };
+      running = λ still. (refl, subst (HasRead s) (sym empty) reads);
+    }
 
 -- ---- a longer log
 
@@ -209,13 +252,16 @@ grown_streaming log more count written s t =
 
 pub grown : (log more : List Record) (place : ℕ) (written : List ℕ) (s : SenderState) → IsServing log place written s → IsServing (log ++ more) place written s
 grown log more place written s serving = record {
+  from = serving.from;
+  reads_from = from_grown log more s.start serving.from serving.reads_from;
   count = serving.count;
+  since = serving.since;
   streaming = grown_streaming log more serving.count written s serving.streaming;
   running = λ still.
       let r = serving.running still in
       let t = serving.streaming in
       let Q : ℕ → Type 0 = λ n. n ≤ length log in
-      let P : List Record → Type 0 = λ l. HasRead s l in
+      let P : List Record → Type 0 = λ l. HasRead s (drop serving.from l) in
       (r.0, subst P (sym (take_grown log more place (subst Q r.0 t.within))) r.1);
 }
 

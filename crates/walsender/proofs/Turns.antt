@@ -1,5 +1,5 @@
 -- A turn of a walsender, however it ends.
-use Rattle.std.proofs.Common.{◌≡◌, ◌+◌, ◌<◌, ℕ, ℤ, true, false, List, [], ◌++◌, length, take, refl, ap, sym, subst, ◌∙◌}
+use Rattle.std.proofs.Common.{◌≡◌, ◌+◌, ◌<◌, ℕ, ℤ, true, false, List, [], ◌++◌, length, drop, take, refl, ap, sym, subst, ◌∙◌}
 use Rattle.std.proofs.lemmas.List.{append-nil}
 use Rattle.std.specs.Prelude.{FitsSigned, Result, Ok, Err, OnOk}
 use Rattle.std.specs.Int.{w64}
@@ -19,7 +19,8 @@ use Rattle.sender.specs.Sending.{SenderState, published_bytes}
 use Rattle.sender.specs.Turning.{IsRefused, ReadAndGave, fetched_from}
 use Rattle.sender.specs.declared.limits.TheConstants.{TURN_RECORDS}
 use Rattle.walsender.specs.Serving.{IsServing}
-use Rattle.walsender.proofs.Sections.{next_part, section_of}
+use Rattle.walsender.proofs.Sections.{section_of}
+use Rattle.walsender.proofs.Skipping.{reads_behind}
 use Rattle.walsender.proofs.Serving.{given, grown_to, nothing_given, read_on, reading}
 
 -- bytes that were given of these records, and those taken by the writer
@@ -41,9 +42,11 @@ pub held_first : (clock : ℤ) (old new : SenderState) (place : ℕ) (early seen
     → ReadAndGave clock old new (fetched_from place seen) bytes → new.held ≡ [] → Appends before after bytes → IsServing early place written old → (more : List ℕ) × Appends before after (old.held ++ more)
 held_first clock old new place early seen before after written bytes begins good read empty appended serving =
     let r = reading seen place written old (grown_to early seen place written old begins serving) read.running in
-    let part = section_of seen place TURN_RECORDS r.0.within good in
-    let added = (read.read.after (take place seen) r.1 (next_part seen place (fetched_from place seen) part).may).1 in
-    let more = published_bytes old.selection clock (published old.selection (take place seen) old.start) (published_from old.selection old.start (take place seen) (fetched_from place seen)) in
+    let part = section_of seen place TURN_RECORDS r.streaming.within good in
+    let from = (grown_to early seen place written old begins serving).from in
+    let behind = reads_behind old.selection old.start from place seen (fetched_from place seen) part (grown_to early seen place written old begins serving).reads_from r.since in
+    let added = (read.read.after (drop from (take place seen)) r.read behind.may).1 in
+    let more = published_bytes old.selection clock (published old.selection (drop from (take place seen)) old.start) (published_from old.selection old.start (drop from (take place seen)) (fetched_from place seen)) in
     let whole : bytes ≡ old.held ++ more = sym (append-nil bytes) ∙ ap (λ (l : List ℕ). bytes ++ l) (sym empty) ∙ sym read.parts ∙ added.adds in
     let P : List ℕ → Type 0 = λ l. Appends before after l in
     (more, subst P whole appended)

@@ -1,9 +1,11 @@
 -- A walsender between its calls: what was written of its stream, what is held of it, and which records it has read.
 use Rattle.std.specs.Prelude.{◌≡◌, ◌≤◌, ℕ, ℤ, false, List, ◌++◌, length, take, drop, Option, Result, Ok, Err}
+use mathlib.Core.List.{IsPrefix}
 use Rattle.std.specs.Io.KnownBytes.{Appends}
 use Rattle.wal.specs.declared.record.TheConstants.{FIRST_POSITION}
 use Rattle.wal.specs.declared.record.Record.{Record}
 use Rattle.wal.specs.Log.{IsWellFormedLog, end_of}
+use Rattle.wal.specs.Restart.{restart_place}
 use Rattle.publication.specs.Selection.{relation}
 use Rattle.stream.specs.Stream.{IsStream}
 use Rattle.shared_log.specs.Readers.{seen_of}
@@ -20,11 +22,26 @@ pub record IsStreaming (log : List Record) (count : ℕ) (written : List ℕ) (s
   pub at : s.position ≡ end_of FIRST_POSITION (take count log)
   pub stream : IsStream (relation s.selection) (written ++ s.held) (published s.selection (take count log) s.start) s.position
 
--- Unless it has failed, its reader stands behind those records, and it is as they leave a sender.
+-- Records are read from this place on: the restart place of the log as it stood when the stream began.
+pub record ReadsFrom (log : List Record) (start from : ℕ) : Type 0 where
+  pub known : List Record
+  pub begins : IsPrefix known log
+  pub place : from ≡ restart_place start known
+
+-- a stream that starts at a position begins there, and this is the position of that place
+pub record BeginsAt (log : List Record) (start first from : ℕ) : Type 0 where
+  pub reads_from : ReadsFrom log start from
+  pub good : IsWellFormedLog log
+  pub position : first ≡ end_of FIRST_POSITION (take from log)
+
+-- Unless it has failed, its reader stands behind those records, and it is as those that it read leave a sender.
 pub record IsServing (log : List Record) (place : ℕ) (written : List ℕ) (s : SenderState) : Type 0 where
+  pub from : ℕ
+  pub reads_from : ReadsFrom log s.start from
   pub count : ℕ
+  pub since : from ≤ count
   pub streaming : IsStreaming log count written s
-  pub running : s.failed ≡ false → (count ≡ place) × HasRead s (take place log)
+  pub running : s.failed ≡ false → (count ≡ place) × HasRead s (drop from (take place log))
 
 abbrev pub Serves : {L : Type 0} → List Record → List ℕ → Walsender L → Type 0
 Serves log written w = IsServing log w.reader.place written w.sender

@@ -42,6 +42,8 @@ pub trait StartDesk {
 pub enum ClaimFault {
     /// L2, or L1 where the slot was dropped meanwhile.
     Slot(SlotFault),
+    /// The log lets no reader in.
+    NoEntry,
     Memory,
 }
 

@@ -5,7 +5,6 @@ ghost use Rattle.std.specs.Io.KnownBytes.{Appends};
 ghost use mathlib.Core.List.{IsPrefix};
 ghost use Rattle.std.specs.declared.io.Error.{Error};
 ghost use Rattle.wal.specs.declared.record.Record.{Record};
-ghost use Rattle.wal.specs.declared.record.TheConstants.{FIRST_POSITION};
 ghost use Rattle.wal.specs.Log.{IsWellFormedLog};
 ghost use Rattle.stream.specs.Words.{word_bytes};
 ghost use Rattle.stream.specs.Items.{keepalive_word};
@@ -14,7 +13,7 @@ ghost use Rattle.shared_log.specs.Readers.{HasSeen, seen_of};
 ghost use Rattle.shared_log.specs.declared.fault.ReadFault.{ReadFault};
 ghost use Rattle.sender.specs.Faults.{fault_of_fetch, has_fetched, has_written};
 ghost use Rattle.sender.specs.Turning.{ReadAndGave, fetched_from};
-ghost use Rattle.walsender.specs.Serving.{Gives, GoesOn, Reads, ReadsOn, Serves, StaysOn, WritesFirst, next_records};
+ghost use Rattle.walsender.specs.Serving.{BeginsAt, Gives, GoesOn, Reads, ReadsOn, Serves, StaysOn, WritesFirst, next_records};
 
 use bytes::BytesMut;
 use chgarena::Arena;
@@ -24,7 +23,6 @@ use shared_log::{LogName, LogReader, ReadFault};
 use std::alloc::{AllocError, Global};
 use std::io;
 use std::io::Write;
-use wal::FIRST_POSITION;
 
 /// A sender, and the reader that feeds it. Whoever tells the reader of a commit has the next read see it.
 ///
@@ -38,24 +36,25 @@ pub struct Walsender<L: LogName> {
 }
 
 impl<L: LogName> Walsender<L> {
-    /// A stream of what the selection publishes of transactions that commit at `start` or later. It reads the log from its first
-    /// record on, and keeps the changes of transactions in progress in the arena.
+    /// A stream of what the selection publishes of transactions that commit at `start` or later. Its reader was resumed for that
+    /// position, and `first` is where it stands: from there on it reads the log, and keeps the changes of transactions in
+    /// progress in the arena.
     pub fn begin(
         alloc: Global,
-        mut reader: LogReader<L>,
+        reader: LogReader<L>,
         selection: Selection,
         start: u64,
+        first: u64,
         arena: Arena,
     ) -> Self
-        ensures serves { (log : List Record) → Serves log [] result }
+        ensures serves { (log : List Record) → BeginsAt log start first reader.place → Serves log [] result }
         ensures asked { (result.sender.selection ≡ selection) × (result.sender.start ≡ start) }
-        ensures fresh { (result.sender.position ≡ FIRST_POSITION) × (result.sender.failed ≡ false) × (result.sender.held ≡ []) }
-        ensures reader { (result.reader.place ≡ 0) × (seen_of result.reader ≡ seen_of reader) × (result.reader.told ≡ reader.told) }
+        ensures fresh { (result.sender.position ≡ first) × (result.sender.failed ≡ false) × (result.sender.held ≡ []) }
+        ensures reader { result.reader ≡ reader }
     {
-        let Ok(sender) = Sender::start(alloc, selection, start, FIRST_POSITION, arena) else {
+        let Ok(sender) = Sender::start(alloc, selection, start, first, arena) else {
             unreachable!();
         };
-        reader.seek(0);
         Walsender { sender, reader }
     }
 

@@ -1,6 +1,7 @@
 -- Each reader serves an open start or none.
-use Rattle.std.proofs.Common.{◌≡◌, ◌+◌, ◌≤◌, ℕ, zero, suc, Bool, true, false, cond, List, [], ◌∷◌, ◌++◌, Some, refl, ap, ◌∙◌, arith}
+use Rattle.std.proofs.Common.{◌≡◌, ◌+◌, ◌≤◌, ℕ, zero, suc, Bool, true, false, cond, List, [], ◌∷◌, ◌++◌, Some, refl, ap, sym, ◌∙◌, arith, reverse}
 use Rattle.std.specs.Prelude.{slice_get, slice_set}
+use Rattle.std.proofs.lemmas.List.{reverse-append}
 use Rattle.starts.specs.State.{StartState, running}
 use Rattle.world.proofs.Inside.{same_inside}
 
@@ -43,3 +44,9 @@ one_runs (t ∷ starts) (suc k) s there is = by_test t.is_open (one_runs starts 
     by_test : (b : Bool) → 1 ≤ running starts → 1 ≤ cond b (running starts + 1) (running starts)
     by_test true later = omega arith
     by_test false later = later
+
+-- the last of a list is one
+pub last_is : {A : Type 0} (xs ys : List A) (x y : A) → xs ++ x ∷ [] ≡ ys ++ y ∷ [] → x ≡ y
+last_is xs ys x y same =
+    let turned : x ∷ reverse xs ≡ y ∷ reverse ys = sym (reverse-append xs (x ∷ [])) ∙ ap reverse same ∙ reverse-append ys (y ∷ []) in
+    cc turned

@@ -23,7 +23,7 @@ use Rattle.world.specs.declared.machine.Machine.{Machine}
 use Rattle.world.specs.State.{WorldState}
 use Rattle.starts.specs.Acting.{read_by}
 use Rattle.world.specs.Law.{IsExact, Headline}
-use Rattle.world.specs.Steps.{IsStep, is_bad, is_read, IsRun, StopsAt}
+use Rattle.world.specs.Steps.{IsStep, is_bad, is_read, takes_memory, IsRun, StopsAt}
 use Rattle.walsender.specs.Serving.{IsStreaming}
 use Rattle.starts.specs.Starts.{IsServed, IsServedBy, state_with, start_state}
 use Rattle.world.specs.Machine.{IsMachine, shown}
@@ -78,8 +78,8 @@ run_on start mid new es k answers e a lt here run step =
     subst P (ap (λ d. take k es ++ d ∷ []) here ∙ sym (take_more es k e lt)) (joined start mid new (take k es) answers e a run step)
 
 pub stops : (start mid : WorldState) (es : List Event) (k : ℕ) (answers : List Answer) (e : Event) (fault : WorldFault) → k < length es → e ≡ slice_index_or es k e → length answers ≡ k → IsRun start (take k es) answers mid
-    → (fault ≡ worlds.BadEvent) ↔ (is_bad e mid ≡ true) → (fault ≡ worlds.NoEntry → is_read e ≡ true) → StopsAt start es answers mid fault
-stops start mid es k answers e fault lt here count run bad entry =
+    → (fault ≡ worlds.BadEvent) ↔ (is_bad e mid ≡ true) → (fault ≡ worlds.NoEntry → is_read e ≡ true) → (fault ≡ worlds.Memory → takes_memory e mid ≡ true) → StopsAt start es answers mid fault
+stops start mid es k answers e fault lt here count run bad entry memory =
     let Runs : ℕ → Type 0 = λ n. IsRun start (take n es) answers mid in
     let Next : ℕ → Type 0 = λ n. slice_get es n ≡ Some e in
     record {
@@ -88,4 +88,5 @@ stops start mid es k answers e fault lt here count run bad entry =
       next = subst Next (sym count) (slice_get_read es (length es) k e refl lt here);
       bad = bad;
       entry = entry;
+      memory = memory;
     }

@@ -11,6 +11,7 @@ use Rattle.slots.specs.declared.fault.SlotFault.TheVariants as slot_faults
 use Rattle.starts.specs.State.{StartState, running}
 use Rattle.world.specs.State.{SubscriberState, WorldState, open_start, with_open_start, with_one_for, reconnected, slot_of_connection}
 use Rattle.named_slots.specs.Words.{is_held, is_missing, let_go, start_from, taken}
+use Rattle.wal.specs.Restart.{restart}
 use Rattle.starts.specs.Acting.{Acts, new_start}
 use Rattle.world.specs.declared.limits.TheConstants.{MAX_SENDERS}
 
@@ -48,11 +49,11 @@ start_refusal slot names w =
     else if is_held slot w.slots then Some (answers.Slot slot_faults.InUse)
     else None
 
--- what a start leaves that isn't refused
+-- what a start leaves that isn't refused: its sender reads the log from its restart position on
 abbrev pub started : List ℕ → Option (List ℕ) → ℕ → List (List ℕ) → WorldState → WorldState
 started connection slot position names w = record w {
   slots = taken slot w.slots;
-  starts = w.starts ++ new_start connection (selected w.publications names) (start_from slot position w.slots) ∷ [];
+  starts = w.starts ++ new_start connection (selected w.publications names) (start_from slot position w.slots) (restart (start_from slot position w.slots) w.publisher.log) ∷ [];
   subscribers = with_one_for connection slot w.subscribers;
 }
 

@@ -1,6 +1,6 @@
 -- What a world shows of its parts, and what is true of them between events. No promise is told here but by `start_state`
 -- and `shown`, which say how the parts are seen.
-use Rattle.std.specs.Prelude.{◌≡◌, ◌<◌, ◌≤◌, ℕ, ◌+◌, ◌==◌, Bool, true, false, List, [], ◌∷◌, map, filter, not, Option, Some, None, is_some, vec_len, vec_capacity, slice_get, slice_set, if◌then◌else◌}
+use Rattle.std.specs.Prelude.{◌≡◌, ◌<◌, ◌≤◌, ℕ, ◌+◌, ◌==◌, Bool, true, false, List, [], ◌∷◌, ◌++◌, map, filter, not, Option, Some, None, is_some, vec_len, vec_capacity, slice_get, slice_set, if◌then◌else◌}
 use Rattle.std.specs.Str.{bytes_eq}
 use Rattle.std.specs.List.{AllByRecursion}
 use Rattle.wal.specs.declared.record.Record.{Record}
@@ -13,6 +13,8 @@ use Rattle.world.specs.declared.machine.Machine.{Machine}
 use Rattle.world.specs.declared.limits.TheConstants.{MAX_SENDERS}
 use Rattle.starts.specs.State.{StartState, is_open_for, running}
 use Rattle.world.specs.State.{SubscriberState, WorldState, open_start, with_open_start, subscriber_of, with_subscriber}
+use Rattle.shared_log.specs.declared.reader.LogReader.{LogReader}
+use Rattle.walsender.specs.Serving.{BeginsAt}
 use Rattle.starts.specs.Acting.{Acts}
 use Rattle.starts.specs.Starts.{IsServed, is_open, start_state}
 
@@ -93,6 +95,10 @@ pub record HasRoom {L : Type 0} (m : Machine L) : Type 0 where
   pub starts : vec_len m.starts < vec_capacity m.starts
   pub opened : vec_len m.opened < vec_capacity m.opened
   pub subscribers : vec_len m.subscribers < vec_capacity m.subscribers
+
+-- the reader that the next start takes was resumed for its start position, and stands there
+abbrev pub IsResumed : {L : Type 0} → ℕ → ℕ → Machine L → Type 0
+IsResumed {L} start first m = (others : List (LogReader L)) (reader : LogReader L) → m.readers.items ≡ others ++ reader ∷ [] → BeginsAt m.publisher.log start first reader.place
 
 -- The log is one, each start has read it up to its place, the open ones are found, and each has a subscriber. Each reader serves
 -- an open start or stands in the pool, which has room for them all.

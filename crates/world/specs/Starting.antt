@@ -8,6 +8,7 @@ use Rattle.walsender.specs.Beginning.{Question, FindsSlot, Judges, TakesReader, 
 use Rattle.world.specs.declared.starting.StartFacts.{StartFacts}
 use Rattle.world.specs.State.{WorldState, with_one_for}
 use Rattle.named_slots.specs.Words.{is_held, is_missing, slot_named, start_from, taken}
+use Rattle.wal.specs.Restart.{restart}
 use Rattle.starts.specs.Acting.{new_start}
 
 -- ---- What it is judged by.
@@ -30,6 +31,6 @@ Told old question new = (new ≡ old) × IsAnswer question old
 abbrev pub started_with : List ℕ → Option (List ℕ) → ℕ → PublicationSet → WorldState → WorldState
 started_with connection slot position selection w = record w {
   slots = taken slot w.slots;
-  starts = w.starts ++ new_start connection selection (start_from slot position w.slots) ∷ [];
+  starts = w.starts ++ new_start connection selection (start_from slot position w.slots) (restart (start_from slot position w.slots) w.publisher.log) ∷ [];
   subscribers = with_one_for connection slot w.subscribers;
 }

@@ -9,8 +9,8 @@ use Rattle.schedule.specs.declared.fault.WorldFault.{WorldFault}
 use Rattle.schedule.specs.declared.fault.WorldFault.TheVariants as worlds
 use Rattle.starts.specs.declared.action.Action.TheVariants as actions
 use Rattle.world.specs.State.{WorldState, open_start, subscriber_of}
-use Rattle.sessions.specs.SessionLines.{Ask, SessionState, ask_of, IsCalled}
-use Rattle.world.specs.ConnectionLines.{ActsAt, IsStart}
+use Rattle.sessions.specs.SessionLines.{Ask, SessionState, ask_of, IsCalled, line_takes_memory}
+use Rattle.world.specs.ConnectionLines.{ActsAt, IsStart, start_refusal}
 use Rattle.named_slots.specs.Words.{slot_named}
 use Rattle.replcmd.specs.Words.{is_slot_name}
 use Rattle.world.specs.Slots.{Acknowledges, Creates, PutsBack, has_status, status_with}
@@ -56,13 +56,29 @@ is_bad (events.Connection c step) w = is_bad_at c step w
 is_bad (events.Slot name) w = not (is_slot_name name)
 
 abbrev pub is_read_at : ConnectionStep → Bool
+is_read_at (steps.Start slot position names) = true
 is_read_at (steps.Read max clock) = true
 is_read_at step = false
 
--- an event that reads the log, and so may be refused an entry: V3
+-- an event that reads the log, or looks where to begin in it, and so may be refused an entry: V3
 abbrev pub is_read : Event → Bool
 is_read (events.Connection c step) = is_read_at step
 is_read event = false
+
+abbrev pub takes_memory_at : ConnectionStep → WorldState → Bool
+takes_memory_at (steps.Start slot position names) w = not (is_some (start_refusal (slot_named slot) names w))
+takes_memory_at (steps.Read max clock) w = true
+takes_memory_at (steps.Drain n) w = true
+takes_memory_at (steps.Status clock) w = true
+takes_memory_at (steps.Flushed number) w = true
+takes_memory_at step w = false
+
+-- an event that may be refused for memory of its own, V2: a session's line that keeps something, a start that nothing refuses, and
+-- what reads, drains or puts a status into the pipe back
+abbrev pub takes_memory : Event → WorldState → Bool
+takes_memory (events.Session t step) w = line_takes_memory (events.Session t step) w.publisher
+takes_memory (events.Connection c step) w = takes_memory_at step w
+takes_memory (events.Slot name) w = false
 
 -- a run: the answers to the events in order, and where they lead
 abbrev pub IsRun : WorldState → List Event → List Answer → WorldState → Type 0
@@ -70,11 +86,12 @@ IsRun old [] [] new = new ≡ old
 IsRun old (e ∷ es) (a ∷ rest) new = (mid : WorldState) × IsStep old e a mid × IsRun mid es rest new
 IsRun old events answers new = ⊥
 
--- These events happened with these answers, and the next did not, by this fault: V1 exactly where it could not happen, and V3
--- only where it reads the log.
+-- These events happened with these answers, and the next did not, by this fault: V1 exactly where it could not happen, V2 only
+-- where it takes memory, and V3 only where it reads the log.
 pub record StopsAt (start : WorldState) (events : List Event) (answers : List Answer) (state : WorldState) (fault : WorldFault) : Type 0 where
   pub runs : IsRun start (take (length answers) events) answers state
   pub event : Event
   pub next : slice_get events (length answers) ≡ Some event
   pub bad : (fault ≡ worlds.BadEvent) ↔ (is_bad event state ≡ true)
   pub entry : fault ≡ worlds.NoEntry → is_read event ≡ true
+  pub memory : fault ≡ worlds.Memory → takes_memory event state ≡ true

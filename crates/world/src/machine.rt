@@ -1,18 +1,19 @@
 //! The publisher with its sessions and the starts of its senders.
 
-ghost use Rattle.std.specs.Prelude.{◌≡◌, ◌≢◌, ◌≤◌, ◌<◌, ◌+◌, ◌++◌, ◌∷◌, [], map, is_some, false, true, Err, IfErr, IfOk, IsSome, IsNone, OnErr, OnOk, vec_capacity, vec_len};
+ghost use Rattle.std.specs.Prelude.{◌≡◌, ◌≢◌, ◌≤◌, ◌<◌, ◌+◌, ◌++◌, ◌∷◌, [], map, is_some, false, true, None, Err, IfErr, IfOk, IsSome, IsNone, OnErr, OnOk, vec_capacity, vec_len};
 ghost use Rattle.std.specs.List.{AllByRecursion};
 ghost use Rattle.txlog.specs.Publishing.{new_publisher};
 ghost use Rattle.world.specs.State.{new_subscriber, new_world, open_start, with_one_for};
 ghost use Rattle.starts.specs.State.{running};
 ghost use Rattle.world.specs.ConnectionLines.{ActsAt, IsStart, start_refusal};
-ghost use Rattle.named_slots.specs.Words.{is_held, is_missing, slot_named};
-ghost use Rattle.starts.specs.Acting.{is_read as reads_log, new_start};
+ghost use Rattle.wal.specs.Restart.{restart};
+ghost use Rattle.named_slots.specs.Words.{is_held, is_missing, slot_named, start_from};
+ghost use Rattle.starts.specs.Acting.{is_read as reads_log, new_start, takes_memory as takes_memory_of};
 ghost use Rattle.world.specs.Delivering.{Delivers};
 ghost use Rattle.world.specs.Starting.{started_with};
-ghost use Rattle.sessions.specs.SessionLines.{IsLine, ask_of};
-ghost use Rattle.world.specs.Steps.{IsStep, IsStepAt, is_bad, is_bad_at, is_read, is_read_at, session_state};
-ghost use Rattle.world.specs.Machine.{ActsIn, HasRoom, IsMachine, IsOpenAt, shown, subscriber_state};
+ghost use Rattle.sessions.specs.SessionLines.{IsLine, ask_of, line_takes_memory};
+ghost use Rattle.world.specs.Steps.{IsStep, IsStepAt, is_bad, is_bad_at, is_read, is_read_at, session_state, takes_memory, takes_memory_at};
+ghost use Rattle.world.specs.Machine.{ActsIn, HasRoom, IsMachine, IsOpenAt, IsResumed, shown, subscriber_state};
 ghost use Rattle.starts.specs.Starts.{IsServed, start_state};
 
 use crate::limits::MAX_SENDERS;
@@ -21,7 +22,7 @@ use crate::starting::StartFacts;
 use crate::subscriber::{Subscriber, place_of, reconnect, subscribe};
 use chgarena::Arena;
 use configuration::Config;
-use named_slots::{HeldSlots, let_go, slot_named, take};
+use named_slots::{HeldSlots, let_go, slot_named, start_from, take};
 use pqformat::Text;
 use publication::{Publications, Selection};
 use replcmd::is_slot_name;
@@ -29,7 +30,7 @@ use schedule::{Answer, ConnectionStep, Event, WorldFault};
 use sessions::Sessions;
 use shared_log::{LogName, LogReader};
 use slots::{OpenedSlots, SlotFault, SlotName};
-use starts::{Action, Start};
+use starts::{Action, Start, resume};
 use std::alloc::{AllocError, Global};
 use std::sync::Wait;
 use tables::Catalog;
@@ -143,6 +144,7 @@ impl<L: LogName + SlotName> Machine<L> {
         ensures step { IfOk result (λ a. IsStep (shown self.old) event.now a (shown self.new)) }
         ensures bad { result ≡ Err WorldFault.BadEvent → is_bad event.now (shown self.old) ≡ true }
         ensures entry { result ≡ Err WorldFault.NoEntry → is_read event.now ≡ true }
+        ensures memory { result ≡ Err WorldFault.Memory → takes_memory event.now (shown self.old) ≡ true }
         ensures err { OnErr result (shown self.new ≡ shown self.old) }
         ensures machine { IsMachine self.new }
     {
@@ -159,6 +161,7 @@ impl<L: LogName + SlotName> Machine<L> {
         ensures step { IfOk result (λ a. IsStepAt name.now step.now (shown self.old) a (shown self.new)) }
         ensures bad { result ≡ Err WorldFault.BadEvent → is_bad_at name.now step.now (shown self.old) ≡ true }
         ensures entry { result ≡ Err WorldFault.NoEntry → is_read_at step.now ≡ true }
+        ensures memory { result ≡ Err WorldFault.Memory → takes_memory_at step.now (shown self.old) ≡ true }
         ensures err { OnErr result (shown self.new ≡ shown self.old) }
         ensures machine { IsMachine self.new }
     {
@@ -185,6 +188,7 @@ impl<L: LogName + SlotName> Machine<L> {
         ensures rest { shown self.new ≡ record (shown self.old) { publisher = (shown self.new).publisher; transactions = (shown self.new).transactions } }
         ensures bad { result ≡ Err WorldFault.BadEvent → IsNone (ask_of event.now (shown self.old).publisher (shown self.old).transactions) }
         ensures entered { result ≢ Err WorldFault.NoEntry }
+        ensures memory { result ≡ Err WorldFault.Memory → line_takes_memory event.now (shown self.old).publisher ≡ true }
         ensures err { OnErr result (shown self.new ≡ shown self.old) }
         ensures machine { IsMachine self.new }
     {
@@ -192,7 +196,7 @@ impl<L: LogName + SlotName> Machine<L> {
         Ok(answer)
     }
 
-    /// Starts a sender, which reads the log from its first record on. L1 where no slot has the name, then P1, then P2, then L6
+    /// Starts a sender, which reads the log from the restart position of its start position on. L1 where no slot has the name, then P1, then P2, then L6
     /// where no reader is left, then L2 where the slot is held.
     fn start(
         &mut self,
@@ -205,7 +209,7 @@ impl<L: LogName + SlotName> Machine<L> {
         requires machine { IsMachine self.old }
         ensures start { IfOk result (λ a. IsNone (open_start name.now (shown self.old).starts) × IsStart name.now (slot_named slot.now) position names.now (shown self.old) a (shown self.new)) }
         ensures bad { result ≡ Err WorldFault.BadEvent → IsSome (open_start name.now (shown self.old).starts) }
-        ensures entered { result ≢ Err WorldFault.NoEntry }
+        ensures memory { result ≡ Err WorldFault.Memory → start_refusal (slot_named slot.now) names.now (shown self.old) ≡ None }
         ensures err { OnErr result (shown self.new ≡ shown self.old) }
         ensures machine { IsMachine self.new }
     {
@@ -257,18 +261,51 @@ impl<L: LogName + SlotName> Machine<L> {
         requires reader { 0 < vec_len self.old.readers }
         ensures done { IfOk result (λ a. (a ≡ Answer.Done) × (shown self.new ≡ started_with name.now (slot_named slot.now) position selection (shown self.old))) }
         ensures happens { result ≢ Err WorldFault.BadEvent }
-        ensures entered { result ≢ Err WorldFault.NoEntry }
         ensures err { OnErr result (shown self.new ≡ shown self.old) }
         ensures machine { IsMachine self.new }
     {
         let arena = Arena::new(alloc, self.chunks as usize)?;
         let (subscriber, connection) = self.reserve(alloc, name, slot)?;
+        let start = self.start_from(slot, position);
+        let first = self.resume(start)?;
         match take(&mut self.slots, slot, position) {
             Ok(position) => {
-                self.add(alloc, subscriber, connection, selection, position, arena);
+                self.add(
+                    alloc, subscriber, connection, selection, position, first, arena,
+                );
                 Ok(Answer::Done)
             }
             Err(_) => unreachable!(),
+        }
+    }
+
+    /// Where a stream starts that asked for this position.
+    fn start_from(&self, slot: &Text, position: u64) -> u64
+        ensures { result ≡ start_from (slot_named slot.now) position (shown self.now).slots }
+    {
+        start_from(&self.slots, slot, position)
+    }
+
+    /// Puts the reader that the next start takes where it begins to read for this start position, and answers the position there.
+    fn resume(&mut self, start: u64) -> Result<u64, WorldFault>
+        requires reader { 0 < vec_len self.old.readers }
+        ensures same { shown self.new ≡ shown self.old }
+        ensures first { IfOk result (λ first. first ≡ restart start (shown self.old).publisher.log) }
+        ensures resumed { IfOk result (λ first. IsResumed start first self.new) }
+        ensures room { HasRoom self.old → HasRoom self.new }
+        ensures readers { vec_len self.new.readers ≡ vec_len self.old.readers }
+        ensures happens { result ≢ Err WorldFault.BadEvent }
+        ensures memory { result ≢ Err WorldFault.Memory }
+        ensures machine { IsMachine self.old → IsMachine self.new }
+    {
+        let Some(mut reader) = self.readers.pop() else {
+            unreachable!();
+        };
+        let resumed = resume(&mut self.publisher, &mut reader, start);
+        self.readers.push_reserved(reader);
+        match resumed {
+            Ok(first) => Ok(first),
+            Err(_) => Err(WorldFault::NoEntry),
         }
     }
 
@@ -312,14 +349,16 @@ impl<L: LogName + SlotName> Machine<L> {
         connection: Text,
         selection: Selection,
         position: u64,
+        first: u64,
         arena: Arena,
     )
         requires machine { IsMachine self.old }
         requires room { HasRoom self.old }
         requires reader { 0 < vec_len self.old.readers }
+        requires resumed { IsResumed position first self.old }
         requires subscriber { subscriber_state subscriber ≡ new_subscriber connection subscriber.slot }
         ensures added { shown self.new ≡ record (shown self.old) {
-          starts = (shown self.old).starts ++ new_start connection selection position ∷ [];
+          starts = (shown self.old).starts ++ new_start connection selection position first ∷ [];
           subscribers = with_one_for connection subscriber.slot (shown self.old).subscribers;
         } }
         ensures machine { IsMachine self.new }
@@ -327,7 +366,7 @@ impl<L: LogName + SlotName> Machine<L> {
         let Some(reader) = self.readers.pop() else {
             unreachable!();
         };
-        let start = Start::new(alloc, reader, connection, selection, position, arena);
+        let start = Start::new(alloc, reader, connection, selection, position, first, arena);
         let place = self.starts.as_slice().len();
         self.opened.push_reserved(place);
         self.starts.push_reserved(start);
@@ -340,6 +379,7 @@ impl<L: LogName + SlotName> Machine<L> {
         ensures acts { IfOk result (λ a. ActsAt name.now action (shown self.old) a (shown self.new)) }
         ensures bad { result ≡ Err WorldFault.BadEvent → IsNone (open_start name.now (shown self.old).starts) }
         ensures entry { result ≡ Err WorldFault.NoEntry → reads_log action ≡ true }
+        ensures memory { result ≡ Err WorldFault.Memory → takes_memory_of action ≡ true }
         ensures err { OnErr result (shown self.new ≡ shown self.old) }
         ensures machine { IsMachine self.new }
     {
@@ -372,6 +412,7 @@ impl<L: LogName + SlotName> Machine<L> {
         ensures delivers { IfOk result (λ a. Delivers name.now max (shown self.old) a (shown self.new)) }
         ensures bad { result ≡ Err WorldFault.BadEvent → IsNone (open_start name.now (shown self.old).starts) }
         ensures entered { result ≢ Err WorldFault.NoEntry }
+        ensures memory { result ≢ Err WorldFault.Memory }
         ensures err { OnErr result (shown self.new ≡ shown self.old) }
         ensures machine { IsMachine self.new }
     {
@@ -425,6 +466,7 @@ fn act_at<L: LogName>(
     requires room { vec_len readers.old < vec_capacity readers.old }
     ensures acts { IfOk result (λ a. ActsIn publisher.old.log place action starts.old.items a starts.new.items) }
     ensures entry { result ≡ Err WorldFault.NoEntry → reads_log action ≡ true }
+    ensures memory { result ≡ Err WorldFault.Memory → takes_memory_of action ≡ true }
     ensures err { OnErr result (map start_state starts.new.items ≡ map start_state starts.old.items) }
     ensures happens { result ≢ Err WorldFault.BadEvent }
     ensures all { AllByRecursion (IsServed publisher.old.log) starts.new.items }

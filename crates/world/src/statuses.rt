@@ -68,6 +68,7 @@ impl<L: LogName + SlotName> Machine<L> {
         ensures acknowledges { IfOk result (λ a. Acknowledges name.now (shown self.old) a (shown self.new)) }
         ensures bad { result ≡ Err WorldFault.BadEvent → (is_some (open_start name.now (shown self.old).starts) && has_status (subscriber_of name.now (shown self.old).subscribers)) ≡ false }
         ensures entered { result ≢ Err WorldFault.NoEntry }
+        ensures memory { result ≢ Err WorldFault.Memory }
         ensures err { OnErr result (shown self.new ≡ shown self.old) }
         ensures machine { IsMachine self.new }
     {

@@ -1,14 +1,14 @@
 //! A run of events over the whole publisher.
 
-ghost use Rattle.std.specs.Prelude.{◌≡◌, ◌↔◌, ◌++◌, ◌∷◌, [], ℕ, List, None, true, map, Err, IfOk, IfErr, OnErr};
+ghost use Rattle.std.specs.Prelude.{◌≡◌, ◌<◌, ◌↔◌, ◌++◌, ◌∷◌, [], ℕ, List, None, true, map, Err, IfOk, IfErr, OnErr, OnOk, vec_capacity, vec_len};
 ghost use Rattle.named_slots.specs.Keeping.{confirmed_slot};
 ghost use Rattle.world.specs.State.{new_world};
 ghost use Rattle.world.specs.Law.{Headline};
 ghost use Rattle.world.specs.Confirming.{confirmed_at, confirmed_through};
-ghost use Rattle.world.specs.Steps.{IsRun, IsStep, is_bad, is_read};
+ghost use Rattle.world.specs.Steps.{IsRun, IsStep, is_bad, is_read, takes_memory};
 ghost use Rattle.world.specs.Ending.{HasStopped};
 ghost use Rattle.starts.specs.Starts.{start_state};
-ghost use Rattle.world.specs.Machine.{subscriber_state};
+ghost use Rattle.world.specs.Machine.{IsMachine, shown, subscriber_state};
 ghost use Rattle.wal.specs.Log.{IsWellFormedLog};
 
 use crate::machine::Machine;
@@ -76,7 +76,7 @@ impl<L: LogName + SlotName> World<L> {
     }
 
     /// Does one event, keeps what it answered, and answers it. V1 exactly where its name is unknown or wrongly repeated, V2 for
-    /// memory, and V3 where the log that it reads lets no reader in; each changes nothing.
+    /// memory of the event or for the place of its answer, and V3 where the log that it reads, or begins to read, lets no reader in; each changes nothing.
     pub fn step<R: Wait>(&mut self, rt: &R, event: &Event) -> Result<Answer, WorldFault>
         ensures step { IfOk result (λ a. IsStep self.old.state event.now a self.new.state) }
         ensures kept { IfOk result (λ a. self.new.answers ≡ self.old.answers ++ a ∷ []) }
@@ -96,7 +96,7 @@ impl<L: LogName + SlotName> World<L> {
     }
 
     /// Does the events one after the other, up to the first that doesn't happen. Then it hands the world back with the fault, to
-    /// be closed.
+    /// be closed. The places of all answers are there before the first event, so that V2 is of an event alone.
     pub fn run<R: Wait>(
         rt: &R,
         alloc: Global,
@@ -114,15 +114,19 @@ impl<L: LogName + SlotName> World<L> {
             → confirmed_at name w.state.slots ≡ confirmed_through name (new_world config) events.now w.answers w.state run None) }
         ensures stops { IfErr result (λ fault. HasStopped (new_world config) events.now fault) }
     {
-        let Ok(mut world) = World::new(rt, alloc, history, slots, config) else {
+        let Ok(mut machine) = Machine::new(rt, alloc, history, slots, config) else {
+            return Err(RunFault::New);
+        };
+        let Ok(mut answers) = Vec::with_capacity(alloc, events.len()) else {
+            machine.close(rt);
             return Err(RunFault::New);
         };
         for event in events {
-            if let Err(fault) = world.step(rt, event) {
-                return Err(RunFault::Step(world, fault));
+            if let Err(fault) = step_in(rt, &mut machine, &mut answers, event) {
+                return Err(RunFault::Step(World { machine, answers }, fault));
             }
         }
-        Ok(world)
+        Ok(World { machine, answers })
     }
 
     /// Ends the log. Transactions in progress are left as they are.
@@ -161,4 +165,30 @@ impl<L: LogName + SlotName> World<L> {
     {
         self.machine.subscribers.as_slice()
     }
+}
+
+/// Does one event, for whose answer there is room.
+fn step_in<L: LogName + SlotName, R: Wait>(
+    rt: &R,
+    machine: &mut Machine<L>,
+    answers: &mut Vec<Answer>,
+    event: &Event,
+) -> Result<Answer, WorldFault>
+    requires machine { IsMachine machine.old }
+    requires room { vec_len answers.old < vec_capacity answers.old }
+    ensures step { IfOk result (λ a. IsStep (shown machine.old) event.now a (shown machine.new)) }
+    ensures kept { IfOk result (λ a. answers.new.items ≡ answers.old.items ++ a ∷ []) }
+    ensures bad { (result ≡ Err WorldFault.BadEvent) ↔ (is_bad event.now (shown machine.old) ≡ true) }
+    ensures entry { result ≡ Err WorldFault.NoEntry → is_read event.now ≡ true }
+    ensures memory { result ≡ Err WorldFault.Memory → takes_memory event.now (shown machine.old) ≡ true }
+    ensures err { OnErr result ((shown machine.new ≡ shown machine.old) × (answers.new ≡ answers.old)) }
+    ensures capacity { OnOk result (vec_capacity answers.new ≡ vec_capacity answers.old) }
+    ensures machine { IsMachine machine.new }
+{
+    if machine.is_bad(event) {
+        return Err(WorldFault::BadEvent);
+    }
+    let answer = machine.step(rt, event)?;
+    answers.push_reserved(answer);
+    Ok(answer)
 }

@@ -77,6 +77,7 @@ returns-in_default-action g c =
           (acted_at c.args.name.now c.in-Some.place c.args.action c.args.self.now c.act_at.new.starts.items c.in_ok-answer.answer at c.in_ok-answer.ensures.acts)));
       bad = λ never. cc;
       entry = λ never. cc;
+      memory = λ never. cc;
       err = tt;
       machine = record {
         good = rw c.act_at.ensures.same c.requires.machine.good;

@@ -25,7 +25,7 @@ returns-clause-machine g c =
     let one_more = ap running states_is ∙ running_more (map start_state cs) (start_state start) opened in
     record {
       good = c.requires.machine.good;
-      served = subst (λ (l : List (Start _)). AllByRecursion (IsServed log) l) (sym starts_is) (all_of_both (IsServed log) cs (start ∷ []) c.requires.machine.served (c.new-start.ensures.served log, tt));
+      served = subst (λ (l : List (Start _)). AllByRecursion (IsServed log) l) (sym starts_is) (all_of_both (IsServed log) cs (start ∷ []) c.requires.machine.served (c.new-start.ensures.served log (c.requires.resumed _ _ c.in-Some.ensures.items), tt));
       found = found_more cs c.push_reserved-2.new.self.items c.args.self.now.opened.items c.push_reserved.new.self.items start (length c.as_slice-place.result.now) starts_is c.push_reserved.ensures.items
           (ap (λ (l : List (Start _)). length l) c.as_slice-place.ensures.value) opened c.requires.machine.found;
       subscribed = subst (λ (l : List StartState). AllByRecursion (IsSubscribed (map subscriber_state c.subscribe.new.subscribers.items)) l) (sym states_is)

@@ -1,14 +1,14 @@
 use Rattle.std.proofs.Common.{◌≡◌, length, take}
-use Rattle.wal.specs.Log.{IsWellFormedLog}
+use Rattle.std.specs.Prelude.{◌≤◌, vec_capacity}
 use Rattle.world.specs.State.{new_world}
-use Rattle.world.specs.Law.{Headline}
+use Rattle.world.specs.Machine.{IsMachine, shown}
 use Rattle.world.specs.Steps.{IsRun}
 use Rattle.world.proofs.world.World.run.Given as goal
 
 abbrev pub invariant-loop-event : goal.invariant-loop-event
 invariant-loop-event g l = record {
-  run : IsRun (new_world l.fn.config) (take l.event-index l.events) l.world.answers l.world.state;
-  count : length l.world.answers ≡ l.event-index;
-  headline : Headline l.world.state;
-  log : IsWellFormedLog l.world.state.publisher.log;
+  machine : IsMachine l.machine;
+  run : IsRun (new_world l.fn.config) (take l.event-index l.events) l.answers.items (shown l.machine);
+  count : length l.answers.items ≡ l.event-index;
+  room : length l.events ≤ vec_capacity l.answers;
 }
