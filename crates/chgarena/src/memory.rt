@@ -1,7 +1,7 @@
 //! One region of raw memory. The functions of this file alone hold a pointer into it.
 
-ghost use Rattle.std.specs.Prelude.{◌≡◌, ℕ, ◌+◌, ◌<◌, ◌≤◌, ◌^◌, IfSome, List, None, Option, Some, drop, length, map, replicate, slice_set, take};
-ghost use Rattle.chgarena.specs.Places.{bytes, places_lent, places_own};
+ghost use Rattle.std.specs.Prelude.{◌≡◌, ℕ, ◌+◌, ◌<◌, ◌≤◌, ◌^◌, IfSome, List, None, Option, Some, drop, length, map, replicate, take};
+ghost use Rattle.chgarena.specs.Places.{bytes, places_lent, places_own, with_bytes};
 ghost use denote.RawPtr.{Ptr};
 
 use std::alloc::Allocator;
@@ -52,12 +52,18 @@ impl Memory {
         }
     }
 
-    /// Writes one byte.
-    pub(crate) fn put(&mut self, at: usize, byte: u8)
-        requires { at < length self.old.places }
-        ensures { (self.new.places ≡ slice_set self.old.places at (Some byte)) × (self.new.ptr ≡ self.old.ptr) }
+    /// Writes these bytes from a place on. The pointer stays where it is for the whole loop, so that many bytes are copied at a step.
+    #[inline(always)]
+    pub(crate) fn copy_in(&mut self, at: usize, bytes: &[u8])
+        requires { at + length bytes.now ≤ length self.old.places }
+        ensures { (self.new.places ≡ with_bytes self.old.places at bytes.now) × (self.new.ptr ≡ self.old.ptr) }
     {
-        unsafe { *self.ptr.add(at) = byte };
+        let to = unsafe { self.ptr.add(at) };
+        let mut i = 0;
+        while i < bytes.len() {
+            unsafe { *to.add(i) = bytes[i] };
+            i += 1;
+        }
     }
 
     /// Lends bytes that are written.

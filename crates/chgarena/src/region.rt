@@ -47,7 +47,7 @@ impl Region {
         requires { at + length bytes.now ≤ length self.old }
         ensures { self.new ≡ with_bytes self.old at bytes.now }
     {
-        copy_in(&mut self.memory, at, bytes)
+        self.memory.copy_in(at, bytes)
     }
 
     /// Lends bytes that are written.
@@ -69,14 +69,5 @@ impl Drop for Region {
             size,
         } = self;
         memory.give_back(lease, &alloc, size)
-    }
-}
-
-fn copy_in(memory: &mut Memory, at: usize, bytes: &[u8])
-    requires { at + length bytes.now ≤ length memory.old.places }
-    ensures { (memory.new.places ≡ with_bytes memory.old.places at bytes.now) × (memory.new.ptr ≡ memory.old.ptr) }
-{
-    for i in 0..bytes.len() {
-        memory.put(at + i, bytes[i]);
     }
 }
