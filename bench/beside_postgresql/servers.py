@@ -25,6 +25,14 @@ def children(pid):
             continue
 
 
+def command_of(pid):
+    """None where the process has ended."""
+    try:
+        return pathlib.Path(f"/proc/{pid}/cmdline").read_bytes()
+    except (FileNotFoundError, ProcessLookupError):
+        return None
+
+
 def processor_seconds(pid):
     """Of a process, its children, and those that have ended."""
     times = pathlib.Path(f"/proc/{pid}/stat").read_text().rpartition(")")[2].split()[11:15]
@@ -167,8 +175,8 @@ full_page_writes = off
     def settle(self):
         """Waits until the processes of ended connections are gone, and their times counted among those that have ended."""
         for _ in range(1000):
-            names = [pathlib.Path(f"/proc/{child}/cmdline") for child in children(self.pid)]
-            if all(any(word in name.read_bytes() for word in self.ALWAYS) for name in names if name.exists()):
+            commands = map(command_of, children(self.pid))
+            if all(any(word in command for word in self.ALWAYS) for command in commands if command is not None):
                 return
             time.sleep(0.01)
         raise Failed("a connection of PostgreSQL goes on")

@@ -1,17 +1,24 @@
 //! A row filter of ten comparisons beside the same test written by hand: `filter TURNS WORK` makes a thousand rows, and in each turn
-//! asks of each whether it passes the filter (`filter`) or the test (`hand`), or makes the message of its insert, published by
-//! one publication of its table (`one`) or by the last of sixteen (`sixteen`).
+//! asks of each whether it passes the filter (`filter`) or the test (`hand`).
 
-use crate::item::{ITEM, ITEM_TABLE, catalog};
 use crate::number;
 use anyhow::{Context, Result, bail};
 use pqformat::Text;
-use publication::{Projected, Publications, Selection};
 use rowfilter::{Filter, Truth, parse};
 use std::alloc::Global;
-use std::fmt::Write;
 use std::io::Print;
-use tables::{Catalog, Change, Row, Value};
+use tables::{Catalog, Row, Value};
+
+const ITEM: u32 = 16384;
+
+const ITEM_TABLE: &str = "\
+[[table]]
+oid = 16384
+schema = 'public'
+name = 'item'
+key = ['id']
+columns = [['id', 'int4'], ['name', 'text'], ['qty', 'int8']]
+";
 
 const ROWS: i32 = 1000;
 
@@ -33,8 +40,6 @@ fn passed(alloc: Global, turns: u32, work: &str) -> Result<u64> {
     match work {
         "filter" => turns_by_filter(alloc, turns, rows.as_slice()),
         "hand" => Ok(turns_by_hand(turns, rows.as_slice())),
-        "one" => turns_by_selection(alloc, turns, 1, rows),
-        "sixteen" => turns_by_selection(alloc, turns, 16, rows),
         _ => bail!("no work is called {work}"),
     }
 }
@@ -57,13 +62,17 @@ fn row(alloc: Global, id: i32, name: Text) -> Result<Row> {
     Ok(Row::new(values))
 }
 
-fn filter(alloc: Global, catalog: &Catalog) -> Result<Filter> {
+fn filter(alloc: Global) -> Result<Filter> {
+    filter_over(alloc, &Catalog::from_toml(alloc, ITEM_TABLE)?)
+}
+
+fn filter_over(alloc: Global, catalog: &Catalog) -> Result<Filter> {
     let table = catalog.table(ITEM).context("the table is missing")?;
     Ok(parse(alloc, FILTER, table)?)
 }
 
 fn turns_by_filter(alloc: Global, turns: u32, rows: &[Row]) -> Result<u64> {
-    let filter = filter(alloc, &catalog(alloc)?)?;
+    let filter = filter(alloc)?;
     let mut passed: u64 = 0;
     for _ in 0..turns {
         passed = passed.saturating_add(passed_by_filter(&filter, rows));
@@ -79,71 +88,6 @@ fn passed_by_filter(filter: &Filter, rows: &[Row]) -> u64 {
         }
     }
     passed
-}
-
-/// A table, and so many publications of it; only the last lets rows pass.
-fn configuration(alloc: Global, publications: u32) -> Result<String> {
-    let mut text = String::from_str(alloc, ITEM_TABLE)?;
-    for number in 1..=publications {
-        let least = if number == publications { 0 } else { 1_000_000 };
-        write!(
-            text,
-            "[[publication]]\nname = \"p{number}\"\ntables = [{{ name = \"public.item\", where = \"qty >= {least}\" }}]\n"
-        )?;
-    }
-    Ok(text)
-}
-
-fn selection(alloc: Global, publications: u32) -> Result<Selection> {
-    let text = configuration(alloc, publications)?;
-    let catalog = Catalog::from_toml(alloc, text.as_str())?;
-    let known = Publications::from_toml(alloc, text.as_str(), &catalog)?;
-    select(alloc, &known, publications)
-}
-
-fn select(alloc: Global, known: &Publications, publications: u32) -> Result<Selection> {
-    let names = names(alloc, publications)?;
-    Ok(known.select(names.as_slice())?)
-}
-
-fn names(alloc: Global, publications: u32) -> Result<Vec<Text>> {
-    let mut names = Vec::new(alloc);
-    for number in 1..=publications {
-        names.push(Text::new(format!(in alloc; "p{number}")?))?;
-    }
-    Ok(names)
-}
-
-fn turns_by_selection(alloc: Global, turns: u32, publications: u32, rows: Vec<Row>) -> Result<u64> {
-    let inserts = inserts(alloc, rows)?;
-    let selection = selection(alloc, publications)?;
-    published_in_turns(turns, &selection, inserts.as_slice())
-}
-
-fn inserts(alloc: Global, rows: Vec<Row>) -> Result<Vec<Change>> {
-    let mut inserts = Vec::new(alloc);
-    for row in rows {
-        inserts.push(Change::Insert(ITEM, row))?;
-    }
-    Ok(inserts)
-}
-
-fn published_in_turns(turns: u32, selection: &Selection, inserts: &[Change]) -> Result<u64> {
-    let mut published: u64 = 0;
-    for _ in 0..turns {
-        published = published.saturating_add(published_by(selection, inserts)?);
-    }
-    Ok(published)
-}
-
-fn published_by(selection: &Selection, changes: &[Change]) -> Result<u64> {
-    let mut published: u64 = 0;
-    for change in changes {
-        if let Projected::Message(_) = selection.project(change)? {
-            published = published.saturating_add(1);
-        }
-    }
-    Ok(published)
 }
 
 fn turns_by_hand(turns: u32, rows: &[Row]) -> u64 {

@@ -3,24 +3,21 @@
 //! `example_uses` alone says which there are.
 #![tactic(auto)]
 
+mod chunks;
 mod claims;
 mod connection;
 mod desk;
 mod filters;
-mod item;
-mod log;
 mod orders;
-mod rows;
 mod sending;
 mod subscriber;
 
 use anyhow::{Context, Result, bail};
+use chunks::work_on_arena;
 use claims::work_on_slots;
 use connection::hold_conversations;
 use filters::work_on_filters;
-use log::work_on_log;
 use orders::follow_orders;
-use rows::work_on_store;
 use sending::bytes_sent;
 use std::alloc::Global;
 use std::env;
@@ -35,10 +32,9 @@ const USAGE: &str = "usage: example_uses USE [then USE].., where a USE is one of
   stream
   connection TIMES LENGTH PIECE
   subscriber TIMES INSERTS PIECE
-  store ROWS insert|update|delete|undo..
-  filter TURNS filter|hand|one|sixteen
+  filter TURNS filter|hand
   slots slots|words|apart THREADS TURNS
-  log RECORDS READERS busy|yielding COMMITS FETCHES
+  arena CHUNKS LENGTH TURNS push|copy
   orders";
 
 /// The word between two uses.
@@ -64,10 +60,9 @@ where
         "stream" => println!(rt; "{}", bytes_sent(rt, alloc)?).map_err(Into::into),
         "connection" => hold_conversations(rt, alloc, words),
         "subscriber" => follow_stream(rt, alloc, words),
-        "store" => work_on_store(alloc, words),
         "filter" => work_on_filters(rt, alloc, words),
         "slots" => work_on_slots(rt, alloc, words),
-        "log" => work_on_log(rt, alloc, words),
+        "arena" => work_on_arena(alloc, words),
         "orders" => follow_orders(rt, alloc),
         _ => bail!("{USAGE}"),
     }

@@ -12,7 +12,7 @@ ghost use Rattle.std.specs.Prelude.{◌≡◌};
 use command::{Numbers, Words, words_of};
 use configuration::{Config, explained};
 use fault::Fault;
-use hub::{Hub, OpenedHub, ServeFault, serve};
+use hub::{Hub, OpenedHub, serve};
 use reports::Reports;
 use scripts::{Script, run_all, scripts_of};
 use shared_log::LogName;
@@ -22,6 +22,7 @@ use std::marker::Brand;
 use std::net::{Net, SocketAddr, TcpListener, TcpStream};
 use std::process::ExitCode;
 use std::sync::Wait;
+use std::sync::atomic::{AtomicBool, Ordering};
 use std::thread::Threads;
 use std::time::{Clock, Duration};
 use std::{env, fs, thread};
@@ -152,27 +153,33 @@ where
     E: Print + Sync,
 {
     println!(output; "listening {}", service.address).map_err(Fault::Output)?;
-    let (scripted, served) = thread::join(
-        rt,
-        || run_awaited(rt, hub, service, errors),
-        || serve_all(rt, hub, service, errors),
-    );
-    served.map_err(Fault::Serve)?;
-    scripted
+    let ended_early = AtomicBool::new(false);
+    let early = &ended_early;
+    thread::scope(thread::scope_env(), rt, |scope| {
+        let scripted = scope.spawn(move || run_awaited(rt, hub, service, errors, early));
+        if scripted.is_err() {
+            return Err(Fault::Memory);
+        }
+        serve_all(rt, hub, service, errors)
+    })?;
+    if ended_early.load(Ordering::SeqCst) {
+        return Err(Fault::EndedEarly);
+    }
+    Ok(())
 }
 
 /// The scripts begin once the streams that they await have begun.
-fn run_awaited<L, R, E>(rt: &R, hub: &Hub<L>, service: &Service, errors: &E) -> Result<(), Fault>
+fn run_awaited<L, R, E>(rt: &R, hub: &Hub<L>, service: &Service, errors: &E, early: &AtomicBool)
 where
     L: LogName + SlotName + Send + Sync,
     R: Threads + Wait + Clock + Sync,
     E: Print + Sync,
 {
     hub.await_streams(rt, service.awaited);
-    run_all(rt, hub, service.scripts, errors)
+    run_all(rt, hub, service.scripts, errors, early);
 }
 
-fn serve_all<L, R, E>(rt: &R, hub: &Hub<L>, service: &Service, errors: &E) -> Result<(), ServeFault>
+fn serve_all<L, R, E>(rt: &R, hub: &Hub<L>, service: &Service, errors: &E) -> Result<(), Fault>
 where
     L: LogName + SlotName + Send + Sync,
     R: Threads + Wait + Clock + Sync,
@@ -181,5 +188,5 @@ where
     let reports = Reports { errors };
     let served = serve(rt, service.listener, hub, service.connections, &reports);
     hub.end_awaiting(rt);
-    served
+    served.map_err(Fault::Serve)
 }

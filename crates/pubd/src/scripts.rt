@@ -62,28 +62,22 @@ fn session_lines(alloc: Global, text: &str) -> Result<Schedule, LineFault> {
     Ok(script)
 }
 
-/// Runs each script to its end. What ends one early is told at once on `errors`, where refused lines go too.
-pub fn run_all<L, R, E>(rt: &R, hub: &Hub<L>, scripts: &[Script], errors: &E) -> Result<(), Fault>
+/// Runs each script to its end; one whose thread can't be had runs on this one, before those behind it. What ends one early is
+/// told at once on `errors`, where refused lines go too, and by `early`.
+pub fn run_all<L, R, E>(rt: &R, hub: &Hub<L>, scripts: &[Script], errors: &E, early: &AtomicBool)
 where
     L: LogName + SlotName + Send + Sync,
     R: Threads + Wait + Sync,
     E: Print + Sync,
 {
-    let ended_early = AtomicBool::new(false);
-    let early = &ended_early;
-    let spawned = thread::scope(thread::scope_env(), rt, |scope| {
+    thread::scope(thread::scope_env(), rt, |scope| {
         for script in scripts {
             let spawned = scope.spawn(move || run_one(rt, hub, script, errors, early));
             if spawned.is_err() {
-                return Err(Fault::Memory);
+                run_one(rt, hub, script, errors, early);
             }
         }
-        Ok(())
     });
-    if ended_early.load(Ordering::SeqCst) {
-        return Err(Fault::EndedEarly);
-    }
-    spawned
 }
 
 fn run_one<L, R, E>(rt: &R, hub: &Hub<L>, script: &Script, errors: &E, early: &AtomicBool)

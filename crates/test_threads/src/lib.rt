@@ -8,13 +8,9 @@ mod load_calls;
 #[cfg(test)]
 mod log_fixture;
 #[cfg(test)]
-mod numbers;
-#[cfg(test)]
 mod receipt_calls;
 #[cfg(test)]
 mod server_calls;
-#[cfg(test)]
-mod session;
 #[cfg(test)]
 mod slot_calls;
 #[cfg(test)]

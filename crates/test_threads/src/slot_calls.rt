@@ -1,8 +1,5 @@
 //! Slots that threads share: what no clause says of many calls side by side.
 
 pub mod gate;
-pub mod many_slots;
-pub mod mark;
 pub mod one_slot;
-pub mod worker;
 pub mod wrong;

@@ -5,7 +5,6 @@ ghost use Rattle.std.specs.Prelude.{◌≡◌};
 use crate::load_calls::run_load;
 use crate::log_fixture::opened;
 use crate::receipt_calls::learn_elsewhere;
-use crate::session::Load;
 use crate::turn_calls::{look_twice, turn_narrowly};
 use shared_log::{LogName, LogReader};
 use std::alloc::Global;
@@ -22,15 +21,14 @@ pub enum Work {
     LearnElsewhere,
     LookTwice,
     TurnNarrowly,
-    Load(Load),
+    Load,
 }
 
 impl Work {
     fn readers(self) -> usize {
         match self {
             Work::LearnElsewhere | Work::TurnNarrowly => 1,
-            Work::LookTwice => 2,
-            Work::Load(load) => load.readers.saturating_add(1),
+            Work::LookTwice | Work::Load => 2,
         }
     }
 }
@@ -71,6 +69,6 @@ fn with_log<L: LogName + Send + Sync, R: Threads + Wait + Abort + Sync>(
         Work::LearnElsewhere => learn_elsewhere(rt, alloc, desk, readers),
         Work::LookTwice => look_twice(rt, alloc, desk, readers),
         Work::TurnNarrowly => turn_narrowly(rt, alloc, desk, readers),
-        Work::Load(load) => run_load(rt, alloc, desk, readers, load),
+        Work::Load => run_load(rt, alloc, desk, readers),
     }
 }

@@ -1,4 +1,4 @@
-//! What goes wrong at slots.
+//! What goes wrong at a slot.
 
 use slots::SlotFault;
 
@@ -9,12 +9,4 @@ pub enum Wrong {
     Answer(SlotFault),
     /// A position below one that was seen there.
     WentBack,
-    /// Another holder's name, or none where this thread holds the slot.
-    TwoHolders,
-    /// A place that was made or dropped a second time.
-    Twice,
-    /// A place that is there once it was dropped.
-    CameBack,
-    /// A place past the last.
-    NoPlace,
 }
