@@ -107,7 +107,7 @@ func main() {
 	fmt.Println("started")
 	for take(connection) != 'C' {
 	}
-	sendStatus(connection, 0x1000050)
+	sendStatus(connection, 0x1001838)
 	for take(connection) != 'k' {
 	}
 	endStream(connection)

@@ -6,7 +6,8 @@ import subprocess
 import sys
 import time
 
-from connection import STARTUP, TERMINATE, Connection, Refused, keepalive, status
+from connection import STARTUP, TERMINATE, Connection, Refused, keepalive, refusal_of_one_more, status
+from crowds import sixteen_clients_at_sixteen_slots, sixteen_streams_tell_the_same_of_eight_scripts
 from followers import (
     a_refusal_without_a_reason_is_one_all_the_same,
     acknowledgements_follow_what_was_printed,
@@ -81,17 +82,6 @@ def nothing_is_lost_with_connections(pubd, subcat):
             for stream in streams:
                 stream.break_off()
         return wrong + server.end()
-
-
-def refusal_of_one_more(port):
-    more = Connection(port)
-    try:
-        more.start("s0")
-        return ["a seventeenth stream began"]
-    except Refused as refused:
-        return [f"a seventeenth stream was refused by {refused}"] * (refused.args[0] != "53400")
-    finally:
-        more.close()
 
 
 def a_descriptor_that_is_not_to_be_had_costs_one_connection(pubd, subcat):
@@ -380,6 +370,8 @@ ALL = [
     a_slow_reader_holds_up_nobody,
     a_transaction_that_is_too_large_ends_its_stream,
     two_followers_print_what_a_script_commits,
+    sixteen_streams_tell_the_same_of_eight_scripts,
+    sixteen_clients_at_sixteen_slots,
     an_acknowledgement_holds_over_a_close,
     an_acknowledgement_holds_over_a_blocked_write,
     restarts_lose_and_repeat_nothing,

@@ -131,3 +131,15 @@ class Connection:
     def close(self):
         self.bytes.close()
         self.socket.close()
+
+
+def refusal_of_one_more(port):
+    """What is wrong where sixteen streams go on and one more begins: it has to be refused by 53400."""
+    more = Connection(port)
+    try:
+        more.start("s0")
+        return ["a seventeenth stream began"]
+    except Refused as refused:
+        return [f"a seventeenth stream was refused by {refused}"] * (refused.args[0] != "53400")
+    finally:
+        more.close()

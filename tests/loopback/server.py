@@ -23,14 +23,16 @@ def inserts(rows, each=1, name="ab"):
 
 
 class Server:
-    """pubd, which serves so many connections, and runs the script once so many streams have begun. What it says of connections
-    that it can't take is said apart."""
+    """pubd, which serves so many connections, and runs the script once so many streams have begun, or several beside one another.
+    What it says of connections that it can't take is said apart."""
 
-    def __init__(self, pubd, connections, lines=(), awaited=0, more=(), user=None, host="127.0.0.1"):
+    def __init__(self, pubd, connections, lines=(), awaited=0, more=(), user=None, host="127.0.0.1", scripts=()):
         self.folder = tempfile.TemporaryDirectory()
         self.script = pathlib.Path(self.folder.name) / "script"
-        self.script.write_text("".join(line + "\n" for line in lines))
-        words = [*more, "--await-streams", str(awaited), CONFIGURATION, f"{host}:0", str(connections), self.script]
+        files = [self.script, *(self.script.with_name(f"script{at}") for at in range(1, len(scripts)))]
+        for file, each in zip(files, scripts or [lines]):
+            file.write_text("".join(line + "\n" for line in each))
+        words = [*more, "--await-streams", str(awaited), CONFIGURATION, f"{host}:0", str(connections), *files]
         if user is not None:
             pubd, words = self.opened_to(user, pubd, words)
         self.process = subprocess.Popen([pubd, *words], stdout=subprocess.PIPE, stderr=subprocess.PIPE, text=True, user=user)

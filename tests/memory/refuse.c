@@ -5,6 +5,7 @@
 #include <stdatomic.h>
 #include <stdio.h>
 #include <stdlib.h>
+#include <sys/syscall.h>
 #include <unistd.h>
 
 void *__libc_malloc(size_t size);
@@ -31,7 +32,14 @@ __attribute__((destructor)) static void tell(void) {
     char text[32];
     int length = snprintf(text, sizeof text, "%ld\n", atomic_load(&counted));
     if (teller >= 0 && write(teller, text, (size_t)length) != length)
-        _exit(99);
+        syscall(SYS_exit_group, 99);
+}
+
+/* By this a program with threads ends, past all destructors. */
+void _exit(int status) {
+    tell();
+    for (;;)
+        syscall(SYS_exit_group, status);
 }
 
 static int is_refused(void) {

@@ -28,10 +28,25 @@ def shim_in(room):
 
 def run(words, shim, number):
     """Runs a program; its allocation of this number is refused, and of 0 none is."""
+    return end(*begin(words, shim, number))
+
+
+def begin(words, shim, number, given=subprocess.DEVNULL):
+    """A program that runs so, and where the count of its allocations comes in the end."""
     reads, writes = os.pipe()
     env = dict(os.environ, LD_PRELOAD=str(shim), REFUSE=str(number), REFUSE_TELLS=str(writes))
-    ran = subprocess.run(words, capture_output=True, text=True, timeout=60, env=env, pass_fds=[writes])
+    process = subprocess.Popen(words, stdin=given, stdout=subprocess.PIPE, stderr=subprocess.PIPE, text=True, env=env, pass_fds=[writes])
     os.close(writes)
-    with open(reads) as told:
-        count = told.read().strip()
-    return Ran(ran.returncode, ran.stdout, ran.stderr, int(count or 0))
+    return process, reads
+
+
+def end(process, reads, given=None):
+    """How it ends, and what it prints until then, where this is its input."""
+    with open(reads) as counted:
+        try:
+            printed, told = process.communicate(given, timeout=60)
+        except subprocess.TimeoutExpired:
+            process.kill()
+            raise
+        count = counted.read().strip()
+    return Ran(process.returncode, printed, told, int(count or 0))

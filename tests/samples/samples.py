@@ -15,13 +15,18 @@ def bytes_of(digits):
     return bytes.fromhex(digits.replace(" ", ""))
 
 
-def toml_of(text):
-    """`;` ends a line, and `{N*TEXT}` stands for TEXT N times, with the number of each in place of `#`."""
+def repeated(text):
+    """`{N*TEXT}` stands for TEXT N times, with the number of each in place of `#`."""
 
-    def repeated(found):
+    def written(found):
         return "".join(found[2].replace("#", str(number)) for number in range(1, int(found[1]) + 1))
 
-    return re.sub(r"\{(\d+)\*([^}]*)\}", repeated, text.replace(";", "\n"))
+    return re.sub(r"\{(\d+)\*([^}]*)\}", written, text)
+
+
+def toml_of(text):
+    """`;` ends a line."""
+    return repeated(text.replace(";", "\n"))
 
 
 def unquoted(text):
@@ -192,6 +197,8 @@ def read(file: pathlib.Path):
         if not line or line.startswith("#"):
             continue
         call, given, said = read_line(line)
+        if call in BYTES or call == "command":
+            given, said = repeated(given), repeated(said)
         if call in TEXTS:
             asked = [TEXTS[call](given)]
         elif call == BEGINNINGS:

@@ -1,10 +1,15 @@
 """Files of streams, each with what a subscriber makes of it."""
+import functools
 import itertools
 
 from case import Case, Wrong, values
 from meanings import position
 
 NAMED, ENDS, RECONNECT = "== ", "-- ", "reconnect"
+# What a subscriber has before anything came to it whole.
+EMPTY = "0/0"
+# How the frames of a keepalive and of a Begin begin.
+KEEPALIVE, BEGIN = bytes.fromhex("64000000166b"), bytes.fromhex("640000003277")
 # A keepalive of a position that no sample reaches. Behind a fault it is answered by the fault, and changes nothing.
 LATE_KEEPALIVE = bytes.fromhex("64000000166bff00000000000000000000000000000900")
 
@@ -50,26 +55,40 @@ def settled(plain, probed):
     return plain
 
 
-def alike(*answers):
-    """What came of the stream at once, byte by byte, and of connections that were lost, where it is the same."""
+def alike(*answers, beginnings=0):
+    """What came of the stream at once, byte by byte, and of connections that were lost, where it is the same. The last answers are
+    those of so many beginnings that have nothing whole."""
     whole, pieces = settled(*answers[:2]), settled(*answers[2:4])
+    end = len(answers) - beginnings
     if whole != pieces:
         raise Wrong(f"comes to something else in pieces:\n{pieces}\nand at once\n{whole}")
-    for length, answer in enumerate(answers[4:]):
+    for length, answer in enumerate(answers[4:end]):
         if outcome(answer) != whole:
             raise Wrong(f"comes to something else where the connection is lost behind {length} bytes:\n{outcome(answer)}")
+    for length, answer in enumerate(answers[end:]):
+        if outcome(answer) != EMPTY:
+            raise Wrong(f"comes to something by its first {length} bytes:\n{outcome(answer)}")
     return whole
 
 
 def asked_of(connections, told):
-    """Of one connection without a fault also that it is lost behind any byte, and the stream is sent again."""
+    """Of one connection without a fault also that it is lost behind any byte, and the stream is sent again; of one block that
+    nothing comes of any beginning of it, byte by byte."""
     ones = ([stream[at : at + 1] for at in range(len(stream))] for stream in connections)
     asked = twice(itertools.chain(*([".", stream] for stream in connections)))
     asked += twice(itertools.chain(*([".", *stream] for stream in ones)))
     if len(connections) == 1 and " ! " not in told[0]:
         stream = connections[0]
         asked += [applied([stream[:length], ".", stream]) for length in range(len(stream))]
+        if is_one_block(stream, told):
+            asked += [applied([".", *(stream[at : at + 1] for at in range(length))]) for length in range(len(stream))]
     return asked
+
+
+def is_one_block(stream, told):
+    """Whether it tells one transaction, once, and no keepalive."""
+    told_once = told[-1].startswith("COMMIT ") and told[0] == told[-1].split()[2]
+    return told_once and stream.count(BEGIN) == 1 and KEEPALIVE not in stream
 
 
 def cases(lines):
@@ -98,4 +117,6 @@ def add_line(connections, told, line):
 def read(file):
     for number, connections, told in cases(file.read_text().split("\n")):
         due = "\n".join(told)
-        yield Case(number, asked_of(connections, told), alike, lambda came, due=due: came == due)
+        asked = asked_of(connections, told)
+        beginnings = len(connections[0]) if len(connections) == 1 and is_one_block(connections[0], told) else 0
+        yield Case(number, asked, functools.partial(alike, beginnings=beginnings), lambda came, due=due: came == due)

@@ -37,7 +37,12 @@ def expanded(line):
         count, rest = line[len("repeat "):].split(" ", 1)
     for number in range(1, int(count) + 1):
         one = rest if count == 1 else rest.replace("#", str(number))
-        yield re.sub(r"a\{(\d+)\}", lambda found: "a" * int(found[1]), one.replace("\\0", "\0"), count=1)
+        yield re.sub(r"a\{(\d+)\}", lambda found: "a" * int(found[1]), one.replace("\\0", "\0"))
+
+
+def bytes_printed(line):
+    """What a line of the printed bytes stands for."""
+    return re.sub(r"61\{(\d+)\}", lambda found: "61" * int(found[1]), line)
 
 
 def read(file):
@@ -54,7 +59,7 @@ def read(file):
         elif not is_printed:
             cases[-1].schedule += "".join(f"{one}\n" for one in expanded(line))
         elif line.startswith(" "):
-            cases[-1].printed = cases[-1].printed[:-1] + line.replace(" ", "") + "\n"
+            cases[-1].printed = cases[-1].printed[:-1] + bytes_printed(line.replace(" ", "")) + "\n"
         elif line:
             cases[-1].printed += line + "\n"
     return config_of(lines[:first]), cases
