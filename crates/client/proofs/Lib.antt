@@ -1,8 +1,8 @@
 mod StatusFrames
 mod Bodies
-mod Reaching
+pub mod Reaching
 mod Fronts
 mod Blocks
 mod Standing
-mod Laws
+pub mod Laws
 mod Worked

@@ -116,11 +116,11 @@ refused_same name slot_faults.Exists s = refl
 refused_same name slot_faults.NoPlace s = refl
 refused_same name slot_faults.Memory s = refl
 
-let_go_same : (name : List ℕ) (slot : Option (List ℕ)) (s : SlotsState) → confirmed_at name (let_go slot s) ≡ confirmed_at name s
+pub let_go_same : (name : List ℕ) (slot : Option (List ℕ)) (s : SlotsState) → confirmed_at name (let_go slot s) ≡ confirmed_at name s
 let_go_same name None s = refl
 let_go_same name (Some other) s = kept_by name other (holding false) s.slots (λ _. (refl, refl))
 
-taken_same : (name : List ℕ) (slot : Option (List ℕ)) (s : SlotsState) → confirmed_at name (taken slot s) ≡ confirmed_at name s
+pub taken_same : (name : List ℕ) (slot : Option (List ℕ)) (s : SlotsState) → confirmed_at name (taken slot s) ≡ confirmed_at name s
 taken_same name None s = refl
 taken_same name (Some other) s = kept_by name other (holding true) s.slots (λ _. (refl, refl))
 
@@ -128,14 +128,14 @@ taken_same name (Some other) s = kept_by name other (holding true) s.slots (λ _
 same_slots : (name : List ℕ) (old new w : WorldState) → new ≡ w → w.slots ≡ old.slots → confirmed_at name new.slots ≡ confirmed_at name old.slots
 same_slots name old new w is same = ap (λ (x : WorldState). confirmed_at name x.slots) is ∙ ap (confirmed_at name) same
 
-not_named : (created : List ℕ) (s : SlotsState) → create_refusal created s ≡ None → slot_of created s.slots ≡ None
+pub not_named : (created : List ℕ) (s : SlotsState) → create_refusal created s ≡ None → slot_of created s.slots ≡ None
 not_named created s none = by_slot (slot_of created s.slots) refl
   where
     by_slot : (o : Option NamedSlot) → slot_of created s.slots ≡ o → slot_of created s.slots ≡ None
     by_slot None is = is
     by_slot (Some t) is = let never : Option.Some slot_faults.Exists ≡ Option.None = rw is at none in absurd cc
 
-created_step : (name created : List ℕ) (old new : WorldState) (a : Answer) → Creates created old a new → confirmed_at name new.slots ≡ confirmed_after name old (events.Slot created) a (confirmed_at name old.slots)
+pub created_step : (name created : List ℕ) (old new : WorldState) (a : Answer) → Creates created old a new → confirmed_at name new.slots ≡ confirmed_after name old (events.Slot created) a (confirmed_at name old.slots)
 created_step name created old new answers.Done step =
     ap (λ (w : WorldState). confirmed_at name w.slots) step.1
     ∙ one_more name old.slots.slots (record { name = created; place = old.slots.places; confirmed = log_end old.publisher; is_held = false }) (not_named created old.slots step.0)
@@ -163,7 +163,7 @@ started_step name c slot position names old new answers.NoReader step = ap (λ (
 started_step name c slot position names old new (answers.Sender fault) step = ap (λ (w : WorldState). confirmed_at name w.slots) step.1
 started_step name c slot position names old new (answers.Subscriber fault) step = ap (λ (w : WorldState). confirmed_at name w.slots) step.1
 
-confirmed_once : (name : List ℕ) (slot : Option (List ℕ)) (by : ℕ) (s : SlotsState) → confirmed_at name (confirmed_by slot by s) ≡ option_map (raised_by (told_if name slot (Some by))) (confirmed_at name s)
+pub confirmed_once : (name : List ℕ) (slot : Option (List ℕ)) (by : ℕ) (s : SlotsState) → confirmed_at name (confirmed_by slot by s) ≡ option_map (raised_by (told_if name slot (Some by))) (confirmed_at name s)
 confirmed_once name None by s = same (confirmed_at name s)
   where
     same : (o : Option ℕ) → o ≡ option_map (raised_by None) o
@@ -178,7 +178,7 @@ acknowledged_step name c old new a step =
     ∙ ap (λ (told : Option ℕ). option_map (raised_by told) (confirmed_at name old.slots)) (ap (λ (back : List Status). told_if name step.before.slot (told_next step.start.position back)) (sym step.waits)
     ∙ ap (λ (o : Option SubscriberState). told_to name (Some step.start) o) (sym step.known) ∙ ap (λ (o : Option StartState). told_to name o (subscriber_of c old.subscribers)) (sym step.there))
 
-connection_confirms : (name c : List ℕ) (step : ConnectionStep) (old : WorldState) (a : Answer) (new : WorldState) → IsStepAt c step old a new → confirmed_at name new.slots ≡ confirmed_after name old (events.Connection c step) a (confirmed_at name old.slots)
+pub connection_confirms : (name c : List ℕ) (step : ConnectionStep) (old : WorldState) (a : Answer) (new : WorldState) → IsStepAt c step old a new → confirmed_at name new.slots ≡ confirmed_after name old (events.Connection c step) a (confirmed_at name old.slots)
 connection_confirms name c (steps.Start slot position names) old a new step = started_step name c (slot_named slot) position names old new a step.1
 connection_confirms name c (steps.Read max clock) old a new step = ap (λ (w : WorldState). confirmed_at name w.slots) step.is
 connection_confirms name c (steps.Keepalive clock) old a new step = ap (λ (w : WorldState). confirmed_at name w.slots) step.is
@@ -189,7 +189,7 @@ connection_confirms name c (steps.Flushed number) old a new step = ap (λ (w : W
 connection_confirms name c steps.Ack old a new step = acknowledged_step name c old new a step
 connection_confirms name c steps.Cut old a new step = ap (λ (w : WorldState). confirmed_at name w.slots) step.is ∙ let_go_same name (slot_of_connection c old.subscribers) old.slots
 
-step_confirms : (name : List ℕ) (old : WorldState) (e : Event) (a : Answer) (new : WorldState) → IsStep old e a new → confirmed_at name new.slots ≡ confirmed_after name old e a (confirmed_at name old.slots)
+pub step_confirms : (name : List ℕ) (old : WorldState) (e : Event) (a : Answer) (new : WorldState) → IsStep old e a new → confirmed_at name new.slots ≡ confirmed_after name old e a (confirmed_at name old.slots)
 step_confirms name old (events.Session t s) a new step = ap (λ (w : WorldState). confirmed_at name w.slots) step.is
 step_confirms name old (events.Connection c s) a new step = connection_confirms name c s old a new step
 step_confirms name old (events.Slot created) a new step = created_step name created old new a step

@@ -8,3 +8,11 @@ pub mod Machines
 pub mod Readers
 pub mod PipesBack
 pub mod Confirmed
+pub mod Orders
+pub mod Settled
+pub mod Raising
+pub mod Lookups
+pub mod Feeding
+pub mod OnceSteps
+pub mod OwnSteps
+pub mod OnceRuns

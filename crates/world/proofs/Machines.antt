@@ -53,7 +53,7 @@ abbrev pub is_cut : Action → Bool
 is_cut actions.Cut = true
 is_cut action = false
 
-stays_open : (log : List Record) (action : Action) (old new : StartState) (a : Answer) → is_cut action ≡ false → Acts log action old a new → new.is_open ≡ old.is_open
+pub stays_open : (log : List Record) (action : Action) (old new : StartState) (a : Answer) → is_cut action ≡ false → Acts log action old a new → new.is_open ≡ old.is_open
 stays_open log (actions.Read max clock) old new answers.Done goes acts = ap (λ (s : StartState). s.is_open) acts.1
 stays_open log (actions.Keepalive clock) old new answers.Done goes acts = ap (λ (s : StartState). s.is_open) acts.1
 stays_open log (actions.Drain n) old new answers.Done goes acts = ap (λ (s : StartState). s.is_open) acts.1
@@ -72,7 +72,7 @@ stays_open log action old new (answers.Publication fault) goes acts = absurd act
 stays_open log action old new answers.NoReader goes acts = absurd acts
 stays_open log action old new (answers.Subscriber fault) goes acts = absurd acts
 
-is_closed : (log : List Record) (old new : StartState) (a : Answer) → Acts log actions.Cut old a new → new.is_open ≡ false
+pub is_closed : (log : List Record) (old new : StartState) (a : Answer) → Acts log actions.Cut old a new → new.is_open ≡ false
 is_closed log old new answers.Done acts = ap (λ (s : StartState). s.is_open) acts.1
 is_closed log old new (answers.Sender sends.Memory) acts = absurd acts.1
 is_closed log old new (answers.Sender sends.ArenaFull) acts = absurd acts.1

@@ -65,7 +65,7 @@ all_exact log (c ∷ cs) good all = (exact_by log c.connection c.produced.items 
 pub headline : {L : Type 0} (m : Machine L) → IsMachine m → Headline (shown m)
 headline m is = all_exact m.publisher.log m.starts.items is.good is.served
 
-joined : (start mid new : WorldState) (es : List Event) (answers : List Answer) (e : Event) (a : Answer) → IsRun start es answers mid → IsStep mid e a new → IsRun start (es ++ e ∷ []) (answers ++ a ∷ []) new
+abbrev pub joined : (start mid new : WorldState) (es : List Event) (answers : List Answer) (e : Event) (a : Answer) → IsRun start es answers mid → IsStep mid e a new → IsRun start (es ++ e ∷ []) (answers ++ a ∷ []) new
 joined start mid new [] [] e a run step = let P : WorldState → Type 0 = λ w. IsStep w e a new in (new, subst P run step, refl)
 joined start mid new [] (b ∷ answers) e a run step = absurd run
 joined start mid new (d ∷ es) [] e a run step = absurd run

@@ -8,3 +8,4 @@ pub mod Steps
 pub mod Confirming
 pub mod Machine
 pub mod Ending
+pub mod Once

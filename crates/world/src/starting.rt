@@ -1,12 +1,205 @@
-//! What a start of a connection is judged by.
+//! The start of a sender: what it is judged by, what it takes, and where it begins to read.
 
-ghost use Rattle.world.specs.Starting.{Told};
+ghost use Rattle.std.specs.Prelude.{◌≡◌, ◌≢◌, ◌<◌, ◌++◌, ◌∷◌, [], None, Err, IfOk, IsNone, IsSome, OnErr, OnOk, false, vec_len};
+ghost use Rattle.wal.specs.Restart.{restart};
+ghost use Rattle.named_slots.specs.Words.{is_held, is_missing, slot_named, start_from};
+ghost use Rattle.starts.specs.Acting.{new_start};
+ghost use Rattle.world.specs.State.{new_subscriber, open_start, with_one_for};
+ghost use Rattle.world.specs.ConnectionLines.{IsStart, start_refusal};
+ghost use Rattle.world.specs.Starting.{Told, started_with};
+ghost use Rattle.world.specs.Machine.{HasRoom, IsMachine, IsResumed, shown, subscriber_state};
 
-use named_slots::{HeldSlots, is_held, is_missing};
+use crate::machine::Machine;
+use crate::subscriber::{Subscriber, subscribe};
+use chgarena::Arena;
+use named_slots::{HeldSlots, is_held, is_missing, slot_named, start_from, take};
 use pqformat::Text;
-use publication::{PubFault, Publications};
+use publication::{PubFault, Publications, Selection};
+use schedule::{Answer, WorldFault};
+use shared_log::LogName;
 use slots::{SlotFault, SlotName};
-use walsender::{ClaimFault, StartDesk};
+use starts::{Start, resume};
+use std::alloc::{AllocError, Global};
+use walsender::{ClaimFault, StartDesk, StartFault, begin};
+
+impl<L: LogName + SlotName> Machine<L> {
+    /// Starts a sender, which reads the log from the restart position of its start position on. L1 where no slot has the
+    /// name, then P1, then P2, then L6 where no reader is left, then L2 where the slot is held.
+    pub(crate) fn start(
+        &mut self,
+        alloc: Global,
+        name: &Text,
+        slot: &Text,
+        position: u64,
+        names: &[Text],
+    ) -> Result<Answer, WorldFault>
+        requires machine { IsMachine self.old }
+        ensures start { IfOk result (λ a. IsNone (open_start name.now (shown self.old).starts) × IsStart name.now (slot_named slot.now) position names.now (shown self.old) a (shown self.new)) }
+        ensures bad { result ≡ Err WorldFault.BadEvent → IsSome (open_start name.now (shown self.old).starts) }
+        ensures memory { result ≡ Err WorldFault.Memory → start_refusal (slot_named slot.now) names.now (shown self.old) ≡ None }
+        ensures err { OnErr result (shown self.new ≡ shown self.old) }
+        ensures machine { IsMachine self.new }
+    {
+        if self.is_connected(name) {
+            return Err(WorldFault::BadEvent);
+        }
+        if let Some(refusal) = self.start_refusal(slot, names) {
+            return Ok(refusal);
+        }
+        match self.publications.select(names) {
+            Ok(selection) => self.start_with(alloc, name, slot, position, selection),
+            Err(fault) => Ok(Answer::Publication(fault)),
+        }
+    }
+
+    /// Why a start is refused, if it is. It takes no memory.
+    fn start_refusal(&self, slot: &Text, names: &[Text]) -> Option<Answer>
+        requires machine { IsMachine self.now }
+        ensures { result ≡ start_refusal (slot_named slot.now) names.now (shown self.now) }
+    {
+        let mut facts = StartFacts {
+            publications: &self.publications,
+            slots: &self.slots,
+            has_reader: !self.readers.is_empty(),
+            slot,
+            names,
+        };
+        match begin(&mut facts) {
+            Ok(()) => None,
+            Err(StartFault::NoSlot) => Some(Answer::Slot(SlotFault::Missing)),
+            Err(StartFault::Publication(fault)) => Some(Answer::Publication(fault)),
+            Err(StartFault::NoReader) => Some(Answer::NoReader),
+            Err(StartFault::Claim(_)) => Some(Answer::Slot(SlotFault::InUse)),
+        }
+    }
+
+    /// Starts a sender of this selection, which nothing but want of memory refuses.
+    fn start_with(
+        &mut self,
+        alloc: Global,
+        name: &Text,
+        slot: &Text,
+        position: u64,
+        selection: Selection,
+    ) -> Result<Answer, WorldFault>
+        requires machine { IsMachine self.old }
+        requires slot { is_missing (slot_named slot.now) (shown self.old).slots ≡ false }
+        requires free { is_held (slot_named slot.now) (shown self.old).slots ≡ false }
+        requires reader { 0 < vec_len self.old.readers }
+        ensures done { IfOk result (λ a. (a ≡ Answer.Done) × (shown self.new ≡ started_with name.now (slot_named slot.now) position selection (shown self.old))) }
+        ensures happens { result ≢ Err WorldFault.BadEvent }
+        ensures err { OnErr result (shown self.new ≡ shown self.old) }
+        ensures machine { IsMachine self.new }
+    {
+        let arena = Arena::new(alloc, self.chunks as usize)?;
+        let (subscriber, connection) = self.reserve(alloc, name, slot)?;
+        let start = self.start_from(slot, position);
+        let first = self.resume(start)?;
+        match take(&mut self.slots, slot, position) {
+            Ok(position) => {
+                self.add(
+                    alloc, subscriber, connection, selection, position, first, arena,
+                );
+                Ok(Answer::Done)
+            }
+            Err(_) => unreachable!(),
+        }
+    }
+
+    /// Where a stream starts that asked for this position.
+    fn start_from(&self, slot: &Text, position: u64) -> u64
+        ensures { result ≡ start_from (slot_named slot.now) position (shown self.now).slots }
+    {
+        start_from(&self.slots, slot, position)
+    }
+
+    /// Puts the reader that the next start takes where it begins to read for this start position, and answers the position there.
+    fn resume(&mut self, start: u64) -> Result<u64, WorldFault>
+        requires reader { 0 < vec_len self.old.readers }
+        ensures same { shown self.new ≡ shown self.old }
+        ensures first { IfOk result (λ first. first ≡ restart start (shown self.old).publisher.log) }
+        ensures resumed { IfOk result (λ first. IsResumed start first self.new) }
+        ensures room { HasRoom self.old → HasRoom self.new }
+        ensures readers { vec_len self.new.readers ≡ vec_len self.old.readers }
+        ensures happens { result ≢ Err WorldFault.BadEvent }
+        ensures memory { result ≢ Err WorldFault.Memory }
+        ensures machine { IsMachine self.old → IsMachine self.new }
+    {
+        let Some(mut reader) = self.readers.pop() else {
+            unreachable!();
+        };
+        let resumed = resume(&mut self.publisher, &mut reader, start);
+        self.readers.push_reserved(reader);
+        match resumed {
+            Ok(first) => Ok(first),
+            Err(_) => Err(WorldFault::NoEntry),
+        }
+    }
+
+    /// Room for one more start, the connection's subscriber where it has none yet, and its name.
+    fn reserve(
+        &mut self,
+        alloc: Global,
+        name: &Text,
+        slot: &Text,
+    ) -> Result<(Subscriber, Text), AllocError>
+        ensures same { shown self.new ≡ shown self.old }
+        ensures room { OnOk result (HasRoom self.new) }
+        ensures readers { vec_len self.new.readers ≡ vec_len self.old.readers }
+        ensures machine { IsMachine self.old → IsMachine self.new }
+        ensures subscriber { IfOk result (λ made. subscriber_state made.0 ≡ new_subscriber name.now (slot_named slot.now)) }
+        ensures slot { IfOk result (λ made. made.0.slot ≡ slot_named slot.now) }
+        ensures connection { IfOk result (λ made. made.1 ≡ name.now) }
+    {
+        self.make_room()?;
+        let subscriber = Subscriber::new(alloc, name.copy(alloc)?, slot_named(alloc, slot)?);
+        Ok((subscriber, name.copy(alloc)?))
+    }
+
+    /// Room for one more start.
+    fn make_room(&mut self) -> Result<(), AllocError>
+        ensures same { shown self.new ≡ shown self.old }
+        ensures room { OnOk result (HasRoom self.new) }
+        ensures readers { vec_len self.new.readers ≡ vec_len self.old.readers }
+        ensures machine { IsMachine self.old → IsMachine self.new }
+    {
+        self.starts.reserve(1)?;
+        self.opened.reserve(1)?;
+        self.subscribers.reserve(1)
+    }
+
+    /// Adds an open start with a reader, and its subscriber where the connection has none yet.
+    fn add(
+        &mut self,
+        alloc: Global,
+        subscriber: Subscriber,
+        connection: Text,
+        selection: Selection,
+        position: u64,
+        first: u64,
+        arena: Arena,
+    )
+        requires machine { IsMachine self.old }
+        requires room { HasRoom self.old }
+        requires reader { 0 < vec_len self.old.readers }
+        requires resumed { IsResumed position first self.old }
+        requires subscriber { subscriber_state subscriber ≡ new_subscriber connection subscriber.slot }
+        ensures added { shown self.new ≡ record (shown self.old) {
+          starts = (shown self.old).starts ++ new_start connection selection position first ∷ [];
+          subscribers = with_one_for connection subscriber.slot (shown self.old).subscribers;
+        } }
+        ensures machine { IsMachine self.new }
+    {
+        let Some(reader) = self.readers.pop() else {
+            unreachable!();
+        };
+        let start = Start::new(alloc, reader, connection, selection, position, first, arena);
+        let place = self.starts.as_slice().len();
+        self.opened.push_reserved(place);
+        self.starts.push_reserved(start);
+        subscribe(&mut self.subscribers, subscriber);
+    }
+}
 
 /// What a start is judged by before anything is taken: nothing else happens in a world meanwhile.
 #[derive(Drop)]

@@ -5,6 +5,7 @@ ghost use Rattle.named_slots.specs.Keeping.{confirmed_slot};
 ghost use Rattle.world.specs.State.{new_world};
 ghost use Rattle.world.specs.Law.{Headline};
 ghost use Rattle.world.specs.Confirming.{confirmed_at, confirmed_through};
+ghost use Rattle.world.specs.Once.{RunsOnce};
 ghost use Rattle.world.specs.Steps.{IsRun, IsStep, is_bad, is_read, takes_memory};
 ghost use Rattle.world.specs.Ending.{HasStopped};
 ghost use Rattle.starts.specs.Starts.{start_state};
@@ -112,6 +113,7 @@ impl<L: LogName + SlotName> World<L> {
         ensures log { IfOk result (λ w. IsWellFormedLog w.state.publisher.log) }
         ensures confirmed { IfOk result (λ w. (name : List ℕ) (run : IsRun (new_world config) events.now w.answers w.state)
             → confirmed_at name w.state.slots ≡ confirmed_through name (new_world config) events.now w.answers w.state run None) }
+        ensures once { IfOk result (λ w. RunsOnce (new_world config) events.now w.answers w.state) }
         ensures stops { IfErr result (λ fault. HasStopped (new_world config) events.now fault) }
     {
         let Ok(mut machine) = Machine::new(rt, alloc, history, slots, config) else {
