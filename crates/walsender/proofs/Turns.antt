@@ -18,14 +18,10 @@ use Rattle.sender.specs.Published.{published, published_from}
 use Rattle.sender.specs.Sending.{SenderState, published_bytes}
 use Rattle.sender.specs.Turning.{IsRefused, ReadAndGave, fetched_from}
 use Rattle.sender.specs.declared.limits.TheConstants.{TURN_RECORDS}
-use Rattle.walsender.specs.Serving.{IsServing}
+use Rattle.walsender.specs.Serving.{IsServing, ReadsAndWrites}
 use Rattle.walsender.proofs.Sections.{section_of}
 use Rattle.walsender.proofs.Skipping.{reads_behind}
 use Rattle.walsender.proofs.Serving.{given, grown_to, nothing_given, read_on, reading}
-
--- bytes that were given of these records, and those taken by the writer
-abbrev pub Gave : ℤ → SenderState → SenderState → List Record → Option (List ℕ) → Option (List ℕ) → Type 0
-Gave clock old new records before after = (bytes : List ℕ) × ReadAndGave clock old new records bytes × Appends before after bytes
 
 -- what a turn tells
 pub record Turns (clock : ℤ) (old new : SenderState) (place moved_to : ℕ) (seen : List Record) (before after : Option (List ℕ)) (r : Result ℕ TurnFault) : Type 0 where
@@ -59,12 +55,17 @@ first clock old new place moved_to early seen before after (Ok n) begins t =
     held_first clock old new place early seen before after written bytes begins (t.good refl) read empty appended serving
 first clock old new place moved_to early seen before after (Err e) begins t = tt
 
+pub reads : (clock : ℤ) (old new : SenderState) (place moved_to : ℕ) (seen : List Record) (before after : Option (List ℕ)) (r : Result ℕ TurnFault) → Turns clock old new place moved_to seen before after r
+    → OnOk r (ReadsAndWrites clock old new (fetched_from place seen) before after)
+reads clock old new place moved_to seen before after (Ok n) t = let (bytes, read, empty, appended) = t.sent in (bytes, read, appended)
+reads clock old new place moved_to seen before after (Err e) t = tt
+
 abbrev pub GoesFrom : List Record → List Record → ℕ → ℕ → SenderState → SenderState → Option (List ℕ) → Option (List ℕ) → Type 0
 GoesFrom early seen place moved_to old new before after =
     (bytes : List ℕ) × ((written : List ℕ) → IsServing early place written old → IsServing seen moved_to (written ++ bytes) new) × Appends before after bytes
 
 gave : (clock : ℤ) (old new : SenderState) (place moved_to : ℕ) (early seen : List Record) (before after : Option (List ℕ)) → FitsSigned w64 clock → IsPrefix early seen → IsWellFormedLog seen
-    → moved_to ≡ place + length (fetched_from place seen) → Gave clock old new (fetched_from place seen) before after → GoesFrom early seen place moved_to old new before after
+    → moved_to ≡ place + length (fetched_from place seen) → ReadsAndWrites clock old new (fetched_from place seen) before after → GoesFrom early seen place moved_to old new before after
 gave clock old new place moved_to early seen before after fits begins good moved (bytes, read, appended) = (
   bytes,
   λ written serving.

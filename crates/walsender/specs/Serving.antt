@@ -12,7 +12,7 @@ use Rattle.shared_log.specs.Readers.{seen_of}
 use Rattle.sender.specs.declared.fault.SendFault.{SendFault}
 use Rattle.sender.specs.Published.{published}
 use Rattle.sender.specs.Sending.{SenderState, HasRead, ReadAll}
-use Rattle.sender.specs.Turning.{IsRefused}
+use Rattle.sender.specs.Turning.{IsRefused, ReadAndGave}
 use Rattle.walsender.specs.declared.walsender.Walsender.{Walsender}
 
 -- So many records of a log were read; what was written since the start, followed by what is held, is a stream encoding of
@@ -63,6 +63,10 @@ GoesOn given old new = (written : List ℕ) → Serves (seen_of old.reader) writ
 -- a writer took these bytes of it before all others
 abbrev pub WritesFirst : {L : Type 0} → List ℕ → Walsender L → Option (List ℕ) → Option (List ℕ) → Type 0
 WritesFirst bytes old before after = (written : List ℕ) → Serves (seen_of old.reader) written old → (more : List ℕ) × Appends before after (bytes ++ more)
+
+-- it read these records, and a writer took what it gave away then
+abbrev pub ReadsAndWrites : ℤ → SenderState → SenderState → List Record → Option (List ℕ) → Option (List ℕ) → Type 0
+ReadsAndWrites clock old new records before after = (given : List ℕ) × ReadAndGave clock old new records given × Appends before after given
 
 -- the records from a place on, so many at most
 abbrev pub next_records : ℕ → ℕ → List Record → List Record

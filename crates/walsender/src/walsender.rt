@@ -12,8 +12,8 @@ ghost use Rattle.shared_log.specs.Fronts.{settled};
 ghost use Rattle.shared_log.specs.Readers.{HasSeen, seen_of};
 ghost use Rattle.shared_log.specs.declared.fault.ReadFault.{ReadFault};
 ghost use Rattle.sender.specs.Faults.{fault_of_fetch, has_fetched, has_written};
-ghost use Rattle.sender.specs.Turning.{ReadAndGave, fetched_from};
-ghost use Rattle.walsender.specs.Serving.{BeginsAt, Gives, GoesOn, Reads, ReadsOn, Serves, StaysOn, WritesFirst, next_records};
+ghost use Rattle.sender.specs.Turning.{fetched_from};
+ghost use Rattle.walsender.specs.Serving.{BeginsAt, Gives, GoesOn, Reads, ReadsAndWrites, ReadsOn, Serves, StaysOn, WritesFirst, next_records};
 
 use bytes::BytesMut;
 use chgarena::Arena;
@@ -111,6 +111,8 @@ impl<L: LogName> Walsender<L> {
         ensures told { self.new.reader.told ≡ self.old.reader.told }
         ensures why { (fault : ReadFault) → result ≡ Err (fault_of_fetch fault) → HasSeen fault self.old.reader self.new.reader }
         ensures sees { has_fetched result ≡ true → IsPrefix (settled self.new.reader.told) (seen_of self.new.reader) }
+        ensures count { IfOk result (λ n. n ≡ length (fetched_from self.old.reader.place (seen_of self.new.reader))) }
+        ensures reads { OnOk result (ReadsAndWrites clock self.old.sender self.new.sender (fetched_from self.old.reader.place (seen_of self.new.reader)) (W.contents to.old) (W.contents to.new)) }
         ensures serves { (given : List ℕ) × GoesOn given self.old self.new × Appends (W.contents to.old) (W.contents to.new) given }
         ensures sent { OnOk result (self.new.sender.held ≡ []) }
         ensures first { OnOk result (WritesFirst self.old.sender.held self.old (W.contents to.old) (W.contents to.new)) }
