@@ -97,7 +97,8 @@ tables = [{ name = 'public.item' }]
         (folder / script).write_text("\n".join(lines) + "\n")
         self.told, end = os.pipe()
         fcntl.fcntl(end, fcntl.F_SETPIPE_SZ, self.PAGE)
-        words = [program, "--wal-sender-timeout", "0", "--await-streams", str(awaited), "pubd.toml", "127.0.0.1:0", str(connections), str(script)]
+        limits = ["--wal-sender-timeout", "0", "--max-connections", "1000", "--log-min-messages", "error"]
+        words = [program, *limits, "--await-streams", str(awaited), "pubd.toml", "127.0.0.1:0", str(connections), str(script)]
         self.process = subprocess.Popen(words, cwd=folder, stdout=subprocess.PIPE, stderr=end, text=True)
         os.close(end)
         listening = self.process.stdout.readline()

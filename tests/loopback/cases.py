@@ -13,6 +13,15 @@ from followers import (
     acknowledgements_follow_what_was_printed,
     quotes_stand_in_names_and_end_none,
     restarts_lose_and_repeat_nothing,
+    what_a_server_says_is_one_line,
+)
+from limits import (
+    a_place_is_never_used_again,
+    a_startup_has_its_time,
+    a_word_that_is_none_is_told,
+    an_end_is_told_with_its_cause,
+    as_many_are_served_as_may_be,
+    only_what_is_asked_for_is_told,
 )
 from link import Link
 from server import NOBODY, Server, inserts
@@ -376,7 +385,14 @@ ALL = [
     an_acknowledgement_holds_over_a_blocked_write,
     restarts_lose_and_repeat_nothing,
     a_refusal_without_a_reason_is_one_all_the_same,
+    what_a_server_says_is_one_line,
     quotes_stand_in_names_and_end_none,
     a_startup_of_many_parameters_is_answered,
+    a_startup_has_its_time,
+    as_many_are_served_as_may_be,
+    an_end_is_told_with_its_cause,
+    only_what_is_asked_for_is_told,
+    a_place_is_never_used_again,
+    a_word_that_is_none_is_told,
     acknowledgements_follow_what_was_printed,
 ]

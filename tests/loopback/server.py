@@ -9,6 +9,7 @@ import time
 
 CONFIGURATION = pathlib.Path(__file__).resolve().parent.parent.parent / "crates" / "pubd" / "data" / "sample.toml"
 SECONDS = 300
+OF_CONNECTIONS = "pubd: a connection ", "pubd: connection "
 # Who has no other threads, and whose number of them can be limited.
 NOBODY = 65534
 
@@ -24,7 +25,7 @@ def inserts(rows, each=1, name="ab"):
 
 class Server:
     """pubd, which serves so many connections, and runs the script once so many streams have begun, or several beside one another.
-    What it says of connections that it can't take is said apart."""
+    What it says of connections, how they ended and which it couldn't take, is said apart."""
 
     def __init__(self, pubd, connections, lines=(), awaited=0, more=(), user=None, host="127.0.0.1", scripts=()):
         self.folder = tempfile.TemporaryDirectory()
@@ -80,9 +81,14 @@ class Server:
             time.sleep(0.01)
         return False
 
-    def end(self, refused=()):
-        """Waits until it ends, and answers what is wrong with that; these lines of its script are due to be refused."""
+    def end(self, refused=(), ended=None):
+        """Waits until it ends, and answers what is wrong with that; these lines of its script are due to be refused, and these of its
+        connections are due, in any order, if it is told which."""
         status = self.process.wait()
-        said = [line for line in self.process.stderr.read().splitlines() if not line.startswith("pubd: a connection ")]
+        lines = self.process.stderr.read().splitlines()
+        said = [line for line in lines if not line.startswith(OF_CONNECTIONS)]
+        told = sorted(line for line in lines if line.startswith(OF_CONNECTIONS))
+        due = told if ended is None else sorted(ended)
         wrong = [f"pubd ended with status {status}"] * bool(status)
-        return wrong + [f"pubd said {said}, and not {list(refused)}"] * (said != list(refused))
+        wrong += [f"pubd said {said}, and not {list(refused)}"] * (said != list(refused))
+        return wrong + [f"pubd said {told}, and not {due}"] * (told != due)

@@ -28,6 +28,7 @@ use Rattle.slots.proofs.lease.Lease.TheSendSync as lease
 use Rattle.slots.proofs.seat.SlotSeat.TheSendSync as seat
 use Rattle.slots.proofs.table.SlotTable.TheSendSync as slots
 use Rattle.txlog.proofs.publisher.Publisher.TheSendSync as publisher
+use Rattle.hub.proofs.fault.ConnectionEnd.TheSendSync as end
 use Rattle.hub.specs.contracts.arrival.Arrival as arrival
 use Rattle.hub.specs.contracts.arrival.Arriving as arriving
 use Rattle.hub.specs.contracts.grant.StreamGrant as grant
@@ -81,7 +82,7 @@ publications_sync = search (publication_sync, items.the_sync, table.the_sync, se
 inbox_send : IsSend inbox.the_row
 inbox_send = declared_send inbox.the_type (
   search (buffer.the_send, heap.send, heap.sync, heap.frees, sendable) depth 10,
-  (search sendable depth 10, (search sendable, (search sendable, (phase.the_send, (search sendable, (search sendable, tt)))))),
+  (search sendable depth 10, (search sendable, (search sendable, (phase.the_send, (search sendable, (search sendable, (search (end.the_send, sendable) depth 10, tt))))))),
 )
 
 arriving_send : IsSend arriving.the_row
@@ -138,7 +139,16 @@ module _ (L : RattleType) (s : slot_name.Ghosts L.Denot) (l : log_name.Ghosts L.
                       search (heap.crosses, sendable) depth 10,
                       (
                         search (heap.crosses, sendable) depth 10,
-                        (search (heap.crosses, sendable) depth 10, (search (heap.crosses, sendable) depth 10, (search (heap.crosses, sendable) depth 10, tt))),
+                        (
+                          search (heap.crosses, sendable) depth 10,
+                          (
+                            search (heap.crosses, sendable) depth 10,
+                            (
+                              search (heap.crosses, sendable) depth 10,
+                              (search (heap.crosses, sendable) depth 10, (search (heap.crosses, sendable) depth 10, (search (heap.crosses, sendable) depth 10, tt))),
+                            ),
+                          ),
+                        ),
                       ),
                     ),
                   ),

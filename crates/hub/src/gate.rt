@@ -1,6 +1,6 @@
 //! What a server asks and tells whoever runs it.
 
-use crate::fault::Untaken;
+use crate::fault::{ConnectionEnd, Untaken};
 
 /// What each command of a connection passes, in the connection's reading thread, before it is answered. Connections and the
 /// commands of each are counted from 1; the greatest number stays.
@@ -9,6 +9,9 @@ pub trait Gate {
 
     /// A connection could not be taken, and the next is.
     fn untaken(&self, _why: &Untaken) {}
+
+    /// A connection that was served has ended.
+    fn ended(&self, _connection: u32, _why: ConnectionEnd) {}
 }
 
 /// A gate that holds nothing, and to which nothing is told.

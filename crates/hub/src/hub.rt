@@ -1,7 +1,6 @@
 //! What the connections of a publisher share.
 
-ghost use Rattle.std.specs.Prelude.{◌≡◌, ◌≤◌, ◌<◌, IfOk, IfSome};
-ghost use Rattle.txlog.specs.declared.limits.TheConstants.{MAX_RECORDS};
+ghost use Rattle.std.specs.Prelude.{◌≡◌, ◌<◌, IfOk, IfSome};
 ghost use Rattle.hub.specs.Streams.{HasLearnt};
 
 use crate::commit_notice::CommitNotice;
@@ -9,6 +8,7 @@ use crate::fault::HubFault;
 use crate::grant::StreamGrant;
 use crate::latch::Latch;
 use crate::names::Names;
+use crate::opened::{MOST_STREAMS, OpenedHub};
 use crate::pool::{Pair, Pool};
 use crate::refusals::{of_slot, of_start};
 use crate::starting::HubStart;
@@ -19,75 +19,13 @@ use publication::Publications;
 use replcmd::Name;
 use server::DeskFault;
 use shared_log::LogName;
-use slots::{OpenedSlots, SlotName, SlotSeat, SlotTable};
+use slots::{SlotName, SlotSeat, SlotTable};
 use std::alloc::{AllocError, Global};
-use std::sync::atomic::{AtomicBool, AtomicU64, Ordering};
+use std::sync::atomic::{AtomicBool, AtomicU32, AtomicU64, Ordering};
 use std::sync::{Condvar, Mutex, MutexGuard, Wait};
-use std::time::Duration;
-use tables::Catalog;
+use std::time::{Clock, Duration};
 use txlog::{Opened, Publisher, Receipt};
 use walsender::begin;
-
-/// How many streams may run at once.
-pub const MOST_STREAMS: usize = 16;
-
-/// How many chunks the arena of a stream has, unless another number is set: a mebibyte.
-const CHUNKS: u32 = 64;
-
-/// For how many seconds the client of a stream may be silent, unless another time is set: PostgreSQL's default.
-const WAL_SENDER_TIMEOUT: u64 = 60;
-
-/// What a hub is opened with: `Hub::open` names its log and its slots, and makes it.
-#[derive(Drop)]
-pub struct OpenedHub {
-    alloc: Global,
-    publications: Publications,
-    system: SystemName,
-    pub log: Opened,
-    pub slots: OpenedSlots,
-    /// For how long the client of a stream may be silent: 60 seconds, unless it is set. Zero is for ever.
-    pub wal_sender_timeout: Duration,
-    /// How many chunks of 16,384 bytes the changes of the transactions in progress may take in a stream: 64, unless it is set.
-    pub chunks: u32,
-}
-
-impl OpenedHub {
-    /// For these tables, these publications over them, the text by which the system names itself to clients, and a log of so
-    /// many records.
-    pub fn new(
-        alloc: Global,
-        catalog: Catalog,
-        publications: Publications,
-        systemid: Text,
-        records: usize,
-    ) -> Result<Self, HubFault>
-        requires some { 1 ≤ records }
-        requires few { records ≤ MAX_RECORDS }
-    {
-        let system = SystemName::new(systemid).ok_or(HubFault::LongName)?;
-        let log = log_of(alloc, catalog, records)?;
-        let slots = OpenedSlots::new(alloc)?;
-        Ok(OpenedHub {
-            alloc,
-            publications,
-            system,
-            log,
-            slots,
-            wal_sender_timeout: Duration::from_secs(WAL_SENDER_TIMEOUT),
-            chunks: CHUNKS,
-        })
-    }
-}
-
-fn log_of(alloc: Global, catalog: Catalog, records: usize) -> Result<Opened, HubFault>
-    requires some { 1 ≤ records }
-    requires few { records ≤ MAX_RECORDS }
-{
-    match Opened::new(alloc, catalog, records, MOST_STREAMS) {
-        Ok(log) => Ok(log),
-        Err(_) => Err(HubFault::Memory),
-    }
-}
 
 /// What the connections of a publisher share: its log and rows, its slots, its publications, and what commits tell.
 ///
@@ -104,7 +42,11 @@ pub struct Hub<L: LogName + SlotName> {
     /// One for each stream that may run.
     latches: Vec<Latch>,
     wal_sender_timeout: Duration,
+    authentication_timeout: Duration,
+    max_connections: u32,
     pub(crate) chunks: u32,
+    /// How many connections are served.
+    served: AtomicU32,
     streams_begun: AtomicU64,
     no_more_streams: AtomicBool,
     /// A stream has begun, or none will.
@@ -124,6 +66,8 @@ impl<L: LogName + SlotName> Hub<L> {
             log,
             slots,
             wal_sender_timeout,
+            authentication_timeout,
+            max_connections,
             chunks,
         } = opened;
         let (table, mut seats) = slots.open::<L>(MOST_STREAMS + 1)?;
@@ -143,7 +87,10 @@ impl<L: LogName + SlotName> Hub<L> {
             notice: Mutex::new(CommitNotice::new()),
             latches,
             wal_sender_timeout,
+            authentication_timeout,
+            max_connections,
             chunks,
+            served: AtomicU32::new(0),
             streams_begun: AtomicU64::new(0),
             no_more_streams: AtomicBool::new(false),
             changed: Condvar::new(),
@@ -163,7 +110,10 @@ impl<L: LogName + SlotName> Hub<L> {
             notice: _,
             latches: _,
             wal_sender_timeout: _,
+            authentication_timeout: _,
+            max_connections: _,
             chunks: _,
+            served: _,
             streams_begun: _,
             no_more_streams: _,
             changed: _,
@@ -187,6 +137,29 @@ impl<L: LogName + SlotName> Hub<L> {
             return None;
         }
         Some(self.wal_sender_timeout / 2)
+    }
+
+    /// By when on this clock a connection that begins now has to have said its startup.
+    pub(crate) fn startup_until<R: Clock>(&self, rt: &R) -> Option<Duration> {
+        if self.authentication_timeout.is_zero() {
+            return None;
+        }
+        rt.monotonic().ok()?.checked_add(self.authentication_timeout)
+    }
+
+    /// One more connection is served, unless as many are as may be at once.
+    pub(crate) fn admit(&self) -> bool {
+        let before = self.served.fetch_add(1, Ordering::SeqCst);
+        if self.max_connections <= before {
+            self.dismiss();
+            return false;
+        }
+        true
+    }
+
+    /// A connection is served no more.
+    pub(crate) fn dismiss(&self) {
+        self.served.fetch_sub(1, Ordering::SeqCst);
     }
 
     // ---- what commands ask

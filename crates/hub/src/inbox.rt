@@ -3,6 +3,7 @@
 ghost use Rattle.std.specs.Prelude.{◌≡◌, ◌++◌, ◌==◌, ◌↔◌, ◌&&◌, [], Some, None, length, max, not, true, false};
 ghost use Rattle.hub.specs.Inboxes.{asked_after, flushed_after};
 
+use crate::fault::ConnectionEnd;
 use bytes::BytesMut;
 use server::Phase;
 use std::alloc::Global;
@@ -24,6 +25,8 @@ pub(crate) struct Inbox {
     has_ended: bool,
     /// Nothing is written any more.
     is_broken: bool,
+    /// Why the stream could not be written to its end.
+    early: Option<ConnectionEnd>,
 }
 
 /// What the writing thread takes of it.
@@ -53,6 +56,7 @@ impl Inbox {
             phase: Phase::Startup,
             has_ended: false,
             is_broken: false,
+            early: None,
         }
     }
 
@@ -151,6 +155,20 @@ impl Inbox {
         ensures { self.new ≡ record self.old { has_ended = false } }
     {
         self.has_ended = false;
+    }
+
+    /// The stream could not be written to its end.
+    pub fn end_early(&mut self, end: ConnectionEnd)
+        ensures { self.new ≡ record self.old { early = Some end } }
+    {
+        self.early = Some(end);
+    }
+
+    /// Why the stream could not be written to its end.
+    pub fn early(&self) -> Option<ConnectionEnd>
+        ensures { result ≡ self.now.early }
+    {
+        self.early
     }
 
     /// Nothing is written any more.

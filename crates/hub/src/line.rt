@@ -1,12 +1,13 @@
 //! What stands between the two threads of a connection.
 
+use crate::fault::ConnectionEnd;
 use crate::grant::StreamGrant;
 use crate::inbox::{Inbox, Work};
 use bytes::BytesMut;
 use server::Phase;
 use shared_log::LogName;
 use slots::SlotName;
-use std::alloc::{AllocError, Global};
+use std::alloc::Global;
 use std::mem;
 use std::sync::{Condvar, Mutex, MutexGuard, Wait};
 
@@ -19,16 +20,6 @@ pub(crate) struct Line<L: LogName + SlotName> {
     filled: Condvar,
     /// The writing thread has taken what was to be said, or ended a stream, or writes no more.
     taken: Condvar,
-}
-
-/// The connection is over.
-#[derive(Clone, Copy, PartialEq, Eq)]
-pub(crate) struct Over;
-
-impl From<AllocError> for Over {
-    fn from(_e: AllocError) -> Over {
-        Over
-    }
 }
 
 impl<L: LogName + SlotName> Line<L> {
@@ -45,12 +36,12 @@ impl<L: LogName + SlotName> Line<L> {
     // ---- the reading thread
 
     /// Has these words said, behind those before, and the conversation at this phase then.
-    pub fn say<R: Wait>(&self, rt: &R, said: BytesMut, phase: Phase) -> Result<(), Over> {
+    pub fn say<R: Wait>(&self, rt: &R, said: BytesMut, phase: Phase) -> Result<(), ConnectionEnd> {
         let mut inbox = self
             .taken
             .wait_while(rt, self.inbox.lock(rt), |inbox| inbox.is_full());
         if inbox.is_broken() {
-            return Err(Over);
+            return Err(ConnectionEnd::Client);
         }
         inbox.say(said, phase);
         drop(inbox);
@@ -85,12 +76,12 @@ impl<L: LogName + SlotName> Line<L> {
     }
 
     /// Waits until the stream that stops has ended.
-    pub fn await_end<R: Wait>(&self, rt: &R) -> Result<(), Over> {
+    pub fn await_end<R: Wait>(&self, rt: &R) -> Result<(), ConnectionEnd> {
         let mut inbox = self
             .taken
             .wait_while(rt, self.inbox.lock(rt), |inbox| inbox.is_ending());
         if inbox.is_broken() {
-            return Err(Over);
+            return Err(ConnectionEnd::Client);
         }
         inbox.go_on();
         Ok(())
@@ -139,6 +130,11 @@ impl<L: LogName + SlotName> Line<L> {
         self.taken.notify_all();
     }
 
+    /// The stream could not be written to its end.
+    pub fn end_early<R: Wait>(&self, rt: &R, end: ConnectionEnd) {
+        self.inbox.lock(rt).end_early(end);
+    }
+
     /// Nothing is written any more.
     pub fn break_off<R: Wait>(&self, rt: &R) {
         let mut inbox = self.inbox.lock(rt);
@@ -149,15 +145,15 @@ impl<L: LogName + SlotName> Line<L> {
 
     // ---- behind both
 
-    /// What was granted and never written.
-    pub fn end(self) -> Option<StreamGrant<L>> {
+    /// What was granted and never written, and why the stream could not be written to its end, if it could not.
+    pub fn end(self) -> (Option<StreamGrant<L>>, Option<ConnectionEnd>) {
         let Line {
             alloc: _,
-            inbox: _,
+            inbox,
             granted,
             filled: _,
             taken: _,
         } = self;
-        granted.into_inner()
+        (granted.into_inner(), inbox.into_inner().early())
     }
 }

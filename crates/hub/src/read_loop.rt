@@ -4,19 +4,25 @@ ghost use Rattle.std.specs.Prelude.{◌≡◌};
 ghost use Rattle.server.specs.Segment.{phase_of};
 
 use crate::desk::HubDesk;
+use crate::fault::ConnectionEnd;
 use crate::gate::Gate;
 use crate::hub::Hub;
-use crate::line::{Line, Over};
+use crate::line::Line;
 use bytes::BytesMut;
 use server::{Connection, Phase};
 use shared_log::LogName;
 use slots::SlotName;
 use std::io;
 use std::io::{ErrorKind, Read};
+use std::net::TcpStream;
 use std::sync::Wait;
+use std::time::{Clock, Duration};
 
 /// How many bytes are read at once.
 const MOST_READ: usize = 4096;
+
+/// The fewest milliseconds for which a read waits: a socket takes none for no limit.
+const SHORTEST_WAIT: u64 = 1;
 
 /// How far a connection is.
 #[derive(Drop)]
@@ -30,8 +36,8 @@ struct ReadState {
     latch: Option<usize>,
     /// The client was asked for an answer, and nothing came since.
     is_asked: bool,
-    /// Nothing came then for as long again.
-    is_lost: bool,
+    /// By when the startup has to have come, on the clock, unless it has or may take for ever.
+    startup_until: Option<Duration>,
 }
 
 /// Whether a read brought anything.
@@ -50,40 +56,41 @@ pub(crate) struct ReadLoop<'h, L: LogName + SlotName, R: Wait, G: Gate> {
     pub line: &'h Line<L>,
     pub gate: &'h G,
     pub number: u32,
+    pub socket: &'h TcpStream,
 }
 
-/// Answers what comes, until the connection is over. It answers whether that is since its client was silent.
-pub(crate) fn read_line<L: LogName + SlotName, R: Wait, G: Gate, I: Read>(
+/// Answers what comes, until the connection is over, and answers why it is.
+pub(crate) fn read_line<L: LogName + SlotName, R: Wait + Clock, G: Gate>(
     read: &ReadLoop<'_, L, R, G>,
-    from: &mut I,
-) -> bool {
+) -> ConnectionEnd {
     let mut state = ReadState {
         connection: Connection::new(read.hub.alloc, read.number),
         commands: 0,
         posted: Phase::Startup,
         latch: None,
         is_asked: false,
-        is_lost: false,
+        startup_until: read.hub.startup_until(read.rt),
     };
+    let mut end = ConnectionEnd::Client;
     for _ in read.rt.forever() {
-        if read_step(read, &mut state, from).is_err() {
+        if let Err(why) = read_step(read, &mut state) {
+            end = why;
             break;
         }
     }
     read.line.pass(read.rt, Phase::Closed);
     tell_work(read, state.latch);
-    state.is_lost
+    end
 }
 
 /// Answers one startup or frame of what came, or reads more, or ends a stream that stops.
-fn read_step<L: LogName + SlotName, R: Wait, G: Gate, I: Read>(
+fn read_step<L: LogName + SlotName, R: Wait + Clock, G: Gate>(
     read: &ReadLoop<'_, L, R, G>,
     state: &mut ReadState,
-    from: &mut I,
-) -> Result<(), Over> {
+) -> Result<(), ConnectionEnd> {
     match state.connection.phase() {
         Phase::Stopping => return stop(read, state),
-        Phase::Closed => return Err(Over),
+        Phase::Closed => return Err(ConnectionEnd::Client),
         Phase::Startup | Phase::Idle | Phase::Streaming => {}
     }
     if state.connection.has_command() {
@@ -93,7 +100,8 @@ fn read_step<L: LogName + SlotName, R: Wait, G: Gate, I: Read>(
     if answer(read, state)? {
         return Ok(());
     }
-    match read_more(&mut state.connection, from)? {
+    limit_wait(read, state)?;
+    match read_more(&mut state.connection, read.socket)? {
         Came::Bytes => {
             state.is_asked = false;
             Ok(())
@@ -102,16 +110,49 @@ fn read_step<L: LogName + SlotName, R: Wait, G: Gate, I: Read>(
     }
 }
 
-fn read_more<I: Read>(connection: &mut Connection, from: &mut I) -> Result<Came, Over> {
+/// A read waits no longer than the startup may take yet, and behind it for as long as a client may be silent.
+fn limit_wait<L: LogName + SlotName, R: Wait + Clock, G: Gate>(
+    read: &ReadLoop<'_, L, R, G>,
+    state: &mut ReadState,
+) -> Result<(), ConnectionEnd> {
+    let Some(until) = state.startup_until else {
+        return Ok(());
+    };
+    let wait = if state.connection.phase() == Phase::Startup {
+        Some(left_until(read.rt, until)?)
+    } else {
+        state.startup_until = None;
+        read.hub.silence()
+    };
+    match read.socket.set_read_timeout(wait) {
+        Ok(()) => Ok(()),
+        Err(_) => Err(ConnectionEnd::Lost),
+    }
+}
+
+/// How long a startup may take yet.
+fn left_until<R: Clock>(rt: &R, until: Duration) -> Result<Duration, ConnectionEnd> {
+    match rt.monotonic() {
+        Ok(now) if now < until => {
+            let left = until.saturating_sub(now);
+            Ok(left.max(Duration::from_millis(SHORTEST_WAIT)))
+        }
+        Ok(_) => Err(ConnectionEnd::NoStartup),
+        Err(_) => Err(ConnectionEnd::Lost),
+    }
+}
+
+fn read_more(connection: &mut Connection, socket: &TcpStream) -> Result<Came, ConnectionEnd> {
     let mut bytes = [0; MOST_READ];
+    let mut from = socket;
     match from.read(&mut bytes) {
-        Ok(0) => Err(Over),
+        Ok(0) => Err(ConnectionEnd::Client),
         Ok(count) => {
             connection.push(&bytes[..count])?;
             Ok(Came::Bytes)
         }
         Err(fault) if gave_up(&fault) => Ok(Came::Nothing),
-        Err(_) => Err(Over),
+        Err(_) => Err(ConnectionEnd::Lost),
     }
 }
 
@@ -125,13 +166,12 @@ fn gave_up(fault: &io::Error) -> bool {
 fn wait_on<L: LogName + SlotName, R: Wait, G: Gate>(
     read: &ReadLoop<'_, L, R, G>,
     state: &mut ReadState,
-) -> Result<(), Over> {
+) -> Result<(), ConnectionEnd> {
     if state.latch.is_none() {
         return Ok(());
     }
     if state.is_asked {
-        state.is_lost = true;
-        return Err(Over);
+        return Err(ConnectionEnd::Silent);
     }
     state.is_asked = true;
     read.line.fall_silent(read.rt);
@@ -143,7 +183,7 @@ fn wait_on<L: LogName + SlotName, R: Wait, G: Gate>(
 fn answer<L: LogName + SlotName, R: Wait, G: Gate>(
     read: &ReadLoop<'_, L, R, G>,
     state: &mut ReadState,
-) -> Result<bool, Over> {
+) -> Result<bool, ConnectionEnd> {
     let mut desk = HubDesk {
         rt: read.rt,
         hub: read.hub,
@@ -152,11 +192,15 @@ fn answer<L: LogName + SlotName, R: Wait, G: Gate>(
     };
     let mut said = BytesMut::new(read.hub.alloc);
     let Ok(more) = state.connection.answer(&mut desk, &mut said) else {
-        return Err(Over);
+        return Err(ConnectionEnd::Memory);
     };
     state.latch = desk.latch;
     let phase = state.connection.phase();
+    let is_refused = phase == Phase::Closed && !said.is_empty();
     post(read, state, said, phase)?;
+    if is_refused {
+        return Err(ConnectionEnd::Refused);
+    }
     Ok(more)
 }
 
@@ -164,14 +208,14 @@ fn answer<L: LogName + SlotName, R: Wait, G: Gate>(
 fn stop<L: LogName + SlotName, R: Wait, G: Gate>(
     read: &ReadLoop<'_, L, R, G>,
     state: &mut ReadState,
-) -> Result<(), Over>
+) -> Result<(), ConnectionEnd>
     requires { phase_of state.old.connection.stage ≡ Phase.Stopping }
 {
     read.line.await_end(read.rt)?;
     state.latch = None;
     let mut said = BytesMut::new(read.hub.alloc);
     let Ok(phase) = state.connection.stopped(&mut said) else {
-        return Err(Over);
+        return Err(ConnectionEnd::Memory);
     };
     post(read, state, said, phase)
 }
@@ -182,7 +226,7 @@ fn post<L: LogName + SlotName, R: Wait, G: Gate>(
     state: &mut ReadState,
     said: BytesMut,
     phase: Phase,
-) -> Result<(), Over> {
+) -> Result<(), ConnectionEnd> {
     if said.is_empty() && phase == state.posted {
         return Ok(());
     }

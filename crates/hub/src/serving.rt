@@ -1,7 +1,7 @@
 //! Serving connections: two threads for each.
 
 use crate::arrival::Arrival;
-use crate::fault::{ServeFault, Untaken};
+use crate::fault::{ConnectionEnd, ServeFault, Untaken};
 use crate::gate::Gate;
 use crate::hub::Hub;
 use crate::line::Line;
@@ -20,10 +20,10 @@ use std::time::Clock;
 /// Takes so many connections from the listener, one after another, and serves each from the hub by a reading and a writing
 /// thread. It returns when all of them have ended.
 ///
-/// A connection counts once both of its threads run. One that can't have them is told so (53300) and closed, and the gate is
-/// told why; so it is where the listener can't give one for now. Then the next is taken. A failed read or write ends its
-/// connection alone. An error means that the listener gives no more; it is answered once the connections that were taken have
-/// ended.
+/// A connection counts once both of its threads run. One that can't have them, or comes where `max_connections` are served, is
+/// told so (53300) and closed, and the gate is told why; so it is where the listener can't give one for now. Then the next is
+/// taken. A failed read or write ends its connection alone, and the gate is told how each has ended. An error means that the
+/// listener gives no more; it is answered once the connections that were taken have ended.
 pub fn serve<L, G, R>(
     rt: &R,
     listener: &TcpListener,
@@ -54,14 +54,17 @@ where
             }
             match shared.settled(rt) {
                 None => taken = number,
-                Some(socket) => refuse(hub, gate, &socket),
+                Some(socket) => {
+                    hub.dismiss();
+                    refuse(hub, gate, &Untaken::Thread, &socket);
+                }
             }
         }
         Ok(())
     })
 }
 
-/// Whether a connection came. The listener rests where it can't give one for now.
+/// Whether a connection came that can be served. The listener rests where it can't give one for now.
 fn arrives<L, G, R>(
     rt: &R,
     listener: &TcpListener,
@@ -76,6 +79,10 @@ where
 {
     match next_socket(listener, hub.silence()) {
         Ok(socket) => {
+            if !hub.admit() {
+                refuse(hub, gate, &Untaken::Crowd, &socket);
+                return Ok(false);
+            }
             arrival.put(rt, socket);
             Ok(true)
         }
@@ -88,9 +95,14 @@ where
     }
 }
 
-/// Tells a client that no threads are to be had for it.
-fn refuse<L: LogName + SlotName, G: Gate>(hub: &Hub<L>, gate: &G, socket: &TcpStream) {
-    gate.untaken(&Untaken::Thread);
+/// Tells a client that it can't be served beside the others.
+fn refuse<L: LogName + SlotName, G: Gate>(
+    hub: &Hub<L>,
+    gate: &G,
+    why: &Untaken,
+    socket: &TcpStream,
+) {
+    gate.untaken(why);
     let mut to = socket;
     let _ = write_trouble(hub.alloc, Trouble::Crowd, &mut to);
     let _ = socket.shutdown(Shutdown::Both);
@@ -101,22 +113,35 @@ fn connect<L, G, R>(rt: &R, hub: &Hub<L>, gate: &G, number: u32, arrival: &Arriv
 where
     L: LogName + SlotName + Send + Sync,
     G: Gate + Sync,
-    R: Threads + Wait + Sync,
+    R: Threads + Wait + Clock + Sync,
 {
     let Some(socket) = arrival.take(rt) else {
         return;
     };
     let line = Line::new(hub.alloc);
-    let served = both(rt, hub, gate, number, arrival, &line, &socket);
-    if let Some(unwritten) = line.end() {
+    let read = both(rt, hub, gate, number, arrival, &line, &socket);
+    let (unwritten, early) = line.end();
+    if let Some(unwritten) = unwritten {
         hub.end_grant(rt, unwritten);
     }
-    if !served {
-        arrival.give_back(rt, socket);
+    match read {
+        Some(end) => {
+            hub.dismiss();
+            gate.ended(number, why(early, end));
+        }
+        None => arrival.give_back(rt, socket),
     }
 }
 
-/// Serves a connection by this thread and another. It answers false where there is no other.
+/// Why a connection ended: where its stream could not go on, that, and else what its reading thread has seen.
+fn why(early: Option<ConnectionEnd>, read: ConnectionEnd) -> ConnectionEnd {
+    match early {
+        Some(end) if end.is_of_stream() => end,
+        _ => read,
+    }
+}
+
+/// Serves a connection by this thread and another, and answers why that ended. None: there is no other.
 fn both<L, G, R>(
     rt: &R,
     hub: &Hub<L>,
@@ -125,44 +150,45 @@ fn both<L, G, R>(
     arrival: &Arrival,
     line: &Line<L>,
     socket: &TcpStream,
-) -> bool
+) -> Option<ConnectionEnd>
 where
     L: LogName + SlotName + Send + Sync,
     G: Gate + Sync,
-    R: Threads + Wait + Sync,
+    R: Threads + Wait + Clock + Sync,
 {
     thread::scope(thread::scope_env(), rt, |scope| {
         let spawned = scope.spawn(|| write(rt, hub, line, socket));
         if spawned.is_err() {
-            return false;
+            return None;
         }
         arrival.settle(rt);
-        read(rt, hub, line, gate, number, socket);
-        true
+        Some(read(rt, hub, line, gate, number, socket))
     })
 }
 
-/// Reads until the connection is over. Where its client was silent for too long, the socket is closed, so that the writing
-/// thread doesn't wait in it.
-fn read<L: LogName + SlotName, G: Gate, R: Wait>(
+/// Reads until the connection is over, and answers why. Where its client was silent for too long, the socket is closed, so that
+/// the writing thread doesn't wait in it.
+fn read<L: LogName + SlotName, G: Gate, R: Wait + Clock>(
     rt: &R,
     hub: &Hub<L>,
     line: &Line<L>,
     gate: &G,
     number: u32,
     socket: &TcpStream,
-) {
+) -> ConnectionEnd {
     let read = ReadLoop {
         rt,
         hub,
         line,
         gate,
         number,
+        socket,
     };
-    let mut from = socket;
-    if read_line(&read, &mut from) {
+    let end = read_line(&read);
+    if end == ConnectionEnd::Silent {
         let _ = socket.shutdown(Shutdown::Both);
     }
+    end
 }
 
 fn write<L: LogName + SlotName, R: Wait>(rt: &R, hub: &Hub<L>, line: &Line<L>, socket: &TcpStream) {

@@ -4,8 +4,8 @@ ghost use Rattle.std.specs.Prelude.{◌≡◌, OnOk};
 ghost use Rattle.hub.specs.Streams.{StreamsOn, WordsBehind};
 ghost use Rattle.hub.specs.Turns.{Ended, EndsTurns, LeavesSlot, TakesTurns, standing};
 
+use crate::fault::ConnectionEnd;
 use crate::inbox::Work;
-use crate::line::Over;
 use crate::streaming::Stream;
 use crate::words::{Trouble, write_trouble};
 use crate::work_desk::WorkDesk;
@@ -26,7 +26,7 @@ pub(crate) fn write_stream<L: LogName + SlotName, R: Wait, D: WorkDesk<L>, W: Wr
     stream: &mut Stream<L>,
     first: Work,
     to: &mut W,
-) -> Result<(), Over>
+) -> Result<(), ConnectionEnd>
     ensures slot { LeavesSlot D.told stream.old.hold.lease.place first result desk.old (standing stream.old.walsender stream.old.hold.seat (W.contents to.old)) desk.new stream.new.hold.seat }
 {
     let ended = write_to_end(rt, desk, slots, stream, first, to);
@@ -45,7 +45,7 @@ fn write_to_end<L: LogName + SlotName, R: Wait, D: WorkDesk<L>, W: Write>(
     stream: &mut Stream<L>,
     first: Work,
     to: &mut W,
-) -> Result<(), Over>
+) -> Result<(), ConnectionEnd>
     ensures turns { EndsTurns D.told stream.old.hold.lease.place first desk.old (standing stream.old.walsender stream.old.hold.seat (W.contents to.old)) desk.new stream.new.walsender.sender.position stream.new.hold.seat }
     ensures lease { stream.new.hold.lease ≡ stream.old.hold.lease }
 {
@@ -55,12 +55,13 @@ fn write_to_end<L: LogName + SlotName, R: Wait, D: WorkDesk<L>, W: Write>(
             if last.phase == Phase::Stopping {
                 Ok(())
             } else {
-                Err(Over)
+                Err(ConnectionEnd::Client)
             }
         }
         Err(fault) => {
-            let _ = tell(stream, fault, to);
-            Err(Over)
+            let end = end_of(&fault);
+            let _ = tell(stream, end, to);
+            Err(end)
         }
     }
 }
@@ -91,9 +92,9 @@ fn run<L: LogName + SlotName, R: Wait, D: WorkDesk<L>, W: Write>(
 }
 
 /// Writes the words of what was taken. The connection may be over behind them.
-pub(crate) fn say<W: Write>(work: &Work, to: &mut W) -> Result<(), Over> {
+pub(crate) fn say<W: Write>(work: &Work, to: &mut W) -> Result<(), ConnectionEnd> {
     if to.write_all(work.said.as_slice()).is_err() || work.phase == Phase::Closed {
-        return Err(Over);
+        return Err(ConnectionEnd::Client);
     }
     Ok(())
 }
@@ -101,26 +102,36 @@ pub(crate) fn say<W: Write>(work: &Work, to: &mut W) -> Result<(), Over> {
 /// Tells the client why its stream ends, behind what is held.
 fn tell<L: LogName + SlotName, W: Write>(
     stream: &mut Stream<L>,
-    fault: TurnFault,
+    end: ConnectionEnd,
     to: &mut W,
 ) -> io::Result<()>
     ensures behind { OnOk result (WordsBehind stream.old.walsender stream.new.walsender (W.contents to.old) (W.contents to.new)) }
     ensures position { stream.new.walsender.sender.position ≡ stream.old.walsender.sender.position }
     ensures hold { stream.new.hold ≡ stream.old.hold }
 {
-    let Some(trouble) = trouble_of(fault) else {
+    let Some(trouble) = trouble_of(end) else {
         return Ok(());
     };
     stream.write_rest(to)?;
     write_trouble(stream.alloc(), trouble, to)
 }
 
-/// What the client is told, if it can still be.
-fn trouble_of(fault: TurnFault) -> Option<Trouble> {
+/// How the connection of a stream ends whose turn has failed so.
+fn end_of(fault: &TurnFault) -> ConnectionEnd {
     match fault {
-        TurnFault::Write(_) => None,
-        TurnFault::Sender(SendFault::ArenaFull) => Some(Trouble::FullArena),
-        TurnFault::Memory | TurnFault::Sender(_) => Some(Trouble::Memory),
-        TurnFault::NoEntry | TurnFault::Stale => Some(Trouble::NoEntry),
+        TurnFault::Write(_) => ConnectionEnd::Client,
+        TurnFault::Sender(SendFault::ArenaFull) => ConnectionEnd::FullArena,
+        TurnFault::Memory | TurnFault::Sender(_) => ConnectionEnd::Memory,
+        TurnFault::NoEntry | TurnFault::Stale => ConnectionEnd::NoEntry,
+    }
+}
+
+/// What the client is told, if it can still be.
+fn trouble_of(end: ConnectionEnd) -> Option<Trouble> {
+    match end {
+        ConnectionEnd::Memory => Some(Trouble::Memory),
+        ConnectionEnd::FullArena => Some(Trouble::FullArena),
+        ConnectionEnd::NoEntry => Some(Trouble::NoEntry),
+        _ => None,
     }
 }

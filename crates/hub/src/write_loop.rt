@@ -1,8 +1,9 @@
 //! The writing thread of a connection: all that goes to the client.
 
+use crate::fault::ConnectionEnd;
 use crate::hub::Hub;
 use crate::inbox::Work;
-use crate::line::{Line, Over};
+use crate::line::Line;
 use crate::stream_loop::{say, write_stream};
 use crate::streaming::Stream;
 use crate::work_desk::WorkDesk;
@@ -50,7 +51,9 @@ pub(crate) fn write_line<L: LogName + SlotName, R: Wait>(write: &mut WriteLoop<'
 }
 
 /// Writes what is said, and, if that began a stream, all of the stream.
-fn write_step<L: LogName + SlotName, R: Wait>(write: &mut WriteLoop<'_, L, R>) -> Result<(), Over> {
+fn write_step<L: LogName + SlotName, R: Wait>(
+    write: &mut WriteLoop<'_, L, R>,
+) -> Result<(), ConnectionEnd> {
     let mut to = write.socket;
     let mut work = write.line.take(write.rt);
     say(&work, &mut to)?;
@@ -66,8 +69,9 @@ fn write_step<L: LogName + SlotName, R: Wait>(write: &mut WriteLoop<'_, L, R>) -
     hub.inform(rt, &mut stream);
     let ended = write_stream(rt, write, &hub.slots, &mut stream, work, &mut to);
     hub.end(rt, stream);
-    if ended.is_ok() {
-        write.line.end_stream(rt);
+    match ended {
+        Ok(()) => write.line.end_stream(rt),
+        Err(end) => write.line.end_early(rt, end),
     }
     ended
 }

@@ -1,7 +1,8 @@
 //! The words of the command line.
 
 use crate::fault::Fault;
-use crate::timeout::timeout_of;
+use crate::reports::Level;
+use crate::numbers::{count_of, timeout_of};
 use clap::{Arg, ArgAction, ArgMatches, Command, Error};
 use std::alloc::{AllocError, Global};
 use std::net::SocketAddr;
@@ -71,18 +72,25 @@ pub struct Words<'a> {
     address: &'a str,
     connections: &'a str,
     awaited: Option<&'a str>,
-    timeout: Option<&'a str>,
+    silence: Option<&'a str>,
+    startup: Option<&'a str>,
+    at_once: Option<&'a str>,
+    messages: Option<&'a str>,
     pub scripts: Vec<&'a str>,
 }
 
-/// Where it listens, how many connections it serves, how many streams the scripts await, and for how long a stream's client may
-/// be silent, if that is told.
+/// Where it listens, how many connections it serves, how many streams the scripts await, how much it tells, and its limits where
+/// they are told: for how long a stream's client may be silent, how long a startup may take, and how many connections are served
+/// at once.
 #[derive(Clone, Copy)]
 pub struct Numbers {
     pub address: SocketAddr,
     pub connections: u32,
     pub awaited: u64,
+    pub level: Level,
     pub wal_sender_timeout: Option<Duration>,
+    pub authentication_timeout: Option<Duration>,
+    pub max_connections: Option<u32>,
 }
 
 impl<'a> Words<'a> {
@@ -93,13 +101,16 @@ impl<'a> Words<'a> {
             address: address.map_err(|_| Fault::Address)?,
             connections: self.connections()?,
             awaited: self.awaited()?,
+            level: self.level()?,
             wal_sender_timeout: self.wal_sender_timeout()?,
+            authentication_timeout: self.authentication_timeout()?,
+            max_connections: self.max_connections()?,
         })
     }
 
     fn connections(&self) -> Result<u32, Fault> {
-        match self.connections.parse::<u32>() {
-            Ok(count) if count <= MOST_CONNECTIONS => Ok(count),
+        match count_of(self.connections) {
+            Some(count) if count <= MOST_CONNECTIONS => Ok(count),
             _ => Err(Fault::Connections),
         }
     }
@@ -108,16 +119,40 @@ impl<'a> Words<'a> {
         let Some(count) = self.awaited else {
             return Ok(0);
         };
-        match count.parse::<u32>() {
-            Ok(count) => Ok(u64::from(count)),
-            Err(_) => Err(Fault::Awaited),
+        match count_of(count) {
+            Some(count) => Ok(u64::from(count)),
+            None => Err(Fault::Awaited),
+        }
+    }
+
+    fn level(&self) -> Result<Level, Fault> {
+        match self.messages {
+            Some(text) => Level::of(text).ok_or(Fault::Level),
+            None => Ok(Level::Warning),
         }
     }
 
     fn wal_sender_timeout(&self) -> Result<Option<Duration>, Fault> {
-        match self.timeout {
-            Some(text) => timeout_of(text).ok_or(Fault::Timeout).map(Some),
+        match self.silence {
+            Some(text) => timeout_of(text).ok_or(Fault::Silence).map(Some),
             None => Ok(None),
+        }
+    }
+
+    fn authentication_timeout(&self) -> Result<Option<Duration>, Fault> {
+        match self.startup {
+            Some(text) => timeout_of(text).ok_or(Fault::Startup).map(Some),
+            None => Ok(None),
+        }
+    }
+
+    fn max_connections(&self) -> Result<Option<u32>, Fault> {
+        let Some(text) = self.at_once else {
+            return Ok(None);
+        };
+        match count_of(text) {
+            Some(count) if 1 <= count => Ok(Some(count)),
+            _ => Err(Fault::AtOnce),
         }
     }
 }
@@ -138,6 +173,35 @@ const REQUIRED: [(&str, &str); 3] = [
     ),
 ];
 
+/// The words that may be left out, what stands behind each, and what is said of it.
+const OPTIONAL: [(&str, &str, &str); 5] = [
+    (
+        "await-streams",
+        "N",
+        "Run the scripts once N streams have begun, or no more connections come",
+    ),
+    (
+        "wal-sender-timeout",
+        "TIME",
+        "Close a stream's connection where its client is silent for so long: 60s unless it is given, 0 for never",
+    ),
+    (
+        "authentication-timeout",
+        "TIME",
+        "Close a connection that has said no startup for so long: 60s unless it is given, 0 for never",
+    ),
+    (
+        "max-connections",
+        "N",
+        "Serve so many connections at once, and refuse more: 100 unless it is given",
+    ),
+    (
+        "log-min-messages",
+        "LEVEL",
+        "Say on the standard error which connections can't be taken (error), which end otherwise than by their clients (warning, unless it is given), or how each ends (info)",
+    ),
+];
+
 /// All words, or the text for a user who asks for help or gives other words.
 pub fn words_of<'a>(alloc: Global, words: &'a [String]) -> Result<Words<'a>, Error> {
     let matches = command_of(alloc)?.try_get_matches_from(words)?;
@@ -149,31 +213,22 @@ fn command_of<'a>(alloc: Global) -> Result<Command<'a>, AllocError> {
     let mut command = Command::new(alloc, "pubd")
         .about(ABOUT)
         .after_help(AFTER_HELP)
-        .bin_name("pubd")?
-        .arg(awaited(alloc))?
-        .arg(timeout(alloc))?;
+        .bin_name("pubd")?;
+    for (name, value, help) in &OPTIONAL {
+        command = command.arg(optional(alloc, *name, *value, *help))?;
+    }
     for (name, help) in &REQUIRED {
         command = command.arg(required(alloc, *name, *help))?;
     }
     command.arg(scripts(alloc))
 }
 
-fn awaited(alloc: Global) -> Arg<'static> {
-    Arg::new(alloc, "await-streams")
-        .long("await-streams")
-        .value_name("N")
+fn optional<'a>(alloc: Global, name: &'a str, value: &'a str, help: &'a str) -> Arg<'a> {
+    Arg::new(alloc, name)
+        .long(name)
+        .value_name(value)
         .action(ArgAction::Set)
-        .help("Run the scripts once N streams have begun, or no more connections come")
-}
-
-fn timeout(alloc: Global) -> Arg<'static> {
-    Arg::new(alloc, "wal-sender-timeout")
-        .long("wal-sender-timeout")
-        .value_name("TIME")
-        .action(ArgAction::Set)
-        .help(
-            "Close a stream's connection where its client is silent for so long: 60s unless it is given, 0 for never",
-        )
+        .help(help)
 }
 
 fn required<'a>(alloc: Global, name: &'a str, help: &'a str) -> Arg<'a> {
@@ -207,7 +262,10 @@ fn words_in<'a>(matches: &ArgMatches<'a>, scripts: Vec<&'a str>) -> Words<'a> {
         address: matches.get_str("ADDR").unwrap_or(""),
         connections: matches.get_str("CONNECTIONS").unwrap_or(""),
         awaited: matches.get_str("await-streams"),
-        timeout: matches.get_str("wal-sender-timeout"),
+        silence: matches.get_str("wal-sender-timeout"),
+        startup: matches.get_str("authentication-timeout"),
+        at_once: matches.get_str("max-connections"),
+        messages: matches.get_str("log-min-messages"),
         scripts,
     }
 }

@@ -20,7 +20,13 @@ pub enum Fault {
     #[error("N of --await-streams is a number from 0 to 4294967295")]
     Awaited,
     #[error("TIME of --wal-sender-timeout is a number, and ms, s, min, h or d behind it, as in 60s")]
-    Timeout,
+    Silence,
+    #[error("TIME of --authentication-timeout is a number, and ms, s, min, h or d behind it, as in 60s")]
+    Startup,
+    #[error("N of --max-connections is a number from 1 to 4294967295")]
+    AtOnce,
+    #[error("LEVEL of --log-min-messages is info, warning or error")]
+    Level,
     #[error("the configuration cannot be read: {0}")]
     ReadConfig(io::Error),
     #[error("in the configuration: {1}")]
@@ -57,7 +63,13 @@ impl Fault {
                 ErrorKind::OutOfMemory => 1,
                 _ => 2,
             },
-            Fault::Address | Fault::Connections | Fault::Awaited | Fault::Timeout => 2,
+            Fault::Address
+            | Fault::Connections
+            | Fault::Awaited
+            | Fault::Silence
+            | Fault::Startup
+            | Fault::AtOnce
+            | Fault::Level => 2,
             // A file that is no text is a bad one, and no file that can't be read.
             Fault::ReadConfig(error) | Fault::ReadScript(_, error) => match error.kind() {
                 io::ErrorKind::InvalidData => 2,

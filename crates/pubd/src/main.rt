@@ -3,9 +3,9 @@
 
 mod command;
 mod fault;
+mod numbers;
 mod reports;
 mod scripts;
-mod timeout;
 
 ghost use Rattle.std.specs.Prelude.{◌≡◌};
 
@@ -13,7 +13,7 @@ use command::{Numbers, Words, words_of};
 use configuration::{Config, explained};
 use fault::Fault;
 use hub::{Hub, OpenedHub, serve};
-use reports::Reports;
+use reports::{Level, Reports};
 use scripts::{Script, run_all, scripts_of};
 use shared_log::LogName;
 use slots::SlotName;
@@ -24,7 +24,7 @@ use std::process::ExitCode;
 use std::sync::Wait;
 use std::sync::atomic::{AtomicBool, Ordering};
 use std::thread::Threads;
-use std::time::{Clock, Duration};
+use std::time::Clock;
 use std::{env, fs, thread};
 
 fn main(rt: HostRuntime) -> ExitCode {
@@ -74,14 +74,15 @@ where
         listener: &listener,
         connections: numbers.connections,
         awaited: numbers.awaited,
+        level: numbers.level,
         scripts,
     };
-    let opened = opened(rt, config, numbers.wal_sender_timeout)?;
+    let opened = opened(rt, config, numbers)?;
     served::<Brand, R, _, _>(host, opened, &service, &rt.stdout(), &rt.stderr())
 }
 
-/// A hub for the configuration at this path. The client of a stream may be silent for this time, if it is told.
-fn opened(rt: &HostRuntime, path: &str, timeout: Option<Duration>) -> Result<OpenedHub, Fault> {
+/// A hub for the configuration at this path, with those limits that are told.
+fn opened(rt: &HostRuntime, path: &str, numbers: &Numbers) -> Result<OpenedHub, Fault> {
     let alloc = rt.alloc();
     let text = fs::read_to_string(rt, path).map_err(Fault::ReadConfig)?;
     let config = match Config::from_toml(alloc, text.as_str()) {
@@ -101,10 +102,16 @@ fn opened(rt: &HostRuntime, path: &str, timeout: Option<Duration>) -> Result<Ope
     )
     .map_err(Fault::Hub)?;
     opened.chunks = server.chunks as u32;
-    if let Some(timeout) = timeout {
-        opened.wal_sender_timeout = timeout;
-    }
+    limit(&mut opened, numbers);
     Ok(opened)
+}
+
+fn limit(opened: &mut OpenedHub, numbers: &Numbers) {
+    opened.wal_sender_timeout = numbers.wal_sender_timeout.unwrap_or(opened.wal_sender_timeout);
+    opened.authentication_timeout = numbers
+        .authentication_timeout
+        .unwrap_or(opened.authentication_timeout);
+    opened.max_connections = numbers.max_connections.unwrap_or(opened.max_connections);
 }
 
 /// What is served, and what runs beside it.
@@ -114,6 +121,7 @@ struct Service<'a> {
     listener: &'a TcpListener,
     connections: u32,
     awaited: u64,
+    level: Level,
     scripts: &'a [Script],
 }
 
@@ -185,7 +193,10 @@ where
     R: Threads + Wait + Clock + Sync,
     E: Print + Sync,
 {
-    let reports = Reports { errors };
+    let reports = Reports {
+        errors,
+        level: service.level,
+    };
     let served = serve(rt, service.listener, hub, service.connections, &reports);
     hub.end_awaiting(rt);
     served.map_err(Fault::Serve)

@@ -1,4 +1,4 @@
-//! A time as PostgreSQL's settings write it.
+//! Numbers of the command line, and times as PostgreSQL's settings write them.
 
 use std::time::Duration;
 
@@ -24,8 +24,16 @@ pub fn timeout_of(text: &str) -> Option<Duration> {
     times(text, 1)
 }
 
+/// A number without a sign.
+pub fn count_of(text: &str) -> Option<u32> {
+    if text.starts_with('+') {
+        return None;
+    }
+    text.parse::<u32>().ok()
+}
+
 fn times(number: &str, milliseconds: u64) -> Option<Duration> {
-    let count = number.trim_end().parse::<u32>().ok()?;
+    let count = count_of(number.trim_end())?;
     let total = u64::from(count).checked_mul(milliseconds)?;
     if total <= MOST {
         Some(Duration::from_millis(total))

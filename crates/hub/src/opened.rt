@@ -1,0 +1,87 @@
+//! What a hub is opened with.
+
+ghost use Rattle.std.specs.Prelude.{◌≡◌, ◌≤◌};
+ghost use Rattle.txlog.specs.declared.limits.TheConstants.{MAX_RECORDS};
+
+use crate::fault::HubFault;
+use crate::system::SystemName;
+use pqformat::Text;
+use publication::Publications;
+use slots::OpenedSlots;
+use std::alloc::Global;
+use std::time::Duration;
+use tables::Catalog;
+use txlog::Opened;
+
+/// How many streams may run at once.
+pub(crate) const MOST_STREAMS: usize = 16;
+
+/// How many chunks the arena of a stream has, unless another number is set: a mebibyte.
+const CHUNKS: u32 = 64;
+
+/// For how many seconds the client of a stream may be silent, unless another time is set: PostgreSQL's default.
+const WAL_SENDER_TIMEOUT: u64 = 60;
+
+/// For how many seconds a startup may take, unless another time is set: PostgreSQL's default.
+const AUTHENTICATION_TIMEOUT: u64 = 60;
+
+/// How many connections may be served at once, unless another number is set: PostgreSQL's default.
+const MAX_CONNECTIONS: u32 = 100;
+
+/// What a hub is opened with: `Hub::open` names its log and its slots, and makes it.
+#[derive(Drop)]
+pub struct OpenedHub {
+    pub(crate) alloc: Global,
+    pub(crate) publications: Publications,
+    pub(crate) system: SystemName,
+    pub log: Opened,
+    pub slots: OpenedSlots,
+    /// For how long the client of a stream may be silent: 60 seconds, unless it is set. Zero is for ever.
+    pub wal_sender_timeout: Duration,
+    /// For how long a connection may take to say its startup: 60 seconds, unless it is set. Zero is for ever.
+    pub authentication_timeout: Duration,
+    /// How many connections may be served at once: 100, unless it is set.
+    pub max_connections: u32,
+    /// How many chunks of 16,384 bytes the changes of the transactions in progress may take in a stream: 64, unless it is set.
+    pub chunks: u32,
+}
+
+impl OpenedHub {
+    /// For these tables, these publications over them, the text by which the system names itself to clients, and a log of so
+    /// many records.
+    pub fn new(
+        alloc: Global,
+        catalog: Catalog,
+        publications: Publications,
+        systemid: Text,
+        records: usize,
+    ) -> Result<Self, HubFault>
+        requires some { 1 ≤ records }
+        requires few { records ≤ MAX_RECORDS }
+    {
+        let system = SystemName::new(systemid).ok_or(HubFault::LongName)?;
+        let log = log_of(alloc, catalog, records)?;
+        let slots = OpenedSlots::new(alloc)?;
+        Ok(OpenedHub {
+            alloc,
+            publications,
+            system,
+            log,
+            slots,
+            wal_sender_timeout: Duration::from_secs(WAL_SENDER_TIMEOUT),
+            authentication_timeout: Duration::from_secs(AUTHENTICATION_TIMEOUT),
+            max_connections: MAX_CONNECTIONS,
+            chunks: CHUNKS,
+        })
+    }
+}
+
+fn log_of(alloc: Global, catalog: Catalog, records: usize) -> Result<Opened, HubFault>
+    requires some { 1 ≤ records }
+    requires few { records ≤ MAX_RECORDS }
+{
+    match Opened::new(alloc, catalog, records, MOST_STREAMS) {
+        Ok(log) => Ok(log),
+        Err(_) => Err(HubFault::Memory),
+    }
+}

@@ -1,0 +1,165 @@
+"""What is limited: connections at once, the time of a startup, places for slots; and what is told of how connections end."""
+import struct
+import subprocess
+import time
+
+from connection import STARTUP, TERMINATE, Connection, Refused, framed
+from server import CONFIGURATION, Server
+
+CROWD = "pubd: a connection was closed, since max_connections are served"
+# For longer than a startup may take here.
+LATER = 2.5
+# Places for slots.
+PLACES = 16
+
+
+def a_startup_has_its_time(pubd, subcat):
+    """Who says none, or byte by byte, is closed when it is over; who has said it may be silent for ever."""
+    with Server(pubd, 3, more=["--authentication-timeout", "1s"]) as server:
+        begun = time.monotonic()
+        idle = Connection(server.port)
+        silent, slow = (Connection(server.port, says_nothing=True) for _ in range(2))
+        wrong = [] if is_closed_while_it_speaks(slow) else ["a startup of single bytes goes on for ever"]
+        wrong += ["a connection without a startup goes on for ever"] * (silent.bytes.read(1) != b"")
+        took = time.monotonic() - begun
+        wrong += [f"they are closed after {took:.1f} s"] * (not 1 <= took < LATER)
+        time.sleep(LATER - took)
+        idle.ask("IDENTIFY_SYSTEM")
+        for client in (idle, silent, slow):
+            client.close()
+        late = "closed: no startup came within authentication_timeout"
+        return wrong + server.end(ended=[f"pubd: connection {n} {late}" for n in (2, 3)])
+
+
+def is_closed_while_it_speaks(client):
+    whole = struct.pack(">I", len(STARTUP) + 4) + STARTUP
+    try:
+        for at in range(30):
+            client.socket.sendall(whole[at : at + 1])
+            time.sleep(0.1)
+    except ConnectionError:
+        return True
+    return False
+
+
+def as_many_are_served_as_may_be(pubd, subcat):
+    """One more is refused by 53300, and doesn't count; where one has gone, the next is served."""
+    wrong, told = [], []
+    with Server(pubd, 5, more=["--max-connections", "2", "--log-min-messages", "info"]) as server:
+        first, second = (Connection(server.port) for _ in range(2))
+        for _ in range(3):
+            wrong += refusal_in_a_crowd(server.port)
+            told.append(CROWD)
+        for number in (3, 4, 5):
+            first.close()
+            first, second = second, let_in(server.port, told)
+            told.append(f"pubd: connection {number - 2} closed by its client")
+        for number, client in ((4, first), (5, second)):
+            client.socket.sendall(TERMINATE)
+            client.close()
+            told.append(f"pubd: connection {number} closed by its client")
+        return wrong + server.end(ended=told)
+
+
+def refusal_in_a_crowd(port):
+    client = Connection(port, says_nothing=True)
+    code = client.refusal()
+    client.close()
+    return [f"a third connection is refused by {code}"] * (code != "53300")
+
+
+def let_in(port, told):
+    """A server takes a moment to see that another connection has gone."""
+    for _ in range(1000):
+        try:
+            return Connection(port)
+        except (EOFError, ConnectionError, Refused):
+            told.append(CROWD)
+            time.sleep(0.01)
+    raise TimeoutError("nobody is let in")
+
+
+def an_end_is_told_with_its_cause(pubd, subcat):
+    """Each once, by what ended it."""
+    more = ["--log-min-messages", "info", "--wal-sender-timeout", "1s"]
+    with Server(pubd, 5, more=more) as server:
+        polite, gone, reset, wrong, silent = (Connection(server.port) for _ in range(5))
+        polite.socket.sendall(TERMINATE)
+        gone.close()
+        reset.create("s0")
+        reset.start("s0")
+        reset.break_off()
+        wrong.socket.sendall(framed("7a"))
+        silent.create("s1")
+        silent.start("s1")
+        while silent.bytes.read(1):
+            pass
+        for client in (polite, wrong, silent):
+            client.close()
+        return server.end(
+            ended=[
+                "pubd: connection 1 closed by its client",
+                "pubd: connection 2 closed by its client",
+                "pubd: connection 3 lost: it cannot be read",
+                "pubd: connection 4 closed: its client sent what no server takes then",
+                "pubd: connection 5 closed: its client was silent for wal_sender_timeout",
+            ]
+        )
+
+
+def only_what_is_asked_for_is_told(pubd, subcat):
+    """By default nothing of a client that goes, and of a level that tells less nothing of a connection that was served."""
+    wrong = []
+    for more, told in (([], ["pubd: connection 2 closed: its client sent what no server takes then"]), (["--log-min-messages", "error"], [])):
+        with Server(pubd, 2, more=more) as server:
+            Connection(server.port).close()
+            client = Connection(server.port)
+            client.socket.sendall(framed("7a"))
+            client.bytes.read()
+            client.close()
+            wrong += server.end(ended=told)
+    return wrong
+
+
+def a_place_is_never_used_again(pubd, subcat):
+    """A slot that was dropped leaves no room for another, and is no slot any more."""
+    with Server(pubd, 1) as server:
+        client = Connection(server.port)
+        for number in range(PLACES):
+            client.create(f"s{number}")
+        wrong = refused(client.create, "another", "53400")
+        client.ask("DROP_REPLICATION_SLOT s0")
+        wrong += refused(client.create, "another", "53400") + refused(client.start, "s0", "42704")
+        client.start("s1")
+        client.close()
+        return wrong + server.end()
+
+
+def refused(ask, slot, code):
+    """What is wrong where this has to be refused by this code."""
+    try:
+        ask(slot)
+    except Refused as refusal:
+        return [f"{slot} is refused by {refusal}"] * (refusal.args[0] != code)
+    return [f"{slot} isn't refused"]
+
+
+def a_word_that_is_none_is_told(pubd, subcat):
+    """With status 2 and in one line, before anything is served or sent."""
+    served = [CONFIGURATION, "127.0.0.1:0"]
+    followed = ["127.0.0.1:1", "s", "0/0", "p"]
+    cases = [
+        (pubd, [*served, "+5"], "pubd: CONNECTIONS is a number from 0 to 1000"),
+        (pubd, ["--await-streams", "+1", *served, "0"], "pubd: N of --await-streams is a number from 0 to 4294967295"),
+        (pubd, ["--max-connections", "0", *served, "0"], "pubd: N of --max-connections is a number from 1 to 4294967295"),
+        (pubd, ["--authentication-timeout", "1y", *served, "0"], "pubd: TIME of --authentication-timeout is a number, and ms, s, min, h or d behind it, as in 60s"),
+        (pubd, ["--wal-sender-timeout", "+1s", *served, "0"], "pubd: TIME of --wal-sender-timeout is a number, and ms, s, min, h or d behind it, as in 60s"),
+        (pubd, ["--log-min-messages", "debug", *served, "0"], "pubd: LEVEL of --log-min-messages is info, warning or error"),
+        (subcat, [*followed, "+5"], "subcat: COUNT is a number from 0 to 4294967295"),
+    ]
+    wrong = []
+    for program, words, due in cases:
+        ran = subprocess.run([program, *words], capture_output=True, text=True, timeout=60)
+        came = ran.returncode, ran.stdout, ran.stderr
+        wrong += [f"{words[0]} {words[-1]}: it ends with {came}"] * (came != (2, "", f"{due}\n"))
+    return wrong
