@@ -46,6 +46,22 @@ def a_refusal_without_a_reason_is_one_all_the_same(pubd, subcat):
         return wrong_of(follower.returncode, said, "subcat: K4: ")
 
 
+def what_a_server_says_is_one_line(pubd, subcat):
+    """However long it is, and whatever a terminal would make of it."""
+    wrong = []
+    for text, shown in (("x" * 10_000, "x" * 160), ("one\ntwo", "one"), ("\x1b[2J", ""), ("ä" * 200, "ä" * 80)):
+        with socket.create_server(("127.0.0.1", 0)) as listener:
+            words = [subcat, f"127.0.0.1:{listener.getsockname()[1]}", "s", "0/0", "p", "1"]
+            follower = subprocess.Popen(words, stdout=subprocess.DEVNULL, stderr=subprocess.PIPE, text=True)
+            client = listener.accept()[0]
+            body = b"SERROR\0C08P01\0M" + text.encode() + b"\0\0"
+            client.sendall(b"E" + struct.pack(">I", len(body) + 4) + body)
+            said = follower.communicate(timeout=60)[1]
+            client.close()
+            wrong += [f"it says {said!r}"] * (said != f"server: 08P01 {shown}\n")
+    return wrong
+
+
 def quotes_stand_in_names_and_end_none(pubd, subcat):
     """A name with a quote is one that no slot may have, and not two words that are no command."""
     with Server(pubd, 1) as server:

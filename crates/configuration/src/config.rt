@@ -6,11 +6,14 @@ ghost use Rattle.configuration.specs.Config.{IsServer, Names, ReadsSetting, name
 
 use crate::config_fault::ConfigFault;
 use crate::server::{Server, server_of};
-use publication::Publications;
+use publication::{PubFault, Publications};
 use std::alloc::{AllocError, Global};
 use std::marker::Model;
-use tables::{Catalog, read_document};
+use tables::{Catalog, CatalogFault, read_document};
 use toml::Value;
+
+/// The most bytes of a word that a line shows.
+const MOST_SHOWN: usize = 100;
 
 /// What a publisher is configured with: its tables, its publications, and its server.
 #[derive(Drop)]
@@ -35,17 +38,54 @@ impl Model for Config {
     ghost invariant = { λ c. IsServer c.server };
 }
 
-/// Why the text is no configuration, in lines for whoever wrote it. A fault of publications is told with their names, and a filter
-/// that is none with a mark under the byte at fault.
+/// Why the text is no configuration, in lines for whoever wrote it. A fault of publications is told with their names, a filter that
+/// is none with a mark under the byte at fault, and of a text that is no TOML what stopped its reader.
 pub fn explained(alloc: Global, text: &str, fault: &ConfigFault) -> Result<String, AllocError> {
-    if let ConfigFault::Publications(fault) = fault {
-        if let Ok(document) = read_document(alloc, text) {
-            if let Ok(catalog) = Catalog::of_document(alloc, &document) {
-                return publication::explained(alloc, &document, &catalog, *fault);
-            }
+    match fault {
+        ConfigFault::Publications(why) => of_publications(alloc, text, fault, *why),
+        ConfigFault::Catalog(CatalogFault::NotToml(_)) => of_reader(alloc, text, fault),
+        _ => fault.to_string(alloc),
+    }
+}
+
+fn of_publications(
+    alloc: Global,
+    text: &str,
+    fault: &ConfigFault,
+    why: PubFault,
+) -> Result<String, AllocError> {
+    if let Ok(document) = read_document(alloc, text) {
+        if let Ok(catalog) = Catalog::of_document(alloc, &document) {
+            return publication::explained(alloc, &document, &catalog, why);
         }
     }
     fault.to_string(alloc)
+}
+
+/// The fault, what the reader of TOML says of it, and the word at which it stopped, as of a key that is given twice.
+fn of_reader(alloc: Global, text: &str, fault: &ConfigFault) -> Result<String, AllocError> {
+    let mut line = fault.to_string(alloc)?;
+    if let Err(why) = toml::table_from_str(alloc, text) {
+        line.push_str(": ")?;
+        line.push_str(why.message())?;
+        if let Some(word) = word_at(text, &why) {
+            line.push_str(", at ")?;
+            line.push_str(word)?;
+        }
+    }
+    Ok(line)
+}
+
+/// The word at which the reader stopped, unless it is none that a line can show.
+fn word_at<'t>(text: &'t str, why: &toml::de::Error) -> Option<&'t str> {
+    let word = text.get(why.span()?)?;
+    if word.is_empty()
+        || MOST_SHOWN < word.len()
+        || word.bytes().any(|byte| byte.is_ascii_control())
+    {
+        return None;
+    }
+    Some(word)
 }
 
 impl Config {

@@ -7,6 +7,11 @@ use std::alloc::AllocError;
 use std::{fmt, io};
 use thiserror::Error;
 
+/// The most bytes that are shown of a code and of a text.
+const MOST_OF_CODE: usize = 5;
+
+const MOST_OF_TEXT: usize = 160;
+
 /// What the server said in an ErrorResponse (PostgreSQL 15, 55.8).
 #[derive(Debug, Drop)]
 pub struct ServerError {
@@ -16,10 +21,23 @@ pub struct ServerError {
     pub text: Text,
 }
 
+/// As much of each as a line shows: the server chose both.
 impl fmt::Display for ServerError {
     fn fmt<W: fmt::Write>(&self, f: &mut fmt::Formatter<W>) -> fmt::Result {
-        write!(f, "{} {}", self.code.as_str(), self.text.as_str())
+        let code = beginning(self.code.as_str(), MOST_OF_CODE);
+        let text = beginning(self.text.as_str(), MOST_OF_TEXT);
+        write!(f, "{code} {text}")
     }
+}
+
+/// The beginning of a text, before its first control character, of so many bytes and the rest of a character.
+fn beginning(text: &str, most: usize) -> &str {
+    for (at, c) in text.char_indices() {
+        if most <= at || c.is_control() {
+            return text.get(..at).unwrap_or("");
+        }
+    }
+    text
 }
 
 /// Why a stream was not followed to its end.

@@ -2,10 +2,16 @@
 
 use crate::config_fault::{Misfit, Place};
 use crate::fault::PubFault;
-use rowfilter::{FilterFault, fault_at};
+use rowfilter::{FilterFault, MOST_BYTES, fault_at};
 use std::alloc::{AllocError, Global};
 use tables::{Catalog, Table};
 use toml::Value;
+
+/// The most bytes of a text that a line shows, so that no line is long.
+const MOST_SHOWN: usize = 120;
+
+/// The most characters that it shows before a mark.
+const MOST_BEFORE: usize = 30;
 
 /// The fault that a document was refused with over this catalogue, in lines for whoever wrote it: the fault, the names of its publication and
 /// its table, and of a filter that is none its text, with a mark under the byte at fault.
@@ -63,9 +69,18 @@ fn push_names(
     push_both(lines, ".", table.name.as_str())
 }
 
-fn push_both(lines: &mut String, first: &str, second: &str) -> Result<(), AllocError> {
-    lines.push_str(first)?;
-    lines.push_str(second)
+/// Adds these words, and as much of the text behind them as a line shows.
+fn push_both(lines: &mut String, words: &str, text: &str) -> Result<(), AllocError> {
+    lines.push_str(words)?;
+    lines.push_str(beginning(text))
+}
+
+/// As much of a text as a line shows.
+fn beginning(text: &str) -> &str {
+    match text.char_indices().find(|(at, _)| MOST_SHOWN <= *at) {
+        Some((end, _)) => text.get(..end).unwrap_or(text),
+        None => text,
+    }
 }
 
 /// Where a fault stands; a fault of a publication alone at its table 0, which none is.
@@ -151,6 +166,9 @@ fn mark_filter(
     let Some(table) = table_of(value, catalog) else {
         return Ok(());
     };
+    if MOST_BYTES < text.len() {
+        return lines.push_str("\nthe condition has over 4096 bytes");
+    }
     let at = fault_at(alloc, text, table, why)?;
     push_marked(lines, text, at)
 }
@@ -170,8 +188,21 @@ fn push_marked(lines: &mut String, text: &str, at: usize) -> Result<(), AllocErr
         Some(end) => end.saturating_add(1),
         None => 0,
     };
-    push_line(lines, text.get(line..).unwrap_or(""))?;
-    push_mark(lines, before.get(line..).unwrap_or(""))
+    let shown = line.saturating_add(hidden(before.get(line..).unwrap_or("")));
+    push_line(lines, text.get(shown..).unwrap_or(""))?;
+    push_mark(lines, before.get(shown..).unwrap_or(""))
+}
+
+/// How many bytes of a line are left out before those that stand before a mark.
+fn hidden(before: &str) -> usize {
+    let count = before.chars().count();
+    match count.checked_sub(MOST_BEFORE) {
+        Some(left_out) => match before.char_indices().nth(left_out) {
+            Some((at, _)) => at,
+            None => before.len(),
+        },
+        None => 0,
+    }
 }
 
 /// Adds the first line of the text.

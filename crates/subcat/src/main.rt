@@ -55,6 +55,14 @@ fn options_of<'a>(words: &Words<'a>) -> Result<Options<'a>, Fault> {
         slot: words.slot,
         position: parse_position(words.position).map_err(|_| Fault::Position)?,
         publications: words.publications,
-        count: words.count.parse::<u32>().map_err(|_| Fault::Count)?,
+        count: count_of(words.count)?,
     })
+}
+
+/// A number without a sign.
+fn count_of(text: &str) -> Result<u32, Fault> {
+    if text.starts_with('+') {
+        return Err(Fault::Count);
+    }
+    text.parse::<u32>().map_err(|_| Fault::Count)
 }
