@@ -144,7 +144,9 @@ impl<L: LogName + SlotName> Hub<L> {
         if self.authentication_timeout.is_zero() {
             return None;
         }
-        rt.monotonic().ok()?.checked_add(self.authentication_timeout)
+        rt.monotonic()
+            .ok()?
+            .checked_add(self.authentication_timeout)
     }
 
     /// One more connection is served, unless as many are as may be at once.

@@ -1,8 +1,8 @@
 //! The words of the command line.
 
 use crate::fault::Fault;
-use crate::reports::Level;
 use crate::numbers::{count_of, timeout_of};
+use crate::reports::Level;
 use clap::{Arg, ArgAction, ArgMatches, Command, Error};
 use std::alloc::{AllocError, Global};
 use std::net::SocketAddr;

@@ -107,7 +107,9 @@ fn opened(rt: &HostRuntime, path: &str, numbers: &Numbers) -> Result<OpenedHub, 
 }
 
 fn limit(opened: &mut OpenedHub, numbers: &Numbers) {
-    opened.wal_sender_timeout = numbers.wal_sender_timeout.unwrap_or(opened.wal_sender_timeout);
+    opened.wal_sender_timeout = numbers
+        .wal_sender_timeout
+        .unwrap_or(opened.wal_sender_timeout);
     opened.authentication_timeout = numbers
         .authentication_timeout
         .unwrap_or(opened.authentication_timeout);
