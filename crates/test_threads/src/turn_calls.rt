@@ -158,10 +158,12 @@ fn ends_with_commit(records: &[Arc<Record>]) -> bool {
     }
 }
 
-/// Takes so many bytes, at most 100 at once, and then fails.
+/// Takes so many bytes, some at once, and then fails, or takes none.
 #[derive(Drop)]
 struct Narrow {
     left: usize,
+    at_once: usize,
+    fails: bool,
     taken: Vec<u8>,
 }
 
@@ -169,10 +171,10 @@ impl Write for Narrow {
     ghost contents = { λ w. Some w.taken.items };
 
     fn write(&mut self, buf: &[u8]) -> io::Result<usize> {
-        if self.left == 0 {
+        if self.left == 0 && self.fails {
             return Err(io::Error::from(ErrorKind::Other));
         }
-        let count = buf.len().min(self.left).min(100);
+        let count = buf.len().min(self.left).min(self.at_once);
         self.taken.extend_from_slice(&buf[..count])?;
         self.left -= count;
         Ok(count)
@@ -188,7 +190,7 @@ fn writers_that_fail(rt: HostRuntime) -> Result<(), Fail> {
     do_work(&rt, rt.alloc(), Work::TurnNarrowly)
 }
 
-/// Turns to writers that take no byte of the first block, one, and so on.
+/// Turns to writers that take no byte of the first block, one, and so on, up to 100 at once or one by one.
 pub fn turn_narrowly<L: LogName, R: Wait + Abort>(
     rt: &R,
     alloc: Global,
@@ -220,8 +222,26 @@ fn turn_to<L: LogName, R: Abort>(
     reader: &mut LogReader<L>,
     left: usize,
 ) -> Result<(), Fail> {
+    turn_by(rt, alloc, reader, left, 100, true)?;
+    turn_by(rt, alloc, reader, left, 1, false)
+}
+
+fn turn_by<L: LogName, R: Abort>(
+    rt: &R,
+    alloc: Global,
+    reader: &mut LogReader<L>,
+    left: usize,
+    at_once: usize,
+    fails: bool,
+) -> Result<(), Fail> {
+    let mut out = Narrow {
+        left,
+        at_once,
+        fails,
+        taken: Vec::new(alloc),
+    };
     let mut sender = sender_of_p(alloc)?;
-    turn_into(rt, alloc, &mut sender, reader, left)
+    turn_into(rt, alloc, &mut sender, reader, &mut out)
 }
 
 fn turn_into<L: LogName, R: Abort>(
@@ -229,14 +249,11 @@ fn turn_into<L: LogName, R: Abort>(
     alloc: Global,
     sender: &mut Sender,
     reader: &mut LogReader<L>,
-    left: usize,
+    out: &mut Narrow,
 ) -> Result<(), Fail> {
-    let mut out = Narrow {
-        left,
-        taken: Vec::new(alloc),
-    };
+    let left = out.left;
     reader.seek(0);
-    let is_due = is_due(turn(alloc, sender, reader, 9, &mut out), left);
+    let is_due = is_due(turn(alloc, sender, reader, 9, out), left);
     let is_front = is_front(alloc, out.taken.as_slice(), left)?;
     assert!(rt; is_due && is_front);
     Ok(())
