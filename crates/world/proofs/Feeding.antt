@@ -1,5 +1,5 @@
 -- A subscriber and the open start that feeds it: what was delivered, what is on its way, and what it has told.
-use Rattle.std.proofs.Common.{◌≡◌, ◌≤◌, ◌+◌, ℕ, max, min, true, false, List, [], ◌∷◌, ◌++◌, length, take, drop, Option, Some, None, Result, Ok, Err, refl, sym, ap, subst, ◌∙◌, append_assoc, arith}
+use Rattle.std.proofs.Common.{◌≡◌, ◌≤◌, ◌+◌, ℕ, max, min, true, List, [], ◌++◌, length, take, drop, Option, Some, None, Result, Ok, Err, refl, sym, ap, subst, ◌∙◌, append_assoc, arith}
 use Rattle.std.specs.Prelude.{◌||◌, Bool, nat_lt}
 use Rattle.std.specs.List.{AllByRecursion}
 use Rattle.std.proofs.Math.Seq.{take-add}
@@ -25,7 +25,7 @@ use Rattle.world.specs.State.{SubscriberState, in_pipe}
 use Rattle.world.specs.Law.{IsExact}
 use Rattle.world.specs.Delivering.{AnswersTo, Gets}
 use Rattle.world.proofs.Raising.{takes_follows, takes_raises}
-use Rattle.world.proofs.Settled.{IsReadTo, IsSettled, settled_by, settled_grown}
+use Rattle.world.proofs.Settled.{IsSettled, settled_by, settled_grown}
 
 -- without a start nothing is on its way
 pub record IsAtRest (sub : SubscriberState) : Type 0 where

@@ -1,17 +1,16 @@
 -- A run by which each subscriber whose lines are fair applies each transaction once.
-use Rattle.std.proofs.Common.{◌≡◌, ◌≤◌, ◌<◌, ◌+◌, ℕ, max, Bool, true, false, cond, List, [], ◌∷◌, ◌++◌, length, take, drop, Option, Some, None, option_map, refl, sym, ap, subst, ◌∙◌, append_assoc, arith}
+use Rattle.std.proofs.Common.{◌≡◌, ◌<◌, ◌+◌, ℕ, max, Bool, true, false, cond, List, [], ◌∷◌, ◌++◌, length, take, drop, Option, Some, None, option_map, refl, sym, ap, subst, ◌∙◌, append_assoc, arith}
 use Rattle.std.specs.Prelude.{slice_index_or}
 use Rattle.std.specs.List.{AllByRecursion}
 use Rattle.std.specs.Str.{bytes_eq}
 use Rattle.std.proofs.lemmas.List.{append-nil, take-append-drop, take_more}
 use Rattle.wal.specs.declared.record.Record.{Record}
 use Rattle.wal.specs.declared.record.TheConstants.{FIRST_POSITION}
-use Rattle.wal.specs.Log.{IsSized, IsWellFormedLog, end_of}
+use Rattle.wal.specs.Log.{IsWellFormedLog, end_of}
 use Rattle.tables.specs.declared.table.Table.{Table}
 use Rattle.publication.specs.Publications.{PublicationSet, selected}
 use Rattle.tables.specs.declared.value.Value.{Value}
-use Rattle.txlog.specs.Publishing.{PublisherState, after_abort, after_commit, begun, changed, log_end, released, rolled_back, saved, with_old}
-use Rattle.tables.specs.declared.change.Change.{Change}
+use Rattle.txlog.specs.Publishing.{PublisherState, begun, log_end, with_old}
 use Rattle.tables.specs.Tables.{table_named}
 use Rattle.schedule.specs.declared.answer.Answer.{Answer}
 use Rattle.schedule.specs.declared.answer.Answer.TheVariants as answers
@@ -31,12 +30,13 @@ use Rattle.world.specs.State.{SubscriberState, WorldState, new_world, open_start
 use Rattle.world.specs.Law.{Headline, IsExact}
 use Rattle.world.specs.Slots.{Creates}
 use Rattle.world.specs.Steps.{Calls, IsRun, IsStep, session_state}
-use Rattle.world.specs.Confirming.{confirmed_after, confirmed_at}
+use Rattle.world.specs.Confirming.{confirmed_at}
 use Rattle.world.specs.Once.{AppliesOnce, GainsSince, IsFair, IsFairRun, RunsOnce, applied_by, applied_in, begun_after, begun_through, created_after, created_through, position_in, position_of}
 use Rattle.world.proofs.Confirmed.{created_step, not_named}
 use Rattle.world.proofs.Runs.{joined}
+use Rattle.world.proofs.Inside.{same_inside}
 use Rattle.world.proofs.Lookups as look
-use Rattle.world.proofs.Feeding.{IsAtRest, IsFed, fed_grown}
+use Rattle.world.proofs.Feeding.{IsFed, fed_grown}
 use Rattle.stream.specs.declared.published.Published.{Published}
 use Rattle.stream.specs.Items.{spelled}
 use Rattle.publication.specs.Selection.{relation}
@@ -47,7 +47,7 @@ use Rattle.client.specs.Law.{GainedAll}
 use Rattle.client.proofs.Laws.{follows_ok}
 use Rattle.client.proofs.Reaching.{reached_none}
 use Rattle.world.proofs.Orders.{below, in_order, late, late_all, none_below, parted}
-use Rattle.world.proofs.Settled.{IsSettled, all_from_zero, settled_grown}
+use Rattle.world.proofs.Settled.{all_from_zero, settled_grown}
 use Rattle.world.proofs.OnceSteps.{IsBefore, IsMine, IsNotOn, IsOnce, LeavesAlone, before_left, once_left, other_step}
 use Rattle.world.proofs.OwnSteps.{begun_by, mine_at, own_before, own_step}
 
@@ -103,18 +103,11 @@ called_grows (Some ask) old answers.NoReader new grows called = absurd called
 called_grows (Some ask) old (answers.Sender fault) new grows called = absurd called
 called_grows (Some ask) old (answers.Subscriber fault) new grows called = absurd called
 
-same_ask : (x y : Ask) → Option.Some x ≡ Option.Some y → x ≡ y
-same_ask x y is = ap (or_that x) is
-  where
-    or_that : Ask → Option Ask → Ask
-    or_that x None = x
-    or_that x (Some y) = y
-
 asked_grows : (t : List ℕ) (step : SessionStep) (p : PublisherState) (ts : List NamedTx) (x : Ask) → step_ask t step p ts ≡ Some x → Grew p x.done
 asked_grows t step p ts x is = by_step step is
   where
     made : (xid : ℕ) (step : SessionStep) → Option.Some (asks t step p ts xid) ≡ Option.Some x → Grew p x.done
-    made xid step is = subst (λ (y : Ask). Grew p y.done) (same_ask (asks t step p ts xid) x is) (grew_by step xid p)
+    made xid step is = subst (λ (y : Ask). Grew p y.done) (same_inside (asks t step p ts xid) x is) (grew_by step xid p)
 
     known : (o : Option ℕ) (step : SessionStep) → if_known o (asks t step p ts) ≡ Some x → Grew p x.done
     known None step is = absurd cc
@@ -360,14 +353,11 @@ said c s names from begun w good headline once = record {
   later = late (position_of c w) (published_there);
   begins = parted (position_of c w) FIRST_POSITION (end_of FIRST_POSITION w.publisher.log) published_there (in_order (selected w.publications names) from FIRST_POSITION [] w.publisher.log good.follows good.sizes) ∙ ap (λ l. l ++ late (position_of c w) published_there) (sym applied);
   all = late_all (position_of c w) published_there;
-  confirmed = λ n is. let same = inside once.confirmed n (sym once.slot ∙ is) in omega (arith, once.within, same);
+  confirmed = λ n is. let same = same_inside once.confirmed n (sym once.slot ∙ is) in omega (arith, once.within, same);
   since = λ l sub started known sound. gained_since w.publisher.log from (selected w.publications names) s begun l sub (look.open_of_all (IsExact w.publisher.log) c w.starts l headline started) (look.start_open c w.starts l started) (mine_at c s names from begun w (Some l) (Some sub) once started known).1 sound;
 } where
   published_there : List Published
   published_there = published (selected w.publications names) w.publisher.log from
-
-  inside : (m n : ℕ) → Option.Some m ≡ Option.Some n → m ≡ n
-  inside m n is = cc
 
   applied : applied_by c w ≡ below (position_of c w) published_there
   applied = by_known (subscriber_of c w.subscribers) (open_start c w.starts) once.mine

@@ -1,45 +1,35 @@
 -- What each event leaves of a subscriber whose lines are fair.
-use Rattle.std.proofs.Common.{◌≡◌, ◌≤◌, ◌+◌, ℕ, max, min, Bool, true, false, cond, List, [], ◌∷◌, ◌++◌, length, take, drop, Option, Some, None, option_map, refl, sym, ap, subst, ◌∙◌, arith}
-use Rattle.std.specs.Prelude.{IsNone, is_some, not}
+use Rattle.std.proofs.Common.{◌≡◌, ◌≤◌, ℕ, max, min, Bool, true, false, cond, List, [], ◌∷◌, ◌++◌, take, Option, Some, None, option_map, refl, sym, ap, subst, ◌∙◌, arith}
 use Rattle.std.specs.List.{AllByRecursion}
 use Rattle.std.proofs.lemmas.List.{append-nil}
 use Rattle.std.specs.Str.{bytes_eq}
-use Rattle.wal.specs.declared.record.TheConstants.{FIRST_POSITION}
 use Rattle.wal.specs.declared.record.Record.{Record}
-use Rattle.wal.specs.Log.{IsWellFormedLog, end_of}
 use Rattle.wal.specs.Restart.{restart}
-use Rattle.wal.proofs.Laws.{all_when}
 use Rattle.publication.specs.Publications.{PublicationSet, selected}
 use Rattle.publication_config.specs.declared.fault.PubFault.TheVariants as pubs
-use Rattle.copyboth.specs.declared.status.Status.{Status}
 use Rattle.stream.specs.declared.published.Published.{Published}
 use Rattle.stream.proofs.Lists.{all_of_both}
-use Rattle.txlog.specs.Publishing.{log_end}
 use Rattle.sender.specs.declared.fault.SendFault.TheVariants as sends
 use Rattle.schedule.specs.declared.answer.Answer.{Answer}
 use Rattle.schedule.specs.declared.answer.Answer.TheVariants as answers
 use Rattle.schedule.specs.declared.event.ConnectionStep.{ConnectionStep}
 use Rattle.schedule.specs.declared.event.ConnectionStep.TheVariants as steps
-use Rattle.named_slots.specs.State.{NamedSlot, SlotsState, confirmed_of, slot_of}
-use Rattle.named_slots.specs.Words.{confirmed_by, is_missing, let_go, slot_named, start_from, taken}
+use Rattle.named_slots.specs.State.{SlotsState}
+use Rattle.named_slots.specs.Words.{confirmed_by, slot_named, start_from}
 use Rattle.starts.specs.State.{StartState}
 use Rattle.starts.specs.Acting.{Acts, new_start}
 use Rattle.starts.specs.declared.action.Action.{Action}
 use Rattle.starts.specs.declared.action.Action.TheVariants as actions
-use Rattle.world.specs.State.{SubscriberState, WorldState, again, if_known_again, if_there, in_pipe, new_subscriber, open_start, reconnected, slot_of_connection, subscriber_of, with_one_for, with_open_start, with_subscriber}
-use Rattle.world.specs.Law.{Headline, IsExact}
+use Rattle.world.specs.State.{SubscriberState, WorldState, again, if_known_again, if_there, new_subscriber, open_start, reconnected, slot_of_connection, subscriber_of, with_one_for, with_subscriber}
 use Rattle.world.specs.ConnectionLines.{ActsAt, IsStart, slots_after, start_refusal, started, subscribers_after}
-use Rattle.world.specs.Delivering.{Delivers}
-use Rattle.world.specs.Slots.{Acknowledges, PutsBack, status_with}
 use Rattle.world.specs.Steps.{IsStepAt}
 use Rattle.world.specs.Confirming.{confirmed_at, raised_by, told_if}
 use Rattle.world.specs.Once.{IsFairAt, position_in, position_of}
 use Rattle.world.proofs.Confirmed.{confirmed_once, let_go_same, taken_same}
-use Rattle.world.proofs.Machines.{is_closed, is_cut, no_cut, stays_open}
 use Rattle.world.proofs.Lookups as look
 use Rattle.world.proofs.Lookups.{IsAlone, named_so, other_name, same_name}
-use Rattle.world.proofs.Feeding.{IsAtRest, IsDelivered, IsFed, delivered, fed_begun, fed_grown, fed_produced}
-use Rattle.world.proofs.Settled.{IsSettled, settled_grown, settled_new}
+use Rattle.world.proofs.Feeding.{IsAtRest, IsFed}
+use Rattle.world.proofs.Settled.{IsSettled}
 
 -- ---- What is true between events.
 

@@ -1,8 +1,7 @@
 -- What the lines of a subscriber's own connection leave of it.
-use Rattle.std.proofs.Common.{◌≡◌, ◌≤◌, ◌+◌, ℕ, ℤ, max, min, Bool, true, false, cond, List, [], ◌∷◌, ◌++◌, length, take, drop, Option, Some, None, option_map, refl, sym, ap, subst, ◌∙◌, arith}
+use Rattle.std.proofs.Common.{◌≡◌, ◌≤◌, ℕ, ℤ, max, min, Bool, true, false, cond, List, [], ◌∷◌, ◌++◌, Option, Some, None, option_map, refl, sym, ap, subst, ◌∙◌, arith}
 use Rattle.std.specs.Prelude.{IsNone}
 use Rattle.std.specs.List.{AllByRecursion}
-use Rattle.std.specs.Str.{bytes_eq}
 use Rattle.wal.specs.declared.record.Record.{Record}
 use Rattle.wal.specs.Log.{IsWellFormedLog}
 use Rattle.wal.specs.Restart.{restart}
@@ -19,7 +18,7 @@ use Rattle.starts.specs.State.{StartState}
 use Rattle.starts.specs.Acting.{new_start}
 use Rattle.starts.specs.declared.action.Action.{Action}
 use Rattle.starts.specs.declared.action.Action.TheVariants as actions
-use Rattle.world.specs.State.{SubscriberState, WorldState, again, if_known_again, if_there, new_subscriber, open_start, reconnected, slot_of_connection, subscriber_of, with_one_for, with_open_start, with_subscriber}
+use Rattle.world.specs.State.{SubscriberState, WorldState, again, if_known_again, if_there, new_subscriber, open_start, slot_of_connection, subscriber_of, with_open_start, with_subscriber}
 use Rattle.world.specs.Law.{Headline, IsExact}
 use Rattle.world.specs.ConnectionLines.{ActsAt, start_refusal, started, subscribers_after}
 use Rattle.world.specs.Delivering.{Delivers}
@@ -29,10 +28,11 @@ use Rattle.world.specs.Confirming.{confirmed_at, raised_by, told_if}
 use Rattle.world.specs.Once.{IsFairAt, applied_by, applied_in, position_in, position_of}
 use Rattle.world.proofs.Confirmed.{confirmed_once, let_go_same, taken_same}
 use Rattle.world.proofs.Machines.{is_closed, is_cut, kept_slots, kept_subscribers, stays_open}
+use Rattle.world.proofs.Inside.{same_inside}
 use Rattle.world.proofs.Lookups as look
 use Rattle.world.proofs.Lookups.{IsAlone, named_so, other_name}
 use Rattle.world.proofs.Feeding.{IsAtRest, IsFed, delivered, fed_begun, fed_produced}
-use Rattle.world.proofs.OnceSteps.{IsBefore, IsFollowedBy, IsMine, IsNotOn, IsOnce, acts_keep, own_subscriber, started_or, where_done}
+use Rattle.world.proofs.OnceSteps.{IsBefore, IsMine, IsNotOn, IsOnce, acts_keep, own_subscriber, started_or, where_done}
 use Rattle.world.proofs.Settled.{IsSettled, settled_new}
 
 -- where its start and its subscriber are known, what is true of them
@@ -207,10 +207,7 @@ confirmed_is s slots n is = by_slot (slot_of s slots.slots) is
   where
     by_slot : (o : Option NamedSlot) → option_map (λ t. t.confirmed) o ≡ Some n → confirmed_of o ≡ n
     by_slot None is = absurd cc
-    by_slot (Some t) is = inside t.confirmed n is
-      where
-        inside : (m n : ℕ) → Option.Some m ≡ Option.Some n → m ≡ n
-        inside m n is = cc
+    by_slot (Some t) is = same_inside t.confirmed n is
 
 own_started : (c s : List ℕ) (names : List (List ℕ)) (from position : ℕ) (begun : Option (ℕ × List Published)) (old : WorldState) → IsOnce c s names from begun old → open_start c old.starts ≡ None → position ≤ position_of c old
     → IsOnce c s names from (Some (position_of c old, applied_by c old)) (started c (Some s) position names old)
@@ -297,10 +294,7 @@ own_step c s names from begun (steps.Keepalive clock) old a new good headline on
 own_step c s names from begun (steps.Drain n) old a new good headline once fair step = own_acts c s names from begun (actions.Drain n) old a new refl once step
 own_step c s names from begun (steps.Deliver n) old a new good headline once fair step = own_delivered c s names from n begun old a new good headline once step
 own_step c s names from begun (steps.Status clock) old a new good headline once fair step = own_status c s names from begun None clock old a new once step (λ n is. absurd cc)
-own_step c s names from begun (steps.Flushed number) old a new good headline once fair step = own_status c s names from begun (Some number) _ old a new once step (λ n is. let same : number ≡ n = inside number n is in omega (arith, fair refl, same))
-  where
-    inside : (m n : ℕ) → Option.Some m ≡ Option.Some n → m ≡ n
-    inside m n is = cc
+own_step c s names from begun (steps.Flushed number) old a new good headline once fair step = own_status c s names from begun (Some number) _ old a new once step (λ n is. let same = same_inside number n is in omega (arith, fair refl, same))
 own_step c s names from begun steps.Ack old a new good headline once fair step = own_acknowledged c s names from begun old a new once step
 own_step c s names from begun steps.Cut old a new good headline once fair step = own_cut c s names from begun old a new once step
 

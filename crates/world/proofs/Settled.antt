@@ -7,7 +7,7 @@ use Rattle.std.proofs.lemmas.Bool.Decides.{nat_tests}
 use Rattle.std.proofs.lemmas.List.{append-nil}
 use Rattle.wal.specs.declared.record.TheConstants.{FIRST_POSITION}
 use Rattle.wal.specs.declared.record.Record.{Record}
-use Rattle.wal.specs.Log.{IsSized, IsWellFormedLog, end_of, follows}
+use Rattle.wal.specs.Log.{IsSized, IsWellFormedLog, end_of}
 use Rattle.wal.proofs.Laws.{all_when, end_of-append}
 use Rattle.publication.specs.Publications.{PublicationSet}
 use Rattle.publication.specs.Selection.{relation}
@@ -21,7 +21,7 @@ use Rattle.sender.proofs.Sections.{all_back, all_front, follows_parts, starts_be
 use Rattle.client.specs.Subscriber.{Subscriber}
 use Rattle.client.specs.Law.{Gained, gained, position_after}
 use Rattle.starts.specs.Acting.{read_by}
-use Rattle.world.proofs.Orders.{InOrder, all_below, all_from, below, below-append, in_order, in_order_behind, in_order_within, late, late_all, late_part, none_below, parted}
+use Rattle.world.proofs.Orders.{InOrder, all_below, all_from, below, below-append, in_order, in_order_behind, in_order_within, late_all, late_part, none_below, parted}
 
 -- ---- Items one by one.
 

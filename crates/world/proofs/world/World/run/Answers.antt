@@ -8,7 +8,7 @@ use Rattle.world.specs.State.{WorldState, new_world}
 use Rattle.world.specs.Machine.{shown}
 use Rattle.world.specs.Steps.{IsRun, StopsAt}
 use Rattle.world.proofs.Confirmed.{run_confirms}
-use Rattle.world.proofs.OnceRuns.{StandsOnce, runs_once, stands_at_first, stands_once_on}
+use Rattle.world.proofs.OnceRuns.{StandsOnce, runs_once, stands_once_on}
 use Rattle.world.proofs.Runs.{headline, run_on, stops}
 use Rattle.world.proofs.world.World.run.Goals as goal
 
