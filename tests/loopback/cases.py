@@ -155,7 +155,7 @@ def a_silent_client_is_asked_and_then_lost(pubd, subcat):
         idle.start_when_free("silent")
         for client in (idle, silent, polite):
             client.close()
-        return wrong + server.end()
+        return wrong + server.end(ended=["pubd: connection 2 closed: its client was silent for wal_sender_timeout"])
 
 
 def a_client_whose_link_is_cut_is_lost(pubd, subcat):
@@ -260,7 +260,8 @@ def a_transaction_that_is_too_large_ends_its_stream(pubd, subcat):
             sent, code = len(list(client.messages(1))), client.refusal()
             client.close()
             wrong += [f"{attempt}: {sent} messages are sent, and then it ends by {code}"] * ((sent, code) != (rows + 3, "53400"))
-        return wrong + server.end()
+        full = "closed: transactions in progress fill the chunks of its stream"
+        return wrong + server.end(ended=[f"pubd: connection {number} {full}" for number in (1, 2)])
 
 
 def two_followers_print_what_a_script_commits(pubd, subcat):
