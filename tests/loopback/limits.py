@@ -7,8 +7,8 @@ from connection import STARTUP, TERMINATE, Connection, Refused, framed
 from server import CONFIGURATION, Server
 
 CROWD = "pubd: a connection was closed, since max_connections are served"
-# For longer than a startup may take here.
-LATER = 2.5
+# For longer than a startup of a second may take here, and for how long one may last all the same on a busy machine.
+LATER, LATEST = 1.5, 10
 # Places for slots.
 PLACES = 16
 
@@ -22,8 +22,8 @@ def a_startup_has_its_time(pubd, subcat):
         wrong = [] if is_closed_while_it_speaks(slow) else ["a startup of single bytes goes on for ever"]
         wrong += ["a connection without a startup goes on for ever"] * (silent.bytes.read(1) != b"")
         took = time.monotonic() - begun
-        wrong += [f"they are closed after {took:.1f} s"] * (not 1 <= took < LATER)
-        time.sleep(LATER - took)
+        wrong += [f"they are closed after {took:.1f} s"] * (not 1 <= took < LATEST)
+        time.sleep(LATER)
         idle.ask("IDENTIFY_SYSTEM")
         for client in (idle, silent, slow):
             client.close()
@@ -34,7 +34,7 @@ def a_startup_has_its_time(pubd, subcat):
 def is_closed_while_it_speaks(client):
     whole = struct.pack(">I", len(STARTUP) + 4) + STARTUP
     try:
-        for at in range(30):
+        for at in range(len(whole) - 1):
             client.socket.sendall(whole[at : at + 1])
             time.sleep(0.1)
     except ConnectionError:
