@@ -1,6 +1,6 @@
 -- Entries of an arena are written and read.
-use Rattle.std.proofs.Common.{◌≡◌, ◌≤◌, ◌<◌, ◌^◌, ◌+◌, ℕ, List, length, refl, sym, ap, subst, ◌∙◌, arith, length-append}
-use Rattle.std.specs.Int.{w64, from_be_bytes}
+use Rattle.std.proofs.Common.{◌≡◌, ◌≤◌, ◌<◌, ◌^◌, ◌+◌, ◌++◌, ℕ, List, length, refl, sym, ap, subst, ◌∙◌, arith, length-append}
+use Rattle.std.specs.Int.{w64, from_be_bytes, to_be_bytes}
 use Rattle.std.proofs.lemmas.List.{take_at, drop_at}
 use Rattle.std.proofs.lemmas.Nat.{from_be_bytes-to_be_bytes_8}
 use Rattle.pqformat.specs.Fields.{int64}
@@ -20,6 +20,10 @@ entry_length position change = omega (arith, length-append (int64 position) (spe
 
 pub entry_fits : (position : ℕ) (change : Change) → IsShort change → length (coded_entry position change) ≤ 16380
 entry_fits position change short = omega (arith, entry_length position change, body_bounded change short)
+
+pub body_fits : (position : ℕ) (body : List ℕ) (change : Change) → IsShort change → SpellsBody body change → length (to_be_bytes w64 position ++ body) ≤ 16380
+unfolding int64
+body_fits position body change short spells = rw spells.text (entry_fits position change short)
 
 pub body_of : (position : ℕ) (change : Change) → body_in (coded_entry position change) ≡ spell_body change
 body_of position change = drop_at (int64 position) (spell_body change) 8 (length-int64 position)

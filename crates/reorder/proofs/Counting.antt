@@ -1,5 +1,5 @@
 -- The chunks that a regrouping has taken are those that its live changes fill.
-use Rattle.std.proofs.Common.{◌≡◌, ℕ, suc, ◌+◌, ◌<◌, ◌==◌, Bool, true, false, cond, ◌&&◌, not, List, [], ◌∷◌, Option, Some, None, length, map, get_or, set, refl, sym, ap, ◌∙◌, arith, length-set, eq-eqb}
+use Rattle.std.proofs.Common.{◌≡◌, ◌⊎◌, inl, inr, ℕ, suc, ◌+◌, ◌<◌, ◌==◌, Bool, true, false, cond, ◌&&◌, not, List, [], ◌∷◌, Option, Some, None, length, map, get_or, set, refl, sym, ap, ◌∙◌, arith, length-set, eq-eqb}
 use Rattle.std.specs.Prelude.{IsSome}
 use Rattle.std.specs.List.{AllByRecursion, filter, sum_by}
 use Rattle.std.specs.Map.{lookup}
@@ -20,7 +20,7 @@ use Rattle.reorder.specs.Entries.{IsEntry, entry_in}
 use Rattle.reorder.specs.Pool.{HoldEntries, IsPool, entries_at, entries_by, strand_of}
 use Rattle.reorder.specs.Strands.{StrandState, Standing, StrandsState, AreDistinct, by_xid, changes_at, is_in, with_changes}
 use Rattle.reorder.specs.Bookkeeping.{AreStrandsOf, IsStrand, IsTransaction, changes_of}
-use Rattle.reorder.specs.Chunks.{HasNoRoom, IsOwned, IsTidy, LeavesNoRoom, chunks_for, entry_length, is_live, live_chunks, xids_of}
+use Rattle.reorder.specs.Chunks.{HasNoRoom, IsHeldBy, IsOwned, IsTidy, LeavesNoRoom, chunks_for, entry_length, is_live, live_chunks, xids_of}
 use Rattle.reorder.proofs.Coding.{entry_again, entry_length as length_coded}
 use Rattle.reorder.proofs.Named.{no_changes, or_left, or_right, undropped}
 use Rattle.reorder.proofs.Opening.{no_some}
@@ -186,7 +186,7 @@ xid_fill s rs count x hold book tidy = by_option (lookup (λ k. x == k) s.strand
 
     by_option : (o : Option Standing) → lookup (λ k. x == k) s.strands ≡ o → fill (sizes (entries_at s.pool x)) ≡ cond (is_live rs x) (chunks_for (changes_of rs x)) 0
     by_option None is =
-        ap (λ es. fill (sizes es)) (tidy.only x refl is)
+        ap (λ es. fill (sizes es)) (tidy.only x is)
         ∙ lives (ap (option_map (with_changes s.pool x)) is) (is_named rs x) (is_dropped rs x) (has_ended rs (top_of rs x)) refl refl refl
     by_option (Some st) is =
         ap fill (sizes_are x (entries_at s.pool x) (hold x))
@@ -224,10 +224,14 @@ chunks_taken s rs count pool hold book tidy =
     nothing true es none = ap chunks_for none
     nothing false es none = refl
 
+    by_owner : (head : ℕ) → IsOwned s.pool head ⊎ IsHeldBy [] head → (x : ℕ) × (head_of s.pool.strands x ≡ Some head)
+    by_owner head (inl o) = (o.xid, ap head_in o.is)
+    by_owner head (inr other) = absurd other
+
     all : AreAll (head_of s.pool.strands) s.pool.arena
     all = record {
       within = λ x head at. (pool.made x (Some head) (found (strand_of s.pool.strands x) head at)).0;
-      owned = λ head lt entries at. let o : IsOwned s.pool head = tidy.owned head lt entries at in (o.xid, ap head_in o.is);
+      owned = λ head lt entries at. by_owner head (tidy.owned head lt entries at);
     }
 
 -- the chunks are full by the records too, if the xid has a strand and isn't dropped

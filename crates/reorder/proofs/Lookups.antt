@@ -2,7 +2,7 @@
 use Rattle.std.proofs.Common.{◌≡◌, ℕ, ◌==◌, Bool, true, false, cond, ◌&&◌, ◌||◌, List, [], ◌∷◌, ◌++◌, reverse, Option, Some, None, map, refl, sym, ap, subst, ◌∙◌, eq-eqb}
 use Rattle.std.proofs.lemmas.Bool.{eqb-true}
 use Rattle.std.proofs.lemmas.List.{map-append}
-use Rattle.std.specs.List.{AllByRecursion, flat_map}
+use Rattle.std.specs.List.{flat_map}
 use Rattle.std.specs.Map.{lookup}
 use Rattle.std.specs.Option.{option_map}
 use Rattle.wal.specs.Log.{last_of}
@@ -10,8 +10,6 @@ use Rattle.reorder.specs.Entries.{entry_in}
 use Rattle.reorder.specs.Pool.{PoolState, entries_at, put, with_entries}
 use Rattle.reorder.specs.Strands.{StrandState, Standing, StrandsState, IsSame, all_in, by_xid, ended, fresh, above_of, is_in, kept_spots, spots_of, strand_at, with_change, with_changes, with_member, above_in, above_standing, back_from_last, back_in, behind, rolled_back, started, assigned, pushed, undone}
 use Rattle.reorder.specs.Ready.{SpotState}
-use Rattle.wal.proofs.Laws.{all_when}
-use Rattle.reorder.proofs.Named.{or_true}
 use Rattle.reorder.proofs.Opening.{put_cases}
 
 -- where the entries of an xid stay, so does its strand
@@ -138,52 +136,25 @@ ended_same strands strands' members members' pool pool' top xids is has puts all
     by_test x true same gone = ap (option_map (with_changes pool' x)) gone
     by_test x false same stays = ap (option_map (with_changes pool' x)) stays ∙ shown_same pool pool' x (at strands x) same
 
--- the same with their entries where they are
-pub ended_but_entries : (strands strands' : List (ℕ × Standing)) (members members' : List (ℕ × List ℕ)) (pool : PoolState) (top : ℕ) (xids : List ℕ) →
-    all_in (lookup (λ k. top == k) members) ≡ xids → ((x : ℕ) → at strands' x ≡ cond (is_in x xids) None (at strands x)) →
+-- the same with their entries lent
+pub ended_lent : (strands strands' : List (ℕ × Standing)) (members members' : List (ℕ × List ℕ)) (pool pool' : PoolState) (top : ℕ) (xids : List ℕ) →
+    all_in (lookup (λ k. top == k) members) ≡ xids → ((x : ℕ) → is_in x xids ≡ false → entries_at pool' x ≡ entries_at pool x) → ((x : ℕ) → at strands' x ≡ cond (is_in x xids) None (at strands x)) →
     ((t : ℕ) → lookup (λ k. t == k) members' ≡ put top None (λ t'. lookup (λ k. t' == k) members) t) →
-    IsSame (by_xid (record { strands = strands'; members = members'; pool = pool })) (ended top (by_xid (record { strands = strands; members = members; pool = pool })))
-ended_but_entries strands strands' members members' pool top xids is puts all = record {
-  strand = λ x. rw is (by_test x (is_in x xids) (puts x));
+    IsSame (by_xid (record { strands = strands'; members = members'; pool = pool' })) (ended top (by_xid (record { strands = strands; members = members; pool = pool })))
+ended_lent strands strands' members members' pool pool' top xids is same puts all = record {
+  strand = λ x. rw is (by_test x (is_in x xids) refl (puts x));
   members = all;
 }
   where
-    by_test : (x : ℕ) (b : Bool) → at strands' x ≡ cond b None (at strands x) → strand_at strands' pool x ≡ cond b None (strand_at strands pool x)
-    by_test x true gone = ap (option_map (with_changes pool x)) gone
-    by_test x false stays = ap (option_map (with_changes pool x)) stays
+    by_test : (x : ℕ) (b : Bool) → is_in x xids ≡ b → at strands' x ≡ cond b None (at strands x) → strand_at strands' pool' x ≡ cond b None (strand_at strands pool x)
+    by_test x true inn gone = ap (option_map (with_changes pool' x)) gone
+    by_test x false out stays = ap (option_map (with_changes pool' x)) stays ∙ shown_same pool pool' x (at strands x) (same x out)
 
 pub spots_same : (strands : List (ℕ × Standing)) (members : List (ℕ × List ℕ)) (pool : PoolState) (top : ℕ) (xids : List ℕ) (spots : List SpotState) →
     lookup (λ k. top == k) members ≡ Some xids → spots ≡ flat_map (kept_spots pool (at strands)) xids → spots ≡ spots_of (record { strands = strands; members = members; pool = pool }) top
 spots_same strands members pool top xids spots is all = all ∙ rw is refl
 
-strandless : (strands : List (ℕ × Standing)) (pool : PoolState) (x : ℕ) (ys : List ℕ) → AllByRecursion (λ y. strand_at strands pool y ≡ None) ys → is_in x ys ≡ true → strand_at strands pool x ≡ None
-strandless strands pool x [] all is = let never : false ≡ true = is in cc
-strandless strands pool x (y ∷ ys) all is = by_test (x == y) refl is (strandless strands pool x ys all.1)
-  where
-    by_test : (b : Bool) → (x == y) ≡ b → (b || is_in x ys) ≡ true → (is_in x ys ≡ true → strand_at strands pool x ≡ None) → strand_at strands pool x ≡ None
-    by_test true same one later = ap (strand_at strands pool) (eqb-true x y same) ∙ all.0
-    by_test false other one later = later one
-
--- entries of xids without strands go unseen
-pub back_same : (strands : List (ℕ × Standing)) (members : List (ℕ × List ℕ)) (pool pool' : PoolState) (xids : List ℕ) →
-    AllByRecursion (λ x. strand_at strands pool x ≡ None) xids → ((x : ℕ) → entries_at pool' x ≡ cond (is_in x xids) [] (entries_at pool x)) →
+-- where all entries stay
+pub back_same : (strands : List (ℕ × Standing)) (members : List (ℕ × List ℕ)) (pool pool' : PoolState) → ((x : ℕ) → entries_at pool' x ≡ entries_at pool x) →
     IsSame (by_xid (record { strands = strands; members = members; pool = pool' })) (by_xid (record { strands = strands; members = members; pool = pool }))
-back_same strands members pool pool' xids none has = record { strand = λ x. by_test x (is_in x xids) refl (has x); members = λ t. refl }
-  where
-    without : (x : ℕ) (o : Option Standing) → option_map (with_changes pool x) o ≡ None → option_map (with_changes pool' x) o ≡ option_map (with_changes pool x) o
-    without x None is = refl
-    without x (Some s) is = let never : Some (with_changes pool x s) ≡ None = is in cc
-
-    by_test : (x : ℕ) (b : Bool) → is_in x xids ≡ b → entries_at pool' x ≡ cond b [] (entries_at pool x) → strand_at strands pool' x ≡ strand_at strands pool x
-    by_test x true is same = without x (at strands x) (strandless strands pool x xids none is)
-    by_test x false is same = shown_same pool pool' x (at strands x) same
-
-in_itself : (xs : List ℕ) → AllByRecursion (λ x. is_in x xs ≡ true) xs
-in_itself [] = tt
-in_itself (x ∷ xs) = (rw (eq-eqb x x refl) refl, all_when (λ y. is_in y xs ≡ true) (λ y. is_in y (x ∷ xs) ≡ true) (λ y is. or_true (y == x) (is_in y xs) is) xs (in_itself xs))
-
--- xids whose strands are gone have none
-pub none_left : (strands strands' : List (ℕ × Standing)) (pool : PoolState) (xids : List ℕ) → ((x : ℕ) → at strands' x ≡ cond (is_in x xids) None (at strands x)) →
-    AllByRecursion (λ x. strand_at strands' pool x ≡ None) xids
-none_left strands strands' pool xids puts =
-    all_when (λ x. is_in x xids ≡ true) (λ x. strand_at strands' pool x ≡ None) (λ x is. ap (option_map (with_changes pool x)) (puts x ∙ ap (λ b. cond b None (at strands x)) is)) xids (in_itself xids)
+back_same strands members pool pool' same = record { strand = λ x. shown_same pool pool' x (at strands x) (same x); members = λ t. refl }

@@ -31,9 +31,9 @@ pushed_elsewhere a a' o o' entry p q made apart same = by_head o p.kept apart
     by_head None kept apart' = let never : None ≡ Some made.1 = sym kept ∙ ap (λ n. get_or a n None) same ∙ made.2 in cc
     by_head (Some first) kept apart' = apart' (ap Some (sym kept ∙ same))
 
-record Stays (a a' : Arena) (r : Option ℕ) : Type 0 where
-  made : IsOf a' r
-  entries : entries_of a' r ≡ entries_of a r
+pub record Stays (a a' : Arena) (r : Option ℕ) : Type 0 where
+  pub made : IsOf a' r
+  pub entries : entries_of a' r ≡ entries_of a r
 
 set_stays : (a a' : Arena) (head : ℕ) (new : Option (List (List ℕ))) (q : ℕ) → a' ≡ set a head new → (head ≡ q → ⊥) → IsOf a (Some q) → Stays a a' (Some q)
 set_stays a a' head new q is apart made =
@@ -43,12 +43,12 @@ set_stays a a' head new q is apart made =
       entries = ap entries_in_place same;
     }
 
-pushed_stays : (a a' : Arena) (o o' : Option ℕ) (entry : List ℕ) → IsPushed a o entry a' o' → (r : Option ℕ) → IsOf a r → ((q : ℕ) → r ≡ Some q → o ≡ Some q → ⊥) → Stays a a' r
+pub pushed_stays : (a a' : Arena) (o o' : Option ℕ) (entry : List ℕ) → IsPushed a o entry a' o' → (r : Option ℕ) → IsOf a r → ((q : ℕ) → r ≡ Some q → o ≡ Some q → ⊥) → Stays a a' r
 pushed_stays a a' o o' entry p None made apart = record { made = tt; entries = refl }
 pushed_stays a a' o o' entry p (Some q) made apart =
     set_stays a a' p.head (Some (entries_of a o ++ entry ∷ [])) q p.strands (pushed_elsewhere a a' o o' entry p q made (apart q refl)) made
 
-back_stays : (a : Arena) (o r : Option ℕ) → IsOf a r → ((q : ℕ) → r ≡ Some q → o ≡ Some q → ⊥) → Stays a (without a o) r
+pub back_stays : (a : Arena) (o r : Option ℕ) → IsOf a r → ((q : ℕ) → r ≡ Some q → o ≡ Some q → ⊥) → Stays a (without a o) r
 back_stays a None r made apart = record { made = made; entries = refl }
 back_stays a (Some head) None made apart = record { made = tt; entries = refl }
 back_stays a (Some head) (Some q) made apart = set_stays a (set a head None) head None q refl (λ same. apart q refl (ap Some same)) made

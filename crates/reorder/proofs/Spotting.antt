@@ -1,5 +1,5 @@
 -- Where the changes of a transaction lie, told as the changes that lie there.
-use Rattle.std.proofs.Common.{◌≡◌, ℕ, zero, suc, ◌+◌, ◌<◌, ◌==◌, Bool, true, false, cond, List, [], ◌∷◌, Option, Some, None, drop, get_or, length, map, nat_cmp, is_lt, refl, sym, ap, subst, ◌∙◌, arith}
+use Rattle.std.proofs.Common.{◌≡◌, ℕ, zero, suc, ◌+◌, ◌<◌, ◌==◌, Bool, true, false, cond, List, [], ◌∷◌, Option, Some, None, drop, get_or, length, map, nat_cmp, is_lt, refl, sym, ap, subst, ◌∙◌, arith, eq-eqb}
 use Rattle.std.specs.Prelude.{slice_get}
 use Rattle.std.specs.List.{All, AllByRecursion, filter, flat_map}
 use Rattle.std.specs.List.Sorted.{IsNonDecreasingBy, IsPermutation, IsStableByKey, ties}
@@ -15,7 +15,8 @@ use Rattle.tables.specs.Reading.{SpellsBody}
 use Rattle.reorder.specs.Entries.{IsEntry, body_in, entry_in, position_in}
 use Rattle.reorder.specs.Pool.{PoolState, entries_at}
 use Rattle.reorder.specs.Ready.{IsSpot, SpotState, bytes_at, entry_at, spots_from}
-use Rattle.reorder.specs.Strands.{Standing, StrandsState, all_in, by_xid, changes_in, joined, kept_spots, spots_in, spots_of, strand_at, with_changes}
+use Rattle.reorder.proofs.Named.{or_true}
+use Rattle.reorder.specs.Strands.{Standing, StrandsState, all_in, by_xid, changes_in, is_in, joined, kept_spots, spots_in, spots_of, strand_at, with_changes}
 
 -- THE SPOTS OF AN XID
 
@@ -75,6 +76,42 @@ pub sorted_there : (s : StrandsState) (t : ℕ) (sorted : List SpotState) → Is
 sorted_there s t sorted shuffled =
     All-permutation (IsSpot s.pool) (spots_of s t) sorted shuffled
     (each_of (IsSpot s.pool) (spots_of s t) (all_there s.pool (λ x. lookup (λ k. x == k) s.strands) (all_in (lookup (λ k. t == k) s.members))))
+
+-- each is one of an xid of the transaction
+spots_own : (xid place : ℕ) (entries : List (List ℕ)) (xs : List ℕ) → is_in xid xs ≡ true → AllByRecursion (λ (spot : SpotState). is_in spot.xid xs ≡ true) (spots_from xid place entries)
+spots_own xid place [] xs inn = tt
+spots_own xid place (entry ∷ entries) xs inn = (inn, spots_own xid (place + 1) entries xs inn)
+
+kept_own : (pool : PoolState) (x : ℕ) (o : Option Standing) (xs : List ℕ) → is_in x xs ≡ true → AllByRecursion (λ (spot : SpotState). is_in spot.xid xs ≡ true) (spots_in pool x o)
+kept_own pool x None xs inn = tt
+kept_own pool x (Some s) xs inn = spots_own x 0 (entries_at pool x) xs inn
+
+all_own : (pool : PoolState) (strand : ℕ → Option Standing) (all xs : List ℕ) → ((x : ℕ) → is_in x xs ≡ true → is_in x all ≡ true) → AllByRecursion (λ (spot : SpotState). is_in spot.xid all ≡ true) (flat_map (kept_spots pool strand) xs)
+all_own pool strand all [] within = tt
+all_own pool strand all (x ∷ xs) within =
+    all_append (λ (spot : SpotState). is_in spot.xid all ≡ true) (kept_spots pool strand x) (flat_map (kept_spots pool strand) xs)
+    (kept_own pool x (strand x) all (within x (rw (eq-eqb x x refl) refl)))
+    (all_own pool strand all xs (λ y inn. within y (or_true (y == x) (is_in y xs) inn)))
+
+pub sorted_own : (s : StrandsState) (t : ℕ) (sorted : List SpotState) → IsPermutation (spots_of s t) sorted → All (λ (spot : SpotState). is_in spot.xid (all_in (lookup (λ k. t == k) s.members)) ≡ true) sorted
+sorted_own s t sorted shuffled =
+    let own : SpotState → Type 0 = λ spot. is_in spot.xid (all_in (lookup (λ k. t == k) s.members)) ≡ true in
+    All-permutation own (spots_of s t) sorted shuffled
+    (each_of own (spots_of s t) (all_own s.pool (λ x. lookup (λ k. x == k) s.strands) (all_in (lookup (λ k. t == k) s.members)) (all_in (lookup (λ k. t == k) s.members)) (λ x inn. inn)))
+
+-- spots show the same changes in another pool that has the same entries of their xids
+pub shown_alike : (pool pool' : PoolState) (xs : List ℕ) → ((x : ℕ) → is_in x xs ≡ true → entries_at pool' x ≡ entries_at pool x) → (spots : List SpotState) → All (λ (spot : SpotState). is_in spot.xid xs ≡ true) spots →
+    map (entry_at pool) spots ≡ map (entry_at pool') spots
+shown_alike pool pool' xs same [] own = refl
+shown_alike pool pool' xs same (spot ∷ spots) own =
+    let here : entries_at pool' spot.xid ≡ entries_at pool spot.xid = same spot.xid (own 0 spot (omega arith)) in
+    rw (here, shown_alike pool pool' xs same spots (λ k d lt. own (suc k) d (omega arith))) refl
+
+pub there_alike : (pool pool' : PoolState) (xs : List ℕ) → ((x : ℕ) → is_in x xs ≡ true → entries_at pool' x ≡ entries_at pool x) → (spots : List SpotState) → All (λ (spot : SpotState). is_in spot.xid xs ≡ true) spots →
+    All (IsSpot pool) spots → All (IsSpot pool') spots
+there_alike pool pool' xs same spots own all = λ k d lt.
+    let here : entries_at pool' (get_or spots k d).xid ≡ entries_at pool (get_or spots k d).xid = same (get_or spots k d).xid (own k d lt) in
+    subst (λ es. ((get_or spots k d).place < length es) × ((get_or spots k d).position ≡ position_in (get_or es (get_or spots k d).place []))) (sym here) (all k d lt)
 
 -- SORTED
 

@@ -1,5 +1,5 @@
 -- How many chunks of its arena a regrouping has taken, by the records alone.
-use Rattle.std.specs.Prelude.{◌≡◌, ℕ, ◌+◌, ◌<◌, ◌==◌, Bool, false, ◌&&◌, not, List, [], ◌∷◌, ◌++◌, get_or, length, map, nat_le, Some, None, if◌then◌else◌, sum_by}
+use Rattle.std.specs.Prelude.{◌≡◌, ◌⊎◌, ℕ, ◌+◌, ◌<◌, ◌==◌, Bool, false, ◌&&◌, not, List, [], ◌∷◌, get_or, length, map, nat_le, Option, Some, None, if◌then◌else◌, sum_by}
 use Rattle.std.specs.Map.{lookup}
 use Rattle.chgarena.specs.Fill.{fill, filled}
 use Rattle.chgarena.specs.Strands.{fills, has_room}
@@ -9,6 +9,7 @@ use Rattle.wal.specs.declared.record.Record.{Record}
 use Rattle.wal.specs.declared.record.Body.TheVariants.{Change as Changed}
 use Rattle.wal.specs.Log.{Entry, entries, has_ended, is_dropped, top_of}
 use Rattle.reorder.specs.Pool.{HoldEntries, IsPool, PoolState, entries_at, strand_of}
+use Rattle.reorder.specs.Ready.{ReadyState}
 use Rattle.reorder.specs.Strands.{StrandsState, is_in}
 use Rattle.reorder.specs.Bookkeeping.{changes_of}
 use Rattle.reorder.specs.declared.ready.Step.{Step}
@@ -42,24 +43,34 @@ pub record IsOwned (p : PoolState) (head : ℕ) : Type 0 where
   pub xid : ℕ
   pub is : strand_of p.strands xid ≡ Some (Some head)
 
-abbrev pub IsWhole : PoolState → Type 0
-IsWhole p = (head : ℕ) → head < length p.arena → (entries : List (List ℕ)) → get_or p.arena head None ≡ Some entries → IsOwned p head
+-- the strand is one of what is ready
+abbrev pub IsHeldBy : List ReadyState → ℕ → Type 0
+IsHeldBy [] head = ⊥
+IsHeldBy (ready ∷ held) head = ((x : ℕ) × (strand_of ready.strands x ≡ Some (Some head))) ⊎ IsHeldBy held head
 
--- the arena has as many chunks, and if each of its strands was an xid's, each still is
+-- strands of which no spots are known
+abbrev pub strands_alone : List (ℕ × Option ℕ) → ReadyState
+strands_alone strands = record { xids = []; strands = strands; spots = [] }
+
+-- each strand of the arena is an xid's, or one of what is held
+abbrev pub IsWhole : List ReadyState → PoolState → Type 0
+IsWhole held p = (head : ℕ) → head < length p.arena → (entries : List (List ℕ)) → get_or p.arena head None ≡ Some entries → IsOwned p head ⊎ IsHeldBy held head
+
+-- the arena has as many chunks, and if each of its strands was an xid's or held, each still is
 pub record StaysWhole (old new : PoolState) : Type 0 where
   pub chunks : length new.arena ≡ length old.arena
-  pub whole : IsWhole old → IsWhole new
+  pub whole : (held : List ReadyState) → IsWhole held old → IsWhole held new
 
--- Each strand of the arena, which has this count of chunks, is an xid's, and besides the xids that are held only those have entries that
--- are in progress.
-pub record IsTidy (count : ℕ) (held : List ℕ) (s : StrandsState) : Type 0 where
+-- Each strand of the arena, which has this count of chunks, is an xid's or one of what is held, and only xids that are in progress have
+-- entries.
+pub record IsTidy (count : ℕ) (held : List ReadyState) (s : StrandsState) : Type 0 where
   pub chunks : length s.pool.arena ≡ count
-  pub owned : IsWhole s.pool
-  pub only : (x : ℕ) → is_in x held ≡ false → lookup (λ k. x == k) s.strands ≡ None → entries_at s.pool x ≡ []
+  pub owned : IsWhole held s.pool
+  pub only : (x : ℕ) → lookup (λ k. x == k) s.strands ≡ None → entries_at s.pool x ≡ []
 
 -- it was tidy before, so it is now, of as many chunks
 abbrev pub StaysTidy : StrandsState → StrandsState → Type 0
-StaysTidy old new = (count : ℕ) (held : List ℕ) → IsTidy count held old → IsTidy count held new
+StaysTidy old new = (count : ℕ) (held : List ReadyState) → IsTidy count held old → IsTidy count held new
 
 -- the pool has no room for an entry of this size of the xid: no chunk is free, and its last one has too little left
 pub record HasNoRoom (p : PoolState) (xid size : ℕ) : Type 0 where
@@ -76,7 +87,7 @@ pub record LeavesNoRoom (count : ℕ) (rs : List Record) (r : Record) : Type 0 w
   pub all : live_chunks rs ≡ count
   pub room : nat_le ((filled (map entry_length (changes_of rs xid))).1 + ((8 + body_length change) + 4)) 16384 ≡ false
 
--- the xids that are held, with those of what is ready
-abbrev pub held_with : List ℕ → Step → List ℕ
+-- what is held, with what is ready
+abbrev pub held_with : List ReadyState → Step → List ReadyState
 held_with held steps.Quiet = held
-held_with held (steps.Ready ready) = ready.xids ++ held
+held_with held (steps.Ready ready) = ready ∷ held

@@ -51,6 +51,25 @@ pub record PushesAt (xid : ℕ) (entry : List ℕ) (arena : Arena) (strands : Li
   pub pushed : IsPushed arena head entry arena' head'
   pub others : (x : ℕ) → strand_of strands' x ≡ put xid (Some head') (strand_of strands) x
 
+-- Strands that the arena has and the pool hasn't: no two are the same, none is one of the pool's, and each entry is that of a change.
+pub record IsLent (p : PoolState) (lent : List (ℕ × Option ℕ)) : Type 0 where
+  pub own : IsPool p.arena lent
+  pub hold : HoldEntries p.arena lent
+  pub apart : (x y head : ℕ) → strand_of p.strands x ≡ Some (Some head) → strand_of lent y ≡ Some (Some head) → ⊥
+
+-- such strands stay, with the entries that they have
+pub record Lasts (old new : PoolState) (lent : List (ℕ × Option ℕ)) : Type 0 where
+  pub still : IsLent new lent
+  pub same : (x : ℕ) → entries_by new.arena (strand_of lent x) ≡ entries_by old.arena (strand_of lent x)
+
+-- whatever is lent stays
+pub record StaysLent (old new : PoolState) : Type 0 where
+  pub each : (lent : List (ℕ × Option ℕ)) → IsLent old lent → Lasts old new lent
+
+-- no strand stands in both
+abbrev pub AreApart : List (ℕ × Option ℕ) → List (ℕ × Option ℕ) → Type 0
+AreApart lent others = (x y head : ℕ) → strand_of lent x ≡ Some (Some head) → strand_of others y ≡ Some (Some head) → ⊥
+
 -- every strand stays, that of the xid too
 pub record IsSameAt (xid : ℕ) (strands strands' : List (ℕ × Option ℕ)) : Type 0 where
   pub head : Option ℕ

@@ -7,6 +7,7 @@ use Rattle.wal.specs.declared.record.Record.{Record}
 use Rattle.wal.specs.declared.record.Body.{Body}
 use Rattle.wal.specs.declared.record.Body.TheVariants.{AbortSub, Commit}
 use Rattle.wal.specs.Log.{Entry, IsNext, IsOpen, has_ended, kept}
+use Rattle.reorder.specs.Pool.{AreApart}
 use Rattle.reorder.specs.Ready.{IsReadyIn, ReadyState, ready_entries}
 use Rattle.reorder.specs.Strands.{IsSame, StrandsState, by_xid, joined}
 use Rattle.reorder.specs.Bookkeeping.{IsBookkeeping}
@@ -47,14 +48,18 @@ abbrev pub readied : ReorderState → Step → Option (List Entry)
 readied s steps.Quiet = None
 readied s (steps.Ready ready) = Some (ready_entries s.strands.pool ready)
 
--- what is ready lies in the arena, and nothing of its xids is in progress
-pub record IsHeld (s : ReorderState) (ready : ReadyState) : Type 0 where
-  pub there : IsReadyIn s.strands.pool ready
-  pub gone : AllByRecursion (λ x. (by_xid s.strands).strand x ≡ None) ready.xids
+-- what is ready lies in the arena
+abbrev pub IsHeld : ReorderState → ReadyState → Type 0
+IsHeld s ready = IsReadyIn s.strands.pool ready
 
 abbrev pub IsStepHeld : ReorderState → Step → Type 0
 IsStepHeld s steps.Quiet = Unit {0}
 IsStepHeld s (steps.Ready ready) = IsHeld s ready
+
+-- what a record makes ready has none of these strands
+abbrev pub IsStepApart : Step → List (ℕ × Option ℕ) → Type 0
+IsStepApart steps.Quiet lent = Unit {0}
+IsStepApart (steps.Ready ready) lent = AreApart ready.strands lent
 
 -- it stands as before, as far as records are concerned
 pub record IsSameTaken (old new : ReorderState) : Type 0 where

@@ -7,14 +7,13 @@ ghost use Rattle.reorder.specs.Entries.{IsEntry, body_in, coded_entry, position_
 
 use bytes::{BufMut, BytesMut};
 use std::alloc::AllocError;
-use tables::{Change, write_body};
 use wal::LoggedChange;
 
 /// How many bytes the position has that an entry begins with.
 const POSITION_LENGTH: usize = 8;
 
 /// Writes the entry of a change at a position into a buffer, in the place of what it holds.
-#[tactic(auto, using(crate::proofs::Coding::entry_fits))]
+#[tactic(auto, unfolding(pqformat::specs::Fields::int64))]
 pub(crate) fn write_entry(
     out: &mut BytesMut,
     position: u64,
@@ -26,18 +25,11 @@ pub(crate) fn write_entry(
     ensures in_range { position < 2 ^ 64 }
     ensures coded { IsCoded change.now }
 {
-    write_change(out, position, change.change())
-}
-
-#[tactic(auto, unfolding(pqformat::specs::Fields::int64))]
-fn write_change(out: &mut BytesMut, position: u64, change: &Change) -> Result<(), AllocError>
-    requires { IsShort change.now }
-    ensures text { OnOk result (out.new.items ≡ coded_entry position change.now) }
-    ensures in_range { position < 2 ^ 64 }
-{
+    let body = change.body();
     out.clear();
     out.put_u64(position)?;
-    write_body(change, out)
+    out.extend_from_slice(body)?;
+    Ok(())
 }
 
 /// The position in an entry.

@@ -1,11 +1,12 @@
 //! The entries of each xid, in an arena.
 
-ghost use Rattle.std.specs.Prelude.{◌≡◌, ◌≢◌, Err, ℕ, false, ◌+◌, ◌<◌, ◌≤◌, ◌++◌, ◌∷◌, [], get_or, length, IsSome, OnErr, OnOk};
+ghost use Rattle.std.specs.Prelude.{◌≡◌, ◌≢◌, Err, None, Some, ℕ, false, ◌+◌, ◌<◌, ◌≤◌, ◌++◌, ◌∷◌, [], get_or, length, IfOk, IsSome, OnErr, OnOk, if◌then◌else◌};
 ghost use Rattle.std.specs.List.{AllByRecursion};
 ghost use Rattle.reorder.specs.Entries.{IsEntry};
-ghost use Rattle.chgarena.specs.Strands.{fills, has_room};
-ghost use Rattle.reorder.specs.Chunks.{HasNoRoom, IsWhole, StaysWhole};
-ghost use Rattle.reorder.specs.Pool.{HoldEntries, IsPool, IsSameAt, PushesAt, entries_at, entries_by, entries_in, strand_of, with_entries};
+ghost use Rattle.chgarena.specs.Strands.{IsOf, fills, has_room, without};
+ghost use Rattle.reorder.specs.Strands.{is_in};
+ghost use Rattle.reorder.specs.Chunks.{HasNoRoom, StaysWhole};
+ghost use Rattle.reorder.specs.Pool.{HoldEntries, IsLent, IsPool, IsSameAt, PushesAt, StaysLent, entries_at, entries_by, entries_in, put, strand_of, with_entries};
 
 use crate::fault::ReorderFault;
 use chgarena::{Arena, Entries, Full, Strand};
@@ -57,6 +58,7 @@ impl Pool {
         requires fits { length entry.now ≤ 16380 }
         ensures ok { OnOk result ((x : ℕ) → entries_at self.new x ≡ with_entries self.old xid (entries_at self.old xid ++ entry.now ∷ []) x) }
         ensures whole { OnOk result (StaysWhole self.old self.new) }
+        ensures lent { StaysLent self.old self.new }
         ensures full { result ≡ Err ReorderFault.Full → HasNoRoom self.old xid (length entry.now) }
         ensures running { result ≢ Err ReorderFault.Failed }
     {
@@ -72,7 +74,8 @@ impl Pool {
         ensures same { OnOk result ((x : ℕ) → entries_at self.new x ≡ entries_at self.old x) }
         ensures place { OnOk result (IsSome (strand_of self.new.strands xid)) }
         ensures arena { OnOk result (self.new.arena ≡ self.old.arena) }
-        ensures whole { OnOk result (IsWhole self.old → IsWhole self.new) }
+        ensures whole { OnOk result (StaysWhole self.old self.new) }
+        ensures lent { StaysLent self.old self.new }
         ensures pool { IsPool self.old.arena self.old.strands }
         ensures hold { HoldEntries self.old.arena self.old.strands }
     {
@@ -86,19 +89,74 @@ impl Pool {
     pub(crate) fn give_back(&mut self, xid: u32)
         ensures entries { (x : ℕ) → entries_at self.new x ≡ with_entries self.old xid [] x }
         ensures whole { StaysWhole self.old self.new }
+        ensures lent { StaysLent self.old self.new }
     {
         if let Some(strand) = self.strands.remove(&xid) {
             self.arena.give_back(strand);
         }
     }
 
-    /// The k-th entry of an xid. It is found at once where it lies in the chunk `near`.
-    pub(crate) fn entry(&self, xid: u32, k: usize, near: usize) -> &[u8]
-        requires { k < length (entries_at self.now xid) }
-        ensures value { result.now ≡ get_or (entries_at self.now xid) k [] }
+    /// Lends the strand of an xid, if it has one.
+    pub(crate) fn lend(&mut self, xid: u32) -> Option<Strand>
+        ensures strand { result ≡ strand_of self.old.strands xid }
+        ensures others { (x : ℕ) → strand_of self.new.strands x ≡ put xid None (strand_of self.old.strands) x }
+        ensures arena { self.new.arena ≡ self.old.arena }
+        ensures lent { StaysLent self.old self.new }
+        ensures pool { IsPool self.old.arena self.old.strands }
+        ensures hold { HoldEntries self.old.arena self.old.strands }
+    {
+        self.strands.remove(&xid)
+    }
+
+    /// Lends the strands of these xids.
+    pub(crate) fn lend_all(
+        &mut self,
+        alloc: Global,
+        xids: &[u32],
+    ) -> Result<HashMap<u32, Strand>, AllocError>
+        ensures strands { IfOk result (λ lent. (x : ℕ) → strand_of lent.entries x ≡ (if is_in x xids.now then strand_of self.old.strands x else None)) }
+        ensures left { OnOk result ((x : ℕ) → strand_of self.new.strands x ≡ (if is_in x xids.now then None else strand_of self.old.strands x)) }
+        ensures arena { self.new.arena ≡ self.old.arena }
+        ensures lent { StaysLent self.old self.new }
+        ensures pool { IsPool self.old.arena self.old.strands }
+        ensures hold { HoldEntries self.old.arena self.old.strands }
+    {
+        // The strands are in order: here the prover learns it.
+        let _ = &self.strands;
+        let mut lent = HashMap::new(alloc);
+        for xid in xids {
+            if let Some(strand) = self.lend(*xid) {
+                lent.insert(*xid, strand)?;
+            }
+        }
+        Ok(lent)
+    }
+
+    /// Gives back a strand that was lent.
+    pub(crate) fn take_back(&mut self, strand: Strand)
+        requires of { IsOf self.old.arena strand }
+        requires apart { (x head : ℕ) → strand_of self.old.strands x ≡ Some (Some head) → strand ≡ Some head → ⊥ }
+        ensures arena { self.new.arena ≡ without self.old.arena strand }
+        ensures strands { self.new.strands ≡ self.old.strands }
+        ensures pool { IsPool self.old.arena self.old.strands }
+    {
+        self.arena.give_back(strand);
+    }
+
+    /// The k-th entry of an xid of which the strand was lent. It is found at once where it lies in the chunk `near`.
+    pub(crate) fn entry(
+        &self,
+        lent: &HashMap<u32, Strand>,
+        xid: u32,
+        k: usize,
+        near: usize,
+    ) -> &[u8]
+        requires lent { IsLent self.now lent.now.entries }
+        requires within { k < length (entries_by self.now.arena (strand_of lent.now.entries xid)) }
+        ensures value { result.now ≡ get_or (entries_by self.now.arena (strand_of lent.now.entries xid)) k [] }
         ensures entry { IsEntry result.now }
     {
-        match self.strands.get(&xid) {
+        match lent.get(&xid) {
             Some(strand) => self.arena.entry_near(strand, k, near),
             None => unreachable!(),
         }

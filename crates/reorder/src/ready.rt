@@ -2,6 +2,8 @@
 
 ghost use Rattle.std.specs.Prelude.{◌≡◌, length};
 
+use chgarena::Strand;
+use std::collections::HashMap;
 use std::marker::Model;
 
 /// Where a change lies: its position, its xid, and its place among the entries of that xid.
@@ -26,6 +28,8 @@ impl Model for Spot {
 /// `count()` of them, maybe none; `Reorder::entry` lends each by its place, and `Reorder::finish` takes them back.
 pub struct Ready {
     xids: Vec<u32>,
+    /// The strands of those that have changes, which nobody else has.
+    strands: HashMap<u32, Strand>,
     spots: Vec<Spot>,
 }
 
@@ -34,7 +38,7 @@ impl Model for Ready {
 
     ghost Value = { ReadyState };
 
-    ghost view = { λ r. record { xids = r.xids.items; spots = r.spots.items } };
+    ghost view = { λ r. record { xids = r.xids.items; strands = r.strands.entries; spots = r.spots.items } };
 }
 
 impl Ready {
@@ -51,17 +55,32 @@ impl Ready {
         self.spots.as_slice()
     }
 
-    pub(crate) fn new(xids: Vec<u32>, spots: Vec<Spot>) -> Ready
-        ensures { result ≡ record { xids = xids.items; spots = spots.items } }
+    pub(crate) fn strands(&self) -> &HashMap<u32, Strand>
+        ensures { result.now.entries ≡ self.now.strands }
     {
-        Ready { xids, spots }
+        &self.strands
     }
 
-    pub(crate) fn into_xids(self) -> Vec<u32>
-        ensures { result.items ≡ self.xids }
+    pub(crate) fn new(xids: Vec<u32>, strands: HashMap<u32, Strand>, spots: Vec<Spot>) -> Ready
+        ensures { result ≡ record { xids = xids.items; strands = strands.entries; spots = spots.items } }
     {
-        let Ready { xids, spots: _ } = self;
-        xids
+        Ready {
+            xids,
+            strands,
+            spots,
+        }
+    }
+
+    pub(crate) fn into_parts(self) -> (Vec<u32>, HashMap<u32, Strand>)
+        ensures xids { result.0.items ≡ self.xids }
+        ensures strands { result.1.entries ≡ self.strands }
+    {
+        let Ready {
+            xids,
+            strands,
+            spots: _,
+        } = self;
+        (xids, strands)
     }
 }
 

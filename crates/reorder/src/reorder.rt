@@ -1,11 +1,12 @@
 //! Regrouping the changes of a log by transaction.
 
-ghost use Rattle.std.specs.Prelude.{◌≡◌, ◌≢◌, ◌<◌, ◌+◌, ◌++◌, ℕ, List, [], None, length, replicate, false, true, Err, IfOk, OnErr, OnOk};
+ghost use Rattle.std.specs.Prelude.{◌≡◌, ◌≢◌, ◌<◌, ◌+◌, ◌++◌, ℕ, List, [], ◌∷◌, Option, None, length, replicate, false, true, Err, IfOk, OnErr, OnOk};
 ghost use Rattle.chgarena.specs.Strands.{fills};
 ghost use Rattle.wal.specs.declared.record.Record.{Record as Logged};
 ghost use Rattle.reorder.specs.Chunks.{IsTidy, LeavesNoRoom, held_with, live_chunks};
-ghost use Rattle.reorder.specs.Ready.{IsEntryAt, IsReadyIn, ready_entries};
-ghost use Rattle.reorder.specs.Taking.{HasTaken, IsHeld, IsStepHeld, IsSameTaken, MayCome, Takes, readied};
+ghost use Rattle.reorder.specs.Pool.{AreApart, IsLent, Lasts, StaysLent};
+ghost use Rattle.reorder.specs.Ready.{IsEntryAt, IsReadyIn, ReadyState, ready_entries};
+ghost use Rattle.reorder.specs.Taking.{HasTaken, IsHeld, IsStepApart, IsStepHeld, IsSameTaken, MayCome, Takes, readied};
 
 use crate::entry::{body_of, write_entry};
 use crate::fault::ReorderFault;
@@ -20,7 +21,8 @@ use wal::{Body, Record};
 /// The changes of the transactions in progress, by the xids that made them, in an arena.
 ///
 /// Records go in one by one and in log order, each by `take`. `Step::Quiet` means that nothing is to be published yet.
-/// `Step::Ready` comes with a commit: `entry` lends its changes one by one, and `finish` takes the `Ready` back.
+/// `Step::Ready` comes with a commit: `entry` lends its changes one by one, and `finish` takes the `Ready` back. Several may be in
+/// being while more records are taken.
 ///
 /// The first record may be any record of a log. Of a transaction in progress there only the changes from this record on are
 /// known. A subtransaction of it that began earlier counts as a transaction of its own, which never commits.
@@ -73,8 +75,10 @@ impl Reorder {
         ensures fails { OnErr result (self.new.failed ≡ true) }
         ensures failed { result ≡ Err ReorderFault.Failed → (self.old.failed ≡ true) × (self.new ≡ self.old) }
         ensures full { result ≡ Err ReorderFault.Full → (self.old.failed ≡ false) × ((rs : List Logged) (count : ℕ) → HasTaken self.old rs → MayCome rs next.now.body → IsTidy count [] self.old.strands → LeavesNoRoom count rs next.now) }
-        ensures tidy { IfOk result (λ step. (count : ℕ) (held : List ℕ) → IsTidy count held self.old.strands → IsTidy count (held_with held step) self.new.strands) }
+        ensures tidy { IfOk result (λ step. (count : ℕ) (held : List ReadyState) → IsTidy count held self.old.strands → IsTidy count (held_with held step) self.new.strands) }
         ensures memory { result ≡ Err ReorderFault.Memory → self.old.failed ≡ false }
+        ensures lent { StaysLent self.old.strands.pool self.new.strands.pool }
+        ensures apart { IfOk result (λ step. (lent : List (ℕ × Option ℕ)) → IsLent self.old.strands.pool lent → IsStepApart step lent) }
     {
         if self.failed {
             return Err(ReorderFault::Failed);
@@ -91,8 +95,10 @@ impl Reorder {
         ensures held { IfOk result (λ step. IsStepHeld self.new step) }
         ensures failed { self.new.failed ≡ self.old.failed }
         ensures full { result ≡ Err ReorderFault.Full → (rs : List Logged) (count : ℕ) → HasTaken self.old rs → MayCome rs next.now.body → IsTidy count [] self.old.strands → LeavesNoRoom count rs next.now }
-        ensures tidy { IfOk result (λ step. (count : ℕ) (held : List ℕ) → IsTidy count held self.old.strands → IsTidy count (held_with held step) self.new.strands) }
+        ensures tidy { IfOk result (λ step. (count : ℕ) (held : List ReadyState) → IsTidy count held self.old.strands → IsTidy count (held_with held step) self.new.strands) }
         ensures running { result ≢ Err ReorderFault.Failed }
+        ensures lent { StaysLent self.old.strands.pool self.new.strands.pool }
+        ensures apart { IfOk result (λ step. (lent : List (ℕ × Option ℕ)) → IsLent self.old.strands.pool lent → IsStepApart step lent) }
     {
         match &next.body {
             Body::Assign(sub, parent) => {
@@ -118,16 +124,16 @@ impl Reorder {
         ensures { IsEntryAt (ready_entries self.now.strands.pool ready.now) k result.0 result.1.now }
     {
         let spot = &ready.spots()[k];
-        (spot.position, body_of(self.strands.entry(spot)))
+        (spot.position, body_of(self.strands.entry(ready, spot)))
     }
 
     /// Gives back what was ready.
     pub fn finish(&mut self, ready: Ready)
         requires { IsHeld self.old ready }
         ensures same { IsSameTaken self.old self.new }
-        ensures tidy { (count : ℕ) (held : List ℕ) → IsTidy count (ready.xids ++ held) self.old.strands → IsTidy count held self.new.strands }
+        ensures tidy { (count : ℕ) (held : List ReadyState) → IsTidy count (ready ∷ held) self.old.strands → IsTidy count held self.new.strands }
+        ensures lent { (lent : List (ℕ × Option ℕ)) → IsLent self.old.strands.pool lent → AreApart ready.strands lent → Lasts self.old.strands.pool self.new.strands.pool lent }
     {
-        let xids = ready.into_xids();
-        self.strands.give_back(xids.as_slice());
+        self.strands.give_back(ready);
     }
 }

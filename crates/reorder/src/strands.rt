@@ -3,7 +3,7 @@
 //! A record costs a look-up or two, whatever the length of the log. Only the end of a transaction goes over its xids,
 //! and then nothing of them is left but the changes that are ready.
 
-ghost use Rattle.std.specs.Prelude.{◌≡◌, ◌≢◌, ◌==◌, Err, ℕ, ◌+◌, ◌≤◌, [], ◌∷◌, ◌++◌, List, Some, None, false, IsSome, IfOk, OnOk, length, nat_eq, reverse, if◌then◌else◌, ◌&&◌, ◌||◌};
+ghost use Rattle.std.specs.Prelude.{◌≡◌, ◌≢◌, ◌==◌, Err, Option, true, ℕ, ◌+◌, ◌≤◌, [], ◌∷◌, ◌++◌, List, Some, None, false, IsSome, IfOk, OnOk, length, nat_eq, reverse, if◌then◌else◌, ◌&&◌, ◌||◌};
 ghost use Rattle.std.specs.Map.{lookup};
 ghost use Rattle.std.specs.HashMap.{get};
 ghost use Rattle.std.specs.List.{All, AllByRecursion, flat_map};
@@ -13,9 +13,9 @@ ghost use Rattle.std.specs.Ordering.{nat_cmp};
 ghost use Rattle.wal.specs.Log.{last_of};
 ghost use Rattle.reorder.specs.Entries.{IsEntry, entry_in};
 ghost use Rattle.chgarena.specs.Strands.{fills};
-ghost use Rattle.reorder.specs.Chunks.{HasNoRoom, IsTidy, StaysTidy, StaysWhole};
-ghost use Rattle.reorder.specs.Pool.{HoldEntries, IsPool, entries_at, put};
-ghost use Rattle.reorder.specs.Ready.{IsReadyIn, IsSpot, bytes_at, ready_entries, spots_from};
+ghost use Rattle.reorder.specs.Chunks.{HasNoRoom, IsTidy, IsWhole, StaysTidy, StaysWhole, strands_alone};
+ghost use Rattle.reorder.specs.Pool.{AreApart, HoldEntries, IsLent, IsPool, Lasts, StaysLent, entries_at, put, strand_of};
+ghost use Rattle.reorder.specs.Ready.{IsReadyIn, IsSpot, ReadyState, bytes_at, lent_from, ready_entries, spots_from};
 ghost use Rattle.reorder.specs.Strands.{IsSame, above_of, above_standing, all_in, assigned, back_in, behind, ended, is_in, by_xid, joined, kept_spots, pushed, spots_of, started, undone, with_member};
 
 use crate::entry::position_of;
@@ -24,7 +24,7 @@ use crate::members::Members;
 use crate::pool::Pool;
 use crate::ready::{Ready, Spot};
 use crate::strand::Strand;
-use chgarena::{Arena, Entries};
+use chgarena::{Arena, Entries, Strand as ArenaStrand};
 use std::alloc::{AllocError, Global};
 use std::collections::HashMap;
 use std::marker::Model;
@@ -80,6 +80,7 @@ impl Strands {
         ensures fresh { OnOk result ((by_xid self.old).strand xid ≡ None → IsSame (by_xid self.new) (started xid (by_xid self.old))) }
         ensures there { OnOk result (IsSome (lookup (λ k. xid == k) self.new.strands)) }
         ensures tidy { OnOk result (StaysTidy self.old self.new) }
+        ensures lent { StaysLent self.old.pool self.new.pool }
     {
         if self.strands.contains_key(&xid) {
             return Ok(());
@@ -92,6 +93,7 @@ impl Strands {
         ensures started { OnOk result (IsSame (by_xid self.new) (started xid (by_xid self.old))) }
         ensures there { OnOk result (IsSome (lookup (λ k. xid == k) self.new.strands)) }
         ensures tidy { OnOk result (StaysTidy self.old self.new) }
+        ensures lent { StaysLent self.old.pool self.new.pool }
     {
         let members = Members::of(self.alloc, xid)?;
         self.members.insert(xid, members)?;
@@ -107,6 +109,7 @@ impl Strands {
         requires fits { length entry.now ≤ 16380 }
         ensures ok { OnOk result (IsSame (by_xid self.new) (pushed xid (entry_in xid entry.now) (by_xid self.old))) }
         ensures tidy { OnOk result (IsSome (lookup (λ k. xid == k) self.old.strands) → StaysTidy self.old self.new) }
+        ensures lent { StaysLent self.old.pool self.new.pool }
         ensures full { result ≡ Err ReorderFault.Full → HasNoRoom self.old.pool xid (length entry.now) }
         ensures running { result ≢ Err ReorderFault.Failed }
     {
@@ -117,6 +120,7 @@ impl Strands {
     pub(crate) fn undo(&mut self, xid: u32)
         ensures undone { IsSame (by_xid self.new) (undone xid (by_xid self.old)) }
         ensures tidy { StaysTidy self.old self.new }
+        ensures lent { StaysLent self.old.pool self.new.pool }
     {
         self.give_back_under(xid);
         self.pool.give_back(xid);
@@ -139,6 +143,7 @@ impl Strands {
         ensures pool { (x : ℕ) → entries_at self.new.pool x
             ≡ (if is_in x (behind xid (back_in self.old xid)) && is_in xid (above_standing (lookup (λ k. x == k) self.old.strands)) then [] else entries_at self.old.pool x) }
         ensures whole { StaysWhole self.old.pool self.new.pool }
+        ensures lent { StaysLent self.old.pool self.new.pool }
     {
         let top = self.top_of(xid);
         if let Some(members) = self.members.get(&top) {
@@ -150,6 +155,7 @@ impl Strands {
     pub(crate) fn assign(&mut self, sub: u32, parent: u32) -> Result<(), AllocError>
         ensures assigned { OnOk result (IsSame (by_xid self.new) (assigned sub parent (by_xid self.old))) }
         ensures tidy { OnOk result (StaysTidy self.old self.new) }
+        ensures lent { StaysLent self.old.pool self.new.pool }
     {
         let above = self.chain(parent)?;
         let top = last_or(parent, above.as_slice());
@@ -175,6 +181,7 @@ impl Strands {
     pub(crate) fn end(&mut self, top: u32)
         ensures ended { IsSame (by_xid self.new) (ended top (by_xid self.old)) }
         ensures tidy { StaysTidy self.old self.new }
+        ensures lent { StaysLent self.old.pool self.new.pool }
     {
         if let Some(members) = self.members.remove(&top) {
             remove_all(&mut self.strands, members.as_slice());
@@ -182,20 +189,21 @@ impl Strands {
         }
     }
 
-    /// Gives up all xids of a transaction, but for their changes: those that it keeps are ready.
+    /// Gives up all xids of a transaction, but for their changes: those that it keeps are ready, and lie where nobody else comes.
     pub(crate) fn make_ready(&mut self, top: u32) -> Result<Ready, AllocError>
         ensures ended { OnOk result (IsSame (by_xid self.new) (ended top (by_xid self.old))) }
-        ensures pool { self.new.pool ≡ self.old.pool }
         ensures rising { IfOk result (λ r. IsNonDecreasingBy (λ e. e.position) (ready_entries self.new.pool r)) }
         ensures same { IfOk result (λ r. IsStableByKey (λ e. e.position) nat_cmp (joined (by_xid self.old) top) (ready_entries self.new.pool r)) }
         ensures ready { IfOk result (λ r. IsReadyIn self.new.pool r) }
-        ensures gone { IfOk result (λ r. AllByRecursion (λ x. (by_xid self.new).strand x ≡ None) r.xids) }
-        ensures tidy { IfOk result (λ r. (count : ℕ) (held : List ℕ) → IsTidy count held self.old → IsTidy count (r.xids ++ held) self.new) }
+        ensures apart { IfOk result (λ r. (lent : List (ℕ × Option ℕ)) → IsLent self.old.pool lent → AreApart r.strands lent) }
+        ensures tidy { IfOk result (λ r. (count : ℕ) (held : List ReadyState) → IsTidy count held self.old → IsTidy count (r ∷ held) self.new) }
+        ensures lent { StaysLent self.old.pool self.new.pool }
     {
         let spots = self.spots(top)?;
         let xids = remove_members(self.alloc, &mut self.members, top);
         remove_all(&mut self.strands, xids.as_slice());
-        Ok(Ready::new(xids, spots))
+        let strands = self.pool.lend_all(self.alloc, xids.as_slice())?;
+        Ok(Ready::new(xids, strands, spots))
     }
 
     /// Where the changes lie that a transaction keeps, in the order of their positions.
@@ -203,6 +211,7 @@ impl Strands {
         ensures rising { IfOk result (λ v. IsNonDecreasingBy (λ s. s.position) v.items) }
         ensures same { IfOk result (λ v. IsStableByKey (λ s. s.position) nat_cmp (spots_of self.now top) v.items) }
         ensures there { IfOk result (λ v. All (IsSpot self.now.pool) v.items) }
+        ensures own { IfOk result (λ v. All (λ spot. is_in spot.xid (all_in (lookup (λ k. top == k) self.now.members)) ≡ true) v.items) }
     {
         let mut spots = self.joined(top)?;
         spots.sort_by_key(|spot| spot.position)?;
@@ -227,21 +236,29 @@ impl Strands {
         }
     }
 
-    /// The entry at a spot.
-    pub(crate) fn entry(&self, spot: &Spot) -> &[u8]
-        requires { IsSpot self.now.pool spot.now }
-        ensures value { result.now ≡ bytes_at self.now.pool spot.now }
+    /// The entry at a spot of what is ready.
+    pub(crate) fn entry(&self, ready: &Ready, spot: &Spot) -> &[u8]
+        requires lent { IsLent self.now.pool ready.now.strands }
+        requires spot { IsSpot (lent_from self.now.pool ready.now) spot.now }
+        ensures value { result.now ≡ bytes_at (lent_from self.now.pool ready.now) spot.now }
         ensures entry { IsEntry result.now }
     {
-        self.pool.entry(spot.xid, spot.place, spot.near)
+        self.pool
+            .entry(ready.strands(), spot.xid, spot.place, spot.near)
     }
 
-    /// Gives back the changes of these xids, which have no strands.
-    pub(crate) fn give_back(&mut self, xids: &[u32])
-        ensures same { AllByRecursion (λ x. (by_xid self.old).strand x ≡ None) xids.now → IsSame (by_xid self.new) (by_xid self.old) }
-        ensures tidy { (count : ℕ) (held : List ℕ) → IsTidy count (xids.now ++ held) self.old → IsTidy count held self.new }
+    /// Gives back the changes of what was ready.
+    pub(crate) fn give_back(&mut self, ready: Ready)
+        requires { IsReadyIn self.old.pool ready }
+        ensures strands { self.new.strands ≡ self.old.strands }
+        ensures members { self.new.members ≡ self.old.members }
+        ensures entries { (x : ℕ) → entries_at self.new.pool x ≡ entries_at self.old.pool x }
+        ensures own { self.new.pool.strands ≡ self.old.pool.strands }
+        ensures tidy { (count : ℕ) (held : List ReadyState) → IsTidy count (ready ∷ held) self.old → IsTidy count held self.new }
+        ensures lent { (lent : List (ℕ × Option ℕ)) → IsLent self.old.pool lent → AreApart ready.strands lent → Lasts self.old.pool self.new.pool lent }
     {
-        give_back_all(&mut self.pool, xids);
+        let (xids, strands) = ready.into_parts();
+        take_back_all(&mut self.pool, strands, xids.as_slice());
     }
 }
 
@@ -289,15 +306,33 @@ fn remove_all(strands: &mut HashMap<u32, Strand>, xids: &[u32])
 fn give_back_all(pool: &mut Pool, xids: &[u32])
     ensures entries { (x : ℕ) → entries_at pool.new x ≡ (if is_in x xids.now then [] else entries_at pool.old x) }
     ensures whole { StaysWhole pool.old pool.new }
+    ensures lent { StaysLent pool.old pool.new }
 {
     for xid in xids {
         pool.give_back(*xid);
     }
 }
 
+/// Gives back strands that were lent, of which these are the xids.
+fn take_back_all(pool: &mut Pool, mut lent: HashMap<u32, ArenaStrand>, xids: &[u32])
+    requires { IsLent pool.old lent.entries }
+    ensures strands { pool.new.strands ≡ pool.old.strands }
+    ensures entries { (x : ℕ) → entries_at pool.new x ≡ entries_at pool.old x }
+    ensures others { (others : List (ℕ × Option ℕ)) → IsLent pool.old others → AreApart lent.entries others → Lasts pool.old pool.new others }
+    ensures chunks { length pool.new.arena ≡ length pool.old.arena }
+    ensures whole { ((x : ℕ) → IsSome (strand_of lent.entries x) → is_in x xids.now ≡ true) → (held : List ReadyState) → IsWhole (strands_alone lent.entries ∷ held) pool.old → IsWhole held pool.new }
+{
+    for xid in xids {
+        if let Some(strand) = lent.remove(xid) {
+            pool.take_back(strand);
+        }
+    }
+}
+
 /// Gives back the entries of those xids that are under this one. They stand behind it.
 fn give_back_behind(pool: &mut Pool, strands: &HashMap<u32, Strand>, xids: &[u32], xid: u32)
     ensures whole { StaysWhole pool.old pool.new }
+    ensures lent { StaysLent pool.old pool.new }
     ensures entries { (x : ℕ) → entries_at pool.new x
         ≡ (if is_in x (behind xid (reverse xids.now)) && is_in xid (above_standing (get nat_eq strands.now x)) then [] else entries_at pool.old x) }
 {

@@ -1,5 +1,5 @@
 -- What can be told of a transaction fits a stream.
-use Rattle.std.proofs.Common.{◌<◌, ◌^◌, List, [], ◌∷◌}
+use Rattle.std.proofs.Common.{◌≡◌, ◌<◌, ◌^◌, List, [], ◌∷◌, subst}
 use Rattle.std.specs.Prelude.{FitsSigned}
 use Rattle.std.specs.Int.{w64}
 use Rattle.std.specs.List.{AllByRecursion}
@@ -8,7 +8,9 @@ use Rattle.publication.specs.Selection.{relation}
 use Rattle.stream.specs.declared.published.Published.{Published}
 use Rattle.stream.specs.declared.published.PublishedChange.{PublishedChange}
 use Rattle.stream.specs.Items.{FitsChange, FitsPublished}
-use Rattle.sender.specs.Published.{CanBeTold}
+use Rattle.wal.specs.Log.{Entry}
+use Rattle.sender.specs.declared.header.Header.{Header}
+use Rattle.sender.specs.Published.{CanBeTold, published_changes, published_with}
 
 changes_fit : (selection : PublicationSet) (cs : List PublishedChange) → AllByRecursion (CanBeTold selection) cs → AllByRecursion (FitsChange (relation selection)) cs
 changes_fit selection [] all = tt
@@ -18,3 +20,10 @@ changes_fit selection (c ∷ cs) all =
 
 pub transaction_fits : (selection : PublicationSet) (t : Published) → (t.start < 2 ^ 64) × (t.end < 2 ^ 64) × FitsSigned w64 t.time × (t.xid < 2 ^ 32) → AllByRecursion (CanBeTold selection) t.changes → FitsPublished (relation selection) t
 transaction_fits selection t (start, end, time, xid) all = record { start = start; end = end; time = time; xid = xid; changes = changes_fit selection t.changes all }
+
+-- the one transaction that a commit publishes
+pub commit_fits : (selection : PublicationSet) (entries : List Entry) (h : Header) (ts : List Published) → published_with selection entries h ∷ [] ≡ ts →
+    (h.start < 2 ^ 64) × (h.end < 2 ^ 64) × FitsSigned w64 h.time × (h.xid < 2 ^ 32) → AllByRecursion (CanBeTold selection) (published_changes selection entries) → AllByRecursion (FitsPublished (relation selection)) ts
+commit_fits selection entries h ts is numbers told =
+    let P : List Published → Type 0 = λ l. AllByRecursion (FitsPublished (relation selection)) l in
+    subst P is (transaction_fits selection (published_with selection entries h) numbers told, tt)

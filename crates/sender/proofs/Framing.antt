@@ -7,13 +7,13 @@ use Rattle.std.proofs.lemmas.List.Concat.{flat_map-cons, flat_map-append}
 use Rattle.pqformat.specs.Fields.{int32, int64}
 use Rattle.frames.specs.declared.copy_data.TheConstants.{COPY_DATA}
 use Rattle.pqformat.proofs.Numbers.{length-int32, length-int64}
+use Rattle.frames.specs.Frame.{frame}
 use Rattle.copyboth.specs.XLogData.{xlogdata}
 use Rattle.copyboth.specs.Keepalive.{keepalive, ask_byte}
 use Rattle.pgoutput.specs.declared.logical.Logical.{Logical}
 use Rattle.pgoutput.specs.declared.logical.Logical.TheVariants as logical
 use Rattle.pgoutput.specs.declared.begin.Begin.{Begin}
 use Rattle.pgoutput.specs.declared.commit.Commit.{Commit}
-use Rattle.pgoutput.specs.Logical.{spell_logical}
 use Rattle.pgoutput.specs.declared.relation.Relation.{Relation}
 use Rattle.stream.specs.declared.word.Word.{Word}
 use Rattle.stream.specs.declared.published.Published.{Published}
@@ -41,12 +41,10 @@ behind_head : (old headed whole body : List ℕ) (n : ℕ) → n ≡ length body
 behind_head old headed whole body n len head tail =
     tail ∙ ap (λ (l : List ℕ). l ++ body) head ∙ append_assoc old (COPY_DATA ∷ int32 (4 + n)) body ∙ ap (λ (k : ℕ). old ++ (COPY_DATA ∷ (int32 (4 + k) ++ body))) len
 
-pub xlogdata_whole : (old headed whole scratch : List ℕ) (position : ℕ) (clock : ℤ) (m : Logical) → scratch ≡ spell_logical m → headed ≡ old ++ (COPY_DATA ∷ int32 (4 + (25 + length scratch)))
-    → whole ≡ headed ++ xlogdata position position clock scratch → whole ≡ old ++ word_bytes (xlogdata_word position clock m)
-xlogdata_whole old headed whole scratch position clock m spelled head tail =
-    let body : xlogdata position position clock scratch ≡ xlogdata position position clock (spell_logical m) = ap (xlogdata position position clock) spelled in
-    behind_head old headed whole (xlogdata position position clock (spell_logical m)) (25 + length scratch)
-    (sym (length-xlogdata position position clock scratch) ∙ ap length body) head (tail ∙ ap (λ (l : List ℕ). headed ++ l) body)
+pub xlogdata_whole : (old headed whole message : List ℕ) (position : ℕ) (clock : ℤ) → headed ≡ old ++ (COPY_DATA ∷ int32 (4 + (25 + length message)))
+    → whole ≡ headed ++ xlogdata position position clock message → whole ≡ old ++ frame COPY_DATA (xlogdata position position clock message)
+xlogdata_whole old headed whole message position clock head tail =
+    behind_head old headed whole (xlogdata position position clock message) (25 + length message) (sym (length-xlogdata position position clock message)) head tail
 
 pub keepalive_whole : (old headed whole : List ℕ) (position : ℕ) (clock : ℤ) (ask : Bool) → headed ≡ old ++ (COPY_DATA ∷ int32 (4 + 18)) → whole ≡ headed ++ keepalive position clock ask → whole ≡ old ++ word_bytes (keepalive_word position clock ask)
 keepalive_whole old headed whole position clock ask head tail = behind_head old headed whole (keepalive position clock ask) 18 (sym (length-keepalive position clock ask)) head tail
@@ -56,7 +54,7 @@ keepalive_whole old headed whole position clock ask head tail = behind_head old 
 frames_append : (ws vs : List Word) → frames_of (ws ++ vs) ≡ frames_of ws ++ frames_of vs
 frames_append ws vs = flat_map-append word_bytes ws vs
 
-frames_one : (w : Word) → frames_of (w ∷ []) ≡ word_bytes w
+pub frames_one : (w : Word) → frames_of (w ∷ []) ≡ word_bytes w
 frames_one w = flat_map-cons word_bytes w [] ∙ append-nil (word_bytes w)
 
 pub block_is : (relation : ℕ → Relation) (relations_sent : List ℕ) (clock : ℤ) (t : Published) → frames_of (block_words relation relations_sent clock t)

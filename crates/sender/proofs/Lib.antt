@@ -5,3 +5,6 @@ pub mod Changes
 pub mod Sections
 pub mod Turns
 pub mod Fitting
+pub mod Spelled
+pub mod Due
+pub mod Adding

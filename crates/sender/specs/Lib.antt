@@ -1,4 +1,5 @@
 pub mod Published
+pub mod Spelled
 pub mod Sending
 pub mod Turning
 pub mod Faults

@@ -6,6 +6,7 @@ use Rattle.publication.specs.Publications.{PublicationSet}
 use Rattle.wal.specs.declared.record.Record.{Record}
 use Rattle.wal.specs.Log.{Entry, Transaction, committed_from}
 use Rattle.publication.specs.Projection.{message, MessageFits}
+use Rattle.sender.specs.declared.header.Header.{Header}
 use Rattle.stream.specs.declared.published.Published.{Published}
 use Rattle.stream.specs.declared.published.PublishedChange.{PublishedChange}
 
@@ -24,6 +25,10 @@ CanBeTold selection c = (c.position < 2 ^ 64) × MessageFits selection c.message
 
 abbrev pub published_as : PublicationSet → Transaction → Published
 published_as selection t = record { start = t.start; end = t.end; time = t.time; xid = t.xid; changes = published_changes selection t.changes }
+
+-- the same by what a commit record tells, and what it commits
+abbrev pub published_with : PublicationSet → List Entry → Header → Published
+published_with selection entries h = record { start = h.start; end = h.end; time = h.time; xid = h.xid; changes = published_changes selection entries }
 
 abbrev pub has_message : Published → Bool
 has_message t = not (length t.changes == 0)

@@ -12,7 +12,7 @@ ghost use Rattle.wal.specs.declared.record.Record.{Record as Logged};
 ghost use Rattle.sender.specs.Sending.{HasChunks, IsOut, LacksRoom, ReadAll, RanOut, OutputUnchanged, ReadOne, published_by_commit, blocks};
 
 use crate::fault::SendFault;
-use crate::publishing::transaction_of;
+use crate::publishing::{header_of, make_room};
 use crate::sender::Sender;
 use reorder::{Ready, ReorderFault, Step};
 use std::alloc::AllocError;
@@ -81,19 +81,25 @@ impl Sender {
         ensures failed { self.new.failed ≡ self.old.failed }
         ensures reorder { self.new.reorder ≡ self.old.reorder }
     {
-        let alloc = *self.outgoing.relations_sent.allocator();
-        let Some(transaction) = transaction_of(
-            alloc,
+        make_room(&mut self.room)?;
+        let Some(header) = header_of(
             &self.selection,
             self.start,
             next,
             &self.reorder,
             ready,
-        )?
-        else {
+            self.room.as_mut_slice(),
+        ) else {
             return Ok(());
         };
-        self.outgoing.commit(&self.selection, clock, &transaction)?;
+        self.outgoing.commit(
+            &self.selection,
+            &self.reorder,
+            ready,
+            &header,
+            clock,
+            self.room.as_mut_slice(),
+        )?;
         Ok(())
     }
 }

@@ -4,7 +4,9 @@
 mod ended;
 mod fault;
 mod feeding;
+mod header;
 mod limits;
+mod named;
 mod outgoing;
 mod publishing;
 mod section;

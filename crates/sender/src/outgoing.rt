@@ -1,23 +1,28 @@
 //! What is on its way out: the bytes that are held, and the tables whose Relation was sent.
 #![tactic(auto, using(pqformat::proofs::Putting::in_place))]
 
-ghost use Rattle.std.specs.Prelude.{◌≡◌, ◌≤◌, ◌<◌, ◌^◌, ◌++◌, ◌∷◌, [], OnErr, OnOk, reverse, IsSome, min, take, drop, length};
+ghost use Rattle.std.specs.Prelude.{◌≡◌, ◌+◌, ◌≤◌, ◌<◌, ◌^◌, ◌++◌, ◌∷◌, [], OnErr, OnOk, reverse, IsSome, min, take, drop, length};
 ghost use Rattle.std.specs.List.{AllByRecursion};
 ghost use Rattle.pqformat.specs.Putting.{Puts};
 ghost use Rattle.pgoutput.specs.Logical.{IsShort};
 ghost use Rattle.pgoutput.specs.declared.logical.Logical.TheVariants as logical;
 ghost use Rattle.publication.specs.Selection.{relation, selected_table};
+ghost use Rattle.reorder.specs.Ready.{IsReadyIn, ready_entries};
 ghost use Rattle.stream.specs.Words.{frames_of, word_bytes};
-ghost use Rattle.stream.specs.Items.{IsShortMessage, begin_message, commit_message, is_relation_sent, relations_due, relations_sent_by, relations_sent_by_all, tables_of, xlogdata_word, relation_words, change_words, changes_words, block_words, keepalive_word};
-ghost use Rattle.sender.specs.Published.{CanBeTold};
+ghost use Rattle.stream.specs.Items.{IsShortMessage, is_relation_sent, relations_due, relations_sent_by, relations_sent_by_all, xlogdata_word, relation_words, change_words, changes_words, block_words, keepalive_word};
+ghost use Rattle.sender.specs.Published.{CanBeTold, published_changes, published_with};
+ghost use Rattle.sender.specs.Spelled.{Adds, Tells, begin_with, commit_with, oids_in, told_at};
 
-use crate::word::{put_keepalive, put_xlogdata};
+use crate::header::Header;
+use crate::named::named_in;
+use crate::publishing::put_entry;
+use crate::word::{put_keepalive, put_spelled, put_xlogdata};
 use bytes::{BufMut, BytesMut};
 use pgoutput::{Begin, Commit, Logical};
-use publication::Selection;
+use pqformat::Cursor;
+use publication::{MAX_MESSAGE_LENGTH, Selection};
+use reorder::{Ready, Reorder};
 use std::alloc::{AllocError, Global};
-use std::slice;
-use stream::{Published, PublishedChange};
 
 /// Bytes on their way out. Where a call is refused, what was held before still stands at the front.
 #[derive(Drop)]
@@ -89,21 +94,28 @@ impl Outgoing {
         Ok(())
     }
 
-    /// Adds the block of a transaction, or, where memory is refused, nothing.
+    /// Adds the block of a transaction, or, where memory is refused, nothing. Its messages are made in the room.
     pub(crate) fn commit(
         &mut self,
         selection: &Selection,
+        reorder: &Reorder,
+        ready: &Ready,
+        header: &Header,
         clock: i64,
-        transaction: &Published,
+        room: &mut [u8],
     ) -> Result<(), AllocError>
-        requires { AllByRecursion (CanBeTold selection.now) transaction.now.changes }
+        requires held { IsReadyIn reorder.now.strands.pool ready.now }
+        requires room { MAX_MESSAGE_LENGTH ≤ length room.old }
         ensures ok { OnOk result (self.new.held.items ≡ self.old.held.items
-            ++ frames_of (block_words (relation selection.now) (reverse self.old.relations_sent.items) clock transaction.now)) }
-        ensures relations_sent { OnOk result (reverse self.new.relations_sent.items ≡ relations_sent_by_all (reverse self.old.relations_sent.items) transaction.now.changes) }
+            ++ frames_of (block_words (relation selection.now) (reverse self.old.relations_sent.items) clock
+            (published_with selection.now (ready_entries reorder.now.strands.pool ready.now) header.now))) }
+        ensures relations_sent { OnOk result (reverse self.new.relations_sent.items
+            ≡ relations_sent_by_all (reverse self.old.relations_sent.items) (published_changes selection.now (ready_entries reorder.now.strands.pool ready.now))) }
+        ensures told { OnOk result (AllByRecursion (CanBeTold selection.now) (published_changes selection.now (ready_entries reorder.now.strands.pool ready.now))) }
         ensures err { OnErr result (self.new.held.items ≡ self.old.held.items) }
     {
         let length = self.held.len();
-        let written = self.block(selection, clock, transaction);
+        let written = self.block(selection, reorder, ready, header, clock, room);
         if written.is_err() {
             self.held.truncate(length);
         }
@@ -171,51 +183,83 @@ impl Outgoing {
         selection: &Selection,
         position: u64,
         clock: i64,
-        oids: &[u32],
+        mut oids: Cursor<'_>,
     ) -> Result<(), AllocError>
-        requires { AllByRecursion (λ oid. IsSome (selected_table selection.now oid)) oids.now }
+        requires { AllByRecursion (λ oid. IsSome (selected_table selection.now oid)) (oids_in oids) }
         ensures held { Puts result self.old.held.items self.new.held.items
-            (frames_of (relation_words (relation selection.now) position clock (relations_due (reverse self.old.relations_sent.items) oids.now))) }
+            (frames_of (relation_words (relation selection.now) position clock (relations_due (reverse self.old.relations_sent.items) (oids_in oids.entry)))) }
         ensures relations_sent { OnOk result (reverse self.new.relations_sent.items
-            ≡ reverse (relations_due (reverse self.old.relations_sent.items) oids.now) ++ reverse self.old.relations_sent.items) }
+            ≡ reverse (relations_due (reverse self.old.relations_sent.items) (oids_in oids.entry)) ++ reverse self.old.relations_sent.items) }
     {
-        for oid in oids {
-            self.add_relation(selection, position, clock, *oid)?;
+        while let Some(oid) = oids.u32() {
+            self.add_relation(selection, position, clock, oid)?;
         }
         Ok(())
     }
 
-    /// Adds a change: the Relations that are due, and its message.
+    /// Adds a change, of which this is the message: the Relations that are due, and the message.
     fn change(
         &mut self,
         selection: &Selection,
+        position: u64,
         clock: i64,
-        change: &PublishedChange,
+        message: &[u8],
     ) -> Result<(), AllocError>
-        requires { CanBeTold selection.now change.now }
+        requires { Tells selection.now position message.now }
         ensures held { Puts result self.old.held.items self.new.held.items
-            (frames_of (change_words (relation selection.now) (reverse self.old.relations_sent.items) clock change.now)) }
-        ensures relations_sent { OnOk result (reverse self.new.relations_sent.items ≡ relations_sent_by (reverse self.old.relations_sent.items) change.now) }
+            (frames_of (change_words (relation selection.now) (reverse self.old.relations_sent.items) clock (told_at position message.now))) }
+        ensures relations_sent { OnOk result (reverse self.new.relations_sent.items ≡ relations_sent_by (reverse self.old.relations_sent.items) (told_at position message.now)) }
     {
-        let oids = tables_named(&change.message);
-        self.add_relations(selection, change.position, clock, oids)?;
-        self.add_message(change.position, clock, &change.message)?;
+        let oids = named_in(message);
+        self.add_relations(selection, position, clock, oids)?;
+        put_spelled(&mut self.held, position, clock, message)?;
         Ok(())
+    }
+
+    /// Adds the k-th change that is ready, if it has a message.
+    fn add_entry(
+        &mut self,
+        selection: &Selection,
+        reorder: &Reorder,
+        ready: &Ready,
+        k: usize,
+        clock: i64,
+        room: &mut [u8],
+    ) -> Result<(), AllocError>
+        requires held { IsReadyIn reorder.now.strands.pool ready.now }
+        requires within { k < length ready.now.spots }
+        requires room { MAX_MESSAGE_LENGTH ≤ length room.old }
+        ensures adds { Adds (relation selection.now) clock (published_changes selection.now (drop k (ready_entries reorder.now.strands.pool ready.now)))
+            (published_changes selection.now (drop (k + 1) (ready_entries reorder.now.strands.pool ready.now)))
+            result self.old.held.items self.new.held.items (reverse self.old.relations_sent.items) (reverse self.new.relations_sent.items) }
+        ensures told { AllByRecursion (CanBeTold selection.now) (published_changes selection.now (drop (k + 1) (ready_entries reorder.now.strands.pool ready.now)))
+            → AllByRecursion (CanBeTold selection.now) (published_changes selection.now (drop k (ready_entries reorder.now.strands.pool ready.now))) }
+        ensures same { length room.new ≡ length room.old }
+    {
+        let Some((position, length)) = put_entry(selection, reorder, ready, k, room) else {
+            return Ok(());
+        };
+        self.change(selection, position, clock, &room[..length])
     }
 
     fn changes(
         &mut self,
         selection: &Selection,
+        reorder: &Reorder,
+        ready: &Ready,
         clock: i64,
-        changes: &[PublishedChange],
+        room: &mut [u8],
     ) -> Result<(), AllocError>
-        requires { AllByRecursion (CanBeTold selection.now) changes.now }
+        requires held { IsReadyIn reorder.now.strands.pool ready.now }
+        requires room { MAX_MESSAGE_LENGTH ≤ length room.old }
         ensures held { Puts result self.old.held.items self.new.held.items
-            (frames_of (changes_words (relation selection.now) (reverse self.old.relations_sent.items) clock changes.now)) }
-        ensures relations_sent { OnOk result (reverse self.new.relations_sent.items ≡ relations_sent_by_all (reverse self.old.relations_sent.items) changes.now) }
+            (frames_of (changes_words (relation selection.now) (reverse self.old.relations_sent.items) clock (published_changes selection.now (ready_entries reorder.now.strands.pool ready.now)))) }
+        ensures relations_sent { OnOk result (reverse self.new.relations_sent.items
+            ≡ relations_sent_by_all (reverse self.old.relations_sent.items) (published_changes selection.now (ready_entries reorder.now.strands.pool ready.now))) }
+        ensures told { OnOk result (AllByRecursion (CanBeTold selection.now) (published_changes selection.now (ready_entries reorder.now.strands.pool ready.now))) }
     {
-        for change in changes {
-            self.change(selection, clock, change)?;
+        for k in 0..ready.count() {
+            self.add_entry(selection, reorder, ready, k, clock, room)?;
         }
         Ok(())
     }
@@ -225,69 +269,61 @@ impl Outgoing {
     fn block(
         &mut self,
         selection: &Selection,
+        reorder: &Reorder,
+        ready: &Ready,
+        header: &Header,
         clock: i64,
-        transaction: &Published,
+        room: &mut [u8],
     ) -> Result<(), AllocError>
-        requires { AllByRecursion (CanBeTold selection.now) transaction.now.changes }
+        requires held { IsReadyIn reorder.now.strands.pool ready.now }
+        requires room { MAX_MESSAGE_LENGTH ≤ length room.old }
         ensures held { Puts result self.old.held.items self.new.held.items
-            (frames_of (block_words (relation selection.now) (reverse self.old.relations_sent.items) clock transaction.now)) }
-        ensures relations_sent { OnOk result (reverse self.new.relations_sent.items ≡ relations_sent_by_all (reverse self.old.relations_sent.items) transaction.now.changes) }
+            (frames_of (block_words (relation selection.now) (reverse self.old.relations_sent.items) clock
+            (published_with selection.now (ready_entries reorder.now.strands.pool ready.now) header.now))) }
+        ensures relations_sent { OnOk result (reverse self.new.relations_sent.items
+            ≡ relations_sent_by_all (reverse self.old.relations_sent.items) (published_changes selection.now (ready_entries reorder.now.strands.pool ready.now))) }
+        ensures told { OnOk result (AllByRecursion (CanBeTold selection.now) (published_changes selection.now (ready_entries reorder.now.strands.pool ready.now))) }
     {
-        self.add_begin(clock, transaction)?;
-        self.changes(selection, clock, transaction.changes.as_slice())?;
-        self.add_commit(clock, transaction)?;
+        self.add_begin(clock, header)?;
+        self.changes(selection, reorder, ready, clock, room)?;
+        self.add_commit(clock, header)?;
         Ok(())
     }
 
-    fn add_begin(&mut self, clock: i64, transaction: &Published) -> Result<(), AllocError>
-        ensures held { Puts result self.old.held.items self.new.held.items
-            (word_bytes (xlogdata_word transaction.now.start clock (begin_message transaction.now))) }
+    fn add_begin(&mut self, clock: i64, header: &Header) -> Result<(), AllocError>
+        ensures held { Puts result self.old.held.items self.new.held.items (word_bytes (xlogdata_word header.now.start clock (begin_with header.now))) }
         ensures relations_sent { self.new.relations_sent ≡ self.old.relations_sent }
     {
-        let begin = begin_of(transaction);
-        self.add_message(transaction.start, clock, &begin)
+        let begin = begin_of(header);
+        self.add_message(header.start, clock, &begin)
     }
 
-    fn add_commit(&mut self, clock: i64, transaction: &Published) -> Result<(), AllocError>
-        ensures held { Puts result self.old.held.items self.new.held.items
-            (word_bytes (xlogdata_word transaction.now.end clock (commit_message transaction.now))) }
+    fn add_commit(&mut self, clock: i64, header: &Header) -> Result<(), AllocError>
+        ensures held { Puts result self.old.held.items self.new.held.items (word_bytes (xlogdata_word header.now.end clock (commit_with header.now))) }
         ensures relations_sent { self.new.relations_sent ≡ self.old.relations_sent }
     {
-        let commit = commit_of(transaction);
-        self.add_message(transaction.end, clock, &commit)
+        let commit = commit_of(header);
+        self.add_message(header.end, clock, &commit)
     }
 }
 
-/// The tables that a message names, in the order in which it names them.
-fn tables_named(message: &Logical) -> &[u32]
-    ensures { result.now ≡ tables_of message.now }
-{
-    match message {
-        Logical::Insert(message) => slice::from_ref(&message.oid),
-        Logical::Update(message) => slice::from_ref(&message.oid),
-        Logical::Delete(message) => slice::from_ref(&message.oid),
-        Logical::Truncate(message) => message.oids.as_slice(),
-        Logical::Begin(_) | Logical::Commit(_) | Logical::Relation(_) => &[],
-    }
-}
-
-fn begin_of(transaction: &Published) -> Logical
-    ensures { result ≡ begin_message transaction.now }
+fn begin_of(header: &Header) -> Logical
+    ensures { result ≡ begin_with header.now }
 {
     Logical::Begin(Begin {
-        position: transaction.start,
-        time: transaction.time,
-        xid: transaction.xid,
+        position: header.start,
+        time: header.time,
+        xid: header.xid,
     })
 }
 
-fn commit_of(transaction: &Published) -> Logical
-    ensures { result ≡ commit_message transaction.now }
+fn commit_of(header: &Header) -> Logical
+    ensures { result ≡ commit_with header.now }
 {
     Logical::Commit(Commit {
-        position: transaction.start,
-        end: transaction.end,
-        time: transaction.time,
+        position: header.start,
+        end: header.end,
+        time: header.time,
     })
 }
 

@@ -1,111 +1,88 @@
-//! What a commit publishes.
+//! What a commit publishes, change by change, straight from where the changes lie.
 
-ghost use Rattle.std.specs.Prelude.{◌≡◌, ◌+◌, ◌<◌, ◌++◌, ◌^◌, [], FitsSigned, IfOk, IfSome, OnOk, Some, length, option_to_list};
+ghost use Rattle.std.specs.Prelude.{◌≡◌, ◌+◌, ◌<◌, ◌≤◌, ◌==◌, ◌^◌, FitsSigned, IfSome, OnOk, Some, drop, length, not, option_map, option_to_list, vec_len};
 ghost use Rattle.std.specs.Int.{w64};
-ghost use Rattle.std.specs.List.{AllByRecursion};
-ghost use Rattle.tables.specs.declared.change.Change.{Change as Changed};
-ghost use Rattle.tables.specs.Reading.{SpellsBody};
 ghost use Rattle.reorder.specs.Ready.{IsReadyIn, ready_entries};
-ghost use Rattle.publication.specs.Projection.{message};
-ghost use Rattle.publication.specs.Selection.{relation};
-ghost use Rattle.stream.specs.Items.{FitsPublished};
-ghost use Rattle.sender.specs.Published.{CanBeTold, published_at, published_changes};
+ghost use Rattle.sender.specs.Published.{published_changes, published_with};
 ghost use Rattle.sender.specs.Sending.{published_by_commit};
+ghost use Rattle.sender.specs.Spelled.{Yields};
 
-use pqformat::Items;
-use publication::{Projected, Selection};
+use crate::header::Header;
+use publication::{MAX_MESSAGE_LENGTH, Selection};
 use reorder::{Ready, Reorder};
-use std::alloc::{AllocError, Global};
-use stream::{Published, PublishedChange};
-use tables::{Change, read_body};
+use std::alloc::AllocError;
 use wal::{Body, Record};
 
-/// The transaction that a record commits with these changes, if it starts at the start position or later and has a change
-/// with a message.
-pub(crate) fn transaction_of(
-    alloc: Global,
+/// Room for the message of any change.
+pub(crate) fn make_room(room: &mut Vec<u8>) -> Result<(), AllocError>
+    ensures { OnOk result (MAX_MESSAGE_LENGTH ≤ vec_len room.new) }
+{
+    if room.len() < MAX_MESSAGE_LENGTH {
+        room.resize(MAX_MESSAGE_LENGTH, 0)?;
+    }
+    Ok(())
+}
+
+/// What the record commits, if it starts at the start position or later and a change of it has a message.
+pub(crate) fn header_of(
     selection: &Selection,
     start: u64,
     next: &Record,
     reorder: &Reorder,
     ready: &Ready,
-) -> Result<Option<Published>, AllocError>
-    requires { IsReadyIn reorder.now.strands.pool ready.now }
-    ensures value { IfOk result (λ o. option_to_list o ≡ published_by_commit selection.now start next.now (Some (ready_entries reorder.now.strands.pool ready.now))) }
-    ensures told { IfOk result (λ o. IfSome o (λ t. AllByRecursion (CanBeTold selection.now) t.changes)) }
-    ensures fits { IfOk result (λ o. IfSome o (FitsPublished (relation selection.now))) }
+    room: &mut [u8],
+) -> Option<Header>
+    requires held { IsReadyIn reorder.now.strands.pool ready.now }
+    requires room { MAX_MESSAGE_LENGTH ≤ length room.old }
+    ensures value { option_to_list (option_map (published_with selection.now (ready_entries reorder.now.strands.pool ready.now)) result)
+        ≡ published_by_commit selection.now start next.now (Some (ready_entries reorder.now.strands.pool ready.now)) }
+    ensures numbers { IfSome result (λ h. (h.start < 2 ^ 64) × (h.end < 2 ^ 64) × FitsSigned w64 h.time × (h.xid < 2 ^ 32)) }
+    ensures same { length room.new ≡ length room.old }
 {
     let Body::Commit(xid, time) = next.body else {
-        return Ok(None);
+        return None;
     };
     if next.start < start {
-        return Ok(None);
+        return None;
     }
-    let changes = changes_of(alloc, selection, reorder, ready)?;
-    if changes.is_empty() {
-        return Ok(None);
+    if !has_message(selection, reorder, ready, room) {
+        return None;
     }
-    Ok(Some(published_of(next.start, next.end, time, xid, changes)))
+    Some(Header::new(next.start, next.end, time, xid))
 }
 
-fn published_of(
-    start: u64,
-    end: u64,
-    time: i64,
-    xid: u32,
-    changes: Vec<PublishedChange>,
-) -> Published
-    ensures value { result ≡ record { start = start; end = end; time = time; xid = xid; changes = changes.items } }
-    ensures numbers { (result.start < 2 ^ 64) × (result.end < 2 ^ 64) × FitsSigned w64 result.time × (result.xid < 2 ^ 32) }
+/// Whether a change that is ready has a message.
+fn has_message(selection: &Selection, reorder: &Reorder, ready: &Ready, room: &mut [u8]) -> bool
+    requires held { IsReadyIn reorder.now.strands.pool ready.now }
+    requires room { MAX_MESSAGE_LENGTH ≤ length room.old }
+    ensures value { result ≡ not (length (published_changes selection.now (ready_entries reorder.now.strands.pool ready.now)) == 0) }
+    ensures same { length room.new ≡ length room.old }
 {
-    Published {
-        start,
-        end,
-        time,
-        xid,
-        changes: Items::new(changes),
+    for k in 0..ready.count() {
+        if let Some(_) = put_entry(selection, reorder, ready, k, room) {
+            return true;
+        }
     }
+    false
 }
 
-fn changes_of(
-    alloc: Global,
+/// Writes the message of the k-th change that is ready to the front of the room, and answers the change's position and how long the
+/// message is. None where the change has no message.
+pub(crate) fn put_entry(
     selection: &Selection,
     reorder: &Reorder,
     ready: &Ready,
-) -> Result<Vec<PublishedChange>, AllocError>
-    requires { IsReadyIn reorder.now.strands.pool ready.now }
-    ensures value { IfOk result (λ v. v.items ≡ published_changes selection.now (ready_entries reorder.now.strands.pool ready.now)) }
-    ensures told { IfOk result (λ v. AllByRecursion (CanBeTold selection.now) v.items) }
+    k: usize,
+    room: &mut [u8],
+) -> Option<(u64, usize)>
+    requires held { IsReadyIn reorder.now.strands.pool ready.now }
+    requires within { k < length ready.now.spots }
+    requires room { MAX_MESSAGE_LENGTH ≤ length room.old }
+    ensures yields { Yields selection.now (published_changes selection.now (drop k (ready_entries reorder.now.strands.pool ready.now)))
+        (published_changes selection.now (drop (k + 1) (ready_entries reorder.now.strands.pool ready.now))) result room.new }
+    ensures same { length room.new ≡ length room.old }
 {
-    let mut changes = Vec::new(alloc);
-    for k in 0..ready.count() {
-        let (position, body) = reorder.entry(ready, k);
-        let change = change_of(alloc, body)?;
-        add_published(&mut changes, selection, position, &change)?;
-    }
-    Ok(changes)
-}
-
-/// The change whose body these bytes are. Of such a body want of memory is the only fault.
-fn change_of(alloc: Global, body: &[u8]) -> Result<Change, AllocError>
-    ensures { (spelled : Changed) → SpellsBody body.now spelled → IfOk result (λ change. change ≡ spelled) }
-{
-    read_body(alloc, body).map_err(|_| AllocError)
-}
-
-/// Adds a change at its position, if it has a message.
-fn add_published(
-    changes: &mut Vec<PublishedChange>,
-    selection: &Selection,
-    position: u64,
-    change: &Change,
-) -> Result<(), AllocError>
-    ensures value { OnOk result (changes.new.items ≡ changes.old.items ++ published_at position (message selection.now change.now)) }
-    ensures told { OnOk result (AllByRecursion (CanBeTold selection.now) (published_at position (message selection.now change.now))) }
-{
-    match selection.project(change)? {
-        Projected::Nothing => return Ok(()),
-        Projected::Message(message) => changes.push(PublishedChange { position, message })?,
-    }
-    Ok(())
+    let (position, body) = reorder.entry(ready, k);
+    let length = selection.put(body, room)?;
+    Some((position, length))
 }

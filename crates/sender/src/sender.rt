@@ -38,6 +38,8 @@ pub struct Sender {
     pub(crate) position: u64,
     pub(crate) reorder: Reorder,
     pub(crate) outgoing: Outgoing,
+    /// Where the message of a change is made.
+    pub(crate) room: Vec<u8>,
     pub(crate) failed: bool,
 }
 
@@ -91,6 +93,7 @@ impl Sender {
             position: first,
             reorder: Reorder::new(alloc, arena),
             outgoing: Outgoing::new(alloc),
+            room: Vec::new(alloc),
             failed: false,
         })
     }

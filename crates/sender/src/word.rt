@@ -6,6 +6,8 @@ ghost use Rattle.pqformat.specs.Fields.{int32};
 ghost use Rattle.pqformat.specs.Putting.{Puts};
 ghost use Rattle.frames.specs.declared.frame.TheConstants.{FRAME_LIMIT};
 ghost use Rattle.pgoutput.specs.Logical.{IsShort, spell_logical};
+ghost use Rattle.frames.specs.Frame.{frame};
+ghost use Rattle.copyboth.specs.XLogData.{xlogdata};
 ghost use Rattle.stream.specs.Words.{word_bytes};
 ghost use Rattle.stream.specs.Items.{xlogdata_word, keepalive_word, IsShortMessage};
 
@@ -37,8 +39,21 @@ pub(crate) fn put_xlogdata(
 {
     scratch.clear();
     write_logical(message, scratch)?;
-    put_head(out, XLOGDATA_HEAD + scratch.len() as u32)?;
-    write_xlogdata(position, position, clock, scratch.as_slice(), out)?;
+    put_spelled(out, position, clock, scratch.as_slice())
+}
+
+/// Adds the frame of a message at a position, of which this is the spelling.
+pub(crate) fn put_spelled(
+    out: &mut BytesMut,
+    position: u64,
+    clock: i64,
+    message: &[u8],
+) -> Result<(), AllocError>
+    requires { 29 + length message.now ≤ FRAME_LIMIT }
+    ensures { Puts result out.old.items out.new.items (frame COPY_DATA (xlogdata position position clock message.now)) }
+{
+    put_head(out, XLOGDATA_HEAD + message.len() as u32)?;
+    write_xlogdata(position, position, clock, message, out)?;
     Ok(())
 }
 

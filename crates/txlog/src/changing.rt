@@ -16,15 +16,17 @@ use crate::fault::SessionFault;
 use crate::publisher::Publisher;
 use crate::tx::Tx;
 use shared_log::{LogName, LogWriter};
+use std::alloc::{AllocError, Global};
 use std::sync::Wait;
 use store::{Store, StoreFault};
 use tables::{Change, Row};
 use wal::{Body, LoggedChange};
 
-/// A change that is about to be made: its transaction, the innermost open subtransaction, how many changes of the transaction
-/// stand before it, and the room of the log.
+/// A change that is about to be made: what it takes memory of, its transaction, the innermost open subtransaction, how many
+/// changes of the transaction stand before it, and the room of the log.
 #[derive(Clone, Copy)]
 struct Changing {
+    alloc: Global,
     xid: u32,
     innermost: u32,
     mark: usize,
@@ -130,6 +132,7 @@ impl<L: LogName> Publisher<L> {
             return Err(SessionFault::NoTransaction);
         }
         Ok(Changing {
+            alloc: self.live.allocator(),
             xid,
             innermost: self.live.innermost(xid),
             mark: self.store.mark(xid),
@@ -162,14 +165,33 @@ fn write<L: LogName, R: Wait>(
         store.undo_to(at.xid, at.mark);
         return Err(SessionFault::LogFull);
     }
-    let body = Body::Change(at.innermost, LoggedChange::of(change));
-    match log.push(rt, at.xid, body) {
-        Ok(_) => Ok(()),
+    match push(log, rt, at, &change) {
+        Ok(()) => Ok(()),
         Err(_) => {
             store.undo_to(at.xid, at.mark);
             Err(SessionFault::Memory)
         }
     }
+}
+
+/// Adds the record of a change to the log, or, where memory is refused, nothing.
+fn push<L: LogName, R: Wait>(
+    log: &mut LogWriter<L>,
+    rt: &R,
+    at: Changing,
+    change: &Change,
+) -> Result<(), AllocError>
+    requires short { IsShort change.now }
+    requires coded { IsCoded change.now }
+    requires fits { end_of FIRST_POSITION log.old + 2 ^ 14 < 2 ^ 64 }
+    requires good { IsWellFormedLog (log.old ++ record_after log.old (Body.Change at.innermost change.now) ∷ []) }
+    requires top { top_of log.old at.innermost ≡ at.xid }
+    ensures ok { OnOk result (log.new ≡ log.old ++ record_after log.old (Body.Change at.innermost change.now) ∷ []) }
+    ensures err { OnErr result (log.new ≡ log.old) }
+{
+    let logged = LoggedChange::of(at.alloc, change)?;
+    log.push(rt, at.xid, Body::Change(at.innermost, logged))?;
+    Ok(())
 }
 
 /// Why the publisher refuses what the store refused: want of memory comes behind want of room.

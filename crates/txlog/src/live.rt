@@ -33,6 +33,10 @@ impl Live {
         }
     }
 
+    pub(crate) fn allocator(&self) -> Global {
+        *self.running.allocator()
+    }
+
     pub(crate) fn len(&self) -> usize
         ensures { result ≡ length self.now }
     {

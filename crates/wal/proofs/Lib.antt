@@ -1,3 +1,4 @@
+pub mod Bodies
 pub mod Growing
 pub mod Laws
 pub mod Lists

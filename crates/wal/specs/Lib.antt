@@ -1,3 +1,4 @@
+pub mod Bodies
 pub mod Log
 pub mod Places
 pub mod Records

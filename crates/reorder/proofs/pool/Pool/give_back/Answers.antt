@@ -1,6 +1,7 @@
 use Rattle.std.proofs.Common.{sym}
 use Rattle.reorder.proofs.Owning.{back_chunks, whole_back}
 use Rattle.reorder.proofs.Pooling.{pool_back, hold_back, entries_back}
+use Rattle.reorder.proofs.Lending.{lent_back}
 use Rattle.reorder.proofs.pool.Pool.give_back.Goals as goal
 
 pub give_back-requires : goal.give_back-requires
@@ -20,3 +21,7 @@ returns-in-Some-clause-whole c = rw (c.give_back.ensures, ← c.self.view_is) (r
   chunks = back_chunks c.self.inside.arena c.in-Some.strand;
   whole = whole_back c.args.xid c.self.inside.arena c.self.inside.strands.entries c.remove.new.self.entries c.in-Some.strand (sym c.in-Some.ensures.value) c.remove.ensures.updates.0;
 })
+
+pub returns-in-Some-clause-lent : goal.returns-in-Some-clause-lent
+returns-in-Some-clause-lent c = rw (c.give_back.ensures, ← c.self.view_is)
+    (lent_back c.args.xid c.self.inside.arena c.self.inside.strands.entries c.remove.new.self.entries c.in-Some.strand (sym c.in-Some.ensures.value) c.remove.ensures.updates.0)

@@ -1,6 +1,7 @@
-use Rattle.std.proofs.Common.{rules}
+use Rattle.std.proofs.Common.{refl, rules}
 use Rattle.reorder.proofs.Pooling.{pool_opened, hold_opened, entries_opened}
 use Rattle.reorder.proofs.Owning.{whole_opened}
+use Rattle.reorder.proofs.Lending.{lent_opened}
 use Rattle.reorder.proofs.pool.Pool.open.Goals as goal
 
 pub invariant_of-self : goal.invariant_of-self
@@ -16,5 +17,6 @@ returns-in_ok-insert c = record {
   arena = search rules;
   pool = rw (← c.self.view_is) c.self.invariant.0;
   hold = rw (← c.self.view_is) c.self.invariant.1;
-  whole = rw (← c.self.view_is) (whole_opened c.self.inside.arena c.self.inside.strands.entries c.insert.new.self.entries c.args.xid (search rules) (λ y. rw (← c.strand.ensures) (c.in_ok-insert.ensures.updates.0 y)));
+  whole = rw (← c.self.view_is) (record { chunks = refl; whole = whole_opened c.self.inside.arena c.self.inside.strands.entries c.insert.new.self.entries c.args.xid (search rules) (λ y. rw (← c.strand.ensures) (c.in_ok-insert.ensures.updates.0 y)) });
+  lent = rw (← c.self.view_is) (lent_opened c.args.xid c.self.inside.arena c.self.inside.strands.entries c.insert.new.self.entries (λ y. rw (← c.strand.ensures) (c.in_ok-insert.ensures.updates.0 y)));
 }

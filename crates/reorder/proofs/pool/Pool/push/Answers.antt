@@ -1,6 +1,8 @@
 use Rattle.std.proofs.Common.{◌==◌, ℕ, ◌∙◌, length, sym, ap, subst}
 use Rattle.std.specs.Prelude.{IsSome}
-use Rattle.reorder.specs.Pool.{PoolState, entries_at, strand_of}
+use Rattle.reorder.specs.Pool.{PoolState, StaysLent, entries_at, strand_of}
+use Rattle.reorder.proofs.Lending.{lent_pushed, lent_same, stays_lent}
+use Rattle.reorder.proofs.Owning.{of}
 use Rattle.reorder.specs.Chunks.{IsWhole}
 use Rattle.reorder.proofs.Owning.{pushed_chunks, whole_pushed}
 use Rattle.reorder.proofs.Pooling.{pool_pushed, pool_same, hold_pushed, hold_same, entries_pushed, pushed_same}
@@ -36,8 +38,18 @@ returns-clause-whole c = elim c.match-push_at.branch [
   | in-Ok w ↦ rw w.result-is (record {
     chunks = pushed_chunks c.args.xid c.args.entry.now c.self.inside.arena c.push_at.new.arena c.self.inside.strands.entries c.push_at.new.strands.entries w.in-Ok.ensures.ok
         ∙ ap (λ (p : PoolState). length p.arena) c.self.view_is ∙ ap length c.in_ok-open.ensures.arena;
-    whole = λ whole. whole_pushed c.args.xid c.args.entry.now c.self.inside.arena c.push_at.new.arena c.self.inside.strands.entries c.push_at.new.strands.entries w.in-Ok.ensures.ok
-        (subst (λ (p : PoolState). IsWhole p) (sym c.self.view_is) (c.in_ok-open.ensures.whole whole));
+    whole = λ held whole. whole_pushed c.args.xid c.args.entry.now c.self.inside.arena c.push_at.new.arena c.self.inside.strands.entries c.push_at.new.strands.entries w.in-Ok.ensures.ok held
+        (subst (λ (p : PoolState). IsWhole held p) (sym c.self.view_is) (c.in_ok-open.ensures.whole.whole held whole));
   })
   | in-Err w ↦ rw w.result-is tt
+]
+
+pub returns-clause-lent : goal.returns-clause-lent
+returns-clause-lent c = elim c.match-push_at.branch [
+  | in-Ok w ↦ stays_lent c.args.self.now c.open.new.self _ c.in_ok-open.ensures.lent
+      (subst (λ (p : PoolState). StaysLent p (of c.push_at.new.arena c.push_at.new.strands.entries)) c.self.view_is
+      (lent_pushed c.args.xid c.args.entry.now c.self.inside.arena c.self.inside.strands.entries c.push_at.new.arena c.push_at.new.strands.entries w.in-Ok.ensures.ok))
+  | in-Err w ↦ stays_lent c.args.self.now c.open.new.self _ c.in_ok-open.ensures.lent
+      (subst (λ (p : PoolState). StaysLent p (of c.push_at.new.arena c.push_at.new.strands.entries)) c.self.view_is
+      (rw w.in-Err.ensures.err.0 (lent_same c.args.xid c.self.inside.arena c.self.inside.strands.entries c.push_at.new.strands.entries w.in-Err.ensures.err.1)))
 ]

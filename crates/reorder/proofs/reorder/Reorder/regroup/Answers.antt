@@ -8,6 +8,8 @@ use Rattle.reorder.specs.Strands.{IsSame, by_xid, pushed}
 use Rattle.reorder.specs.Taking.{MayCome, ReorderState, Takes}
 use Rattle.reorder.specs.Bookkeeping.{IsBookkeeping}
 use Rattle.reorder.specs.Chunks.{IsTidy}
+use Rattle.reorder.specs.Pool.{IsLent, StaysLent}
+use Rattle.reorder.proofs.Lending.{stays_lent}
 use Rattle.reorder.proofs.Coding.{entry_length, kept_again}
 use Rattle.reorder.proofs.Counting.{no_room_left}
 use Rattle.reorder.proofs.Opening.{Opened, opened}
@@ -71,4 +73,22 @@ returns-clause-tidy c = λ count held tidy.
           subst (λ (s : ReorderState). IsTidy count held s.strands) (sym w.self-is) (w.in_ok-push-in-Change.ensures.tidy w.in_ok-open-in-Change.ensures.there count held (w.in_ok-open-in-Change.ensures.tidy count held before))
       | in-AbortSub w ↦ subst (λ (s : ReorderState). IsTidy count held s.strands) (sym w.self-is) (w.undo.ensures.tidy count held before)
       | in-Abort w ↦ subst (λ (s : ReorderState). IsTidy count held s.strands) (sym w.self-is) (w.end.ensures.tidy count held before)
+    ]
+
+pub returns-in-Commit-clause-apart : goal.returns-in-Commit-clause-apart
+returns-in-Commit-clause-apart c = λ lent is. c.in_ok-make_ready-in-Commit.ensures.apart lent (subst (λ (s : ReorderState). IsLent s.strands.pool lent) (sym c.self.view_is) is)
+
+pub returns-clause-lent : goal.returns-clause-lent
+returns-clause-lent c =
+    elim c.match-next.branch [
+      | in-Assign+in_ok-open-in-Assign+in_ok-assign-in-Assign w ↦
+          subst (λ (s : ReorderState). StaysLent s.strands.pool c.match-next.self.strands.pool) c.self.view_is (subst (λ (s : ReorderState). StaysLent c.self.inside.strands.pool s.strands.pool) (sym w.self-is)
+          (stays_lent c.self.inside.strands.pool w.open.new.self.pool w.assign.new.self.pool w.open.ensures.lent w.assign.ensures.lent))
+      | in-Change+in_ok-open-in-Change+in_ok-write_entry-in-Change+in_ok-push-in-Change w ↦
+          subst (λ (s : ReorderState). StaysLent s.strands.pool c.match-next.self.strands.pool) c.self.view_is (subst (λ (s : ReorderState). StaysLent c.self.inside.strands.pool s.strands.pool) (sym w.self-is)
+          (stays_lent c.self.inside.strands.pool w.open-in-Change.new.self.pool w.push.new.self.pool w.open-in-Change.ensures.lent w.push.ensures.lent))
+      | in-AbortSub w ↦
+          subst (λ (s : ReorderState). StaysLent s.strands.pool c.match-next.self.strands.pool) c.self.view_is (subst (λ (s : ReorderState). StaysLent c.self.inside.strands.pool s.strands.pool) (sym w.self-is) w.undo.ensures.lent)
+      | in-Abort w ↦
+          subst (λ (s : ReorderState). StaysLent s.strands.pool c.match-next.self.strands.pool) c.self.view_is (subst (λ (s : ReorderState). StaysLent c.self.inside.strands.pool s.strands.pool) (sym w.self-is) w.end.ensures.lent)
     ]

@@ -12,3 +12,6 @@ pub returns-in-Some-clause-tidy : goal.returns-in-Some-clause-tidy
 returns-in-Some-clause-tidy c = rw (← c.self.view_is)
     (tidy_ended (record { strands = c.self.inside.strands.entries; members = c.self.inside.members.entries; pool = c.self.inside.pool }) (record { strands = c.remove_all.new.strands.entries; members = c.remove.new.self.entries; pool = c.give_back_all.new.pool })
     c.in-Some.members c.give_back_all.ensures.whole (λ x. grind (arith, common_steps, c.remove_all.ensures x)) (λ x. grind (arith, common_steps, c.give_back_all.ensures.entries x)))
+
+pub returns-in-Some-clause-lent : goal.returns-in-Some-clause-lent
+returns-in-Some-clause-lent c = rw (← c.self.view_is) c.give_back_all.ensures.lent

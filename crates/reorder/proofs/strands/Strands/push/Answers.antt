@@ -13,3 +13,6 @@ returns-clause-ok c = rw (← c.self.view_is) (on_ok c.push.result _ _
 
 pub returns-clause-tidy : goal.returns-clause-tidy
 returns-clause-tidy c = rw (← c.self.view_is) (pushed_tidy c.push.result c.self.inside.strands.entries c.self.inside.members.entries c.self.inside.pool c.push.new.self c.args.xid _ c.push.ensures.ok c.push.ensures.whole)
+
+pub returns-clause-lent : goal.returns-clause-lent
+returns-clause-lent c = rw (← c.self.view_is) c.push.ensures.lent

@@ -1,7 +1,7 @@
 use Rattle.std.proofs.Common.{rules}
 use Rattle.std.proofs.lemmas.List.Sorted.{IsNonDecreasingBy-from_sort_by_key, answers_always}
 use Rattle.reorder.specs.Ready.{SpotState}
-use Rattle.reorder.proofs.Spotting.{sorted_there}
+use Rattle.reorder.proofs.Spotting.{sorted_own, sorted_there}
 use Rattle.reorder.proofs.strands.Strands.spots.Goals as goal
 
 pub returns-clause-rising : goal.returns-clause-rising
@@ -14,3 +14,6 @@ returns-clause-same c =
 
 pub returns-clause-there : goal.returns-clause-there
 returns-clause-there c = sorted_there c.args.self.now c.args.top c.sort_by_key.new.self.items (rw (← c.in_ok-spots.ensures) c.in_ok-sort_by_key.ensures.permutation)
+
+pub returns-clause-own : goal.returns-clause-own
+returns-clause-own c = sorted_own c.args.self.now c.args.top c.sort_by_key.new.self.items (rw (← c.in_ok-spots.ensures) c.in_ok-sort_by_key.ensures.permutation)

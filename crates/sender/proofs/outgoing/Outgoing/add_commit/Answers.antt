@@ -3,5 +3,5 @@ use Rattle.sender.proofs.outgoing.Outgoing.add_commit.Goals as goal
 
 pub add_message-requires-clause-fits : goal.add_message-requires-clause-fits
 add_message-requires-clause-fits c =
-    let t = c.args.transaction.now in
-    rw c.commit_of-commit.ensures (commit_short (record { position = t.start; end = t.end; time = t.time }))
+    let h = c.args.header.now in
+    rw c.commit_of-commit.ensures (commit_short (record { position = h.start; end = h.end; time = h.time }))

@@ -1,4 +1,4 @@
-use Rattle.std.proofs.Common.{◌≡◌, ◌++◌, [], Some, ap, reverse, sym, subst, ◌∙◌}
+use Rattle.std.proofs.Common.{◌≡◌, ◌∷◌, ◌++◌, [], Some, ap, reverse, sym, subst, ◌∙◌}
 use Rattle.std.specs.Int.{w64}
 use Rattle.std.proofs.lemmas.Int.{to_z-of_z}
 use Rattle.wal.specs.declared.record.Record.{Record}
@@ -62,4 +62,4 @@ returns-in-Ok-Ready-clause-chunks c = λ count chunks.
     let before : IsTidy count [] c.self.inside.reorder.strands = subst (λ (s : SenderState). HasChunks s count) (sym c.self.view_is) chunks in
     let taken = rw c.in-Ok-Ready.field-0-is at c.in-Ok-Ready.ensures.tidy in
     let same : c.self-in-Ok-Ready.inside.reorder ≡ c.take.new.self = ap (λ (s : SenderState). s.reorder) c.self-in-Ok-Ready.view_is ∙ c.publish-published.ensures.reorder in
-    c.finish.ensures.tidy count [] (subst (λ (m : ReorderState). IsTidy count (c.in-Ok-Ready.ready.xids ++ []) m.strands) (sym same) (taken count [] before))
+    c.finish.ensures.tidy count [] (subst (λ (m : ReorderState). IsTidy count (c.in-Ok-Ready.ready ∷ []) m.strands) (sym same) (taken count [] before))

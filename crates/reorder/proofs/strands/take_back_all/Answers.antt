@@ -1,0 +1,36 @@
+use Rattle.std.proofs.Common.{◌≡◌, None, Some, get_or, refl, sym, ap, ◌∙◌, arith}
+use Rattle.reorder.specs.Pool.{strand_of}
+use Rattle.reorder.proofs.Lending.{gone_all, left_more, taken_both, taken_itself, taken_none, taken_some}
+use Rattle.reorder.proofs.Owning.{whole_finished}
+use Rattle.reorder.proofs.strands.take_back_all.Goals as goal
+use Rattle.reorder.proofs.strands.take_back_all.Goals.{in-Some, in_default}
+
+pub loop-xid-init : goal.loop-xid-init
+loop-xid-init c = record { taken = taken_itself c.args.pool.now c.args.lent.entries c.requires; left = λ x. refl }
+
+pub take_back-requires-clause-of : goal.take_back-requires-clause-of
+take_back-requires-clause-of c = c.loop-xid.invariant.taken.still.own.made (get_or c.args.xids.now c.loop-xid.xid-index 0) c.in-Some.strand (sym c.in-Some.ensures.value)
+
+pub take_back-requires-clause-apart : goal.take_back-requires-clause-apart
+take_back-requires-clause-apart c = λ x head at same. c.loop-xid.invariant.taken.still.apart x (get_or c.args.xids.now c.loop-xid.xid-index 0) head at (sym c.in-Some.ensures.value ∙ ap Some same)
+
+pub loop-xid-preserved : goal.loop-xid-preserved
+loop-xid-preserved c =
+    let i = c.loop-xid.invariant in
+    let xid = get_or c.args.xids.now c.loop-xid.xid-index 0 in
+    let lent = c.loop-xid.lent.entries in
+    let lent' = c.remove.new.self.entries in
+    record {
+      taken = elim c.match-remove.branch [
+        | in-Some w ↦ rw w.pool-is (taken_both c.args.pool.now c.loop-xid.pool w.take_back.new.self c.args.lent.entries lent lent' i.taken
+            (taken_some c.loop-xid.pool w.take_back.new.self lent lent' xid w.in-Some.strand w.take_back.ensures.pool i.taken.still (sym w.in-Some.ensures.value) c.remove.ensures.updates.0 w.take_back.ensures.arena w.take_back.ensures.strands))
+        | in_default w ↦ rw w.pool-is (taken_both c.args.pool.now c.loop-xid.pool c.loop-xid.pool c.args.lent.entries lent lent' i.taken
+            (taken_none c.loop-xid.pool lent lent' xid i.taken.still (let none : c.remove.result ≡ None = cc in sym c.remove.ensures.value ∙ none) c.remove.ensures.updates.0))
+      ];
+      left = left_more c.args.xids.now c.loop-xid.xid-index (omega arith) (strand_of c.args.lent.entries) (strand_of lent) (strand_of lent') i.left c.remove.ensures.updates.0;
+    }
+
+pub returns-clause-whole : goal.returns-clause-whole
+returns-clause-whole c = λ known held whole.
+    whole_finished c.loop-xid.pool c.loop-xid.lent.entries
+    (gone_all c.args.xids.now c.loop-xid.xid-index (omega arith) (strand_of c.args.lent.entries) (strand_of c.loop-xid.lent.entries) c.loop-xid.invariant.left known) held (c.loop-xid.invariant.taken.whole held whole)
