@@ -35,6 +35,10 @@ both Unknown b = Unknown
 abbrev pub either : Truth → Truth → Truth
 either a b = opposite (both (opposite a) (opposite b))
 
+abbrev pub is_true : Truth → Bool
+is_true True = true
+is_true _ = false
+
 -- ---- values
 
 abbrev pub datum_of : Value → Datum

@@ -1,7 +1,7 @@
 //! True, false or unknown.
 
 ghost use Rattle.std.specs.Prelude.{◌≡◌};
-ghost use Rattle.conditions.specs.Truth.{both, certain, either, opposite};
+ghost use Rattle.conditions.specs.Truth.{both, certain, either, is_true, opposite};
 
 /// What a condition is of a row.
 #[derive(Clone, Copy, Debug, PartialEq, Eq)]
@@ -16,6 +16,12 @@ impl Truth {
         ensures { result ≡ certain holds }
     {
         if holds { Truth::True } else { Truth::False }
+    }
+
+    pub fn is_true(self) -> bool
+        ensures { result ≡ is_true self }
+    {
+        self == Truth::True
     }
 
     pub(crate) fn not(self) -> Truth

@@ -21,18 +21,21 @@ use Rattle.tables.specs.declared.row.TheConstants.{MAX_ROW_LENGTH}
 use Rattle.tables.specs.declared.table.Table.{Table}
 use Rattle.tables.specs.declared.value.Value.{Value}
 use Rattle.tables.specs.declared.value.Value.TheVariants as values
-use Rattle.tables.specs.Reading.{IsCodedValue}
+use Rattle.tables.specs.Reading.{IsCoded, IsCodedValue, SpellsBody}
+use Rattle.tables.specs.declared.change.Change.{Change}
+use Rattle.tables.specs.declared.change.Change.TheVariants as changes
 use Rattle.tables.specs.Refs.{IsLarge}
 use Rattle.tables.specs.Spelling.{row_length}
 use Rattle.tables.specs.Tables.{IsValue, fits_table, table_of}
 use Rattle.publication_config.specs.Published.{PublicationSet}
-use Rattle.publication.specs.Projection.{delete_message, insert_message, only_if, stands, stands_in, update_message}
+use Rattle.publication.specs.Projection.{delete_message, insert_message, message, only_if, stands, stands_in, update_message, AreValues, MessageFits}
 use Rattle.publication.specs.Selection.{FitTables, FitsTable, chosen, narrowed}
 use Rattle.publication.specs.Spelling.{FitsRoom, HasRoom, IsShortRow, IsWritten}
 use Rattle.publication.specs.Tuples.{changes_key, key_tuple_of, old_by, replaced_by, tuple_behind, tuple_of}
 use Rattle.publication.proofs.Bounds.{behind_bound, key_bound, tuple_bound}
 use Rattle.publication.proofs.Choosing.{all_chosen, narrowed_stands}
 use Rattle.publication.proofs.Relations.{found_table}
+use Rattle.publication.proofs.Fitting.{message_fits}
 use Rattle.publication.proofs.Rows.{both_true}
 use Rattle.publication.proofs.Written.{chosen_short}
 
@@ -87,6 +90,16 @@ value_is (values.Text text) is = is.1
 pub values_are : (row : List Value) → AllByRecursion IsCodedValue row → AllByRecursion IsValue row
 values_are [] all = tt
 values_are (v ∷ row) all = (value_is v all.0, values_are row all.1)
+
+coded_values : (c : Change) → IsCoded c → AreValues c
+coded_values (changes.Insert oid row) is = values_are row is.1.1
+coded_values (changes.Update oid old new) is = (values_are old is.0.1.1, values_are new is.1.1)
+coded_values (changes.Delete oid old) is = values_are old is.1.1
+coded_values (changes.Truncate oids) is = tt
+
+-- the message of a change that is read from its body
+pub spelled_fits : (s : PublicationSet) (body : List ℕ) → FitTables s → (c : Change) (m : Logical) → SpellsBody body c → message s c ≡ Some m → MessageFits s m
+spelled_fits s body all c m spelled is = message_fits s c m all (coded_values c spelled.in_range) is
 
 alike : {A B : Type 0} (flags : List Bool) (xs : List A) (ys : List B) → length xs ≡ length ys → length (chosen flags xs) ≡ length (chosen flags ys)
 alike [] xs ys same = refl

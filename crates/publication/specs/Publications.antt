@@ -1,12 +1,10 @@
 -- What publications over a catalogue let pass, and those that names select (PostgreSQL 15, 31.1 to 31.4).
-use Rattle.std.specs.Prelude.{ℕ, ◌==◌, Bool, true, false, ◌&&◌, not, List, filter, if◌then◌else◌, Option, Some, None, Result, Ok, Err}
+use Rattle.std.specs.Prelude.{ℕ, ◌==◌, Bool, true, ◌&&◌, not, List, filter, if◌then◌else◌, Option, Some, None, Result, Ok, Err}
 use Rattle.std.specs.List.{list_any}
 use Rattle.std.specs.Str.{bytes_eq}
 use Rattle.tables.specs.declared.value.Value.{Value}
 use Rattle.conditions.specs.Conditions.{Condition}
-use Rattle.conditions.specs.declared.truth.Truth.{Truth}
-use Rattle.conditions.specs.declared.truth.Truth.TheVariants as truths
-use Rattle.conditions.specs.Truth.{truth}
+use Rattle.conditions.specs.Truth.{is_true, truth}
 use Rattle.publication_config.specs.declared.operations.Operation.{Operation}
 use Rattle.publication_config.specs.declared.published_table.PublishedTable.{PublishedTable}
 use Rattle.publication_config.specs.declared.publication.Publication.{Publication}
@@ -17,11 +15,6 @@ use Rattle.publication_config.specs.Published.{publishes}
 pub use Rattle.publication_config.specs.Published.{PublicationSet, condition_code, conflicts}
 
 -- ---- What a publication lets pass.
-
-abbrev pub is_true : Truth → Bool
-is_true truths.True = true
-is_true truths.False = false
-is_true truths.Unknown = false
 
 -- There is no filter, or it is true of the row.
 abbrev pub lets_pass : Option Condition → List Value → Bool

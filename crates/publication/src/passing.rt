@@ -5,7 +5,6 @@ ghost use Rattle.std.specs.List.{list_any};
 ghost use Rattle.publication.specs.Publications.{admits, lets_pass, passes_in};
 
 use publication_config::{Operation, Publication, PublishedTable};
-use rowfilter::Truth;
 use tables::RowRef;
 
 /// Whether the publication publishes the operation for the table of this OID, and lets the row pass.
@@ -40,7 +39,7 @@ fn lets_pass(table: &PublishedTable, row: &RowRef<'_>) -> bool
     ensures { result ≡ lets_pass table.now.filter row.now }
 {
     match &table.filter {
-        Some(filter) => filter.truth_in(row) == Truth::True,
+        Some(filter) => filter.holds(row),
         None => true,
     }
 }

@@ -1,10 +1,11 @@
 //! The message of a change, written straight from the body that the log keeps.
 
-ghost use Rattle.std.specs.Prelude.{◌≡◌, ◌≤◌, [], ℕ, List, IfSome, Ok, length};
+ghost use Rattle.std.specs.Prelude.{◌≡◌, ◌≤◌, [], ℕ, List, IfSome, Ok, Some, length};
 ghost use Rattle.tables.specs.Reading.{SpellsBody, change_tagged, insert_at, update_at};
 ghost use Rattle.tables.specs.declared.change.Change.{Change as Changed};
 ghost use Rattle.tables.specs.declared.value.Value.{Value as Datum};
-ghost use Rattle.publication.specs.Projection.{message};
+ghost use Rattle.pgoutput.specs.declared.logical.Logical.{Logical};
+ghost use Rattle.publication.specs.Projection.{MessageFits, message};
 ghost use Rattle.publication.specs.Spelling.{HasRoom, IsPut, IsReadWhole, IsShortRow, IsWritten};
 
 use crate::put_messages::{put_deletion, put_insertion, put_replacement};
@@ -22,9 +23,12 @@ impl Selection {
     pub fn put(&self, body: &[u8], out: &mut [u8]) -> Option<usize>
         requires { MAX_MESSAGE_LENGTH ≤ length out.old }
         ensures message { (c : Changed) → SpellsBody body.now c → IsPut result out.new (message self.now c) }
+        ensures fits { (c : Changed) (m : Logical) → SpellsBody body.now c → message self.now c ≡ Some m → MessageFits self.now m }
         ensures found { IfSome result (λ _. (c : Changed) × SpellsBody body.now c) }
         ensures same { length out.new ≡ length out.old }
     {
+        // All tables fit: here the prover learns it.
+        let _ = &self.tables;
         let (tag, fields) = body.split_first()?;
         self.put_tagged(*tag, fields, &mut out[..MAX_MESSAGE_LENGTH])
     }

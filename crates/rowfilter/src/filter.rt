@@ -1,7 +1,7 @@
 //! The filter of a table.
 
 ghost use Rattle.std.specs.Prelude.{◌≡◌, IfOk};
-ghost use Rattle.conditions.specs.Truth.{truth as truth_in};
+ghost use Rattle.conditions.specs.Truth.{is_true, truth as truth_in};
 ghost use Rattle.conditions.specs.Conditions.{AreNamed, names};
 ghost use Rattle.conditions.specs.Shapes.{shape};
 
@@ -68,6 +68,13 @@ impl Filter {
         ensures { result ≡ truth_in self.now row.now }
     {
         self.expression.truth(row)
+    }
+
+    /// Whether the filter is true of a row that is read where it lies, by the sides that decide it.
+    pub fn holds(&self, row: &RowRef<'_>) -> bool
+        ensures { result ≡ is_true (truth_in self.now row.now) }
+    {
+        self.expression.holds(row)
     }
 
     /// Whether the filter names the column at this place of its table.

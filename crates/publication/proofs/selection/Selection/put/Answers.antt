@@ -1,7 +1,10 @@
-use Rattle.std.proofs.Common.{arith, drop, take}
+use Rattle.std.proofs.Common.{arith, drop, subst, take}
 use Rattle.std.proofs.lemmas.List.{length-take}
 use Rattle.publication.specs.declared.putting.TheConstants.{MAX_MESSAGE_LENGTH}
 use Rattle.publication.specs.Projection.{message}
+use Rattle.publication_config.specs.Published.{PublicationSet}
+use Rattle.publication.specs.Selection.{FitTables}
+use Rattle.publication.proofs.Standing.{spelled_fits}
 use Rattle.publication.proofs.Fields.{found_of, told_of}
 use Rattle.publication.proofs.Written.{put_in}
 use Rattle.publication.proofs.selection.Selection.put.Goals as goal
@@ -16,3 +19,9 @@ returns-clause-message c = λ change is.
 
 pub returns-clause-found : goal.returns-clause-found
 returns-clause-found c = found_of c.args.body.now c.in_ok-tag.tag.now c.in_ok-tag.fields.now c.put_tagged.result (λ i. omega (arith, c.type_inv.body i)) c.in_ok-tag.ensures.cases.0 c.put_tagged.ensures.found
+
+pub returns-clause-fits : goal.returns-clause-fits
+returns-clause-fits c = spelled_fits c.args.self.now c.args.body.now (subst (λ (s : PublicationSet). FitTables s) c.self.view_is c.self.invariant.0)
+
+pub returns-in_err-tag-clause-fits : goal.returns-in_err-tag-clause-fits
+returns-in_err-tag-clause-fits c = spelled_fits c.args.self.now c.args.body.now (subst (λ (s : PublicationSet). FitTables s) c.self.view_is c.self.invariant.0)
