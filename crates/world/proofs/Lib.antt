@@ -1,11 +1,13 @@
 pub mod Inside
 pub mod Openings
 pub mod Subscribing
+pub mod Naming
 pub mod Refusing
 pub mod Asking
 pub mod Runs
 pub mod Machines
 pub mod Readers
+pub mod PipeBytes
 pub mod PipesBack
 pub mod Confirmed
 pub mod Orders

@@ -1,6 +1,6 @@
 -- What statuses do to the subscriber of a connection in its place, and to its slot.
 use Rattle.std.proofs.Common.{◌≡◌, ◌<◌, ℕ, ℤ, min, Bool, true, false, List, [], ◌∷◌, ◌++◌, length, map, Option, Some, None, refl, sym, ap, ◌∙◌}
-use Rattle.std.specs.Prelude.{◌&&◌, Result, Ok, Err, IsNone, OnErr, is_some, slice_set, slice_index_or}
+use Rattle.std.specs.Prelude.{◌&&◌, Result, Ok, Err, IsNone, OnErr, OnOk, is_some, slice_set, slice_index_or}
 use Rattle.std.proofs.lemmas.Option.{slice_get_read, slice_get_within}
 use Rattle.std.proofs.Math.Seq.{map-set_same}
 use Rattle.copyboth.specs.declared.status.Status.{Status}
@@ -82,3 +82,7 @@ no_start (Some x) b none = absurd cc
 pub on_err : {A E : Type 0} (r : Result A E) (P : Type 0) → P → OnErr r P
 on_err (Ok x) P is = tt
 on_err (Err e) P is = is
+
+pub on_ok : {A E B C : Type 0} (r : Result A E) (f : B → C) (x y z : B) → OnOk r (x ≡ y) → y ≡ z → OnOk r (f x ≡ f z)
+on_ok (Ok u) f x y z is same = ap f (is ∙ same)
+on_ok (Err e) f x y z is same = tt

@@ -1,4 +1,5 @@
 pub mod State
+pub mod PipeBack
 pub mod Slots
 pub mod Delivering
 pub mod Law

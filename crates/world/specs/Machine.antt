@@ -1,7 +1,8 @@
 -- What a world shows of its parts, and what is true of them between events. No promise is told here but by `start_state`
 -- and `shown`, which say how the parts are seen.
-use Rattle.std.specs.Prelude.{◌≡◌, ◌<◌, ◌≤◌, ℕ, ◌+◌, ◌==◌, Bool, true, false, List, [], ◌∷◌, ◌++◌, map, filter, not, Option, Some, None, is_some, vec_len, vec_capacity, slice_get, slice_set, if◌then◌else◌}
+use Rattle.std.specs.Prelude.{◌≡◌, ◌<◌, ◌≤◌, ℕ, ◌+◌, ◌==◌, Bool, true, false, List, [], ◌∷◌, ◌++◌, map, filter, not, Option, Some, None, is_some, vec_len, vec_capacity, slice_get, slice_set, String, string_bytes, if◌then◌else◌}
 use Rattle.std.specs.Str.{bytes_eq}
+use Rattle.indexmap.specs.IndexSet.{IndexSet, spare}
 use Rattle.std.specs.List.{AllByRecursion}
 use Rattle.wal.specs.declared.record.Record.{Record}
 use Rattle.wal.specs.Log.{IsWellFormedLog}
@@ -67,7 +68,11 @@ pub record ActsIn {L : Type 0} (log : List Record) (place : ℕ) (action : Actio
 -- ---- Subscribers.
 
 abbrev pub subscriber_state : Subscriber → SubscriberState
-subscriber_state s = record { connection = s.connection; slot = s.slot; applier = s.applier; delivered = s.delivered; has_taken = s.has_taken; back = s.back.items }
+subscriber_state s = record { connection = s.connection; slot = s.slot; applier = s.applier; delivered = s.delivered; has_taken = s.has_taken; back = s.back }
+
+-- the names of their connections, in the same order
+abbrev pub AreNames : {S Z : Type 0} → IndexSet (String Z) S → List Subscriber → Type 0
+AreNames names subscribers = map string_bytes names.keys ≡ map (λ s. s.connection) subscribers
 
 -- where the subscriber of the connection stands, counted from a number on
 abbrev pub subscriber_place : ℕ → List ℕ → List SubscriberState → Option ℕ
@@ -95,17 +100,19 @@ pub record HasRoom {L : Type 0} (m : Machine L) : Type 0 where
   pub starts : vec_len m.starts < vec_capacity m.starts
   pub opened : vec_len m.opened < vec_capacity m.opened
   pub subscribers : vec_len m.subscribers < vec_capacity m.subscribers
+  pub names : 0 < spare m.names
 
 -- the reader that the next start takes was resumed for its start position, and stands there
 abbrev pub IsResumed : {L : Type 0} → ℕ → ℕ → Machine L → Type 0
 IsResumed {L} start first m = (others : List (LogReader L)) (reader : LogReader L) → m.readers.items ≡ others ++ reader ∷ [] → BeginsAt m.publisher.log start first reader.place
 
--- The log is one, each start has read it up to its place, the open ones are found, and each has a subscriber. Each reader serves
--- an open start or stands in the pool, which has room for them all.
+-- The log is one, each start has read it up to its place, the open ones are found, and each has a subscriber; these are found by their
+-- names. Each reader serves an open start or stands in the pool, which has room for them all.
 pub record IsMachine {L : Type 0} (m : Machine L) : Type 0 where
   pub good : IsWellFormedLog m.publisher.log
   pub served : AllByRecursion (IsServed m.publisher.log) m.starts.items
   pub found : m.opened.items ≡ open_places 0 (map start_state m.starts.items)
   pub subscribed : AllByRecursion (IsSubscribed (map subscriber_state m.subscribers.items)) (map start_state m.starts.items)
+  pub named : AreNames m.names m.subscribers.items
   pub readers : vec_len m.readers + running (map start_state m.starts.items) ≡ MAX_SENDERS
   pub room : MAX_SENDERS ≤ vec_capacity m.readers

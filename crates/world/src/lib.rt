@@ -8,6 +8,7 @@
 mod limits;
 mod machine;
 mod opening;
+mod pipe_back;
 mod starting;
 mod statuses;
 mod subscriber;

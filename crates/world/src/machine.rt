@@ -17,6 +17,7 @@ use crate::limits::MAX_SENDERS;
 use crate::opening::{close, place_among};
 use crate::subscriber::{Subscriber, place_of, reconnect};
 use configuration::Config;
+use indexmap::IndexSet;
 use named_slots::{HeldSlots, let_go};
 use pqformat::Text;
 use publication::Publications;
@@ -42,6 +43,8 @@ pub(crate) struct Machine<L: LogName + SlotName> {
     pub(crate) opened: Vec<usize>,
     pub(crate) readers: Vec<LogReader<L>>,
     pub(crate) subscribers: Vec<Subscriber>,
+    /// The names of their connections, in the same order.
+    pub(crate) names: IndexSet<String>,
     /// The chunks of a sender's arena.
     pub(crate) chunks: u32,
 }
@@ -73,6 +76,7 @@ impl<L: LogName + SlotName> Machine<L> {
                     opened: Vec::new(alloc),
                     readers,
                     subscribers: Vec::new(alloc),
+                    names: IndexSet::new(alloc),
                     chunks: server.chunks as u32,
                 });
             }
@@ -94,6 +98,7 @@ impl<L: LogName + SlotName> Machine<L> {
             opened: _,
             readers,
             subscribers: _,
+            names: _,
             chunks: _,
         } = self;
         slots.close();
@@ -215,7 +220,7 @@ impl<L: LogName + SlotName> Machine<L> {
         match action {
             Action::Cut => {
                 close(&mut self.opened, place);
-                let slot = reconnect(&mut self.subscribers, name);
+                let slot = reconnect(&self.names, &mut self.subscribers, name);
                 let_go(&mut self.slots, slot);
             }
             _ => {}
@@ -237,7 +242,7 @@ impl<L: LogName + SlotName> Machine<L> {
         let Some(place) = found else {
             return Err(WorldFault::BadEvent);
         };
-        let Some(at) = place_of(self.subscribers.as_slice(), name) else {
+        let Some(at) = place_of(&self.names, name) else {
             unreachable!();
         };
         let start = &self.starts[place];

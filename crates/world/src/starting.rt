@@ -93,12 +93,13 @@ impl<L: LogName + SlotName> Machine<L> {
     {
         let arena = Arena::new(alloc, self.chunks as usize)?;
         let (subscriber, connection) = self.reserve(alloc, name, slot)?;
+        let key = name.copy(alloc)?;
         let start = self.start_from(slot, position);
         let first = self.resume(start)?;
         match take(&mut self.slots, slot, position) {
             Ok(position) => {
                 self.add(
-                    alloc, subscriber, connection, selection, position, first, arena,
+                    alloc, subscriber, key, connection, selection, position, first, arena,
                 );
                 Ok(Answer::Done)
             }
@@ -165,6 +166,7 @@ impl<L: LogName + SlotName> Machine<L> {
     {
         self.starts.reserve(1)?;
         self.opened.reserve(1)?;
+        self.names.reserve(1)?;
         self.subscribers.reserve(1)
     }
 
@@ -173,6 +175,7 @@ impl<L: LogName + SlotName> Machine<L> {
         &mut self,
         alloc: Global,
         subscriber: Subscriber,
+        key: Text,
         connection: Text,
         selection: Selection,
         position: u64,
@@ -184,6 +187,7 @@ impl<L: LogName + SlotName> Machine<L> {
         requires reader { 0 < vec_len self.old.readers }
         requires resumed { IsResumed position first self.old }
         requires subscriber { subscriber_state subscriber ≡ new_subscriber connection subscriber.slot }
+        requires key { key ≡ connection }
         ensures added { shown self.new ≡ record (shown self.old) {
           starts = (shown self.old).starts ++ new_start connection selection position first ∷ [];
           subscribers = with_one_for connection subscriber.slot (shown self.old).subscribers;
@@ -197,7 +201,7 @@ impl<L: LogName + SlotName> Machine<L> {
         let place = self.starts.as_slice().len();
         self.opened.push_reserved(place);
         self.starts.push_reserved(start);
-        subscribe(&mut self.subscribers, subscriber);
+        subscribe(&mut self.names, &mut self.subscribers, subscriber, key);
     }
 }
 

@@ -33,7 +33,7 @@ impl<L: LogName + SlotName> Machine<L> {
         requires machine { IsMachine self.now }
         ensures { result ≡ (is_some (open_start name.now (shown self.now).starts) && has_status (subscriber_of name.now (shown self.now).subscribers)) }
     {
-        self.is_connected(name) && has_status(self.subscribers.as_slice(), name)
+        self.is_connected(name) && has_status(&self.names, self.subscribers.as_slice(), name)
     }
 
     /// The connection's subscriber puts a status into the pipe back. V1 where there is no sender.
@@ -54,7 +54,7 @@ impl<L: LogName + SlotName> Machine<L> {
         let Some(_) = found else {
             return Err(WorldFault::BadEvent);
         };
-        let Some(at) = place_of(self.subscribers.as_slice(), name) else {
+        let Some(at) = place_of(&self.names, name) else {
             unreachable!();
         };
         self.subscribers[at].put_back(flushed, clock)?;
@@ -76,7 +76,7 @@ impl<L: LogName + SlotName> Machine<L> {
         let Some(place) = found else {
             return Err(WorldFault::BadEvent);
         };
-        let Some(at) = place_of(self.subscribers.as_slice(), name) else {
+        let Some(at) = place_of(&self.names, name) else {
             unreachable!();
         };
         let subscriber = &mut self.subscribers[at];

@@ -1,17 +1,22 @@
 //! The subscriber of a connection.
 
-ghost use Rattle.std.specs.Prelude.{◌≡◌, ◌<◌, ◌++◌, ◌∷◌, [], IfSome, MatchOption, OnErr, OnOk, length, map, take, drop, vec_len, vec_capacity};
+ghost use Rattle.std.specs.Prelude.{◌≡◌, ◌<◌, ◌++◌, ◌∷◌, [], List, MatchOption, OnErr, OnOk, false, map, take, drop, string_bytes, vec_len, vec_capacity};
+ghost use Rattle.std.specs.List.{list_any};
+ghost use Rattle.std.specs.Str.{bytes_eq};
+ghost use Rattle.indexmap.specs.IndexSet.{spare};
+ghost use Rattle.world.specs.declared.subscriber.Subscriber.{Subscriber};
 ghost use Rattle.world.specs.State.{again, new_subscriber, reconnected, slot_of_connection, subscriber_of, with_one_for};
 ghost use Rattle.world.specs.Slots.{has_status, is_waiting, status_with};
 ghost use Rattle.world.specs.Delivering.{Gets};
-ghost use Rattle.world.specs.Machine.{subscriber_place, subscriber_state};
+ghost use Rattle.world.specs.Machine.{AreNames, subscriber_place, subscriber_state};
 
+use crate::pipe_back::PipeBack;
 use client::Applier;
 use copyboth::Status;
+use indexmap::IndexSet;
 use pqformat::Text;
 use schedule::Answer;
 use std::alloc::{AllocError, Global};
-use std::collections::VecDeque;
 use stream::Published;
 use wal::part;
 
@@ -25,8 +30,7 @@ pub struct Subscriber {
     /// How many bytes of those that the open start has produced were delivered.
     pub(crate) delivered: usize,
     pub(crate) has_taken: bool,
-    /// The statuses on their way to the publisher.
-    pub(crate) back: VecDeque<Status>,
+    pub(crate) back: PipeBack,
 }
 
 impl Subscriber {
@@ -39,7 +43,7 @@ impl Subscriber {
             applier: Applier::new(alloc),
             delivered: 0,
             has_taken: false,
-            back: VecDeque::new(alloc),
+            back: PipeBack::new(alloc),
         }
     }
 
@@ -90,32 +94,35 @@ impl Subscriber {
         ensures err { OnErr result (subscriber_state self.new ≡ subscriber_state self.old) }
     {
         let position = self.applier.position();
-        let status = Status {
-            written: position,
-            flushed: flushed.unwrap_or(position),
-            applied: position,
-            clock,
-            ask: false,
-        };
-        self.back.reserve(1)?;
-        self.back.push_back_reserved(status);
-        Ok(())
+        match flushed {
+            None => {
+                let frame = self.applier.status(clock, false);
+                self.back.send(&frame)
+            }
+            Some(flushed) => self.back.send_status(&Status {
+                written: position,
+                flushed,
+                applied: position,
+                clock,
+                ask: false,
+            }),
+        }
     }
 
-    /// Takes the next status out of the pipe back.
+    /// Reads the next status of the pipe back, and takes it out.
     pub(crate) fn next_status(&mut self) -> Option<Status>
         ensures { MatchOption result
             ((subscriber_state self.old).back ≡ [] × subscriber_state self.new ≡ subscriber_state self.old)
             (λ status. ((subscriber_state self.old).back ≡ status ∷ (subscriber_state self.new).back)
             × (subscriber_state self.new ≡ record (subscriber_state self.old) { back = (subscriber_state self.new).back })) }
     {
-        self.back.pop_front()
+        self.back.receive()
     }
 
     fn is_waiting(&self) -> bool
         ensures { result ≡ is_waiting (subscriber_state self.now).back }
     {
-        !self.back.is_empty()
+        self.back.is_waiting()
     }
 
     /// Its connection starts to stream from this slot, or from none.
@@ -137,47 +144,76 @@ impl Subscriber {
     }
 }
 
-/// The place of the connection's subscriber.
-pub(crate) fn place_of(subscribers: &[Subscriber], connection: &Text) -> Option<usize>
-    ensures place { result ≡ subscriber_place 0 connection.now (map subscriber_state subscribers.now) }
-    ensures within { IfSome result (λ place. place < length subscribers.now) }
+/// The place of the connection's subscriber, by the names of all, in their order.
+pub(crate) fn place_of(names: &IndexSet<String>, connection: &Text) -> Option<usize>
+    ensures { (subscribers : List Subscriber) → AreNames names.now subscribers → result ≡ subscriber_place 0 connection.now (map subscriber_state subscribers) }
 {
-    for (place, subscriber) in subscribers.iter().enumerate() {
-        if subscriber.connection.as_str() == connection.as_str() {
-            return Some(place);
-        }
-    }
-    None
+    names.get_index_of(connection.as_str())
 }
 
 /// Whether a status of the connection waits.
-pub(crate) fn has_status(subscribers: &[Subscriber], connection: &Text) -> bool
+pub(crate) fn has_status(
+    names: &IndexSet<String>,
+    subscribers: &[Subscriber],
+    connection: &Text,
+) -> bool
+    requires { AreNames names.now subscribers.now }
     ensures { result ≡ has_status (subscriber_of connection.now (map subscriber_state subscribers.now)) }
 {
-    match place_of(subscribers, connection) {
+    match place_of(names, connection) {
         Some(place) => subscribers[place].is_waiting(),
         None => false,
     }
 }
 
 /// Adds the subscriber where its connection has none yet; else the one that is there streams from the slot.
-pub(crate) fn subscribe(subscribers: &mut Vec<Subscriber>, new: Subscriber)
+pub(crate) fn subscribe(
+    names: &mut IndexSet<String>,
+    subscribers: &mut Vec<Subscriber>,
+    new: Subscriber,
+    name: Text,
+)
+    requires named { AreNames names.old subscribers.old.items }
     requires room { vec_len subscribers.old < vec_capacity subscribers.old }
+    requires room_for_name { 0 < spare names.old }
     requires fresh { subscriber_state new ≡ new_subscriber new.connection new.slot }
-    ensures { map subscriber_state subscribers.new.items ≡ with_one_for new.connection new.slot (map subscriber_state subscribers.old.items) }
+    requires name { name ≡ new.connection }
+    ensures joined { map subscriber_state subscribers.new.items ≡ with_one_for new.connection new.slot (map subscriber_state subscribers.old.items) }
+    ensures named { AreNames names.new subscribers.new.items }
 {
-    match place_of(subscribers.as_slice(), &new.connection) {
+    match place_of(names, &new.connection) {
         Some(place) => subscribers[place].stream_from(new.slot),
-        None => subscribers.push_reserved(new),
+        None => {
+            add_name(names, name);
+            subscribers.push_reserved(new);
+        }
+    }
+}
+
+/// Adds a name behind the others. There is room for it.
+fn add_name(names: &mut IndexSet<String>, name: Text)
+    requires room { 0 < spare names.old }
+    requires new { list_any (λ k. bytes_eq name (string_bytes k)) names.old.keys ≡ false }
+    ensures { map string_bytes names.new.keys ≡ map string_bytes names.old.keys ++ name ∷ [] }
+{
+    match names.insert(name.into_string()) {
+        Ok(_) => {}
+        Err(_) => unreachable!(),
     }
 }
 
 /// The connection was cut. It answers the slot that the connection streamed from.
-pub(crate) fn reconnect(subscribers: &mut Vec<Subscriber>, connection: &Text) -> Option<Text>
+pub(crate) fn reconnect(
+    names: &IndexSet<String>,
+    subscribers: &mut Vec<Subscriber>,
+    connection: &Text,
+) -> Option<Text>
+    requires { AreNames names.now subscribers.old.items }
     ensures again { map subscriber_state subscribers.new.items ≡ reconnected connection.now (map subscriber_state subscribers.old.items) }
+    ensures named { AreNames names.now subscribers.new.items }
     ensures slot { result ≡ slot_of_connection connection.now (map subscriber_state subscribers.old.items) }
 {
-    match place_of(subscribers.as_slice(), connection) {
+    match place_of(names, connection) {
         Some(place) => subscribers[place].reconnect(),
         None => None,
     }

@@ -7,6 +7,7 @@ use Rattle.named_slots.specs.Words.{confirmed_by}
 use Rattle.world.specs.Slots.{has_status, is_waiting}
 use Rattle.world.specs.Machine.{IsSubscribed, shown, subscriber_state}
 use Rattle.starts.specs.Starts.{start_state}
+use Rattle.world.proofs.Naming.{place_within, still_named}
 use Rattle.world.proofs.Openings.{none_open, open_at}
 use Rattle.world.proofs.PipesBack.{acknowledges, and_none, no_start, same_states, waits_there}
 use Rattle.world.proofs.Subscribing.{has_place, open_subscribed, still_subscribed, subscriber_at}
@@ -22,11 +23,11 @@ unreachable-requires g c =
     let at = open_at c.args.name.now c.args.self.now.starts.items c.args.self.now.opened.items c.in-Some.place c.requires.machine.found
     (rw (c.as_slice.ensures.value, c.as_slice-2.ensures.value) at (sym c.place_among-found.ensures ∙ c.in-Some.is)) in
     let has = open_subscribed c.args.name.now (map subscriber_state c.args.self.now.subscribers.items) (map start_state c.args.self.now.starts.items) (start_state at.start) c.requires.machine.subscribed at.of in
-    has_place c.args.name.now (map subscriber_state c.args.self.now.subscribers.items) has (rw c.as_slice-3.ensures.value at (sym c.place_of.ensures.place ∙ c.in_default-place_of.is))
+    has_place c.args.name.now (map subscriber_state c.args.self.now.subscribers.items) has (sym (c.place_of.ensures c.args.self.now.subscribers.items c.requires.machine.named) ∙ c.in_default-place_of.is)
 
 pub returns-in_default-next_status-clause-bad : goal.returns-in_default-next_status-clause-bad
 returns-in_default-next_status-clause-bad g c = λ same.
-    let waits = waits_there c.args.name.now c.in-Some-place_of.at c.args.self.now.subscribers.items c.index_mut-subscriber.result.now (rw c.as_slice-3.ensures.value at (sym c.place_of.ensures.place ∙ c.in-Some-place_of.is)) c.index_mut-subscriber.ensures.value in
+    let waits = waits_there c.args.name.now c.in-Some-place_of.at c.args.self.now.subscribers.items c.index_mut-subscriber.result.now (sym (c.place_of.ensures c.args.self.now.subscribers.items c.requires.machine.named) ∙ c.in-Some-place_of.is) c.index_mut-subscriber.ensures.value in
     let opened : Bool = is_some (open_start c.args.name.now (map start_state c.args.self.now.starts.items)) in
     ap (λ (b : Bool). opened && b) (sym waits ∙ ap is_waiting c.in_default-next_status.ensures.0) ∙ and_none opened
 
@@ -42,6 +43,7 @@ returns-in_default-next_status-clause-machine g c = record {
   found = c.requires.machine.found;
   subscribed = subst (λ (l : List SubscriberState). AllByRecursion (IsSubscribed l) (map start_state c.args.self.now.starts.items))
       (sym (same_states c.in-Some-place_of.at c.args.self.now.subscribers.items c.index_mut-subscriber.result.now c.next_status.new.self c.index_mut-subscriber.ensures.value c.in_default-next_status.ensures.1)) c.requires.machine.subscribed;
+  named = still_named c.args.self.now.names c.in-Some-place_of.at c.args.self.now.subscribers.items c.index_mut-subscriber.result.now c.next_status.new.self c.index_mut-subscriber.ensures.value (ap (λ (s : SubscriberState). s.connection) c.in_default-next_status.ensures.1) c.requires.machine.named;
   readers = c.requires.machine.readers;
   room = c.requires.machine.room;
 }
@@ -56,7 +58,7 @@ pub returns-clause-acknowledges : goal.returns-clause-acknowledges
 returns-clause-acknowledges g c =
     let at = open_at c.args.name.now c.args.self.now.starts.items c.args.self.now.opened.items c.in-Some.place c.requires.machine.found
     (rw (c.as_slice.ensures.value, c.as_slice-2.ensures.value) at (sym c.place_among-found.ensures ∙ c.in-Some.is)) in
-    let one = subscriber_at c.args.name.now c.args.self.now.subscribers.items c.in-Some-place_of.at (rw c.as_slice-3.ensures.value at (sym c.place_of.ensures.place ∙ c.in-Some-place_of.is)) in
+    let one = subscriber_at c.args.name.now c.args.self.now.subscribers.items c.in-Some-place_of.at (sym (c.place_of.ensures c.args.self.now.subscribers.items c.requires.machine.named) ∙ c.in-Some-place_of.is) in
     let status = c.in-Some-next_status.status in
     let new = c.next_status.new.self in
     acknowledges c.args.name.now c.in-Some.place c.in-Some-place_of.at c.args.self.now c.index.result.now c.index_mut-subscriber.result.now new status c.confirm.new.slots at c.index.ensures one c.index_mut-subscriber.ensures.value
@@ -65,13 +67,17 @@ returns-clause-acknowledges g c =
 
 pub returns-clause-machine : goal.returns-clause-machine
 returns-clause-machine g c =
-    let one = subscriber_at c.args.name.now c.args.self.now.subscribers.items c.in-Some-place_of.at (rw c.as_slice-3.ensures.value at (sym c.place_of.ensures.place ∙ c.in-Some-place_of.is)) in
+    let one = subscriber_at c.args.name.now c.args.self.now.subscribers.items c.in-Some-place_of.at (sym (c.place_of.ensures c.args.self.now.subscribers.items c.requires.machine.named) ∙ c.in-Some-place_of.is) in
     record {
       good = c.requires.machine.good;
       served = c.requires.machine.served;
       found = c.requires.machine.found;
       subscribed = still_subscribed c.args.name.now c.in-Some-place_of.at c.args.self.now c.index_mut-subscriber.result.now c.next_status.new.self one c.index_mut-subscriber.ensures.value
           (ap (λ (s : SubscriberState). s.connection) c.in-Some-next_status.ensures.1) c.requires.machine.subscribed;
+      named = still_named c.args.self.now.names c.in-Some-place_of.at c.args.self.now.subscribers.items c.index_mut-subscriber.result.now c.next_status.new.self c.index_mut-subscriber.ensures.value (ap (λ (s : SubscriberState). s.connection) c.in-Some-next_status.ensures.1) c.requires.machine.named;
       readers = c.requires.machine.readers;
       room = c.requires.machine.room;
     }
+
+pub index_mut-subscriber-requires : goal.index_mut-subscriber-requires
+index_mut-subscriber-requires g c = omega (arith, place_within c.args.name.now c.in-Some-place_of.at c.args.self.now.subscribers.items (sym (c.place_of.ensures c.args.self.now.subscribers.items c.requires.machine.named) ∙ c.in-Some-place_of.is))

@@ -58,6 +58,7 @@ returns-in-Cut-clause-machine g c =
           let kept = subscribed_on c.args.name.now c.in-Some.place c.args.action c.args.self.now c.act_at.new.starts.items c.in_ok-answer.answer at c.in_ok-answer.ensures.acts c.requires.machine.subscribed in
           let again = all_reconnected c.args.name.now (map subscriber_state c.args.self.now.subscribers.items) (map start_state c.act_at.new.starts.items) kept in
           subst (λ (l : List SubscriberState). AllByRecursion (IsSubscribed l) (map start_state c.act_at.new.starts.items)) (sym c.reconnect-slot.ensures.again) again;
+      named = c.reconnect-slot.ensures.named;
       readers = c.act_at.ensures.readers ∙ c.requires.machine.readers;
       room = rw c.act_at.ensures.capacity c.requires.machine.room;
     }
@@ -85,6 +86,7 @@ returns-in_default-action g c =
         found = found_on log c.in-Some.place c.args.action c.args.self.now.starts.items c.act_at.new.starts.items c.args.self.now.opened.items c.in_ok-answer.answer (no_cut c.args.action c.in_default-action.not-Cut) c.in_ok-answer.ensures.acts
             c.requires.machine.found;
         subscribed = subscribed_on c.args.name.now c.in-Some.place c.args.action c.args.self.now c.act_at.new.starts.items c.in_ok-answer.answer at c.in_ok-answer.ensures.acts c.requires.machine.subscribed;
+        named = c.requires.machine.named;
         readers = c.act_at.ensures.readers ∙ c.requires.machine.readers;
         room = rw c.act_at.ensures.capacity c.requires.machine.room;
       };

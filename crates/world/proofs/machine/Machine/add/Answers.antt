@@ -29,8 +29,9 @@ returns-clause-machine g c =
       found = found_more cs c.push_reserved-2.new.self.items c.args.self.now.opened.items c.push_reserved.new.self.items start (length c.as_slice-place.result.now) starts_is c.push_reserved.ensures.items
           (ap (λ (l : List (Start _)). length l) c.as_slice-place.ensures.value) opened c.requires.machine.found;
       subscribed = subst (λ (l : List StartState). AllByRecursion (IsSubscribed (map subscriber_state c.subscribe.new.subscribers.items)) l) (sym states_is)
-          (subst (λ (l : List SubscriberState). AllByRecursion (IsSubscribed l) (map start_state cs ++ start_state start ∷ [])) (sym (c.subscribe.ensures ∙ named))
+          (subst (λ (l : List SubscriberState). AllByRecursion (IsSubscribed l) (map start_state cs ++ start_state start ∷ [])) (sym (c.subscribe.ensures.joined ∙ named))
           (all_joined c.args.subscriber.slot ss (map start_state cs) (start_state start) c.requires.machine.subscribed));
+      named = c.subscribe.ensures.named;
       readers = omega (arith, one_more, c.in-Some.ensures.cases, c.requires.machine.readers);
       room = rw c.pop.ensures.capacity c.requires.machine.room;
     }

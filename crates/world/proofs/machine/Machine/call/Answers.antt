@@ -7,6 +7,7 @@ returns-clause-machine g c = record {
   served = all_grown c.args.self.now.publisher.log c.line.new.publisher.log c.args.self.now.starts.items c.line.ensures.grows c.requires.machine.served;
   found = c.requires.machine.found;
   subscribed = c.requires.machine.subscribed;
+  named = c.requires.machine.named;
   readers = c.requires.machine.readers;
   room = c.requires.machine.room;
 }

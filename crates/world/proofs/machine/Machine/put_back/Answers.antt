@@ -1,10 +1,11 @@
-use Rattle.std.proofs.Common.{List, map, sym, ap, subst, ◌∙◌}
+use Rattle.std.proofs.Common.{List, map, sym, ap, subst, ◌∙◌, arith}
 use Rattle.std.specs.List.{AllByRecursion}
 use Rattle.std.specs.Int.{w64}
 use Rattle.std.proofs.lemmas.Int.{to_z-of_z}
 use Rattle.world.specs.State.{SubscriberState}
 use Rattle.world.specs.Machine.{IsSubscribed, shown, subscriber_state}
 use Rattle.starts.specs.Starts.{start_state}
+use Rattle.world.proofs.Naming.{place_within, still_named}
 use Rattle.world.proofs.Openings.{none_open, open_at}
 use Rattle.world.proofs.PipesBack.{on_err, puts_back, same_states}
 use Rattle.world.proofs.Subscribing.{has_place, open_subscribed, still_subscribed, subscriber_at}
@@ -19,7 +20,7 @@ unreachable-requires g c =
     let at = open_at c.args.name.now c.args.self.now.starts.items c.args.self.now.opened.items c.in-Some.field-0 c.requires.machine.found
     (rw (c.as_slice.ensures.value, c.as_slice-2.ensures.value) at (sym c.place_among-found.ensures ∙ c.in-Some.is)) in
     let has = open_subscribed c.args.name.now (map subscriber_state c.args.self.now.subscribers.items) (map start_state c.args.self.now.starts.items) (start_state at.start) c.requires.machine.subscribed at.of in
-    has_place c.args.name.now (map subscriber_state c.args.self.now.subscribers.items) has (rw c.as_slice-3.ensures.value at (sym c.place_of.ensures.place ∙ c.in_default-place_of.is))
+    has_place c.args.name.now (map subscriber_state c.args.self.now.subscribers.items) has (sym (c.place_of.ensures c.args.self.now.subscribers.items c.requires.machine.named) ∙ c.in_default-place_of.is)
 
 pub returns-in_err-put_back-clause-err : goal.returns-in_err-put_back-clause-err
 returns-in_err-put_back-clause-err g c =
@@ -33,6 +34,7 @@ returns-in_err-put_back-clause-machine g c = record {
   found = c.requires.machine.found;
   subscribed = subst (λ (l : List SubscriberState). AllByRecursion (IsSubscribed l) (map start_state c.args.self.now.starts.items))
       (sym (same_states c.in-Some-place_of.at c.args.self.now.subscribers.items c.index_mut.result.now c.put_back.new.self c.index_mut.ensures.value c.in_err-put_back.ensures.err)) c.requires.machine.subscribed;
+  named = still_named c.args.self.now.names c.in-Some-place_of.at c.args.self.now.subscribers.items c.index_mut.result.now c.put_back.new.self c.index_mut.ensures.value (ap (λ (s : SubscriberState). s.connection) c.in_err-put_back.ensures.err) c.requires.machine.named;
   readers = c.requires.machine.readers;
   room = c.requires.machine.room;
 }
@@ -41,18 +43,22 @@ pub returns-clause-puts : goal.returns-clause-puts
 returns-clause-puts g c =
     let at = open_at c.args.name.now c.args.self.now.starts.items c.args.self.now.opened.items c.in-Some.field-0 c.requires.machine.found
     (rw (c.as_slice.ensures.value, c.as_slice-2.ensures.value) at (sym c.place_among-found.ensures ∙ c.in-Some.is)) in
-    let one = subscriber_at c.args.name.now c.args.self.now.subscribers.items c.in-Some-place_of.at (rw c.as_slice-3.ensures.value at (sym c.place_of.ensures.place ∙ c.in-Some-place_of.is)) in
+    let one = subscriber_at c.args.name.now c.args.self.now.subscribers.items c.in-Some-place_of.at (sym (c.place_of.ensures c.args.self.now.subscribers.items c.requires.machine.named) ∙ c.in-Some-place_of.is) in
     puts_back c.args.name.now c.args.flushed c.args.clock c.in-Some.field-0 c.in-Some-place_of.at c.args.self.now c.index_mut.result.now c.put_back.new.self at one c.index_mut.ensures.value
     (rw (to_z-of_z w64 c.args.clock c.ranges.clock) at c.in_ok-put_back.ensures.ok)
 
 pub returns-clause-machine : goal.returns-clause-machine
 returns-clause-machine g c =
-    let one = subscriber_at c.args.name.now c.args.self.now.subscribers.items c.in-Some-place_of.at (rw c.as_slice-3.ensures.value at (sym c.place_of.ensures.place ∙ c.in-Some-place_of.is)) in
+    let one = subscriber_at c.args.name.now c.args.self.now.subscribers.items c.in-Some-place_of.at (sym (c.place_of.ensures c.args.self.now.subscribers.items c.requires.machine.named) ∙ c.in-Some-place_of.is) in
     record {
       good = c.requires.machine.good;
       served = c.requires.machine.served;
       found = c.requires.machine.found;
       subscribed = still_subscribed c.args.name.now c.in-Some-place_of.at c.args.self.now c.index_mut.result.now c.put_back.new.self one c.index_mut.ensures.value (ap (λ (s : SubscriberState). s.connection) c.in_ok-put_back.ensures.ok) c.requires.machine.subscribed;
+      named = still_named c.args.self.now.names c.in-Some-place_of.at c.args.self.now.subscribers.items c.index_mut.result.now c.put_back.new.self c.index_mut.ensures.value (ap (λ (s : SubscriberState). s.connection) c.in_ok-put_back.ensures.ok) c.requires.machine.named;
       readers = c.requires.machine.readers;
       room = c.requires.machine.room;
     }
+
+pub index_mut-requires : goal.index_mut-requires
+index_mut-requires g c = omega (arith, place_within c.args.name.now c.in-Some-place_of.at c.args.self.now.subscribers.items (sym (c.place_of.ensures c.args.self.now.subscribers.items c.requires.machine.named) ∙ c.in-Some-place_of.is))
