@@ -56,6 +56,19 @@ impl Applier {
         }
     }
 
+    /// The applier of a subscriber that has applied elsewhere all that commits below a position, and keeps none of it.
+    pub fn at(alloc: Global, position: u64) -> Self
+        ensures value { result ≡ record { subscriber = resting position []; unread = []; fault = None } }
+        ensures taken { HasTaken result.subscriber result [] }
+    {
+        Applier {
+            alloc,
+            progress: Progress::at(alloc, position),
+            unread: BytesMut::new(alloc),
+            fault: None,
+        }
+    }
+
     /// The greatest of the ends of the transactions that came whole and the numbers of the keepalives.
     pub fn position(&self) -> u64
         ensures { result ≡ self.now.subscriber.position }
@@ -68,6 +81,14 @@ impl Applier {
         ensures { result.now ≡ self.now.subscriber.applied }
     {
         self.progress.applied()
+    }
+
+    /// Forgets the transactions that were applied, once its caller has done with them. All else stays, so none of them is applied
+    /// again.
+    pub fn forget_applied(&mut self)
+        ensures { self.new ≡ record self.old { subscriber = record self.old.subscriber { applied = [] } } }
+    {
+        self.progress.forget_applied();
     }
 
     /// The frame that tells the server how far the subscriber is: a CopyData with a standby status update (PostgreSQL 15,

@@ -34,9 +34,15 @@ impl Progress {
     pub(crate) fn new(alloc: Global) -> Self
         ensures { result ≡ resting 0 [] }
     {
+        Progress::at(alloc, 0)
+    }
+
+    pub(crate) fn at(alloc: Global, position: u64) -> Self
+        ensures { result ≡ resting position [] }
+    {
         Progress {
             alloc,
-            position: 0,
+            position,
             applied: Vec::new(alloc),
             tables: IndexMap::new(alloc),
             half: None,
@@ -53,6 +59,12 @@ impl Progress {
         ensures { result.now ≡ self.now.applied }
     {
         self.applied.as_slice()
+    }
+
+    pub(crate) fn forget_applied(&mut self)
+        ensures { self.new ≡ record self.old { applied = [] } }
+    {
+        self.applied.clear();
     }
 
     /// Forgets what hangs on the connection.

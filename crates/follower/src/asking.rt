@@ -21,6 +21,9 @@ const STARTUP: &[u8] = b"\0\0\0\x2a\0\x03\0\0user\0subcat\0replication\0database
 /// The most bytes of a command's text. PostgreSQL has no memory for longer ones either.
 const MOST_TEXT_BYTES: usize = 1_073_741_823;
 
+/// The code by which a server refuses to create what is there (duplicate_object).
+const IS_THERE: &str = "42710";
+
 /// What a server's answer ends with.
 #[derive(Clone, Copy, PartialEq, Eq)]
 enum End {
@@ -36,13 +39,63 @@ pub(crate) fn ask_for_stream<R: Wait, S: Read + Write>(
     socket: &mut S,
     options: &Options<'_>,
 ) -> Result<(), FollowFault> {
-    socket.write_all(STARTUP).map_err(FollowFault::Connection)?;
-    wait_for(rt, incoming, socket, End::ReadyForQuery)?;
+    greet(rt, incoming, socket)?;
     if options.create {
-        send_query(alloc, socket, creating(alloc, options.slot)?)?;
-        wait_for(rt, incoming, socket, End::ReadyForQuery)?;
+        create(rt, alloc, incoming, socket, options.slot)?;
     }
-    send_query(alloc, socket, starting(alloc, options)?)?;
+    start_stream(rt, alloc, incoming, socket, options, options.position)
+}
+
+/// Says the startup.
+pub(crate) fn greet<R: Wait, S: Read + Write>(
+    rt: &R,
+    incoming: &mut Incoming,
+    socket: &mut S,
+) -> Result<(), FollowFault> {
+    socket.write_all(STARTUP).map_err(FollowFault::Connection)?;
+    wait_for(rt, incoming, socket, End::ReadyForQuery)
+}
+
+fn create<R: Wait, S: Read + Write>(
+    rt: &R,
+    alloc: Global,
+    incoming: &mut Incoming,
+    socket: &mut S,
+    slot: &str,
+) -> Result<(), FollowFault> {
+    send_query(alloc, socket, creating(alloc, slot)?)?;
+    wait_for(rt, incoming, socket, End::ReadyForQuery)
+}
+
+/// Creates the slot, unless there is one.
+pub(crate) fn create_if_absent<R: Wait, S: Read + Write>(
+    rt: &R,
+    alloc: Global,
+    incoming: &mut Incoming,
+    socket: &mut S,
+    slot: &str,
+) -> Result<(), FollowFault> {
+    match create(rt, alloc, incoming, socket, slot) {
+        Err(FollowFault::Server(said)) => {
+            if said.code.as_str() == IS_THERE {
+                return wait_for(rt, incoming, socket, End::ReadyForQuery);
+            }
+            Err(FollowFault::Server(said))
+        }
+        created => created,
+    }
+}
+
+/// Asks for the stream from a position on, up to its first frame.
+pub(crate) fn start_stream<R: Wait, S: Read + Write>(
+    rt: &R,
+    alloc: Global,
+    incoming: &mut Incoming,
+    socket: &mut S,
+    options: &Options<'_>,
+    position: u64,
+) -> Result<(), FollowFault> {
+    send_query(alloc, socket, starting(alloc, options, position)?)?;
     wait_for(rt, incoming, socket, End::CopyBothResponse)
 }
 
@@ -53,11 +106,11 @@ fn creating(alloc: Global, slot: &str) -> Result<String, AllocError> {
     Ok(text)
 }
 
-fn starting(alloc: Global, options: &Options<'_>) -> Result<String, AllocError> {
+fn starting(alloc: Global, options: &Options<'_>, position: u64) -> Result<String, AllocError> {
     let mut text = "START_REPLICATION SLOT ".to_string(alloc)?;
     push_quoted(&mut text, options.slot, '"')?;
     text.push_str(" LOGICAL ")?;
-    text.push_str(write_position(alloc, options.position)?.as_str())?;
+    text.push_str(write_position(alloc, position)?.as_str())?;
     text.push_str(" (proto_version '1', publication_names ")?;
     push_quoted(&mut text, options.publications, '\'')?;
     text.push_str(")")?;

@@ -55,6 +55,9 @@ pub enum FollowFault {
     /// K6 where reading from the server or writing to it failed.
     #[error("K6: the connection failed: {0}")]
     Connection(io::Error),
+    /// K6 where nothing came for as long as a read of the socket may wait.
+    #[error("K6: the server is silent")]
+    Silent,
     /// K6 where the server ended the connection.
     #[error("K6: the server ended the connection early")]
     Ended,
@@ -81,6 +84,14 @@ impl From<FrameFault> for FollowFault {
             FrameFault::Memory => FollowFault::Client(ClientFault::Memory),
             _ => FollowFault::Client(ClientFault::Frame),
         }
+    }
+}
+
+/// What a read that failed tells.
+pub(crate) fn unread(fault: io::Error) -> FollowFault {
+    match fault.kind() {
+        io::ErrorKind::WouldBlock | io::ErrorKind::TimedOut => FollowFault::Silent,
+        _ => FollowFault::Connection(fault),
     }
 }
 

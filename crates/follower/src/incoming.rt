@@ -1,6 +1,6 @@
 //! The frames that a server sends, one after the other.
 
-use crate::fault::FollowFault;
+use crate::fault::{FollowFault, unread};
 use bytes::BytesMut;
 use frames::{Back, read_back};
 use std::alloc::Global;
@@ -32,7 +32,7 @@ impl Incoming {
         socket: &mut S,
     ) -> Result<(Back, usize), FollowFault> {
         for _ in rt.forever() {
-            if let Some(found) = read_back(self.alloc, self.unread.as_slice())? {
+            if let Some(found) = self.whole()? {
                 return Ok(found);
             }
             self.read_more(socket)?;
@@ -40,12 +40,18 @@ impl Incoming {
         Err(FollowFault::Ended)
     }
 
-    fn read_more<S: Read>(&mut self, socket: &mut S) -> Result<(), FollowFault> {
+    /// The frame at the front, if it has come whole, and its length.
+    pub(crate) fn whole(&self) -> Result<Option<(Back, usize)>, FollowFault> {
+        Ok(read_back(self.alloc, self.unread.as_slice())?)
+    }
+
+    /// Waits for more.
+    pub(crate) fn read_more<S: Read>(&mut self, socket: &mut S) -> Result<(), FollowFault> {
         self.unread.reserve(MOST_READ)?;
         match self.unread.read_from(socket) {
             Ok(0) => Err(FollowFault::Ended),
             Ok(_) => Ok(()),
-            Err(fault) => Err(FollowFault::Connection(fault)),
+            Err(fault) => Err(unread(fault)),
         }
     }
 

@@ -21,6 +21,17 @@ creates the slot mine, waits for one transaction of the publication p, and print
 A position is where the stream should begin; a slot that has confirmed more begins there. With
 a COUNT of 0 the stream is ended at once.
 
+With --follow a connection that is lost, refused or silent for a minute, a slot that is still
+active and a server that is not there are tried again, after 0.1 s and then twice as long each
+time, up to 5 s, until something comes again; each try is told on the standard error. A
+transaction is printed when it is whole, and once, whatever comes again. --create then creates
+the slot unless there is one.
+
+With --output FILE it is printed at the end of FILE, and on the disk before it is acknowledged.
+FILE also says where to go on: a run that is killed and started again with the same words cuts off
+what it half wrote, begins behind the last transaction of FILE, and prints none twice. POSITION is
+where it begins if FILE is empty, and COUNT counts the transactions of FILE.
+
 It ends with 0 behind COUNT transactions, with 2 where the arguments are refused, and with 1
 where the connection, the server, the output or memory fails. What the server refused is printed
 as server: CODE text.";
@@ -29,12 +40,16 @@ as server: CODE text.";
 #[derive(Clone, Copy)]
 pub struct Words<'a> {
     pub create: bool,
+    pub follow: bool,
+    pub output: Option<&'a str>,
     pub address: &'a str,
     pub slot: &'a str,
     pub position: &'a str,
     pub publications: &'a str,
     pub count: &'a str,
 }
+
+const FOLLOW_HELP: &str = "Go on over lost connections, and print each transaction once";
 
 /// The words that have to be there, and what is said of each.
 const REQUIRED: [(&str, &str); 5] = [
@@ -55,7 +70,10 @@ pub fn words_of<'a>(alloc: Global, words: &'a [String]) -> Result<Words<'a>, Err
 }
 
 fn command_of<'a>(alloc: Global) -> Result<Command<'a>, AllocError> {
-    let mut command = bare(alloc)?.arg(create(alloc))?;
+    let mut command = bare(alloc)?
+        .arg(flag(alloc, "create", "Create the slot first"))?
+        .arg(flag(alloc, "follow", FOLLOW_HELP))?
+        .arg(output(alloc)?)?;
     for (name, help) in &REQUIRED {
         command = command.arg(required(alloc, *name, *help))?;
     }
@@ -70,11 +88,20 @@ fn bare<'a>(alloc: Global) -> Result<Command<'a>, AllocError> {
         .bin_name("subcat")
 }
 
-fn create(alloc: Global) -> Arg<'static> {
-    Arg::new(alloc, "create")
-        .long("create")
+fn flag<'a>(alloc: Global, name: &'a str, help: &'a str) -> Arg<'a> {
+    Arg::new(alloc, name)
+        .long(name)
         .action(ArgAction::SetTrue)
-        .help("Create the slot first")
+        .help(help)
+}
+
+fn output(alloc: Global) -> Result<Arg<'static>, AllocError> {
+    Arg::new(alloc, "output")
+        .long("output")
+        .value_name("FILE")
+        .action(ArgAction::Set)
+        .help("With --follow, print into FILE, and go on where it ends")
+        .requires_arg("follow")
 }
 
 fn required<'a>(alloc: Global, name: &'a str, help: &'a str) -> Arg<'a> {
@@ -84,10 +111,12 @@ fn required<'a>(alloc: Global, name: &'a str, help: &'a str) -> Arg<'a> {
         .help(help)
 }
 
-/// All but --create are required, so they are there.
+/// All but the options are required, so they are there.
 fn words_in<'a>(matches: &ArgMatches<'a>) -> Words<'a> {
     Words {
         create: matches.get_flag("create"),
+        follow: matches.get_flag("follow"),
+        output: matches.get_str("output"),
         address: matches.get_str("ADDR").unwrap_or(""),
         slot: matches.get_str("SLOT").unwrap_or(""),
         position: matches.get_str("POSITION").unwrap_or(""),

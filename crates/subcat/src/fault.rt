@@ -20,6 +20,12 @@ pub enum Fault {
     Count,
     #[error("standard output cannot be used: {0}")]
     Output(io::Error),
+    #[error("the output file cannot be used: {0}")]
+    Journal(io::Error),
+    #[error("the output file is in use by another run")]
+    JournalInUse,
+    #[error("the output file holds something else than what subcat prints")]
+    ForeignJournal,
     #[error("no connection: {0}")]
     Connect(io::Error),
     #[error("{0}")]
@@ -43,7 +49,13 @@ impl Fault {
                 _ => 2,
             },
             Fault::Address | Fault::Position | Fault::Count => 2,
-            Fault::Output(_) | Fault::Connect(_) | Fault::Follow(_) | Fault::Memory => 1,
+            Fault::Output(_)
+            | Fault::Journal(_)
+            | Fault::JournalInUse
+            | Fault::ForeignJournal
+            | Fault::Connect(_)
+            | Fault::Follow(_)
+            | Fault::Memory => 1,
         }
     }
 

@@ -1,12 +1,16 @@
-//! `subcat [--create] ADDR SLOT POSITION PUBLICATIONS COUNT` follows a slot of a publisher, and prints each message of its stream.
+//! `subcat [--create] [--follow [--output FILE]] ADDR SLOT POSITION PUBLICATIONS COUNT` follows a slot of a publisher, and prints each
+//! message of its stream, or, over lost connections, each transaction once.
 #![tactic(auto)]
 
 mod command;
 mod fault;
+mod journal;
+mod keeping;
 
 use command::{Words, words_of};
 use fault::Fault;
 use follower::{Options, follow};
+use keeping::{keep_in, keep_printing};
 use replcmd::parse_position;
 use std::io::BufWriter;
 use std::net::{Net, SocketAddr, TcpListener, TcpStream};
@@ -34,7 +38,12 @@ fn run<N: Net<Listener = TcpListener, Stream = TcpStream> + Wait>(
     let words = words_of(alloc, arguments.as_slice()).map_err(Fault::Usage)?;
     let address = words.address.parse::<SocketAddr>();
     let address = address.map_err(|_| Fault::Address)?;
-    follow_at(rt, net, address, &options_of(&words)?)
+    let options = options_of(&words)?;
+    match words.output {
+        Some(path) => keep_in(rt, net, address, &options, path),
+        None if words.follow => keep_printing(rt, net, address, &options),
+        None => follow_at(rt, net, address, &options),
+    }
 }
 
 fn follow_at<N: Net<Listener = TcpListener, Stream = TcpStream> + Wait>(

@@ -1,0 +1,131 @@
+-- What a subscriber gains by the bytes that it takes, each transaction once.
+use Rattle.std.proofs.Common.{◌≡◌, ℕ, ◌≤◌, Bool, true, false, cond, eqb, List, [], ◌∷◌, ◌++◌, Option, Some, None, Result, Ok, Err, refl, sym, ap, subst, ◌∙◌, append_assoc, arith}
+use Rattle.std.specs.Prelude.{max, nat_le}
+use Rattle.std.proofs.lemmas.Bool.{leb-true}
+use Rattle.std.proofs.lemmas.List.{append-nil}
+use Rattle.pqformat.specs.Steps.{◌>>=◌}
+use Rattle.pqformat.proofs.Codec.{ok_is}
+use Rattle.pgoutput.specs.declared.begin.Begin.{Begin}
+use Rattle.pgoutput.specs.declared.commit.Commit.{Commit}
+use Rattle.pgoutput.specs.declared.relation.Relation.{Relation}
+use Rattle.pgoutput.specs.declared.logical.Logical.{Logical}
+use Rattle.pgoutput.specs.declared.logical.Logical.TheVariants as logical
+use Rattle.stream.specs.declared.word.Word.{Word}
+use Rattle.stream.specs.declared.word.Word.TheVariants as words
+use Rattle.stream.specs.declared.word.Keepalive.{Keepalive}
+use Rattle.stream.specs.declared.published.Published.{Published}
+use Rattle.client.specs.declared.fault.ClientFault.{ClientFault}
+use Rattle.client.specs.declared.fault.ClientFault.TheVariants as faults
+use Rattle.client.specs.Subscriber.{Subscriber, HalfTransaction, judged, begun, tell, told, changed, committed, finished, kept_alive, with_change, transaction_of, after_message, after_word, after_words}
+use Rattle.client.specs.Taking.{ApplierState, Reached, Takes, TakesFrom}
+use Rattle.follower.specs.Once.{EachOnce, Gains}
+
+-- ---- One stretch behind the other.
+
+once_from : (from mid to : ℕ) (ts : List Published) → from ≤ mid → EachOnce mid ts to → EachOnce from ts to
+once_from from mid to [] le once = omega (arith, le, once)
+once_from from mid to (t ∷ ts) le once = (omega (arith, le, once.0), once_from (max from t.end) (max mid t.end) to ts (omega (arith, le)) once.1)
+
+once_then : (from mid to : ℕ) (ts us : List Published) → EachOnce from ts mid → EachOnce mid us to → EachOnce from (ts ++ us) to
+once_then from mid to [] us first then = once_from from mid to us first then
+once_then from mid to (t ∷ ts) us first then = (first.0, once_then (max from t.end) mid to ts us first.1 then)
+
+pub gains_none : (s t : Subscriber) → t.applied ≡ s.applied → s.position ≤ t.position → Gains s t
+gains_none s t same more = record { fresh = []; applied = same ∙ sym (append-nil s.applied); once = more }
+
+pub gains_nothing : (s : Subscriber) → Gains s s
+gains_nothing s = gains_none s s refl (omega arith)
+
+pub gains_then : (s t u : Subscriber) → Gains s t → Gains t u → Gains s u
+gains_then s t u first then = record {
+  fresh = first.fresh ++ then.fresh;
+  applied = then.applied ∙ ap (λ (l : List Published). l ++ then.fresh) first.applied ∙ append_assoc s.applied first.fresh then.fresh;
+  once = once_then s.position t.position u.position first.fresh then.fresh first.once then.once;
+}
+
+-- ---- By a word.
+
+abbrev done : Subscriber → Result Subscriber ClientFault
+done s = Ok s
+
+-- the steps that change nothing of what was applied
+gains_same : (s u t : Subscriber) → done u ≡ done t → u.applied ≡ s.applied → s.position ≤ u.position → Gains s t
+gains_same s u t is same more = subst (λ (v : Subscriber). Gains s v) (ok_is ClientFault u t is) (gains_none s u same more)
+
+gains_keepalive : (half : Option HalfTransaction) (s : Subscriber) (k : Keepalive) → Gains s (kept_alive half s k)
+gains_keepalive None s k = gains_none s (kept_alive None s k) refl (omega arith)
+gains_keepalive (Some half) s k = gains_nothing s
+
+gains_begin : (half : Option HalfTransaction) (s t : Subscriber) (m : Begin) → begun half s m ≡ Ok t → Gains s t
+gains_begin None s t m is = gains_same s (record s { half = Some (record { begin = m; changes = [] }) }) t is refl (omega arith)
+gains_begin (Some half) s t m is = absurd cc
+
+gains_relation : (half : Option HalfTransaction) (s t : Subscriber) (m : Relation) → told half s m ≡ Ok t → Gains s t
+gains_relation None s t m is = absurd cc
+gains_relation (Some half) s t m is = gains_same s (record s { tables = tell s.tables m }) t is refl (omega arith)
+
+gains_change : (half : Option HalfTransaction) (s t : Subscriber) (position : ℕ) (m : Logical) → changed half s position m ≡ Ok t → Gains s t
+gains_change None s t position m is = absurd cc
+gains_change (Some half) s t position m is = by_judging (judged s.tables m) is
+  where
+    with : Subscriber
+    with = record s { half = Some (with_change half position m) }
+
+    by_judging : (r : Result (Unit {0}) ClientFault) → (r >>= λ _. Ok with) ≡ Ok t → Gains s t
+    by_judging (Ok u) is = gains_same s with t is refl (omega arith)
+    by_judging (Err e) is = absurd cc
+
+gains_finished : (s : Subscriber) (half : HalfTransaction) (m : Commit) → Gains s (finished s half m)
+gains_finished s half m = by_test (nat_le s.position half.begin.position) refl
+  where
+    one : List Published
+    one = transaction_of half m ∷ []
+
+    by_test : (b : Bool) → nat_le s.position half.begin.position ≡ b → Gains s (record s { half = None; position = max s.position m.end; applied = s.applied ++ cond b one [] })
+    by_test true is = record { fresh = one; applied = refl; once = (leb-true s.position half.begin.position is, omega arith) }
+    by_test false is = record { fresh = []; applied = refl; once = omega arith }
+
+gains_commit : (half : Option HalfTransaction) (s t : Subscriber) (m : Commit) → committed half s m ≡ Ok t → Gains s t
+gains_commit None s t m is = absurd cc
+gains_commit (Some half) s t m is = by_test (eqb m.position half.begin.position) is
+  where
+    by_test : (b : Bool) → cond b (Ok (finished s half m)) (Err faults.Order) ≡ Ok t → Gains s t
+    by_test true is = subst (λ (v : Subscriber). Gains s v) (ok_is ClientFault (finished s half m) t is) (gains_finished s half m)
+    by_test false is = absurd cc
+
+gains_message : (s t : Subscriber) (position : ℕ) (m : Logical) → after_message s position m ≡ Ok t → Gains s t
+gains_message s t position (logical.Begin m) is = gains_begin s.half s t m is
+gains_message s t position (logical.Relation m) is = gains_relation s.half s t m is
+gains_message s t position (logical.Commit m) is = gains_commit s.half s t m is
+gains_message s t position (logical.Insert m) is = gains_change s.half s t position (logical.Insert m) is
+gains_message s t position (logical.Update m) is = gains_change s.half s t position (logical.Update m) is
+gains_message s t position (logical.Delete m) is = gains_change s.half s t position (logical.Delete m) is
+gains_message s t position (logical.Truncate m) is = gains_change s.half s t position (logical.Truncate m) is
+
+gains_word : (s t : Subscriber) (w : Word) → after_word s w ≡ Ok t → Gains s t
+gains_word s t (words.Keepalive k) is = subst (λ (v : Subscriber). Gains s v) (ok_is ClientFault (kept_alive s.half s k) t is) (gains_keepalive s.half s k)
+gains_word s t (words.XLogData x) is = gains_message s t x.start x.message is
+
+-- ---- By words, and by bytes.
+
+went : {A B : Type 0} (r : Result A ClientFault) (f : A → Result B ClientFault) (y : B) → (r >>= f) ≡ Ok y → (x : A) × (r ≡ Ok x) × (f x ≡ Ok y)
+went (Ok x) f y is = (x, refl, is)
+went (Err e) f y is = absurd cc
+
+gains_words : (s t : Subscriber) (ws : List Word) → after_words s ws ≡ Ok t → Gains s t
+gains_words s t [] is = gains_same s s t is refl (omega arith)
+gains_words s t (w ∷ ws) is =
+    let first = went (after_word s w) (λ u. after_words u ws) t is in
+    gains_then s first.0 t (gains_word s first.0 w first.1) (gains_words first.0 t ws first.2)
+
+gains_reached : (s : Subscriber) (bytes : List ℕ) (t : Subscriber) (rest : List ℕ) → Reached s bytes t rest → Gains s t
+gains_reached s bytes t rest r = gains_words s t r.words r.steps
+
+-- whatever bytes a call takes
+pub gains_taken : (old new : ApplierState) (bytes : List ℕ) (result : Result (Unit {0}) ClientFault) → Takes old new bytes result → Gains old.subscriber new.subscriber
+gains_taken old new bytes result takes = by_fault old.fault result takes
+  where
+    by_fault : (fault : Option ClientFault) (result : Result (Unit {0}) ClientFault) → TakesFrom fault old new bytes result → Gains old.subscriber new.subscriber
+    by_fault (Some fault) result takes = subst (λ (a : ApplierState). Gains old.subscriber a.subscriber) (sym takes.1) (gains_nothing old.subscriber)
+    by_fault None (Ok u) takes = gains_reached old.subscriber (old.unread ++ bytes) new.subscriber new.unread takes.reached
+    by_fault None (Err e) takes = gains_reached old.subscriber (old.unread ++ bytes) new.subscriber takes.stops.rest takes.stops.reached

@@ -1,0 +1,137 @@
+-- What was printed stands before what a subscriber has applied, and it goes on as it would with that.
+use Rattle.std.proofs.Common.{◌≡◌, ℕ, Bool, true, false, cond, eqb, List, [], ◌∷◌, ◌++◌, Option, Some, None, Result, Ok, Err, refl, ap, ◌∙◌, append_assoc}
+use Rattle.std.specs.Prelude.{max, nat_le}
+use Rattle.pqformat.specs.Steps.{◌>>=◌}
+use Rattle.pgoutput.specs.declared.begin.Begin.{Begin}
+use Rattle.pgoutput.specs.declared.commit.Commit.{Commit}
+use Rattle.pgoutput.specs.declared.relation.Relation.{Relation}
+use Rattle.pgoutput.specs.declared.logical.Logical.{Logical}
+use Rattle.pgoutput.specs.declared.logical.Logical.TheVariants as logical
+use Rattle.stream.specs.declared.word.Word.{Word}
+use Rattle.stream.specs.declared.word.Word.TheVariants as words
+use Rattle.stream.specs.declared.word.Keepalive.{Keepalive}
+use Rattle.stream.specs.declared.published.Published.{Published}
+use Rattle.client.specs.declared.fault.ClientFault.{ClientFault}
+use Rattle.client.specs.declared.fault.ClientFault.TheVariants as faults
+use Rattle.client.specs.Subscriber.{Subscriber, HalfTransaction, judged, begun, told, changed, committed, finished, kept_alive, with_change, transaction_of, after_message, after_word, after_words}
+use Rattle.client.specs.Taking.{ApplierState, Reached, Stops, Takes, TakesFrom}
+use Rattle.client.specs.Law.{Follows}
+use Rattle.client.proofs.Laws.{follows_ok, follows_err}
+use Rattle.follower.specs.Once.{before, with_printed}
+
+abbrev after : List Published → Result Subscriber ClientFault → Result Subscriber ClientFault
+after printed (Ok s) = Ok (before printed s)
+after printed (Err e) = Err e
+
+-- ---- By a word.
+
+keepalive_before : (printed : List Published) (half : Option HalfTransaction) (s : Subscriber) (k : Keepalive) → kept_alive half (before printed s) k ≡ before printed (kept_alive half s k)
+keepalive_before printed None s k = refl
+keepalive_before printed (Some half) s k = refl
+
+begin_before : (printed : List Published) (half : Option HalfTransaction) (s : Subscriber) (m : Begin) → begun half (before printed s) m ≡ after printed (begun half s m)
+begin_before printed None s m = refl
+begin_before printed (Some half) s m = refl
+
+relation_before : (printed : List Published) (half : Option HalfTransaction) (s : Subscriber) (m : Relation) → told half (before printed s) m ≡ after printed (told half s m)
+relation_before printed None s m = refl
+relation_before printed (Some half) s m = refl
+
+change_before : (printed : List Published) (half : Option HalfTransaction) (s : Subscriber) (position : ℕ) (m : Logical) → changed half (before printed s) position m ≡ after printed (changed half s position m)
+change_before printed None s position m = refl
+change_before printed (Some half) s position m = by_judging (judged s.tables m)
+  where
+    with : Subscriber → Subscriber
+    with u = record u { half = Some (with_change half position m) }
+
+    by_judging : (r : Result (Unit {0}) ClientFault) → (r >>= λ _. Ok (with (before printed s))) ≡ after printed (r >>= λ _. Ok (with s))
+    by_judging (Ok u) = refl
+    by_judging (Err e) = refl
+
+commit_before : (printed : List Published) (half : Option HalfTransaction) (s : Subscriber) (m : Commit) → committed half (before printed s) m ≡ after printed (committed half s m)
+commit_before printed None s m = refl
+commit_before printed (Some half) s m = by_test (eqb m.position half.begin.position)
+  where
+    gained_now : List Published
+    gained_now = cond (nat_le s.position half.begin.position) (transaction_of half m ∷ []) []
+
+    by_test : (b : Bool) → cond b (Ok (finished (before printed s) half m)) (Err faults.Order) ≡ after printed (cond b (Ok (finished s half m)) (Err faults.Order))
+    by_test true = ap (λ (l : List Published). Ok (record s { half = None; position = max s.position m.end; applied = l })) (append_assoc printed s.applied gained_now)
+    by_test false = refl
+
+message_before : (printed : List Published) (s : Subscriber) (position : ℕ) (m : Logical) → after_message (before printed s) position m ≡ after printed (after_message s position m)
+message_before printed s position (logical.Begin m) = begin_before printed s.half s m
+message_before printed s position (logical.Relation m) = relation_before printed s.half s m
+message_before printed s position (logical.Commit m) = commit_before printed s.half s m
+message_before printed s position (logical.Insert m) = change_before printed s.half s position (logical.Insert m)
+message_before printed s position (logical.Update m) = change_before printed s.half s position (logical.Update m)
+message_before printed s position (logical.Delete m) = change_before printed s.half s position (logical.Delete m)
+message_before printed s position (logical.Truncate m) = change_before printed s.half s position (logical.Truncate m)
+
+word_before : (printed : List Published) (s : Subscriber) (w : Word) → after_word (before printed s) w ≡ after printed (after_word s w)
+word_before printed s (words.Keepalive k) = ap (λ (t : Subscriber). Ok t) (keepalive_before printed s.half s k)
+word_before printed s (words.XLogData x) = message_before printed s x.start x.message
+
+-- ---- By words.
+
+rest_before : (printed : List Published) (r : Result Subscriber ClientFault) (ws : List Word)
+    → ((t : Subscriber) → after_words (before printed t) ws ≡ after printed (after_words t ws))
+    → (after printed r >>= λ t. after_words t ws) ≡ after printed (r >>= λ t. after_words t ws)
+rest_before printed (Ok t) ws same = same t
+rest_before printed (Err e) ws same = refl
+
+words_before : (printed : List Published) (s : Subscriber) (ws : List Word) → after_words (before printed s) ws ≡ after printed (after_words s ws)
+words_before printed s [] = refl
+words_before printed s (w ∷ ws) =
+    ap (λ (r : Result Subscriber ClientFault). r >>= λ t. after_words t ws) (word_before printed s w) ∙ rest_before printed (after_word s w) ws (λ t. words_before printed t ws)
+
+reached_before : (printed : List Published) (s : Subscriber) (bytes : List ℕ) (t : Subscriber) (rest : List ℕ) → Reached s bytes t rest → Reached (before printed s) bytes (before printed t) rest
+reached_before printed s bytes t rest r = record {
+  words = r.words;
+  text = r.text;
+  spells = r.spells;
+  is = r.is;
+  steps = words_before printed s r.words ∙ ap (after printed) r.steps;
+}
+
+stops_before : (printed : List Published) (e : ClientFault) (s : Subscriber) (rest : List ℕ) → Stops e s rest → Stops e (before printed s) rest
+stops_before printed faults.Order s rest h = (h.0, h.1, h.2, h.3, h.4, word_before printed s h.0 ∙ ap (after printed) h.5)
+stops_before printed faults.UnknownRelation s rest h = (h.0, h.1, h.2, h.3, h.4, word_before printed s h.0 ∙ ap (after printed) h.5)
+stops_before printed faults.Frame s rest h = h
+stops_before printed faults.Server s rest h = h
+stops_before printed faults.Memory s rest h = h
+
+-- ---- By a call.
+
+pub takes_before : (printed : List Published) (old new : ApplierState) (bytes : List ℕ) (result : Result (Unit {0}) ClientFault) → Takes old new bytes result
+    → Takes (with_printed printed old) (with_printed printed new) bytes result
+takes_before printed old new bytes result takes = by_fault old.fault result takes
+  where
+    by_fault : (fault : Option ClientFault) (result : Result (Unit {0}) ClientFault) → TakesFrom fault old new bytes result → TakesFrom fault (with_printed printed old) (with_printed printed new) bytes result
+    by_fault (Some fault) result takes = (takes.0, ap (with_printed printed) takes.1)
+    by_fault None (Ok u) takes = record {
+      reached = reached_before printed old.subscriber (old.unread ++ bytes) new.subscriber new.unread takes.reached;
+      waits = takes.waits;
+      sound = takes.sound;
+    }
+    by_fault None (Err e) takes = record {
+      stops = record {
+        rest = takes.stops.rest;
+        reached = reached_before printed old.subscriber (old.unread ++ bytes) new.subscriber takes.stops.rest takes.stops.reached;
+        stops = stops_before printed e new.subscriber takes.stops.rest takes.stops.stops;
+      };
+      fails = takes.fails;
+    }
+
+follows_takes : (old new : ApplierState) (bytes : List ℕ) (result : Result (Unit {0}) ClientFault) → Takes old new bytes result → Follows old new bytes result
+follows_takes old new bytes result takes = by_fault old.fault refl result takes
+  where
+    by_fault : (fault : Option ClientFault) → old.fault ≡ fault → (result : Result (Unit {0}) ClientFault) → TakesFrom fault old new bytes result → Follows old new bytes result
+    by_fault (Some fault) is result takes = λ relation base text more items rests had fit e. let sound : old.fault ≡ None = had.sound in absurd cc
+    by_fault None is (Ok u) takes = follows_ok old new bytes takes.reached takes.waits takes.sound
+    by_fault None is (Err e) takes = follows_err old new bytes e takes.stops
+
+-- The law of an applier holds of it with all that was printed before.
+pub follows_printed : (printed : List Published) (old new : ApplierState) (bytes : List ℕ) (result : Result (Unit {0}) ClientFault) → Takes old new bytes result
+    → Follows (with_printed printed old) (with_printed printed new) bytes result
+follows_printed printed old new bytes result takes = follows_takes (with_printed printed old) (with_printed printed new) bytes result (takes_before printed old new bytes result takes)

@@ -1,0 +1,4 @@
+pub mod Kept
+pub mod Once
+pub mod Promise
+pub mod Retrying

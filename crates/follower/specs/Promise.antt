@@ -1,0 +1,48 @@
+-- All that is done with an intake over its connections, one deed after the other.
+use Rattle.std.specs.Prelude.{◌≡◌, ℕ, List, [], ◌∷◌, ◌++◌, None, Result, Ok, Err}
+use Rattle.stream.specs.declared.published.Published.{Published}
+use Rattle.client.specs.declared.fault.ClientFault.{ClientFault}
+use Rattle.client.specs.Subscriber.{resting}
+use Rattle.client.specs.Taking.{ApplierState, Takes}
+use Rattle.follower.specs.Once.{connected, forgotten}
+
+-- a connection begins; bytes come, of which this is answered; what is there is printed
+pub data Deed : Type 0 where
+  Connects : Deed
+  Hears : List ℕ → Result (Unit {0}) ClientFault → Deed
+  Prints : Deed
+
+abbrev pub Does : Deed → ApplierState → ApplierState → Type 0
+Does Connects old new = new ≡ connected old
+Does (Hears bytes result) old new = Takes old new bytes result
+Does Prints old new = new ≡ forgotten old
+
+abbrev pub Runs : ApplierState → List Deed → ApplierState → Type 0
+Runs old [] new = new ≡ old
+Runs old (deed ∷ deeds) new = (next : ApplierState) × Does deed old next × Runs next deeds new
+
+-- before anything is done
+abbrev pub begun_at : ℕ → ApplierState
+begun_at start = record { subscriber = resting start []; unread = []; fault = None }
+
+-- the transactions that were printed, in order
+abbrev pub printed_in : (old : ApplierState) (deeds : List Deed) (new : ApplierState) → Runs old deeds new → List Published
+printed_in old [] new run = []
+printed_in old (Connects ∷ deeds) new run = printed_in run.0 deeds new run.2
+printed_in old (Hears bytes result ∷ deeds) new run = printed_in run.0 deeds new run.2
+printed_in old (Prints ∷ deeds) new run = old.subscriber.applied ++ printed_in run.0 deeds new run.2
+
+-- on one connection, and without a fault
+abbrev pub AreHeard : List Deed → Type 0
+AreHeard [] = Unit {0}
+AreHeard (Connects ∷ deeds) = ⊥
+AreHeard (Hears bytes (Ok u) ∷ deeds) = AreHeard deeds
+AreHeard (Hears bytes (Err e) ∷ deeds) = ⊥
+AreHeard (Prints ∷ deeds) = AreHeard deeds
+
+-- the bytes that came
+abbrev pub heard : List Deed → List ℕ
+heard [] = []
+heard (Hears bytes result ∷ deeds) = bytes ++ heard deeds
+heard (Connects ∷ deeds) = heard deeds
+heard (Prints ∷ deeds) = heard deeds

@@ -1,0 +1,237 @@
+//! Following a slot over lost connections: each transaction printed once, whole, and acknowledged behind that.
+
+ghost use Rattle.std.specs.Prelude.{◌≡◌, [], OnOk};
+
+use crate::asking::{create_if_absent, greet, send, start_stream};
+use crate::fault::{FollowFault, told};
+use crate::incoming::Incoming;
+use crate::intake::Intake;
+use crate::options::Options;
+use crate::transcript::Transcript;
+use client::ClientFault;
+use copyboth::{ServerBody, read_server};
+use frames::{Back, Front};
+use pgoutput::{OutFault, RELATION, read_logical};
+use std::alloc::{AllocError, Global};
+use std::io::{Read, Write};
+use std::sync::Wait;
+
+/// What is followed over connections: how far it is, and what it still waits for.
+#[derive(Drop)]
+pub struct Subscription {
+    alloc: Global,
+    intake: Intake,
+    transcript: Transcript,
+    is_created: bool,
+    /// Whether the server was asked for a sign of life, and nothing has come since.
+    is_asked: bool,
+}
+
+impl Subscription {
+    /// Of one who has all that commits below the position of the options.
+    pub fn new(alloc: Global, options: &Options<'_>) -> Self {
+        Subscription {
+            alloc,
+            intake: Intake::new(alloc, options.position, options.count),
+            transcript: Transcript::new(alloc),
+            is_created: false,
+            is_asked: false,
+        }
+    }
+
+    /// All that commits below it was printed.
+    pub fn position(&self) -> u64 {
+        self.intake.position()
+    }
+}
+
+/// Follows the slot over one connection, as `follow` does, from where the subscription is. What `options.create` asks for is that the
+/// slot is there. Each transaction is printed when it is whole, and once, whatever came of it on connections before; the Relation
+/// of a table stands in front of its first change. What was printed is acknowledged before more is read, and where the server asks.
+/// Where a read of the socket gives up, the server is asked for a keepalive; where the next one does too, it is silent.
+///
+/// Where the fault is a passing one (`FollowFault::is_passing`), the subscription goes on over another connection. Once all is
+/// printed, a connection that is lost is no fault.
+pub fn resume<R: Wait, S: Read + Write, W: Write>(
+    rt: &R,
+    alloc: Global,
+    socket: &mut S,
+    options: &Options<'_>,
+    subscription: &mut Subscription,
+    output: &mut W,
+) -> Result<(), FollowFault> {
+    let mut incoming = Incoming::new(alloc);
+    subscription.ask_for_stream(rt, &mut incoming, socket, options)?;
+    let ended = subscription.take_frames(rt, &mut incoming, socket, output);
+    subscription.print(output)?;
+    ended?;
+    let _ = subscription.end_stream(socket);
+    Ok(())
+}
+
+impl Subscription {
+    /// Asks for the stream, up to its first frame. The slot is created once: if it is dropped later, what it missed would be lost.
+    fn ask_for_stream<R: Wait, S: Read + Write>(
+        &mut self,
+        rt: &R,
+        incoming: &mut Incoming,
+        socket: &mut S,
+        options: &Options<'_>,
+    ) -> Result<(), FollowFault> {
+        greet(rt, incoming, socket)?;
+        if options.create && !self.is_created {
+            create_if_absent(rt, self.alloc, incoming, socket, options.slot)?;
+            self.is_created = true;
+        }
+        self.is_asked = false;
+        let position = self.intake.connect();
+        start_stream(rt, self.alloc, incoming, socket, options, position)
+    }
+
+    /// Takes frames until all that is waited for is there.
+    fn take_frames<R: Wait, S: Read + Write, W: Write>(
+        &mut self,
+        rt: &R,
+        incoming: &mut Incoming,
+        socket: &mut S,
+        output: &mut W,
+    ) -> Result<(), FollowFault> {
+        for _ in rt.forever() {
+            if self.intake.is_complete() {
+                break;
+            }
+            match incoming.whole()? {
+                Some((frame, length)) => {
+                    self.take_frame(frame, incoming.front(length), socket, output)?;
+                    incoming.pass(length);
+                }
+                None => {
+                    self.settle(socket, output)?;
+                    self.wait(incoming, socket, output)?;
+                }
+            }
+        }
+        Ok(())
+    }
+
+    /// Waits for more.
+    fn wait<S: Read + Write, W: Write>(
+        &mut self,
+        incoming: &mut Incoming,
+        socket: &mut S,
+        output: &mut W,
+    ) -> Result<(), FollowFault> {
+        match incoming.read_more(socket) {
+            Err(FollowFault::Silent) if !self.is_asked => {
+                self.is_asked = true;
+                self.acknowledge(true, socket, output)
+            }
+            read => {
+                self.is_asked = false;
+                read
+            }
+        }
+    }
+
+    fn take_frame<S: Write, W: Write>(
+        &mut self,
+        frame: Back,
+        bytes: &[u8],
+        socket: &mut S,
+        output: &mut W,
+    ) -> Result<(), FollowFault> {
+        let taken = self.intake.take(bytes);
+        match frame {
+            Back::ErrorResponse(error) => Err(told(error)),
+            Back::CopyData(data) => {
+                taken?;
+                self.hear(data.bytes.as_slice(), socket, output)
+            }
+            Back::CopyDone => Err(FollowFault::Ended),
+            _ => Err(FollowFault::Client(ClientFault::Frame)),
+        }
+    }
+
+    /// What of a frame that was taken asks for more.
+    fn hear<S: Write, W: Write>(
+        &mut self,
+        body: &[u8],
+        socket: &mut S,
+        output: &mut W,
+    ) -> Result<(), FollowFault> {
+        match read_server(body) {
+            Ok(ServerBody::XLogData(data)) => self.hear_message(data.payload),
+            Ok(ServerBody::Keepalive(keepalive)) if keepalive.ask => {
+                self.acknowledge(false, socket, output)
+            }
+            Ok(ServerBody::Keepalive(_)) => Ok(()),
+            Err(_) => Err(FollowFault::Client(ClientFault::Frame)),
+        }
+    }
+
+    fn hear_message(&mut self, payload: &[u8]) -> Result<(), FollowFault> {
+        if payload.first() != Some(&RELATION) {
+            return Ok(());
+        }
+        match read_logical(self.alloc, payload) {
+            Ok(message) => Ok(self.transcript.tell(&message)?),
+            Err(OutFault::Memory) => Err(FollowFault::Client(ClientFault::Memory)),
+            Err(_) => Err(FollowFault::Client(ClientFault::Frame)),
+        }
+    }
+
+    /// Acknowledges what is there, where something is.
+    fn settle<S: Write, W: Write>(
+        &mut self,
+        socket: &mut S,
+        output: &mut W,
+    ) -> Result<(), FollowFault> {
+        if self.intake.unprinted().is_empty() {
+            return Ok(());
+        }
+        self.acknowledge(false, socket, output)
+    }
+
+    /// Tells the server the position, behind what was printed, and may ask for a keepalive.
+    fn acknowledge<S: Write, W: Write>(
+        &mut self,
+        ask: bool,
+        socket: &mut S,
+        output: &mut W,
+    ) -> Result<(), FollowFault> {
+        self.print(output)?;
+        let status = self.intake.status(ask);
+        socket.write_all(&status).map_err(FollowFault::Connection)
+    }
+
+    /// Prints what is there, and has it flushed.
+    fn print<W: Write>(&mut self, output: &mut W) -> Result<(), FollowFault>
+        ensures { OnOk result (self.new.intake.applier.subscriber.applied ≡ []) }
+    {
+        let lines = self.lines()?;
+        output
+            .write_all(lines.as_bytes())
+            .map_err(FollowFault::Output)?;
+        output.flush().map_err(FollowFault::Output)?;
+        self.intake.printed();
+        Ok(())
+    }
+
+    /// The lines of what is there. They are made before the first is printed, so that want of memory prints no half transaction.
+    fn lines(&mut self) -> Result<String, AllocError> {
+        let mut lines = String::new(self.alloc);
+        for transaction in self.intake.unprinted() {
+            self.transcript.add(transaction, &mut lines)?;
+        }
+        Ok(lines)
+    }
+
+    /// The last status, and the end of the stream.
+    fn end_stream<S: Write>(&self, socket: &mut S) -> Result<(), FollowFault>
+        requires { self.now.intake.applier.subscriber.applied ≡ [] }
+    {
+        let status = self.intake.status(false);
+        socket.write_all(&status).map_err(FollowFault::Connection)?;
+        send(self.alloc, socket, &Front::CopyDone)
+    }
+}

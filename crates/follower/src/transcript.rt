@@ -1,0 +1,111 @@
+//! Transactions as lines of text, and the tables that were told before them.
+
+use client::{Applied, render};
+use indexmap::IndexMap;
+use pgoutput::{Begin, Commit, Logical};
+use std::alloc::{AllocError, Global};
+
+/// What was told of tables, over all connections, and whether it is printed already: the Relation of a table stands once in front
+/// of its first change, though each connection tells it again.
+#[derive(Drop)]
+pub(crate) struct Transcript {
+    alloc: Global,
+    tables: IndexMap<u32, ToldTable>,
+}
+
+/// The line of a table's Relation.
+#[derive(Drop)]
+struct ToldTable {
+    line: String,
+    is_printed: bool,
+}
+
+impl Transcript {
+    pub(crate) fn new(alloc: Global) -> Self {
+        Transcript {
+            alloc,
+            tables: IndexMap::new(alloc),
+        }
+    }
+
+    /// Keeps what a Relation tells. Any other message tells of no table.
+    pub(crate) fn tell(&mut self, message: &Logical) -> Result<(), AllocError> {
+        let Logical::Relation(relation) = message else {
+            return Ok(());
+        };
+        let line = render(self.alloc, message)?;
+        if self.has_told(relation.oid, line.as_str()) {
+            return Ok(());
+        }
+        let table = ToldTable {
+            line,
+            is_printed: false,
+        };
+        self.tables.insert(relation.oid, table)?;
+        Ok(())
+    }
+
+    fn has_told(&self, oid: u32, line: &str) -> bool {
+        match self.tables.get(&oid) {
+            Some(table) => table.line.as_str() == line,
+            None => false,
+        }
+    }
+
+    /// Adds the lines of a transaction.
+    pub(crate) fn add(
+        &mut self,
+        transaction: &Applied,
+        lines: &mut String,
+    ) -> Result<(), AllocError> {
+        let begin = Logical::Begin(Begin {
+            position: transaction.start,
+            time: transaction.time,
+            xid: transaction.xid,
+        });
+        add_line(lines, render(self.alloc, &begin)?.as_str())?;
+        for change in transaction.changes.as_slice() {
+            self.add_tables(&change.message, lines)?;
+            add_line(lines, render(self.alloc, &change.message)?.as_str())?;
+        }
+        let commit = Logical::Commit(Commit {
+            position: transaction.start,
+            end: transaction.end,
+            time: transaction.time,
+        });
+        add_line(lines, render(self.alloc, &commit)?.as_str())
+    }
+
+    /// The tables that a change names, where they aren't printed yet.
+    fn add_tables(&mut self, change: &Logical, lines: &mut String) -> Result<(), AllocError> {
+        match change {
+            Logical::Insert(message) => self.add_table(message.oid, lines),
+            Logical::Update(message) => self.add_table(message.oid, lines),
+            Logical::Delete(message) => self.add_table(message.oid, lines),
+            Logical::Truncate(message) => self.add_all(message.oids.as_slice(), lines),
+            Logical::Begin(_) | Logical::Commit(_) | Logical::Relation(_) => Ok(()),
+        }
+    }
+
+    fn add_all(&mut self, oids: &[u32], lines: &mut String) -> Result<(), AllocError> {
+        for oid in oids {
+            self.add_table(*oid, lines)?;
+        }
+        Ok(())
+    }
+
+    fn add_table(&mut self, oid: u32, lines: &mut String) -> Result<(), AllocError> {
+        if let Some(table) = self.tables.get_mut(&oid) {
+            if !table.is_printed {
+                add_line(lines, table.line.as_str())?;
+                table.is_printed = true;
+            }
+        }
+        Ok(())
+    }
+}
+
+fn add_line(lines: &mut String, line: &str) -> Result<(), AllocError> {
+    lines.push_str(line)?;
+    lines.push('\n')
+}

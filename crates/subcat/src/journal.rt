@@ -1,0 +1,66 @@
+//! A file that keeps what is printed: where it ends the next run goes on.
+
+use crate::fault::Fault;
+use follower::Kept;
+use std::alloc::Global;
+use std::fs::{File, OpenOptions, TryLockError};
+use std::io;
+use std::io::{BufRead, BufReader, Write};
+
+/// An output that outlives its run, and that one run at a time has.
+///
+/// What was flushed is on the disk. A run that is killed leaves whole transactions and at most the beginning of one, which the next
+/// run cuts off.
+#[derive(Drop)]
+pub struct Journal {
+    file: File,
+}
+
+impl Journal {
+    /// Opens the file, or makes one, and answers what it holds of earlier runs. It is refused where it holds something else.
+    pub fn open(rt: &HostRuntime, alloc: Global, path: &str) -> Result<(Self, Kept), Fault> {
+        let mut options = OpenOptions::new();
+        options.read(true).append(true).create(true);
+        let file: File = options.open(rt, path).map_err(Fault::Journal)?;
+        file.try_lock().map_err(not_locked)?;
+        let kept = read(alloc, &file)?;
+        if kept.is_foreign {
+            return Err(Fault::ForeignJournal);
+        }
+        file.set_len(kept.length).map_err(Fault::Journal)?;
+        Ok((Journal { file }, kept))
+    }
+}
+
+fn not_locked(fault: TryLockError) -> Fault {
+    match fault {
+        TryLockError::WouldBlock => Fault::JournalInUse,
+        TryLockError::Error(fault) => Fault::Journal(fault),
+    }
+}
+
+/// Reads it from its front to its end.
+fn read(alloc: Global, file: &File) -> Result<Kept, Fault> {
+    let mut lines = BufReader::new(alloc, file).map_err(Fault::Journal)?;
+    let mut kept = Kept::new();
+    let mut line = Vec::new(alloc);
+    for _ in 0..u64::MAX {
+        line.clear();
+        let length = lines.read_until(b'\n', &mut line);
+        if length.map_err(Fault::Journal)? == 0 {
+            break;
+        }
+        kept.take(line.as_slice());
+    }
+    Ok(kept)
+}
+
+impl Write for Journal {
+    fn write(&mut self, bytes: &[u8]) -> io::Result<usize> {
+        self.file.write(bytes)
+    }
+
+    fn flush(&mut self) -> io::Result<()> {
+        self.file.sync_data()
+    }
+}

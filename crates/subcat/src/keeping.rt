@@ -1,0 +1,83 @@
+//! Following over lost connections.
+
+use crate::fault::Fault;
+use crate::journal::Journal;
+use follower::{FollowFault, Options, Pauses, Subscription, resume};
+use std::alloc::Global;
+use std::io::Write;
+use std::net::{Net, SocketAddr, TcpListener, TcpStream};
+use std::sync::Wait;
+use std::time::Duration;
+use std::{io, thread};
+
+/// For how many seconds a read waits. Then the server is asked whether it is there, and after as many more it is lost, as
+/// PostgreSQL's wal_receiver_timeout has it unless it is set.
+const PATIENCE: u64 = 30;
+
+/// Follows into the standard output.
+pub fn keep_printing<N: Net<Listener = TcpListener, Stream = TcpStream> + Wait>(
+    rt: &HostRuntime,
+    net: &N,
+    address: SocketAddr,
+    options: &Options,
+) -> Result<(), Fault> {
+    keep_following(rt, net, address, options, &mut io::writer(rt))
+}
+
+/// Follows into a file, from where it ends. What it holds counts.
+pub fn keep_in<N: Net<Listener = TcpListener, Stream = TcpStream> + Wait>(
+    rt: &HostRuntime,
+    net: &N,
+    address: SocketAddr,
+    options: &Options,
+    path: &str,
+) -> Result<(), Fault> {
+    let (mut journal, kept) = Journal::open(rt, rt.alloc(), path)?;
+    let options = Options {
+        position: options.position.max(kept.position),
+        count: options.count.saturating_sub(kept.transactions),
+        ..*options
+    };
+    keep_following(rt, net, address, &options, &mut journal)
+}
+
+/// Goes on over one connection after the other until all is printed. Each that was lost is told, with the pause behind it.
+fn keep_following<N: Net<Listener = TcpListener, Stream = TcpStream> + Wait, W: Write>(
+    rt: &HostRuntime,
+    net: &N,
+    address: SocketAddr,
+    options: &Options,
+    output: &mut W,
+) -> Result<(), Fault> {
+    let mut subscription = Subscription::new(rt.alloc(), options);
+    let mut pauses = Pauses::new();
+    for _ in net.forever() {
+        let stood = subscription.position();
+        let followed = follow_once(net, rt.alloc(), address, options, &mut subscription, output);
+        let Err(fault) = followed else {
+            return Ok(());
+        };
+        if !fault.is_passing() {
+            return Err(Fault::Follow(fault));
+        }
+        let pause = pauses.pause(stood < subscription.position());
+        let _ = eprintln!(rt; "subcat: {fault}; tries again in {pause} ms");
+        thread::sleep(rt, Duration::from_millis(pause));
+    }
+    unreachable!()
+}
+
+fn follow_once<N: Net<Listener = TcpListener, Stream = TcpStream> + Wait, W: Write>(
+    net: &N,
+    alloc: Global,
+    address: SocketAddr,
+    options: &Options,
+    subscription: &mut Subscription,
+    output: &mut W,
+) -> Result<(), FollowFault> {
+    let mut socket = TcpStream::connect(net, address).map_err(FollowFault::Connection)?;
+    let patience = Some(Duration::from_secs(PATIENCE));
+    let limited = socket.set_read_timeout(patience);
+    limited.map_err(FollowFault::Connection)?;
+    resume(net, alloc, &mut socket, options, subscription, output)
+}
