@@ -11,6 +11,9 @@ use std::time::Duration;
 /// The most connections that one run serves.
 const MOST_CONNECTIONS: u32 = 1000;
 
+/// In the place of their number for a server that goes on: with a connection each second it lasts for 136 years.
+const FOREVER: &str = "forever";
+
 const ABOUT: &str =
     "Serves logical replication of tables in memory to clients of PostgreSQL's streaming replication protocol";
 
@@ -62,6 +65,15 @@ by then. A client connects to it as to a walsender of PostgreSQL, with
 replication=database. A line of a script that is refused is printed on the standard error: the
 script's name, the line's number and a code, as in load.script 7 S4. The script then goes on.
 
+A script that is named - is the standard input. Its lines are done as they come, beside the
+connections, and each is answered on the standard output: by ok, behind a commit with the position
+at which it ends, as in ok 0/1000050, or by the code of its refusal. So another program can drive
+the server through a pipe:
+
+  pubd pubd.toml 127.0.0.1:5433 forever -
+
+serves until it is ended by a signal, and writes what it is told.
+
 It ends with 0 where that is done, with 2 where the arguments, the configuration or a script are
 refused, and with 1 where a file, the socket or memory fails.";
 
@@ -109,6 +121,9 @@ impl<'a> Words<'a> {
     }
 
     fn connections(&self) -> Result<u32, Fault> {
+        if self.connections == FOREVER {
+            return Ok(u32::MAX);
+        }
         match count_of(self.connections) {
             Some(count) if count <= MOST_CONNECTIONS => Ok(count),
             _ => Err(Fault::Connections),
@@ -169,7 +184,7 @@ const REQUIRED: [(&str, &str); 3] = [
     ),
     (
         "CONNECTIONS",
-        "After how many connections it ends: 0 to 1000",
+        "After how many connections it ends: 0 to 1000, or forever",
     ),
 ];
 
@@ -242,7 +257,7 @@ fn scripts(alloc: Global) -> Arg<'static> {
     Arg::new(alloc, "SCRIPT")
         .num_args(0..)
         .action(ArgAction::Append)
-        .help("Text files with one session line each line")
+        .help("Text files with one session line each line, or - for the standard input")
 }
 
 fn scripts_in<'a>(alloc: Global, matches: &ArgMatches<'a>) -> Result<Vec<&'a str>, AllocError> {

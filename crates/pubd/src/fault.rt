@@ -15,7 +15,7 @@ pub enum Fault {
     Usage(clap::Error),
     #[error("ADDR is an address and a port, as in 127.0.0.1:5433")]
     Address,
-    #[error("CONNECTIONS is a number from 0 to 1000")]
+    #[error("CONNECTIONS is a number from 0 to 1000, or forever")]
     Connections,
     #[error("N of --await-streams is a number from 0 to 4294967295")]
     Awaited,

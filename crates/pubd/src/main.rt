@@ -14,10 +14,11 @@ use configuration::{Config, explained};
 use fault::Fault;
 use hub::{Hub, OpenedHub, serve};
 use reports::{Level, Reports};
-use scripts::{Script, run_all, scripts_of};
+use scripting::run_spoken;
+use scripts::{SPOKEN, Script, run_all, scripts_of};
 use shared_log::LogName;
 use slots::SlotName;
-use std::io::Print;
+use std::io::{Print, Stdin};
 use std::marker::Brand;
 use std::net::{Net, SocketAddr, TcpListener, TcpStream};
 use std::process::ExitCode;
@@ -25,7 +26,7 @@ use std::sync::Wait;
 use std::sync::atomic::{AtomicBool, Ordering};
 use std::thread::Threads;
 use std::time::Clock;
-use std::{env, fs, thread};
+use std::{env, fs, io, thread};
 
 fn main(rt: HostRuntime) -> ExitCode {
     match run(&rt, &rt) {
@@ -55,7 +56,8 @@ where
 {
     let numbers = words.numbers()?;
     let scripts = scripts_of(rt, words.scripts.as_slice())?;
-    listen(rt, host, words.config, &numbers, scripts.as_slice())
+    let spoken = words.scripts.as_slice().contains(&SPOKEN);
+    listen(rt, host, words.config, &numbers, scripts.as_slice(), spoken)
 }
 
 fn listen<R>(
@@ -64,6 +66,7 @@ fn listen<R>(
     config: &str,
     numbers: &Numbers,
     scripts: &[Script],
+    spoken: bool,
 ) -> Result<(), Fault>
 where
     R: Net<Listener = TcpListener, Stream = TcpStream> + Threads + Wait + Clock + Sync,
@@ -76,9 +79,15 @@ where
         awaited: numbers.awaited,
         level: numbers.level,
         scripts,
+        spoken,
     };
     let opened = opened(rt, config, numbers)?;
-    served::<Brand, R, _, _>(host, opened, &service, &rt.stdout(), &rt.stderr())
+    let streams = Streams {
+        input: &rt.stdin(),
+        output: &rt.stdout(),
+        errors: &rt.stderr(),
+    };
+    served::<Brand, R, _, _>(host, opened, &service, &streams)
 }
 
 /// A hub for the configuration at this path, with those limits that are told.
@@ -125,6 +134,16 @@ struct Service<'a> {
     awaited: u64,
     level: Level,
     scripts: &'a [Script],
+    /// Whether session lines come from the standard input.
+    spoken: bool,
+}
+
+/// Where session lines come from, where they are answered, and where faults are told.
+#[derive(Clone, Copy)]
+struct Streams<'a, O: Print, E: Print> {
+    input: &'a Stdin,
+    output: &'a O,
+    errors: &'a E,
 }
 
 /// The log and the slots are named by the call. A hub must be closed, so whatever may fail stands in a call that borrows it.
@@ -132,8 +151,7 @@ fn served<L, R, O, E>(
     rt: &R,
     opened: OpenedHub,
     service: &Service,
-    output: &O,
-    errors: &E,
+    streams: &Streams<O, E>,
 ) -> Result<(), Fault>
 where
     L: LogName + SlotName + Send + Sync,
@@ -144,7 +162,10 @@ where
     requires slots { opened.slots.first.table_id ≡ L.table }
 {
     let hub = Hub::<L>::open(rt, opened).map_err(Fault::Hub)?;
-    let done = serve_beside_scripts(rt, &hub, service, output, errors);
+    let done = match service.spoken {
+        true => serve_spoken(rt, &hub, service, streams),
+        false => serve_beside_scripts(rt, &hub, service, streams.output, streams.errors),
+    };
     hub.close(rt);
     done
 }
@@ -176,6 +197,67 @@ where
         return Err(Fault::EndedEarly);
     }
     Ok(())
+}
+
+/// The same beside lines of the standard input, which are done on this thread.
+fn serve_spoken<L, R, O, E>(
+    rt: &R,
+    hub: &Hub<L>,
+    service: &Service,
+    streams: &Streams<O, E>,
+) -> Result<(), Fault>
+where
+    L: LogName + SlotName + Send + Sync,
+    R: Threads + Wait + Clock + Sync,
+    O: Print,
+    E: Print + Sync,
+{
+    println!(streams.output; "listening {}", service.address).map_err(Fault::Output)?;
+    let ended_early = AtomicBool::new(false);
+    let early = &ended_early;
+    let errors = streams.errors;
+    thread::scope(thread::scope_env(), rt, |scope| {
+        let scripted = scope.spawn(move || run_awaited(rt, hub, service, errors, early));
+        let served = scope.spawn(move || serve_apart(rt, hub, service, errors, early));
+        if scripted.is_err() || served.is_err() {
+            return Err(Fault::Memory);
+        }
+        run_heard(rt, hub, streams, early);
+        Ok(())
+    })?;
+    if ended_early.load(Ordering::SeqCst) {
+        return Err(Fault::EndedEarly);
+    }
+    Ok(())
+}
+
+/// The lines of the standard input are done as they come, and answered on the standard output.
+fn run_heard<L, R, O, E>(rt: &R, hub: &Hub<L>, streams: &Streams<O, E>, early: &AtomicBool)
+where
+    L: LogName + SlotName,
+    R: Wait,
+    O: Print,
+    E: Print,
+{
+    let mut answers = io::writer(streams.output);
+    if let Err(fault) = run_spoken(rt, hub, streams.input, &mut answers) {
+        let errors = streams.errors;
+        let _ = errors.println(format_args!("pubd: {SPOKEN}: {fault}"));
+        early.store(true, Ordering::SeqCst);
+    }
+}
+
+/// Serves beside the thread that reads the standard input. Why it ended early is told at once, and by `early`.
+fn serve_apart<L, R, E>(rt: &R, hub: &Hub<L>, service: &Service, errors: &E, early: &AtomicBool)
+where
+    L: LogName + SlotName + Send + Sync,
+    R: Threads + Wait + Clock + Sync,
+    E: Print + Sync,
+{
+    if let Err(fault) = serve_all(rt, hub, service, errors) {
+        let _ = errors.println(format_args!("pubd: {fault}"));
+        early.store(true, Ordering::SeqCst);
+    }
 }
 
 /// The scripts begin once the streams that they await have begun.

@@ -20,11 +20,16 @@ pub struct Script {
     lines: Schedule,
 }
 
-/// The scripts at these paths, in order.
+/// Stands in the place of a script's path for the standard input.
+pub const SPOKEN: &str = "-";
+
+/// The scripts at these paths, in order, but for the standard input.
 pub fn scripts_of(rt: &HostRuntime, paths: &[&str]) -> Result<Vec<Script>, Fault> {
     let mut scripts = Vec::with_capacity(rt.alloc(), paths.len())?;
     for path in paths {
-        scripts.push(script_at(rt, path)?)?;
+        if *path != SPOKEN {
+            scripts.push(script_at(rt, path)?)?;
+        }
     }
     Ok(scripts)
 }

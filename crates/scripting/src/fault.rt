@@ -11,6 +11,10 @@ pub enum ScriptFault {
     Memory,
     #[error("refusals cannot be written: {0}")]
     Refusals(io::Error),
+    #[error("no more lines can be read: {0}")]
+    Lines(io::Error),
+    #[error("answers cannot be written: {0}")]
+    Answers(io::Error),
 }
 
 impl From<AllocError> for ScriptFault {

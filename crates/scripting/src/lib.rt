@@ -3,6 +3,8 @@
 
 mod fault;
 mod script;
+mod spoken;
 
 pub use fault::ScriptFault;
 pub use script::run_script;
+pub use spoken::run_spoken;

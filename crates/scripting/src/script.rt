@@ -10,7 +10,7 @@ use std::io::Write;
 use std::sync::{MutexGuard, Wait};
 
 /// The code of a line whose transaction's name is unknown, or in use already.
-const BAD_LINE: &str = "V1";
+pub(crate) const BAD_LINE: &str = "V1";
 
 /// Does the lines of a script in order, each under the publisher's lock, and tells streams of each commit.
 ///
@@ -25,10 +25,14 @@ pub fn run_script<L: LogName + SlotName, R: Wait, W: Write>(
 ) -> Result<(), ScriptFault> {
     let mut sessions = Sessions::new(hub.alloc());
     let done = do_lines(rt, hub, name, script, &mut sessions, refusals);
+    leave_all(rt, hub, sessions);
+    done
+}
+
+pub(crate) fn leave_all<L: LogName + SlotName, R: Wait>(rt: &R, hub: &Hub<L>, sessions: Sessions) {
     let publisher = hub.publisher().lock(rt);
     sessions.leave_all(&publisher);
     MutexGuard::unlock(publisher);
-    done
 }
 
 fn do_lines<L: LogName + SlotName, R: Wait, W: Write>(
