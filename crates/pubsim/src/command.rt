@@ -1,5 +1,6 @@
 //! The words of the command line.
 
+use crate::simulation::Form;
 use clap::{Arg, ArgAction, ArgMatches, Command, Error};
 use std::alloc::{AllocError, Global};
 
@@ -80,7 +81,9 @@ For example:
 
 It prints a line for each event that was refused, the number of its line and a code, as in
 7 S1; and then a line for each sender: the connection's name, a colon and the bytes that
-it produced, in hexadecimal. Then a line for each slot, as in slot s 0/1000050: how far it is
+it produced, in hexadecimal. With --render these are lines of text, one for each frame: the
+position that it carries, and its message, as in 0/1000030 BEGIN 700 0/1000030 5, or KEEPALIVE.
+Then a line for each slot, as in slot s 0/1000050: how far it is
 confirmed; and for each subscriber to which bytes were delivered, as in sub c 0/1000050 1: its
 position, and how many transactions it has applied.
 
@@ -93,9 +96,13 @@ or memory runs out.";
 pub struct Words<'a> {
     pub config: &'a str,
     pub schedule: &'a str,
+    pub form: Form,
 }
 
-/// Both words, or the text for a user who asks for help or gives other words.
+/// The word by which streams are printed as text.
+const RENDER: &str = "render";
+
+/// All words, or the text for a user who asks for help or gives other words.
 pub fn words_of<'a>(alloc: Global, words: &'a [String]) -> Result<Words<'a>, Error> {
     let matches = command_of(alloc)?.try_get_matches_from(words)?;
     Ok(words_in(&matches))
@@ -106,10 +113,18 @@ fn command_of<'a>(alloc: Global) -> Result<Command<'a>, AllocError> {
         .about(ABOUT)
         .after_help(AFTER_HELP)
         .bin_name("pubsim")?;
+    command = command.arg(render(alloc))?;
     for (name, help) in &REQUIRED {
         command = command.arg(required(alloc, *name, *help))?;
     }
     Ok(command)
+}
+
+fn render(alloc: Global) -> Arg<'static> {
+    Arg::new(alloc, RENDER)
+        .long(RENDER)
+        .action(ArgAction::SetTrue)
+        .help("Print what each sender produced as text, a line for each frame")
 }
 
 fn required<'a>(alloc: Global, name: &'a str, help: &'a str) -> Arg<'a> {
@@ -119,9 +134,14 @@ fn required<'a>(alloc: Global, name: &'a str, help: &'a str) -> Arg<'a> {
         .help(help)
 }
 
-/// Both are required, so both are there.
+/// All but --render are required, so they are there.
 fn words_in<'a>(matches: &ArgMatches<'a>) -> Words<'a> {
+    let form = match matches.get_flag(RENDER) {
+        true => Form::Text,
+        false => Form::Digits,
+    };
     Words {
+        form,
         config: matches.get_str("CONFIG").unwrap_or(""),
         schedule: matches.get_str("SCHEDULE").unwrap_or(""),
     }

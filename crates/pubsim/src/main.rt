@@ -4,12 +4,13 @@
 
 mod command;
 mod fault;
+mod rendering;
 mod simulation;
 
 use command::{Words, words_of};
 use configuration::{Config, explained};
 use fault::Fault;
-use simulation::simulate;
+use simulation::{Form, simulate};
 use std::io::{BufWriter, Read};
 use std::process::ExitCode;
 use std::sync::Wait;
@@ -36,18 +37,19 @@ fn run<R: Wait>(rt: &HostRuntime, waits: &R) -> Result<(), Fault> {
 fn run_words<R: Wait>(rt: &HostRuntime, waits: &R, words: Words) -> Result<(), Fault> {
     let config = config_of(rt, words.config)?;
     let mut schedule = fs::open(rt, words.schedule).map_err(Fault::Open)?;
-    run_schedule(rt, waits, config, &mut schedule)
+    run_schedule(rt, waits, config, words.form, &mut schedule)
 }
 
 fn run_schedule<R: Wait, I: Read>(
     rt: &HostRuntime,
     waits: &R,
     config: Config,
+    form: Form,
     schedule: &mut I,
 ) -> Result<(), Fault> {
     let alloc = rt.alloc();
     let mut output = BufWriter::new(alloc, io::writer(rt)).map_err(Fault::Output)?;
-    simulate(waits, alloc, config, schedule, &mut output).map_err(Fault::Run)
+    simulate(waits, alloc, config, form, schedule, &mut output).map_err(Fault::Run)
 }
 
 fn config_of(rt: &HostRuntime, path: &str) -> Result<Config, Fault> {

@@ -4,6 +4,7 @@ ghost use Rattle.std.specs.Prelude.{◌≡◌, Err, false};
 ghost use Rattle.pubsim.specs.declared.simulation.SimFault.{SimFault};
 ghost use Rattle.pubsim.specs.Simulation.{is_bad_schedule, is_writing};
 
+use crate::rendering::write_rendered;
 use configuration::Config;
 use schedule::{
     BadEvent, LineFault, Schedule, WorldFault, write_refusals, write_slot, write_stream,
@@ -18,6 +19,13 @@ use std::marker::Brand;
 use std::sync::Wait;
 use thiserror::Error;
 use world::{RunFault, Subscriber, World};
+
+/// How what a sender produced is written: its bytes in hexadecimal, or a line for each frame.
+#[derive(Clone, Copy, PartialEq, Eq)]
+pub enum Form {
+    Digits,
+    Text,
+}
 
 /// Why a schedule was not run and reported.
 #[derive(Debug, Drop, Error)]
@@ -58,6 +66,7 @@ pub fn simulate<R: Wait, I: Read, W: Write>(
     rt: &R,
     alloc: Global,
     config: Config,
+    form: Form,
     input: &mut I,
     output: &mut W,
 ) -> Result<(), SimFault>
@@ -65,7 +74,16 @@ pub fn simulate<R: Wait, I: Read, W: Write>(
 {
     let schedule = read_schedule(alloc, input)?;
     let slots = OpenedSlots::new(alloc).map_err(|_| SimFault::Memory)?;
-    report_run::<Brand, R, W>(rt, alloc, Opened::new(), slots, config, schedule, output)
+    report_run::<Brand, R, W>(
+        rt,
+        alloc,
+        Opened::new(),
+        slots,
+        config,
+        schedule,
+        form,
+        output,
+    )
 }
 
 /// Runs the events over a log that the call names, and writes the report.
@@ -76,6 +94,7 @@ fn report_run<L: LogName + SlotName, R: Wait, W: Write>(
     slots: OpenedSlots,
     config: Config,
     schedule: Schedule,
+    form: Form,
     output: &mut W,
 ) -> Result<(), SimFault>
     requires log { history.seen.book ≡ L.book }
@@ -84,7 +103,7 @@ fn report_run<L: LogName + SlotName, R: Wait, W: Write>(
 {
     match World::<L>::run(rt, alloc, history, slots, config, schedule.events()) {
         Ok(world) => {
-            let written = write_report(alloc, output, &schedule, &world);
+            let written = write_report(alloc, output, &schedule, form, &world);
             world.close(rt);
             written.map_err(SimFault::Write)
         }
@@ -124,11 +143,15 @@ fn write_report<L: LogName + SlotName, W: Write>(
     alloc: Global,
     output: &mut W,
     schedule: &Schedule,
+    form: Form,
     world: &World<L>,
 ) -> io::Result<()> {
     write_refusals(output, schedule.lines(), world.answers())?;
     for start in world.starts() {
-        write_stream(alloc, output, start.connection(), start.produced())?;
+        match form {
+            Form::Digits => write_stream(alloc, output, start.connection(), start.produced())?,
+            Form::Text => write_rendered(alloc, output, start.connection(), start.produced())?,
+        }
     }
     for slot in world.slots() {
         write_slot(alloc, output, slot.name(), slot.confirmed())?;
