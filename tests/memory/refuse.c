@@ -1,7 +1,8 @@
-/* Refuses memory to the program that it is loaded into, once: the allocation whose number the variable REFUSE has, counted
-   from 1. The variable REFUSE_TELLS has the number of a descriptor, to which the count of all allocations goes in the end. */
+/* Refuses memory to the program that it is loaded into: once, the allocation whose number the variable REFUSE has, counted
+   from 1, and all from that on whose number the variable REFUSE_FROM has. The variable REFUSE_TELLS has the number of a descriptor, to which the count of all allocations goes in the end. */
 #define _GNU_SOURCE
 #include <errno.h>
+#include <limits.h>
 #include <stdatomic.h>
 #include <stdio.h>
 #include <stdlib.h>
@@ -14,7 +15,7 @@ void *__libc_realloc(void *old, size_t size);
 void *__libc_memalign(size_t align, size_t size);
 
 static atomic_long counted;
-static long refused;
+static long refused, refused_from;
 static int teller = -1;
 
 static long number_in(const char *name, long other) {
@@ -24,6 +25,7 @@ static long number_in(const char *name, long other) {
 
 __attribute__((constructor)) static void begin(void) {
     refused = number_in("REFUSE", 0);
+    refused_from = number_in("REFUSE_FROM", LONG_MAX);
     teller = (int)number_in("REFUSE_TELLS", -1);
     atomic_store(&counted, 0);
 }
@@ -43,7 +45,8 @@ void _exit(int status) {
 }
 
 static int is_refused(void) {
-    if (atomic_fetch_add(&counted, 1) + 1 != refused)
+    long number = atomic_fetch_add(&counted, 1) + 1;
+    if (number != refused && number < refused_from)
         return 0;
     errno = ENOMEM;
     return 1;

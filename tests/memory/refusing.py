@@ -31,10 +31,17 @@ def run(words, shim, number):
     return end(*begin(words, shim, number))
 
 
-def begin(words, shim, number, given=subprocess.DEVNULL):
+def run_without(words, shim, number):
+    """Runs a program; its allocations from this number on are refused."""
+    return end(*begin(words, shim, 0, refused_from=number))
+
+
+def begin(words, shim, number, given=subprocess.DEVNULL, refused_from=None):
     """A program that runs so, and where the count of its allocations comes in the end."""
     reads, writes = os.pipe()
     env = dict(os.environ, LD_PRELOAD=str(shim), REFUSE=str(number), REFUSE_TELLS=str(writes))
+    if refused_from is not None:
+        env["REFUSE_FROM"] = str(refused_from)
     process = subprocess.Popen(words, stdin=given, stdout=subprocess.PIPE, stderr=subprocess.PIPE, text=True, env=env, pass_fds=[writes])
     os.close(writes)
     return process, reads

@@ -4,14 +4,14 @@
 use crate::number;
 use anyhow::{Context, Result, bail};
 use pqformat::Text;
-use rowfilter::{Filter, Truth, parse};
+use rowfilter::{Filter, parse};
 use std::alloc::Global;
 use std::io::Print;
-use tables::{Catalog, Row, Value};
+use tables::{Catalog, Row, RowRef, Value};
 
-const ITEM: u32 = 16384;
+pub const ITEM: u32 = 16384;
 
-const ITEM_TABLE: &str = "\
+pub const ITEM_TABLE: &str = "\
 [[table]]
 oid = 16384
 schema = 'public'
@@ -53,7 +53,7 @@ fn rows(alloc: Global) -> Result<Vec<Row>> {
     Ok(rows)
 }
 
-fn row(alloc: Global, id: i32, name: Text) -> Result<Row> {
+pub fn row(alloc: Global, id: i32, name: Text) -> Result<Row> {
     let values = vec![in alloc;
         Value::Int4(id),
         Value::Text(name),
@@ -62,7 +62,7 @@ fn row(alloc: Global, id: i32, name: Text) -> Result<Row> {
     Ok(Row::new(values))
 }
 
-fn filter(alloc: Global) -> Result<Filter> {
+pub fn filter(alloc: Global) -> Result<Filter> {
     filter_over(alloc, &Catalog::from_toml(alloc, ITEM_TABLE)?)
 }
 
@@ -83,7 +83,7 @@ fn turns_by_filter(alloc: Global, turns: u32, rows: &[Row]) -> Result<u64> {
 fn passed_by_filter(filter: &Filter, rows: &[Row]) -> u64 {
     let mut passed: u64 = 0;
     for row in rows {
-        if filter.truth(row) == Truth::True {
+        if filter.holds(&RowRef::of(row)) {
             passed = passed.saturating_add(1);
         }
     }

@@ -1,5 +1,5 @@
 //! Short uses of the crates, each in a file of its own, to read and to time: `example_uses USE [then USE]..`. The first three are first
-//! steps, and the last is a small service. What the others print is small, so that many turns of them measure their speed.
+//! steps, and the last is a small service. What the others print is small, so that many turns of them measure their speed, or nothing.
 //! `example_uses` alone says which there are.
 #![tactic(auto)]
 
@@ -11,6 +11,7 @@ mod filters;
 mod orders;
 mod sending;
 mod subscriber;
+mod without_memory;
 
 use anyhow::{Context, Result, bail};
 use chunks::work_on_arena;
@@ -27,6 +28,7 @@ use std::sync::Wait;
 use std::thread::Threads;
 use std::time::Clock;
 use subscriber::follow_stream;
+use without_memory::call_without_memory;
 
 const USAGE: &str = "usage: example_uses USE [then USE].., where a USE is one of
   stream
@@ -35,6 +37,7 @@ const USAGE: &str = "usage: example_uses USE [then USE].., where a USE is one of
   filter TURNS filter|hand
   slots slots|words|apart THREADS TURNS
   arena CHUNKS LENGTH TURNS push|copy
+  without-memory arena|store|slots|log|wire|filter|message made|called
   orders";
 
 /// The word between two uses.
@@ -63,6 +66,7 @@ where
         "filter" => work_on_filters(rt, alloc, words),
         "slots" => work_on_slots(rt, alloc, words),
         "arena" => work_on_arena(alloc, words),
+        "without-memory" => call_without_memory(rt, alloc, words),
         "orders" => follow_orders(rt, alloc),
         _ => bail!("{USAGE}"),
     }

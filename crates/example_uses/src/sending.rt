@@ -20,7 +20,7 @@ use wal::FIRST_POSITION;
 const CHUNKS: usize = 64;
 
 /// One table, and a publication of it.
-const CONFIGURATION: &str = "\
+pub const CONFIGURATION: &str = "\
 [[table]]
 oid = 16384
 schema = 'public'
@@ -62,13 +62,13 @@ fn session_sent<L: LogName, R: Wait>(
 }
 
 /// A sender of what the publication `p` publishes, from the beginning of the log on.
-fn sender_of_p(alloc: Global, catalog: &Catalog) -> Result<Sender> {
+pub fn sender_of_p(alloc: Global, catalog: &Catalog) -> Result<Sender> {
     let selection = selection_of_p(alloc, catalog)?;
     let arena = Arena::new(alloc, CHUNKS)?;
     Ok(Sender::start(alloc, selection, 0, FIRST_POSITION, arena)?)
 }
 
-fn selection_of_p(alloc: Global, catalog: &Catalog) -> Result<Selection> {
+pub fn selection_of_p(alloc: Global, catalog: &Catalog) -> Result<Selection> {
     let name = Text::copy_of(alloc, "p")?;
     let publications = Publications::from_toml(alloc, CONFIGURATION, catalog)?;
     Ok(publications.select(&[name])?)
@@ -135,7 +135,7 @@ fn write<L: LogName, R: Wait>(
 }
 
 /// A row of the table public.item.
-fn item(alloc: Global, id: i32, name: &str, qty: i64) -> Result<Row, SessionFault> {
+pub fn item(alloc: Global, id: i32, name: &str, qty: i64) -> Result<Row, SessionFault> {
     let name = Value::Text(Text::copy_of(alloc, name)?);
     Ok(Row::new(vec![in alloc; Value::Int4(id), name, Value::Int8(qty)]?))
 }

@@ -1,0 +1,34 @@
+//! A store: changes undone and forgotten.
+
+use crate::filters::{ITEM, ITEM_TABLE, row};
+use anyhow::{Result, ensure};
+use pqformat::Text;
+use std::alloc::Global;
+use store::Store;
+use tables::Catalog;
+
+/// The transaction that changes it.
+const TOP: u32 = 700;
+
+pub fn work(alloc: Global, is_called: bool) -> Result<()> {
+    let mut store = Store::new(alloc, Catalog::from_toml(alloc, ITEM_TABLE)?);
+    insert(&mut store, alloc, 1)?;
+    insert(&mut store, alloc, 2)?;
+    let is_right = !is_called || is_undone(&mut store);
+    ensure!(is_right, "a store's calls answer otherwise");
+    Ok(())
+}
+
+fn insert(store: &mut Store, alloc: Global, id: i32) -> Result<()> {
+    let row = row(alloc, id, Text::copy_of(alloc, "name")?)?;
+    store.insert(TOP, ITEM, row)?;
+    Ok(())
+}
+
+fn is_undone(store: &mut Store) -> bool {
+    let both = store.mark(TOP);
+    store.undo_to(TOP, 1);
+    let one = store.mark(TOP);
+    store.forget(TOP);
+    both == 2 && one == 1 && store.mark(TOP) == 0
+}

@@ -1,0 +1,120 @@
+//! A log and a sender: what a reader learns and where it goes, and what is drained of what the sender read.
+
+ghost use Rattle.std.specs.Prelude.{◌≡◌};
+
+use crate::sending::{CONFIGURATION, item, sender_of_p};
+use anyhow::{Context, Result, ensure};
+use sender::Sender;
+use shared_log::{LogName, LogReader, ReadFault};
+use std::alloc::Global;
+use std::marker::Brand;
+use std::sync::Wait;
+use tables::Catalog;
+use txlog::{Opened, Publisher, Receipt, SessionFault, Tx};
+use wal::FIRST_POSITION;
+
+/// How many bytes are sent of the transaction.
+const LENGTH: usize = 253;
+
+/// Where the transaction ends.
+const END: u64 = 0x100_0050;
+
+pub fn work<R: Wait>(rt: &R, alloc: Global, is_called: bool) -> Result<()> {
+    let catalog = Catalog::from_toml(alloc, CONFIGURATION)?;
+    let opened = Opened::new(alloc, catalog, 100, 1)?;
+    over_log::<Brand, R>(rt, alloc, opened, is_called)
+}
+
+/// The log is named by the call. A publisher must be closed, so whatever may fail stands in calls that borrow it.
+fn over_log<L: LogName, R: Wait>(
+    rt: &R,
+    alloc: Global,
+    opened: Opened,
+    is_called: bool,
+) -> Result<()>
+    requires { opened.history.seen.book ≡ L.book }
+{
+    let (mut publisher, readers) = Publisher::<L>::open(rt, opened)?;
+    let done = with_reader(rt, alloc, &mut publisher, readers, is_called);
+    publisher.close(rt);
+    done
+}
+
+fn with_reader<L: LogName, R: Wait>(
+    rt: &R,
+    alloc: Global,
+    publisher: &mut Publisher<L>,
+    mut readers: Vec<LogReader<L>>,
+    is_called: bool,
+) -> Result<()> {
+    let receipt = commit_one(rt, alloc, publisher)?;
+    let mut reader = readers.pop().context("a log has a reader")?;
+    let mut sender = sender_of_p(alloc, publisher.catalog())?;
+    feed(alloc, publisher, &mut reader, &mut sender)?;
+    let left = publisher.begin()?;
+    if !is_called {
+        publisher.leave(left);
+        return Ok(());
+    }
+    let is_read = is_read(publisher, &mut reader, &receipt, left);
+    ensure!(
+        is_read? && is_drained(&mut sender),
+        "a log's calls answer otherwise"
+    );
+    Ok(())
+}
+
+/// A transaction with one insert.
+fn commit_one<L: LogName, R: Wait>(
+    rt: &R,
+    alloc: Global,
+    publisher: &mut Publisher<L>,
+) -> Result<Receipt<L>, SessionFault> {
+    let row = item(alloc, 1, "ab", 7)?;
+    let mut tx = publisher.begin()?;
+    let inserted = publisher.insert(rt, &mut tx, 16384, row);
+    match publisher.commit(rt, tx, 5) {
+        Ok(receipt) => inserted.map(|()| receipt),
+        Err((tx, fault)) => {
+            publisher.leave(tx);
+            Err(fault)
+        }
+    }
+}
+
+fn feed<L: LogName>(
+    alloc: Global,
+    publisher: &mut Publisher<L>,
+    reader: &mut LogReader<L>,
+    sender: &mut Sender,
+) -> Result<()> {
+    publisher.tell(reader);
+    let records = reader.fetch(alloc, 100)?;
+    sender.feed(records.as_slice(), 9)?;
+    Ok(())
+}
+
+fn is_read<L: LogName>(
+    publisher: &mut Publisher<L>,
+    reader: &mut LogReader<L>,
+    receipt: &Receipt<L>,
+    left: Tx,
+) -> Result<bool, ReadFault> {
+    publisher.leave(left);
+    reader.learn(receipt.told());
+    let told = publisher.tell(reader);
+    let restart = reader.resume(END, told)?;
+    let ended = reader.place();
+    reader.seek(0);
+    Ok(told == 2 && restart == END && ended == 2 && reader.place() == 0 && publisher.end() == END)
+}
+
+fn is_drained(sender: &mut Sender) -> bool {
+    let mut bytes = [0; LENGTH];
+    let (front, back) = bytes.split_at_mut(100);
+    let drained = sender.drain(front) + sender.drain(back);
+    drained == LENGTH
+        && !sender.holds_bytes()
+        && sender.position() == END
+        && sender.free_chunks() > 0
+}
