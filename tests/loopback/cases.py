@@ -8,6 +8,7 @@ import time
 
 from connection import STARTUP, TERMINATE, Connection, Refused, keepalive, refusal_of_one_more, status
 from crowds import sixteen_clients_at_sixteen_slots, sixteen_streams_tell_the_same_of_eight_scripts
+from driving import a_driven_server_ends_with_its_input_and_its_connections, each_line_is_answered_as_it_comes
 from followers import (
     a_refusal_without_a_reason_is_one_all_the_same,
     acknowledgements_follow_what_was_printed,
@@ -24,7 +25,15 @@ from limits import (
     only_what_is_asked_for_is_told,
 )
 from link import Link
-from server import NOBODY, Server, inserts
+from resuming import (
+    a_refusal_for_good_ends_it,
+    a_silent_server_is_asked_and_then_lost,
+    an_output_of_others_is_left_alone,
+    cuts_and_kills_lose_and_repeat_nothing,
+    cuts_do_not_show,
+    pauses_grow_and_begin_again,
+)
+from server import FIRST, NOBODY, Server, inserts, printed_of_inserts
 
 HERE = pathlib.Path(__file__).resolve().parent
 CONVERSATION = HERE / "conversation.frames"
@@ -40,8 +49,6 @@ ENOUGH = 200
 LONGEST_STARTUP = 10_000
 # Those of a stream, as the configuration has it; each has room for two of the longest rows.
 CHUNKS = 64
-# Where the log begins.
-FIRST = 0x1000000
 
 
 def a_conversation_goes_frame_by_frame(pubd, subcat):
@@ -275,18 +282,6 @@ def two_followers_print_what_a_script_commits(pubd, subcat):
         return wrong + server.end(refused=[f"{server.script} {3 * count + 1} V1"])
 
 
-def printed_of_inserts(count):
-    """What subcat prints of so many transactions, each of one insert, which takes 48 bytes of the log, and its Commit 32."""
-    lines = []
-    for k in range(1, count + 1):
-        start = FIRST + 80 * k - 32
-        commit, end = (f"{at >> 32:X}/{at & 0xFFFFFFFF:X}" for at in (start, start + 32))
-        lines.append(f"BEGIN {699 + k} {commit} {k}")
-        lines += ["RELATION 16384 public.item d id:23* name:25 qty:20"] * (k == 1)
-        lines += [f"INSERT 16384 N('{k}','ab','7')", f"COMMIT {commit} {end} {k}"]
-    return "".join(f"{line}\n" for line in lines)
-
-
 def an_acknowledgement_holds_over_a_close(pubd, subcat):
     """However its connection ends behind it: the next stream of the slot begins with the next transaction."""
     ways = [in_one_write, in_two_writes, without_terminate, by_a_reset, with_unread_bytes]
@@ -368,6 +363,8 @@ def a_startup_of_many_parameters_is_answered(pubd, subcat):
         return server.end()
 
 
+# What takes a minute of pauses: it runs beside all others.
+LONG = [cuts_and_kills_lose_and_repeat_nothing, a_silent_server_is_asked_and_then_lost]
 ALL = [
     a_conversation_goes_frame_by_frame,
     nothing_is_lost_with_connections,
@@ -382,9 +379,15 @@ ALL = [
     two_followers_print_what_a_script_commits,
     sixteen_streams_tell_the_same_of_eight_scripts,
     sixteen_clients_at_sixteen_slots,
+    each_line_is_answered_as_it_comes,
+    a_driven_server_ends_with_its_input_and_its_connections,
     an_acknowledgement_holds_over_a_close,
     an_acknowledgement_holds_over_a_blocked_write,
     restarts_lose_and_repeat_nothing,
+    cuts_do_not_show,
+    pauses_grow_and_begin_again,
+    a_refusal_for_good_ends_it,
+    an_output_of_others_is_left_alone,
     a_refusal_without_a_reason_is_one_all_the_same,
     what_a_server_says_is_one_line,
     quotes_stand_in_names_and_end_none,

@@ -8,13 +8,11 @@ import struct
 import subprocess
 
 from connection import framed, position, status
-from server import Server, inserts
+from server import FIRST, Server, inserts
 
 HERE = pathlib.Path(__file__).resolve().parent
 CONVERSATION = HERE / "conversation.frames"
 CONNECTIONS = 1000
-# Where the log begins.
-FIRST = 0x1000000
 
 
 def restarts_lose_and_repeat_nothing(pubd, subcat):

@@ -149,7 +149,7 @@ def a_word_that_is_none_is_told(pubd, subcat):
     served = [CONFIGURATION, "127.0.0.1:0"]
     followed = ["127.0.0.1:1", "s", "0/0", "p"]
     cases = [
-        (pubd, [*served, "+5"], "pubd: CONNECTIONS is a number from 0 to 1000"),
+        (pubd, [*served, "+5"], "pubd: CONNECTIONS is a number from 0 to 1000, or forever"),
         (pubd, ["--await-streams", "+1", *served, "0"], "pubd: N of --await-streams is a number from 0 to 4294967295"),
         (pubd, ["--max-connections", "0", *served, "0"], "pubd: N of --max-connections is a number from 1 to 4294967295"),
         (pubd, ["--authentication-timeout", "1y", *served, "0"], "pubd: TIME of --authentication-timeout is a number, and ms, s, min, h or d behind it, as in 60s"),

@@ -9,6 +9,8 @@ import time
 
 CONFIGURATION = pathlib.Path(__file__).resolve().parent.parent.parent / "crates" / "pubd" / "data" / "sample.toml"
 SECONDS = 300
+# Where the log begins.
+FIRST = 0x1000000
 OF_CONNECTIONS = "pubd: a connection ", "pubd: connection "
 # Who has no other threads, and whose number of them can be limited.
 NOBODY = 65534
@@ -21,6 +23,18 @@ def inserts(rows, each=1, name="ab"):
         for k in range(first, first + each):
             yield f"insert T public.item ({k},'{name}',7)"
         yield f"commit T {first}"
+
+
+def printed_of_inserts(count):
+    """What subcat prints of so many transactions, each of one insert, which takes 48 bytes of the log, and its Commit 32."""
+    lines = []
+    for k in range(1, count + 1):
+        start = FIRST + 80 * k - 32
+        commit, end = (f"{at >> 32:X}/{at & 0xFFFFFFFF:X}" for at in (start, start + 32))
+        lines.append(f"BEGIN {699 + k} {commit} {k}")
+        lines += ["RELATION 16384 public.item d id:23* name:25 qty:20"] * (k == 1)
+        lines += [f"INSERT 16384 N('{k}','ab','7')", f"COMMIT {commit} {end} {k}"]
+    return "".join(f"{line}\n" for line in lines)
 
 
 class Server:
