@@ -1,4 +1,4 @@
-"""The two servers, each with the table public.item, the publication p of it, and slots from which all is taken."""
+"""The servers, each with the table public.item, the publication p of it, and slots from which all is taken."""
 import fcntl
 import os
 import pathlib
@@ -63,6 +63,53 @@ def create_slots(port, names):
             text = f"CREATE_REPLICATION_SLOT {name} LOGICAL pgoutput".encode() + b"\0"
             connection.sendall(b"Q" + struct.pack(">I", len(text) + 4) + text)
             wait_until_ready(answers)
+
+
+def stream_of(port, slot, transactions):
+    """The frames of a slot's stream that carry a message, up to so many Commits."""
+    start = f"START_REPLICATION SLOT {slot} LOGICAL 0/0 (proto_version '1', publication_names 'p')\0".encode()
+    frames, commits = [], 0
+    with socket.create_connection(("127.0.0.1", port)) as connection, connection.makefile("rb") as answers:
+        connection.sendall(STARTUP)
+        wait_until_ready(answers)
+        connection.sendall(b"Q" + struct.pack(">I", len(start) + 4) + start)
+        while commits < transactions:
+            head = answers.read(5)
+            body = answers.read(struct.unpack(">I", head[1:])[0] - 4)
+            if head[:1] == b"E":
+                raise Failed(body.decode(errors="replace"))
+            if head[:1] == b"d" and body[:1] == b"w":
+                frames.append(head + body)
+                commits += body[25:26] == b"C"
+    return b"".join(frames)
+
+
+class Floor:
+    """A server that has the bytes of a stream ready, which the program floor.c is."""
+
+    SOURCE = pathlib.Path(__file__).resolve().parent / "floor.c"
+
+    def __init__(self, folder, stream):
+        program, file = pathlib.Path(folder) / "floor", pathlib.Path(folder) / "stream"
+        built = subprocess.run(["cc", "-O2", "-pthread", self.SOURCE, "-o", program], capture_output=True, text=True)
+        if built.returncode:
+            raise Failed(f"floor.c: {built.stderr[:300]}")
+        file.write_bytes(stream)
+        self.process = subprocess.Popen([program, file], stdout=subprocess.PIPE, text=True)
+        listening = self.process.stdout.readline()
+        if not listening.startswith("listening "):
+            raise Failed("the floor does not listen")
+        self.port = int(listening.rpartition(":")[2])
+
+    def processor_seconds(self):
+        return processor_seconds(self.process.pid)
+
+    def settle(self):
+        pass
+
+    def stop(self):
+        self.process.kill()
+        self.process.wait()
 
 
 class Pubd:
