@@ -12,9 +12,13 @@ const TOP: u32 = 700;
 
 pub fn work(alloc: Global, is_called: bool) -> Result<()> {
     let mut store = Store::new(alloc, Catalog::from_toml(alloc, ITEM_TABLE)?);
-    insert(&mut store, alloc, 1)?;
-    insert(&mut store, alloc, 2)?;
-    let is_right = !is_called || is_undone(&mut store);
+    with_store(&mut store, alloc, is_called)
+}
+
+fn with_store(store: &mut Store, alloc: Global, is_called: bool) -> Result<()> {
+    insert(store, alloc, 1)?;
+    insert(store, alloc, 2)?;
+    let is_right = !is_called || is_undone(store);
     ensure!(is_right, "a store's calls answer otherwise");
     Ok(())
 }

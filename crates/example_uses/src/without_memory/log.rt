@@ -3,14 +3,14 @@
 ghost use Rattle.std.specs.Prelude.{◌≡◌};
 
 use crate::sending::{CONFIGURATION, item, sender_of_p};
-use anyhow::{Context, Result, ensure};
+use anyhow::{Result, bail, ensure};
 use sender::Sender;
 use shared_log::{LogName, LogReader, ReadFault};
 use std::alloc::Global;
 use std::marker::Brand;
 use std::sync::Wait;
 use tables::Catalog;
-use txlog::{Opened, Publisher, Receipt, SessionFault, Tx};
+use txlog::{Opened, Publisher, Receipt, SessionFault};
 use wal::FIRST_POSITION;
 
 /// How many bytes are sent of the transaction.
@@ -47,20 +47,34 @@ fn with_reader<L: LogName, R: Wait>(
     mut readers: Vec<LogReader<L>>,
     is_called: bool,
 ) -> Result<()> {
-    let receipt = commit_one(rt, alloc, publisher)?;
-    let mut reader = readers.pop().context("a log has a reader")?;
-    let mut sender = sender_of_p(alloc, publisher.catalog())?;
-    feed(alloc, publisher, &mut reader, &mut sender)?;
-    let left = publisher.begin()?;
-    if !is_called {
-        publisher.leave(left);
-        return Ok(());
+    match readers.pop() {
+        Some(mut reader) => with_log(rt, alloc, publisher, &mut reader, is_called),
+        None => bail!("a log has a reader"),
     }
-    let is_read = is_read(publisher, &mut reader, &receipt, left);
-    ensure!(
-        is_read? && is_drained(&mut sender),
-        "a log's calls answer otherwise"
-    );
+}
+
+fn with_log<L: LogName, R: Wait>(
+    rt: &R,
+    alloc: Global,
+    publisher: &mut Publisher<L>,
+    reader: &mut LogReader<L>,
+    is_called: bool,
+) -> Result<()> {
+    let receipt = commit_one(rt, alloc, publisher)?;
+    with_receipt(alloc, publisher, reader, &receipt, is_called)
+}
+
+fn with_receipt<L: LogName>(
+    alloc: Global,
+    publisher: &mut Publisher<L>,
+    reader: &mut LogReader<L>,
+    receipt: &Receipt<L>,
+    is_called: bool,
+) -> Result<()> {
+    let mut sender = sender_of_p(alloc, publisher.catalog())?;
+    feed(alloc, publisher, reader, &mut sender)?;
+    let is_right = !is_called || is_read(publisher, reader, receipt)? && is_drained(&mut sender);
+    ensure!(is_right, "a log's calls answer otherwise");
     Ok(())
 }
 
@@ -98,9 +112,7 @@ fn is_read<L: LogName>(
     publisher: &mut Publisher<L>,
     reader: &mut LogReader<L>,
     receipt: &Receipt<L>,
-    left: Tx,
 ) -> Result<bool, ReadFault> {
-    publisher.leave(left);
     reader.learn(receipt.told());
     let told = publisher.tell(reader);
     let restart = reader.resume(END, told)?;

@@ -2,7 +2,7 @@
 
 ghost use Rattle.std.specs.Prelude.{◌≡◌};
 
-use anyhow::{Context, Result, ensure};
+use anyhow::{Result, bail, ensure};
 use slots::{Directory, OpenedSlots, SlotFault, SlotName, SlotSeat, SlotTable};
 use std::alloc::Global;
 use std::marker::Brand;
@@ -19,10 +19,21 @@ fn over_table<L: SlotName>(alloc: Global, opened: OpenedSlots, is_called: bool) 
     requires { opened.first.table_id ≡ L.table }
 {
     let (table, mut seats) = opened.open::<L>(1)?;
-    let mut seat = seats.pop().context("a table has a seat")?;
+    match seats.pop() {
+        Some(mut seat) => with_seat(alloc, &table, &mut seat, is_called),
+        None => bail!("a table has a seat"),
+    }
+}
+
+fn with_seat<L: SlotName>(
+    alloc: Global,
+    table: &SlotTable<L>,
+    seat: &mut SlotSeat<L>,
+    is_called: bool,
+) -> Result<()> {
     let mut names = Directory::new(alloc);
     names.add(NAME, 0)?;
-    let is_right = !is_called || is_used(&table, &mut seat)? && is_named(&mut names);
+    let is_right = !is_called || is_used(table, seat)? && is_named(&mut names);
     ensure!(is_right, "a slot's calls answer otherwise");
     Ok(())
 }
