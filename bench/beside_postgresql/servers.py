@@ -84,21 +84,14 @@ def stream_of(port, slot, transactions):
     return b"".join(frames)
 
 
-class Floor:
-    """A server that has the bytes of a stream ready, which the program floor.c is."""
+class Listening:
+    """A server of one process, which says where it listens."""
 
-    SOURCE = pathlib.Path(__file__).resolve().parent / "floor.c"
-
-    def __init__(self, folder, stream):
-        program, file = pathlib.Path(folder) / "floor", pathlib.Path(folder) / "stream"
-        built = subprocess.run(["cc", "-O2", "-pthread", self.SOURCE, "-o", program], capture_output=True, text=True)
-        if built.returncode:
-            raise Failed(f"floor.c: {built.stderr[:300]}")
-        file.write_bytes(stream)
-        self.process = subprocess.Popen([program, file], stdout=subprocess.PIPE, text=True)
-        listening = self.process.stdout.readline()
+    def listen(self, process, why):
+        self.process = process
+        listening = process.stdout.readline()
         if not listening.startswith("listening "):
-            raise Failed("the floor does not listen")
+            raise Failed(why())
         self.port = int(listening.rpartition(":")[2])
 
     def processor_seconds(self):
@@ -112,7 +105,21 @@ class Floor:
         self.process.wait()
 
 
-class Pubd:
+class Floor(Listening):
+    """A server that has the bytes of a stream ready, which the program floor.c is."""
+
+    SOURCE = pathlib.Path(__file__).resolve().parent / "floor.c"
+
+    def __init__(self, folder, stream):
+        program, file = pathlib.Path(folder) / "floor", pathlib.Path(folder) / "stream"
+        built = subprocess.run(["cc", "-O2", "-pthread", self.SOURCE, "-o", program], capture_output=True, text=True)
+        if built.returncode:
+            raise Failed(f"floor.c: {built.stderr[:300]}")
+        file.write_bytes(stream)
+        self.listen(subprocess.Popen([program, file], stdout=subprocess.PIPE, text=True), lambda: "the floor does not listen")
+
+
+class Pubd(Listening):
     """A pubd whose script begins with the streams that it awaits.
 
     It tells each line that it refuses on its standard error, with the script's path. A page is all that the pipe there holds,
@@ -146,23 +153,13 @@ tables = [{ name = 'public.item' }]
         fcntl.fcntl(end, fcntl.F_SETPIPE_SZ, self.PAGE)
         limits = ["--wal-sender-timeout", "0", "--max-connections", "1000", "--log-min-messages", "error"]
         words = [program, *limits, "--await-streams", str(awaited), "pubd.toml", "127.0.0.1:0", str(connections), str(script)]
-        self.process = subprocess.Popen(words, cwd=folder, stdout=subprocess.PIPE, stderr=end, text=True)
+        process = subprocess.Popen(words, cwd=folder, stdout=subprocess.PIPE, stderr=end, text=True)
         os.close(end)
-        listening = self.process.stdout.readline()
-        if not listening.startswith("listening "):
-            raise Failed(f"pubd does not listen: {os.read(self.told, self.PAGE)!r}")
-        self.port = int(listening.rpartition(":")[2])
-
-    def processor_seconds(self):
-        return processor_seconds(self.process.pid)
-
-    def settle(self):
-        pass
+        self.listen(process, lambda: f"pubd does not listen: {os.read(self.told, self.PAGE)!r}")
 
     def stop(self):
         os.close(self.told)
-        self.process.kill()
-        self.process.wait()
+        super().stop()
 
 
 class Postgres:
