@@ -11,7 +11,7 @@ use Rattle.client.specs.Law.{GainedAll}
 use Rattle.client.proofs.Laws.{follows_ok}
 use Rattle.client.proofs.Reaching.{reached_none, reached_on}
 use Rattle.follower.specs.Once.{EachOnce, Gains, before, connected, forgotten, with_printed}
-use Rattle.follower.specs.Promise.{Deed, Connects, Hears, Prints, Runs, begun_at, printed_in, AreHeard, heard}
+use Rattle.follower.specs.Promise.{Deed, Connects, Receives, Prints, Runs, begun_at, printed_in, AreReceived, received}
 use Rattle.follower.proofs.Gaining.{gains_nothing, gains_then, gains_taken}
 use Rattle.follower.proofs.Printed.{takes_before}
 
@@ -39,7 +39,7 @@ connecting old next t is gains =
 gains_in : (old : ApplierState) (deeds : List Deed) (new : ApplierState) (run : Runs old deeds new) → GainsIn old deeds new run
 gains_in old [] new run = subst (λ (a : ApplierState). Gains old.subscriber a.subscriber) (sym run) (gains_nothing old.subscriber)
 gains_in old (Connects ∷ deeds) new run = connecting old run.0 (before (printed_in run.0 deeds new run.2) new.subscriber) run.1 (gains_in run.0 deeds new run.2)
-gains_in old (Hears bytes result ∷ deeds) new run =
+gains_in old (Receives bytes result ∷ deeds) new run =
     gains_then old.subscriber run.0.subscriber (before (printed_in run.0 deeds new run.2) new.subscriber) (gains_taken old run.0 bytes result run.1) (gains_in run.0 deeds new run.2)
 gains_in old (Prints ∷ deeds) new run = printing old run.0 new (printed_in run.0 deeds new run.2) run.1 (gains_in run.0 deeds new run.2)
 
@@ -61,15 +61,15 @@ hearing base text bytes old new u had takes =
     let taken = subst (λ (fault : Option ClientFault). TakesFrom fault old new bytes (Ok u)) had.sound takes in
     record { reached = reached_on base text old.subscriber old.unread bytes new.subscriber new.unread had.reached taken.reached; waits = taken.waits; sound = taken.sound }
 
-keeps : (base : Subscriber) (text : List ℕ) (printed : List Published) (old : ApplierState) (deeds : List Deed) (new : ApplierState) (run : Runs old deeds new) → AreHeard deeds
-    → HasTaken base (with_printed printed old) text → HasTaken base (with_printed (printed ++ printed_in old deeds new run) new) (text ++ heard deeds)
+keeps : (base : Subscriber) (text : List ℕ) (printed : List Published) (old : ApplierState) (deeds : List Deed) (new : ApplierState) (run : Runs old deeds new) → AreReceived deeds
+    → HasTaken base (with_printed printed old) text → HasTaken base (with_printed (printed ++ printed_in old deeds new run) new) (text ++ received deeds)
 keeps base text printed old [] new run are had =
     rw (append-nil text, append-nil printed) (subst (λ (a : ApplierState). HasTaken base (with_printed printed a) text) (sym run) had)
 keeps base text printed old (Connects ∷ deeds) new run are had = absurd are
-keeps base text printed old (Hears bytes (Err e) ∷ deeds) new run are had = absurd are
-keeps base text printed old (Hears bytes (Ok u) ∷ deeds) new run are had =
+keeps base text printed old (Receives bytes (Err e) ∷ deeds) new run are had = absurd are
+keeps base text printed old (Receives bytes (Ok u) ∷ deeds) new run are had =
     let next = hearing base text bytes (with_printed printed old) (with_printed printed run.0) u had (takes_before printed old run.0 bytes (Ok u) run.1) in
-    rw (← append_assoc text bytes (heard deeds)) (keeps base (text ++ bytes) printed run.0 deeds new run.2 are next)
+    rw (← append_assoc text bytes (received deeds)) (keeps base (text ++ bytes) printed run.0 deeds new run.2 are next)
 keeps base text printed old (Prints ∷ deeds) new run are had =
     let same : with_printed (printed ++ old.subscriber.applied) run.0 ≡ with_printed printed old = ap (with_printed (printed ++ old.subscriber.applied)) run.1 ∙ forgetting printed old in
     let next = subst (λ (a : ApplierState). HasTaken base a text) (sym same) had in
@@ -84,9 +84,9 @@ all_gained base a text rests had relation items more fit e =
     subst (λ (l : List ℕ). GainedAll relation base l items a.subscriber) (append-nil text) ends.1
 
 pub none_lost : (printed : List Published) (old : ApplierState) (deeds : List Deed) (now : ApplierState) (run : Runs (connected old) deeds now) (relation : ℕ → Relation) (items : List Item) (more : List ℕ)
-    → AreHeard deeds → FitItems relation items → heard deeds ++ more ≡ spelled relation [] items
-    → GainedAll relation (before printed (connected old).subscriber) (heard deeds) items (before (printed ++ printed_in (connected old) deeds now run) now.subscriber)
+    → AreReceived deeds → FitItems relation items → received deeds ++ more ≡ spelled relation [] items
+    → GainedAll relation (before printed (connected old).subscriber) (received deeds) items (before (printed ++ printed_in (connected old) deeds now run) now.subscriber)
 none_lost printed old deeds now run relation items more are fit e =
     let base = before printed (connected old).subscriber in
     let waits : HasTaken base (with_printed printed (connected old)) [] = record { reached = reached_none base []; waits = refl; sound = refl } in
-    all_gained base (with_printed (printed ++ printed_in (connected old) deeds now run) now) (heard deeds) refl (keeps base [] printed (connected old) deeds now run are waits) relation items more fit e
+    all_gained base (with_printed (printed ++ printed_in (connected old) deeds now run) now) (received deeds) refl (keeps base [] printed (connected old) deeds now run are waits) relation items more fit e

@@ -9,12 +9,12 @@ use Rattle.follower.specs.Once.{connected, forgotten}
 -- a connection begins; bytes come, of which this is answered; what is there is printed
 pub data Deed : Type 0 where
   Connects : Deed
-  Hears : List ℕ → Result (Unit {0}) ClientFault → Deed
+  Receives : List ℕ → Result (Unit {0}) ClientFault → Deed
   Prints : Deed
 
 abbrev pub Does : Deed → ApplierState → ApplierState → Type 0
 Does Connects old new = new ≡ connected old
-Does (Hears bytes result) old new = Takes old new bytes result
+Does (Receives bytes result) old new = Takes old new bytes result
 Does Prints old new = new ≡ forgotten old
 
 abbrev pub Runs : ApplierState → List Deed → ApplierState → Type 0
@@ -29,20 +29,20 @@ begun_at start = record { subscriber = resting start []; unread = []; fault = No
 abbrev pub printed_in : (old : ApplierState) (deeds : List Deed) (new : ApplierState) → Runs old deeds new → List Published
 printed_in old [] new run = []
 printed_in old (Connects ∷ deeds) new run = printed_in run.0 deeds new run.2
-printed_in old (Hears bytes result ∷ deeds) new run = printed_in run.0 deeds new run.2
+printed_in old (Receives bytes result ∷ deeds) new run = printed_in run.0 deeds new run.2
 printed_in old (Prints ∷ deeds) new run = old.subscriber.applied ++ printed_in run.0 deeds new run.2
 
 -- on one connection, and without a fault
-abbrev pub AreHeard : List Deed → Type 0
-AreHeard [] = Unit {0}
-AreHeard (Connects ∷ deeds) = ⊥
-AreHeard (Hears bytes (Ok u) ∷ deeds) = AreHeard deeds
-AreHeard (Hears bytes (Err e) ∷ deeds) = ⊥
-AreHeard (Prints ∷ deeds) = AreHeard deeds
+abbrev pub AreReceived : List Deed → Type 0
+AreReceived [] = Unit {0}
+AreReceived (Connects ∷ deeds) = ⊥
+AreReceived (Receives bytes (Ok u) ∷ deeds) = AreReceived deeds
+AreReceived (Receives bytes (Err e) ∷ deeds) = ⊥
+AreReceived (Prints ∷ deeds) = AreReceived deeds
 
 -- the bytes that came
-abbrev pub heard : List Deed → List ℕ
-heard [] = []
-heard (Hears bytes result ∷ deeds) = bytes ++ heard deeds
-heard (Connects ∷ deeds) = heard deeds
-heard (Prints ∷ deeds) = heard deeds
+abbrev pub received : List Deed → List ℕ
+received [] = []
+received (Receives bytes result ∷ deeds) = bytes ++ received deeds
+received (Connects ∷ deeds) = received deeds
+received (Prints ∷ deeds) = received deeds

@@ -7,7 +7,7 @@ ghost use Rattle.stream.specs.Items.{Item, spelled, FitItems};
 ghost use Rattle.client.specs.Taking.{ApplierState};
 ghost use Rattle.client.specs.Law.{GainedAll};
 ghost use Rattle.follower.specs.Once.{EachOnce, before, connected};
-ghost use Rattle.follower.specs.Promise.{Deed, Runs, begun_at, printed_in, AreHeard, heard};
+ghost use Rattle.follower.specs.Promise.{Deed, Runs, begun_at, printed_in, AreReceived, received};
 
 /// Whatever servers send, wherever connections are cut, and whenever something is printed: what was printed, and then what wasn't
 /// yet, came one behind the other from where it began up to the position, each transaction once.
@@ -20,6 +20,6 @@ pub fn each_transaction_is_printed_once()
 /// but for the transactions that stood below the position already.
 pub fn no_transaction_is_lost()
     ensures { (printed : List Published) (old : ApplierState) (deeds : List Deed) (now : ApplierState) (run : Runs (connected old) deeds now) (relation : ℕ → Relation) (items : List Item) (more : List ℕ)
-        → AreHeard deeds → FitItems relation items → heard deeds ++ more ≡ spelled relation [] items
-        → GainedAll relation (before printed (connected old).subscriber) (heard deeds) items (before (printed ++ printed_in (connected old) deeds now run) now.subscriber) }
+        → AreReceived deeds → FitItems relation items → received deeds ++ more ≡ spelled relation [] items
+        → GainedAll relation (before printed (connected old).subscriber) (received deeds) items (before (printed ++ printed_in (connected old) deeds now run) now.subscriber) }
 {}

@@ -145,7 +145,7 @@ impl Subscription {
             Back::ErrorResponse(error) => Err(told(error)),
             Back::CopyData(data) => {
                 taken?;
-                self.hear(data.bytes.as_slice(), socket, output)
+                self.take_body(data.bytes.as_slice(), socket, output)
             }
             Back::CopyDone => Err(FollowFault::Ended),
             _ => Err(FollowFault::Client(ClientFault::Frame)),
@@ -153,14 +153,14 @@ impl Subscription {
     }
 
     /// What of a frame that was taken asks for more.
-    fn hear<S: Write, W: Write>(
+    fn take_body<S: Write, W: Write>(
         &mut self,
         body: &[u8],
         socket: &mut S,
         output: &mut W,
     ) -> Result<(), FollowFault> {
         match read_server(body) {
-            Ok(ServerBody::XLogData(data)) => self.hear_message(data.payload),
+            Ok(ServerBody::XLogData(data)) => self.take_message(data.payload),
             Ok(ServerBody::Keepalive(keepalive)) if keepalive.ask => {
                 self.acknowledge(false, socket, output)
             }
@@ -169,7 +169,7 @@ impl Subscription {
         }
     }
 
-    fn hear_message(&mut self, payload: &[u8]) -> Result<(), FollowFault> {
+    fn take_message(&mut self, payload: &[u8]) -> Result<(), FollowFault> {
         if payload.first() != Some(&RELATION) {
             return Ok(());
         }
