@@ -7,6 +7,8 @@ pub mod Places
 pub mod Lists
 pub mod Readers
 pub mod PublicationNames
+pub mod Truths
 pub mod Options
+pub mod Gathered
 pub mod Phrases
 pub mod Sentences

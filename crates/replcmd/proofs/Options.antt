@@ -1,22 +1,21 @@
 -- The options that are read of the tokens of START_REPLICATION are those that stand there.
-use Rattle.std.proofs.Common.{◌≡◌, ◌≢◌, ℕ, suc, ◌+◌, ◌<◌, Bool, true, false, cond, eqb, List, [], ◌∷◌, ◌++◌, length, Option, Some, None, Result, Ok, Err, refl, sym, ap, subst, ◌∙◌, arith}
-use Rattle.std.specs.Prelude.{codes, count_by}
-use Rattle.std.specs.Option.{ok_or, option_to_list}
-use Rattle.std.specs.List.{filter_map}
+use Rattle.std.proofs.Common.{◌≡◌, ◌≢◌, ℕ, suc, ◌<◌, Bool, true, false, cond, eqb, List, [], ◌∷◌, length, Option, Some, None, Result, Ok, Err, refl, sym, ap, subst, ◌∙◌, arith}
+use Rattle.std.specs.Prelude.{codes}
+use Rattle.std.specs.Option.{ok_or}
 use Rattle.std.specs.Str.{bytes_eq}
 use Rattle.std.proofs.lemmas.Bool.{eqb-true}
-use Rattle.std.proofs.lemmas.List.Sums.{sum_by-cons}
 use Rattle.replcmd.specs.declared.fault.CmdFault.{CmdFault}
 use Rattle.replcmd.specs.declared.fault.CmdFault.TheVariants.{Syntax, BadOption}
 use Rattle.replcmd.specs.declared.token.Token.{Token}
 use Rattle.replcmd.specs.declared.token.Token.TheVariants.{Word, Quoted, Value, Mark, Unclosed}
 use Rattle.replcmd.specs.declared.token.TheConstants.{OPEN, CLOSE, COMMA}
 use Rattle.replcmd.specs.declared.setting.Setting.{Setting}
-use Rattle.replcmd.specs.declared.setting.Setting.TheVariants.{Version, Publications}
-use Rattle.replcmd.specs.Grammar.{Part, Named, Chosen, Sign, IsEnd, Follows, option_name, IsValue, is_version, publications_of, AreSettings, setting_parts}
-use Rattle.replcmd.specs.Reading.{◌>>=◌, name_of, name_at, value_at, past_mark, names_of, version_at, publications_at, setting_at, more_settings, settings_at, in_brackets, if_open, options_at, gathered, separated}
+use Rattle.replcmd.specs.declared.setting.Setting.TheVariants.{Version, Publications, Messages}
+use Rattle.replcmd.specs.Grammar.{Part, Named, Chosen, Sign, IsEnd, Follows, option_name, IsValue, setting_parts}
+use Rattle.replcmd.specs.Reading.{◌>>=◌, name_of, name_at, value_at, past_mark, names_of, truth_of, version_at, publications_at, messages_at, setting_at, more_settings, settings_at, in_brackets, if_open, options_at, separated}
 use Rattle.replcmd.proofs.Lists.{found, same_found, bind_ok, Shortens, Lists, lists_take, lists_again}
 use Rattle.replcmd.proofs.PublicationNames.{names_take, names_again}
+use Rattle.replcmd.proofs.Truths.{truth_take, truth_again}
 use Rattle.replcmd.proofs.Readers.{bytes_same, same_bytes, name_follows, name_reads, value_follows, passed, mark_is, mark_stays}
 
 -- ---- one option
@@ -47,43 +46,52 @@ publications_told ts s rest e =
     let same = same_found (Publications b.0) a.0.1 s rest b.2 in
     (a.0.0, b.0, value_follows ts a.0.0 a.0.1 a.1 ∙ ap (λ (l : List Token). Value a.0.0 ∷ l) same.1, sym same.0, b.1)
 
+messages_told : (ts : List Token) (s : Setting) (rest : List Token) → messages_at ts ≡ found s rest → (v : List ℕ) × (on : Bool) × (ts ≡ Value v ∷ rest) × (s ≡ Messages on) × (truth_of v ≡ Some on)
+messages_told ts s rest e =
+    let a = bind_ok (value_at ts) (λ value. ok_or (truth_of value.0) BadOption >>= λ on. Ok (Messages on, value.1)) (s, rest) e in
+    by_truth a.0.0 a.0.1 (value_follows ts a.0.0 a.0.1 a.1) (truth_of a.0.0) refl a.2
+  where
+    by_truth : (v : List ℕ) (mid : List Token) → ts ≡ Value v ∷ mid → (o : Option Bool) → truth_of v ≡ o → (ok_or o BadOption >>= λ on. found (Messages on) mid) ≡ found s rest
+        → (v : List ℕ) × (on : Bool) × (ts ≡ Value v ∷ rest) × (s ≡ Messages on) × (truth_of v ≡ Some on)
+    by_truth v mid front None is e = absurd cc
+    by_truth v mid front (Some on) is e =
+        let same = same_found (Messages on) mid s rest e in
+        (v, on, front ∙ ap (λ (l : List Token). Value v ∷ l) same.1, sym same.0, is)
+
 setting_told : (ts : List Token) (s : Setting) (rest : List Token) → setting_at ts ≡ found s rest → Told ts s rest
 unfolding setting_at
 setting_told ts s rest e =
-    let a = bind_ok (name_at ts) (λ name. cond (bytes_eq name.0 (codes "proto_version")) (version_at name.1) (cond (bytes_eq name.0 (codes "publication_names")) (publications_at name.1) (Err BadOption))) (s, rest) e in
-    by_name a.0.0 a.0.1 a.1 (bytes_eq a.0.0 (codes "proto_version")) refl (bytes_eq a.0.0 (codes "publication_names")) refl a.2
+    let a = bind_ok (name_at ts) (λ name. cond (bytes_eq name.0 (codes "proto_version")) (version_at name.1) (cond (bytes_eq name.0 (codes "publication_names")) (publications_at name.1)
+    (cond (bytes_eq name.0 (codes "messages")) (messages_at name.1) (Err BadOption)))) (s, rest) e in
+    by_name a.0.0 a.0.1 a.1 (bytes_eq a.0.0 (codes "proto_version")) refl (bytes_eq a.0.0 (codes "publication_names")) refl (bytes_eq a.0.0 (codes "messages")) refl a.2
   where
-    version_so : (n : List ℕ) (mid : List Token) → name_at ts ≡ found n mid → n ≡ codes "proto_version" → (v : List ℕ) → mid ≡ Value v ∷ rest → s ≡ Version → v ≡ codes "1" → Told ts s rest
-    version_so n mid read is v front same one =
+    -- an option of this name, whose value stands behind it and says so
+    so : (n : List ℕ) (mid : List Token) → name_at ts ≡ found n mid → (t : Setting) → n ≡ option_name t → s ≡ t → (v : List ℕ) → mid ≡ Value v ∷ rest → IsValue t v → Told ts s rest
+    so n mid read t is same v front says =
         let name : option_name s ≡ n = ap option_name same ∙ sym is in
         record {
           value = v;
           name = read ∙ ap (λ (m : List ℕ). found m mid) (sym name) ∙ ap (found (option_name s)) front;
-          says = subst (λ (x : Setting). IsValue x v) (sym same) one;
-        }
-
-    publications_so : (n : List ℕ) (mid : List Token) → name_at ts ≡ found n mid → n ≡ codes "publication_names" → (v : List ℕ) (names : List (List ℕ)) → mid ≡ Value v ∷ rest
-        → s ≡ Publications names → names_of v ≡ Ok names → Told ts s rest
-    publications_so n mid read is v names front same spelled =
-        let name : option_name s ≡ n = ap option_name same ∙ sym is in
-        record {
-          value = v;
-          name = read ∙ ap (λ (m : List ℕ). found m mid) (sym name) ∙ ap (found (option_name s)) front;
-          says = subst (λ (x : Setting). IsValue x v) (sym same) (names_take v names spelled);
+          says = subst (λ (x : Setting). IsValue x v) (sym same) says;
         }
 
     by_name : (n : List ℕ) (mid : List Token) → name_at ts ≡ found n mid → (t : Bool) → bytes_eq n (codes "proto_version") ≡ t → (u : Bool) → bytes_eq n (codes "publication_names") ≡ u
-        → cond t (version_at mid) (cond u (publications_at mid) (Err BadOption)) ≡ found s rest → Told ts s rest
-    by_name n mid read true is u other e = let v = version_told mid s rest e in version_so n mid read (bytes_same n (codes "proto_version") is) v.0 v.1 v.2 v.3
-    by_name n mid read false is true other e =
+        → (w : Bool) → bytes_eq n (codes "messages") ≡ w
+        → cond t (version_at mid) (cond u (publications_at mid) (cond w (messages_at mid) (Err BadOption))) ≡ found s rest → Told ts s rest
+    by_name n mid read true is u other w last e = let v = version_told mid s rest e in so n mid read Version (bytes_same n (codes "proto_version") is) v.2 v.0 v.1 v.3
+    by_name n mid read false is true other w last e =
         let v = publications_told mid s rest e in
-        publications_so n mid read (bytes_same n (codes "publication_names") other) v.0 v.1 v.2 v.3 v.4
-    by_name n mid read false is false other e = absurd cc
+        so n mid read (Publications v.1) (bytes_same n (codes "publication_names") other) v.3 v.0 v.2 (names_take v.0 v.1 v.4)
+    by_name n mid read false is false other true last e =
+        let v = messages_told mid s rest e in
+        so n mid read (Messages v.1) (bytes_same n (codes "messages") last) v.3 v.0 v.2 (truth_take v.0 v.1 v.4)
+    by_name n mid read false is false other false last e = absurd cc
 
 setting_reads : (ts : List Token) (s : Setting) (v : List ℕ) (rest : List Token) → name_at ts ≡ found (option_name s) (Value v ∷ rest) → IsValue s v → setting_at ts ≡ found s rest
 unfolding setting_at
 setting_reads ts Version v rest name says = rw (name, same_bytes v (codes "1") says) refl
 setting_reads ts (Publications names) v rest name says = rw (name, names_again v names says) refl
+setting_reads ts (Messages on) v rest name says = rw (name, truth_again v on says) refl
 
 -- ---- the list
 
@@ -223,47 +231,3 @@ options_read ts s settings f =
     let inner = settings_read open_is.0 s settings open_is.2 in
     let all = lists_again setting_at more_settings settings_shorten (suc (length open_is.0)) open_is.0 (s ∷ settings) inner.0 (omega arith) inner.1 in
     (inner.0, ap options_at open_is.1 ∙ opened_reads open_is.0 (s ∷ settings) inner.0 (first_named open_is.0 s settings open_is.2) all, inner.2)
-
--- ---- each option once
-
-abbrev told : Bool → ℕ
-told b = cond b 1 0
-
-one_more : (settings : List Setting) → count_by is_version (Version ∷ settings) ≡ 1 + count_by is_version settings
-one_more settings = sum_by-cons (λ s. cond (is_version s) 1 0) Version settings
-
-none_more : (names : List (List ℕ)) (settings : List Setting) → count_by is_version (Publications names ∷ settings) ≡ 0 + count_by is_version settings
-none_more names settings = sum_by-cons (λ s. cond (is_version s) 1 0) (Publications names) settings
-
-pub gathered_is : (version : Bool) (names : Option (List (List ℕ))) (settings : List Setting) (ps : List (List ℕ)) → gathered version names settings ≡ Ok ps
-    → (count_by is_version settings + told version ≡ 1) × (option_to_list names ++ filter_map publications_of settings ≡ ps ∷ [])
-gathered_is true (Some n) [] ps e = let same : n ≡ ps = cc in (refl, ap (λ (l : List (List ℕ)). l ∷ []) same)
-gathered_is true None [] ps e = absurd cc
-gathered_is false names [] ps e = absurd cc
-gathered_is true names (Version ∷ settings) ps e = absurd cc
-gathered_is false names (Version ∷ settings) ps e =
-    let inner = gathered_is true names settings ps e in
-    (let count = inner.0 in omega (arith, one_more settings), inner.1)
-gathered_is version (Some n) (Publications c ∷ settings) ps e = absurd cc
-gathered_is version None (Publications c ∷ settings) ps e =
-    let inner = gathered_is version (Some c) settings ps e in
-    (let count = inner.0 in omega (arith, none_more c settings), inner.1)
-
-pub is_gathered : (version : Bool) (names : Option (List (List ℕ))) (settings : List Setting) (ps : List (List ℕ)) → count_by is_version settings + told version ≡ 1
-    → option_to_list names ++ filter_map publications_of settings ≡ ps ∷ [] → gathered version names settings ≡ Ok ps
-is_gathered true (Some n) [] ps count chosen = let same : n ≡ ps = cc in ap Ok same
-is_gathered true None [] ps count chosen = absurd cc
-is_gathered false names [] ps count chosen = absurd (omega arith)
-is_gathered true names (Version ∷ settings) ps count chosen = absurd (omega (arith, one_more settings))
-is_gathered false names (Version ∷ settings) ps count chosen = is_gathered true names settings ps (omega (arith, one_more settings)) chosen
-is_gathered version (Some n) (Publications c ∷ settings) ps count chosen = absurd cc
-is_gathered version None (Publications c ∷ settings) ps count chosen = is_gathered version (Some c) settings ps (omega (arith, none_more c settings)) chosen
-
-pub settings_gathered : (settings : List Setting) (ps : List (List ℕ)) → gathered false None settings ≡ Ok ps → AreSettings settings ps
-settings_gathered settings ps e = let is = gathered_is false None settings ps e in record { version = let count = is.0 in omega arith; names = is.1 }
-
-pub gathered_settings : (settings : List Setting) (ps : List (List ℕ)) → AreSettings settings ps → gathered false None settings ≡ Ok ps
-gathered_settings settings ps are = let count = are.version in is_gathered false None settings ps (omega arith) are.names
-
-pub some_settings : (settings : List Setting) (ps : List (List ℕ)) → AreSettings settings ps → settings ≢ []
-some_settings settings ps are = λ is. absurd (let none : count_by is_version settings ≡ 0 = ap (count_by is_version) is in let one = are.version in omega arith)

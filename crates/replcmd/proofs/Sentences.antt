@@ -8,6 +8,7 @@ use Rattle.replcmd.specs.declared.token.TheConstants.{OPEN}
 use Rattle.replcmd.specs.declared.verb.Verb.{Verb}
 use Rattle.replcmd.specs.declared.verb.Verb.TheVariants as verb
 use Rattle.replcmd.specs.declared.setting.Setting.{Setting}
+use Rattle.replcmd.specs.declared.stream_options.StreamOptions.{StreamOptions}
 use Rattle.replcmd.specs.declared.command.Command.{Command}
 use Rattle.replcmd.specs.declared.command.Command.TheVariants.{Identify, Create, Start, Drop}
 use Rattle.replcmd.specs.Lexing.{Lexes}
@@ -16,7 +17,8 @@ use Rattle.replcmd.specs.Grammar.{Part, Keyword, Named, At, Quote, Chosen, Sign,
 use Rattle.replcmd.specs.Reading.{◌>>=◌, slot_at, verb_at, keyword_at, end_at, position_at, options_at, gathered, identify_at, plugin_at, ending_at, create_at, drop_at, start_at, body_at, command_at, Answers, Tells}
 use Rattle.replcmd.proofs.Lexemes.{AllClosed, lexes_spells, spells_lexes, lexes_once}
 use Rattle.replcmd.proofs.Lists.{found, bind_ok}
-use Rattle.replcmd.proofs.Options.{options_follow, options_read, settings_gathered, gathered_settings, some_settings}
+use Rattle.replcmd.proofs.Options.{options_follow, options_read}
+use Rattle.replcmd.proofs.Gathered.{settings_gathered, gathered_settings, some_settings}
 use Rattle.replcmd.proofs.Phrases.{verb_follows, verb_reads, plugin_follows, plugin_reads, ending_follows, ending_reads}
 use Rattle.replcmd.proofs.Readers.{name_follows, name_reads, slot_follows, slot_reads, keyword_follows, keyword_reads, position_follows, position_reads, end_is, is_end}
 
@@ -73,31 +75,31 @@ abbrev start_rest : List ℕ → ℕ → List Setting → List Part
 start_rest slot position settings = Keyword (codes "SLOT") ∷ Named slot ∷ Keyword (codes "LOGICAL") ∷ At position ∷ Sign OPEN ∷ setting_parts settings
 
 start_follows : (ts : List Token) (c : Command) → start_at ts ≡ Ok c
-    → (slot : List ℕ) × (position : ℕ) × (publications : List (List ℕ)) × (c ≡ Start slot position publications) × (is_slot_name slot ≡ true) × (settings : List Setting) × AreSettings settings publications
+    → (slot : List ℕ) × (position : ℕ) × (options : StreamOptions) × (c ≡ Start slot position options) × (is_slot_name slot ≡ true) × (settings : List Setting) × AreSettings settings options
     × Follows ts (start_rest slot position settings)
 unfolding start_at
 start_follows ts c e =
     let word = bind_ok (keyword_at verb.Start (codes "SLOT") ts) (λ word. slot_at word >>= λ slot. keyword_at verb.Start (codes "LOGICAL") slot.1 >>= λ logical. position_at logical >>= λ position. options_at position.1
-    >>= λ settings. end_at verb.Start settings.1 >>= λ end. gathered false None settings.0 >>= λ publications. Ok (Start slot.0 position.0 publications)) c e in
+    >>= λ settings. end_at verb.Start settings.1 >>= λ end. gathered false None None settings.0 >>= λ options. Ok (Start slot.0 position.0 options)) c e in
     let slot = bind_ok (slot_at word.0) (λ slot. keyword_at verb.Start (codes "LOGICAL") slot.1 >>= λ logical. position_at logical >>= λ position. options_at position.1
-    >>= λ settings. end_at verb.Start settings.1 >>= λ end. gathered false None settings.0 >>= λ publications. Ok (Start slot.0 position.0 publications)) c word.2 in
+    >>= λ settings. end_at verb.Start settings.1 >>= λ end. gathered false None None settings.0 >>= λ options. Ok (Start slot.0 position.0 options)) c word.2 in
     let logical = bind_ok (keyword_at verb.Start (codes "LOGICAL") slot.0.1) (λ logical. position_at logical >>= λ position. options_at position.1
-    >>= λ settings. end_at verb.Start settings.1 >>= λ end. gathered false None settings.0 >>= λ publications. Ok (Start slot.0.0 position.0 publications)) c slot.2 in
+    >>= λ settings. end_at verb.Start settings.1 >>= λ end. gathered false None None settings.0 >>= λ options. Ok (Start slot.0.0 position.0 options)) c slot.2 in
     let position = bind_ok (position_at logical.0) (λ position. options_at position.1
-    >>= λ settings. end_at verb.Start settings.1 >>= λ end. gathered false None settings.0 >>= λ publications. Ok (Start slot.0.0 position.0 publications)) c logical.2 in
-    let settings = bind_ok (options_at position.0.1) (λ settings. end_at verb.Start settings.1 >>= λ end. gathered false None settings.0 >>= λ publications. Ok (Start slot.0.0 position.0.0 publications)) c position.2 in
-    let end = bind_ok (end_at verb.Start settings.0.1) (λ end. gathered false None settings.0.0 >>= λ publications. Ok (Start slot.0.0 position.0.0 publications)) c settings.2 in
-    let publications = bind_ok (gathered false None settings.0.0) (λ publications. Ok (Start slot.0.0 position.0.0 publications)) c end.2 in
-    let same : Start slot.0.0 position.0.0 publications.0 ≡ c = let ok = publications.2 in cc in
-    let are = settings_gathered settings.0.0 publications.0 publications.1 in
+    >>= λ settings. end_at verb.Start settings.1 >>= λ end. gathered false None None settings.0 >>= λ options. Ok (Start slot.0.0 position.0 options)) c logical.2 in
+    let settings = bind_ok (options_at position.0.1) (λ settings. end_at verb.Start settings.1 >>= λ end. gathered false None None settings.0 >>= λ options. Ok (Start slot.0.0 position.0.0 options)) c position.2 in
+    let end = bind_ok (end_at verb.Start settings.0.1) (λ end. gathered false None None settings.0.0 >>= λ options. Ok (Start slot.0.0 position.0.0 options)) c settings.2 in
+    let options = bind_ok (gathered false None None settings.0.0) (λ options. Ok (Start slot.0.0 position.0.0 options)) c end.2 in
+    let same : Start slot.0.0 position.0.0 options.0 ≡ c = let ok = options.2 in cc in
+    let are = settings_gathered settings.0.0 options.0 options.1 in
     let named = slot_follows word.0 slot.0.0 slot.0.1 slot.1 in
-    let parts = options_follow position.0.1 settings.0.0 settings.0.1 settings.1 (some_settings settings.0.0 publications.0 are) (end_is verb.Start settings.0.1 end.1) in
+    let parts = options_follow position.0.1 settings.0.0 settings.0.1 settings.1 (some_settings settings.0.0 options.0 are) (end_is verb.Start settings.0.1 end.1) in
     let at_position = position_follows logical.0 position.0.0 position.0.1 (Sign OPEN ∷ setting_parts settings.0.0) position.1 parts in
     let at_logical = keyword_follows verb.Start (codes "LOGICAL") slot.0.1 logical.0 (At position.0.0 ∷ Sign OPEN ∷ setting_parts settings.0.0) logical.1 at_position in
     let at_slot = name_follows word.0 slot.0.0 slot.0.1 (Keyword (codes "LOGICAL") ∷ At position.0.0 ∷ Sign OPEN ∷ setting_parts settings.0.0) named.1 at_logical in (
       slot.0.0,
       position.0.0,
-      publications.0,
+      options.0,
       sym same,
       named.0,
       settings.0.0,
@@ -105,24 +107,24 @@ start_follows ts c e =
       keyword_follows verb.Start (codes "SLOT") ts word.0 (Named slot.0.0 ∷ Keyword (codes "LOGICAL") ∷ At position.0.0 ∷ Sign OPEN ∷ setting_parts settings.0.0) word.1 at_slot,
     )
 
-start_reads : (ts : List Token) (slot : List ℕ) (position : ℕ) (publications : List (List ℕ)) (settings : List Setting) → is_slot_name slot ≡ true → AreSettings settings publications
-    → Follows ts (start_rest slot position settings) → start_at ts ≡ Ok (Start slot position publications)
+start_reads : (ts : List Token) (slot : List ℕ) (position : ℕ) (options : StreamOptions) (settings : List Setting) → is_slot_name slot ≡ true → AreSettings settings options
+    → Follows ts (start_rest slot position settings) → start_at ts ≡ Ok (Start slot position options)
 unfolding start_at
-start_reads ts slot position publications [] is are f = absurd (some_settings [] publications are refl)
-start_reads ts slot position publications (s ∷ settings) is are f =
+start_reads ts slot position options [] is are f = absurd (some_settings [] options are refl)
+start_reads ts slot position options (s ∷ settings) is are f =
     let word = keyword_reads verb.Start (codes "SLOT") ts (Named slot ∷ Keyword (codes "LOGICAL") ∷ At position ∷ Sign OPEN ∷ setting_parts (s ∷ settings)) f in
     let name = name_reads word.0 slot (Keyword (codes "LOGICAL") ∷ At position ∷ Sign OPEN ∷ setting_parts (s ∷ settings)) word.2 in
     let logical = keyword_reads verb.Start (codes "LOGICAL") name.0 (At position ∷ Sign OPEN ∷ setting_parts (s ∷ settings)) name.2 in
     let at_position = position_reads logical.0 position (Sign OPEN ∷ setting_parts (s ∷ settings)) logical.2 in
-    let options = options_read at_position.0 s settings at_position.2 in
+    let listed = options_read at_position.0 s settings at_position.2 in
     rw (
       word.1,
       slot_reads word.0 slot name.0 is name.1,
       logical.1,
       at_position.1,
-      options.1,
-      is_end verb.Start options.0 options.2,
-      gathered_settings (s ∷ settings) publications are,
+      listed.1,
+      is_end verb.Start listed.0 listed.2,
+      gathered_settings (s ∷ settings) options are,
     ) refl
 
 command_says : (ts : List Token) (c : Command) → command_at ts ≡ Ok c → Says ts c
@@ -156,9 +158,9 @@ says_command ts (Create slot) s =
 says_command ts (Drop slot) s =
     let v = verb_reads ts verb.Drop (Named slot ∷ []) s.1 in
     rw v.1 (drop_reads v.0 slot s.0 v.2)
-says_command ts (Start slot position publications) s =
+says_command ts (Start slot position options) s =
     let v = verb_reads ts verb.Start (start_rest slot position s.1) s.3 in
-    rw v.1 (start_reads v.0 slot position publications s.1 s.0 s.2 v.2)
+    rw v.1 (start_reads v.0 slot position options s.1 s.0 s.2 v.2)
 
 -- ---- texts
 
@@ -190,7 +192,7 @@ said_closed : (ts : List Token) (c : Command) → Says ts c → AllClosed ts
 said_closed ts Identify s = all_closed ts (Keyword (codes "IDENTIFY_SYSTEM") ∷ []) s
 said_closed ts (Create slot) s = all_closed ts (create_parts slot s.1) s.3
 said_closed ts (Drop slot) s = all_closed ts (Keyword (codes "DROP_REPLICATION_SLOT") ∷ Named slot ∷ []) s.1
-said_closed ts (Start slot position publications) s = all_closed ts (start_parts slot position s.1) s.3
+said_closed ts (Start slot position options) s = all_closed ts (start_parts slot position s.1) s.3
 
 pub is_found : (text : List ℕ) (result : Result Command CmdFault) → Tells text result → IfOk result (λ c. SpellsCommand text c)
 is_found text (Ok c) tells =

@@ -4,7 +4,7 @@ use Rattle.std.specs.Prelude.{◌≡◌, ℕ, zero, suc, ◌+◌, ◌*◌, ◌^�
 use Rattle.std.specs.Borrow.{Bor}
 use Rattle.std.specs.declared.vec.Vec.{Vec}
 use Rattle.std.specs.declared.alloc.Global.{Global}
-use Rattle.std.specs.Option.{ok_or, option_map, option_and_then, is_some}
+use Rattle.std.specs.Option.{ok_or, option_map, option_and_then, unwrap_or, is_some}
 use Rattle.std.specs.List.{list_all}
 use Rattle.std.specs.Char.{digit_value}
 use Rattle.std.specs.Str.{bytes_eq}
@@ -17,11 +17,12 @@ use Rattle.replcmd.specs.declared.token.TheConstants.{OPEN, CLOSE, COMMA, SEMICO
 use Rattle.replcmd.specs.declared.verb.Verb.{Verb}
 use Rattle.replcmd.specs.declared.verb.Verb.TheVariants as verb
 use Rattle.replcmd.specs.declared.setting.Setting.{Setting}
-use Rattle.replcmd.specs.declared.setting.Setting.TheVariants.{Version, Publications}
+use Rattle.replcmd.specs.declared.setting.Setting.TheVariants.{Version, Publications, Messages}
+use Rattle.replcmd.specs.declared.stream_options.StreamOptions.{StreamOptions}
 use Rattle.replcmd.specs.declared.command.Command.{Command}
 use Rattle.replcmd.specs.declared.command.Command.TheVariants.{Identify, Create, Start, Drop}
 use Rattle.replcmd.specs.Lexing.{after_blanks, token_at, Lexes}
-use Rattle.replcmd.specs.Words.{lower, is_keyword, is_bare, is_slot_name}
+use Rattle.replcmd.specs.Words.{lower, is_keyword, is_truth, is_bare, is_slot_name}
 
 infixl 10 ◌>>=◌
 abbrev pub ◌>>=◌ : {A B : Type 0} → Result A CmdFault → (A → Result B CmdFault) → Result B CmdFault
@@ -155,10 +156,18 @@ version_at tokens = value_at tokens >>= λ value. if bytes_eq value.0 (codes "1"
 abbrev pub publications_at : List Token → Result (Setting × List Token) CmdFault
 publications_at tokens = value_at tokens >>= λ value. names_of value.0 >>= λ names. Ok (Publications names, value.1)
 
+-- the truth value that the word stands for
+unfoldable pub truth_of : List ℕ → Option Bool
+truth_of word = if is_truth true word then Some true else if is_truth false word then Some false else None
+
+abbrev pub messages_at : List Token → Result (Setting × List Token) CmdFault
+messages_at tokens = value_at tokens >>= λ value. ok_or (truth_of value.0) BadOption >>= λ on. Ok (Messages on, value.1)
+
 unfoldable pub setting_at : List Token → Result (Setting × List Token) CmdFault
 setting_at tokens = name_at tokens >>= λ name.
     if bytes_eq name.0 (codes "proto_version") then version_at name.1
     else if bytes_eq name.0 (codes "publication_names") then publications_at name.1
+    else if bytes_eq name.0 (codes "messages") then messages_at name.1
     else Err BadOption
 
 abbrev pub more_settings : List Token → Result (Bool × List Token) CmdFault
@@ -180,11 +189,17 @@ if_open (false, tokens) = Ok ([], tokens)
 unfoldable pub options_at : List Token → Result (List Setting × List Token) CmdFault
 options_at tokens = if_open (past_mark OPEN tokens)
 
--- each option once: whether the version was told, and which publications
-abbrev pub gathered : Bool → Option (List (List ℕ)) → List Setting → Result (List (List ℕ)) CmdFault
-gathered version names [] = if version then ok_or names BadOption else Err BadOption
-gathered version names (Version ∷ settings) = if version then Err BadOption else gathered true names settings
-gathered version names (Publications chosen ∷ settings) = if is_some names then Err BadOption else gathered version (Some chosen) settings
+-- what is asked of the stream, where the version is told and the publications are
+abbrev pub asked : Bool → Option (List (List ℕ)) → Option Bool → Result StreamOptions CmdFault
+asked true (Some names) messages = Ok (record { publications = names; messages = unwrap_or messages false })
+asked _ _ messages = Err BadOption
+
+-- no option twice: whether the version was told, which publications, and what of messages
+abbrev pub gathered : Bool → Option (List (List ℕ)) → Option Bool → List Setting → Result StreamOptions CmdFault
+gathered version names messages [] = asked version names messages
+gathered version names messages (Version ∷ settings) = if version then Err BadOption else gathered true names messages settings
+gathered version names messages (Publications chosen ∷ settings) = if is_some names then Err BadOption else gathered version (Some chosen) messages settings
+gathered version names messages (Messages on ∷ settings) = if is_some messages then Err BadOption else gathered version names (Some on) settings
 
 -- ---- commands
 
@@ -243,8 +258,8 @@ start_at tokens = do
   position ← position_at logical
   settings ← options_at position.1
   end ← end_at verb.Start settings.1
-  publications ← gathered false None settings.0
-  Ok (Start slot.0 position.0 publications)
+  options ← gathered false None None settings.0
+  Ok (Start slot.0 position.0 options)
 
 abbrev pub body_at : Verb → List Token → Result Command CmdFault
 body_at verb.Identify tokens = identify_at tokens

@@ -1,6 +1,6 @@
 -- The words of commands (PostgreSQL 15, 4.1.1 and 55.4): keywords, in either case; names, either bare and folded to lower
--- case, or in double quotes and as they stand; and the names that a slot may have.
-use Rattle.std.specs.Prelude.{◌≡◌, ℕ, ◌==◌, nat_lt, nat_le, List, [], ◌∷◌, length, map, Bool, true, false, ◌||◌, ◌&&◌}
+-- case, or in double quotes and as they stand; the names that a slot may have; and the words for truth values.
+use Rattle.std.specs.Prelude.{◌≡◌, ℕ, ◌==◌, nat_lt, nat_le, List, [], ◌∷◌, length, map, Bool, true, false, ◌||◌, ◌&&◌, codes}
 use Rattle.std.specs.List.{list_all}
 use Rattle.std.specs.Char.{to_ascii_lowercase, is_ascii_alphabetic, is_ascii_alphanumeric, is_ascii_lowercase, is_ascii_digit}
 use Rattle.std.specs.Str.{bytes_eq}
@@ -13,6 +13,11 @@ lower word = map to_ascii_lowercase word
 
 abbrev pub is_keyword : List ℕ → List ℕ → Bool
 is_keyword keyword word = bytes_eq (lower word) (lower keyword)
+
+-- The word stands for this truth value: `true` or `on`, `false` or `off`, in either case.
+abbrev pub is_truth : Bool → List ℕ → Bool
+is_truth true word = is_keyword (codes "true") word || is_keyword (codes "on") word
+is_truth false word = is_keyword (codes "false") word || is_keyword (codes "off") word
 
 -- a letter or an underscore, and then letters, digits, underscores and dollar signs
 abbrev pub is_first : ℕ → Bool

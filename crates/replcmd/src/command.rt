@@ -10,8 +10,8 @@ use crate::fault::CmdFault;
 use crate::identify::identify_of;
 use crate::lexer::tokens_of;
 use crate::name::Name;
-use crate::names::Names;
 use crate::start::start_of;
+use crate::stream_options::StreamOptions;
 use crate::tokens::Tokens;
 use crate::verb::Verb;
 use std::alloc::Global;
@@ -25,11 +25,11 @@ pub enum Command {
     Create {
         slot: Name,
     },
-    /// `START_REPLICATION SLOT slot LOGICAL at (proto_version '1', publication_names 'publications')`
+    /// `START_REPLICATION SLOT slot LOGICAL at (proto_version '1', publication_names 'publications', messages 'messages')`
     Start {
         slot: Name,
         at: u64,
-        publications: Names,
+        options: StreamOptions,
     },
     /// `DROP_REPLICATION_SLOT slot`
     Drop {

@@ -1,13 +1,15 @@
-//! The options of START_REPLICATION: in any order, each once.
+//! The options of START_REPLICATION: in any order, none twice.
 
 ghost use Rattle.std.specs.Prelude.{◌≡◌, None, false};
-ghost use Rattle.replcmd.specs.Reading.{Gives, GivesItems, version_at, publications_at, setting_at, more_settings, settings_at, options_at, gathered};
+ghost use Rattle.replcmd.specs.Reading.{Gives, GivesItems, version_at, publications_at, messages_at, setting_at, more_settings, settings_at, options_at, gathered};
 
 use crate::fault::CmdFault;
 use crate::names::Names;
 use crate::publications::names_of;
+use crate::stream_options::StreamOptions;
 use crate::token::{CLOSE, COMMA, OPEN};
 use crate::tokens::Tokens;
+use crate::words::truth_of;
 use std::alloc::Global;
 
 /// An option, with what its value says.
@@ -17,6 +19,8 @@ pub(crate) enum Setting {
     Version,
     /// The publications that are asked for.
     Publications(Names),
+    /// Whether the messages in the log are asked for.
+    Messages(bool),
 }
 
 /// The options in brackets; none where no bracket is opened.
@@ -68,6 +72,9 @@ fn setting_of(alloc: Global, tokens: &mut Tokens<'_>) -> Result<Setting, CmdFaul
     if name.as_str() == "publication_names" {
         return publications_of(alloc, tokens);
     }
+    if name.as_str() == "messages" {
+        return messages_of(tokens);
+    }
     Err(CmdFault::BadOption)
 }
 
@@ -88,30 +95,35 @@ fn publications_of(alloc: Global, tokens: &mut Tokens<'_>) -> Result<Setting, Cm
     Ok(Setting::Publications(names_of(alloc, value.as_str())?))
 }
 
-/// The publications, where each option stands once.
-pub(crate) fn gathered(settings: Vec<Setting>) -> Result<Names, CmdFault>
-    ensures { result ≡ gathered false None settings.items }
+fn messages_of(tokens: &mut Tokens<'_>) -> Result<Setting, CmdFault>
+    ensures { Gives result tokens.new (messages_at tokens.old) }
+{
+    let value = tokens.value()?;
+    let on = truth_of(value.as_str()).ok_or(CmdFault::BadOption)?;
+    Ok(Setting::Messages(on))
+}
+
+/// What is asked of the stream, where no option stands twice and none that is needed is missing: the version and the
+/// publications. No messages are asked for where nothing is said of them.
+pub(crate) fn gathered(settings: Vec<Setting>) -> Result<StreamOptions, CmdFault>
+    ensures { result ≡ gathered false None None settings.items }
 {
     let mut version = false;
     let mut publications = None;
+    let mut messages = None;
     for setting in settings {
         match setting {
-            Setting::Version => {
-                if version {
-                    return Err(CmdFault::BadOption);
-                }
-                version = true;
-            }
-            Setting::Publications(names) => {
-                if publications.is_some() {
-                    return Err(CmdFault::BadOption);
-                }
-                publications = Some(names);
-            }
+            Setting::Version if !version => version = true,
+            Setting::Publications(names) if publications.is_none() => publications = Some(names),
+            Setting::Messages(on) if messages.is_none() => messages = Some(on),
+            _ => return Err(CmdFault::BadOption),
         }
     }
-    if version {
-        return publications.ok_or(CmdFault::BadOption);
+    if !version {
+        return Err(CmdFault::BadOption);
     }
-    Err(CmdFault::BadOption)
+    Ok(StreamOptions {
+        publications: publications.ok_or(CmdFault::BadOption)?,
+        messages: messages.unwrap_or(false),
+    })
 }

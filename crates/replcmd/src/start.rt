@@ -9,7 +9,7 @@ use crate::tokens::Tokens;
 use crate::verb::Verb;
 use std::alloc::Global;
 
-/// What follows the first word (PostgreSQL 15, 55.4). The options stand in any order, each once.
+/// What follows the first word (PostgreSQL 15, 55.4). The options stand in any order, none twice.
 ///
 /// ```text
 /// START_REPLICATION SLOT slot LOGICAL position ( option 'value' [, ...] )
@@ -24,10 +24,6 @@ pub(crate) fn start_of(alloc: Global, tokens: &mut Tokens<'_>) -> Result<Command
     let at = tokens.position()?;
     let settings = options_of(alloc, tokens)?;
     tokens.end(Verb::Start)?;
-    let publications = gathered(settings)?;
-    Ok(Command::Start {
-        slot,
-        at,
-        publications,
-    })
+    let options = gathered(settings)?;
+    Ok(Command::Start { slot, at, options })
 }

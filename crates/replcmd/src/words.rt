@@ -3,6 +3,7 @@
 ghost use Rattle.std.specs.Prelude.{◌≡◌};
 ghost use Rattle.std.specs.List.{list_all};
 ghost use Rattle.replcmd.specs.Words.{is_keyword, is_later, is_bare, is_slot_byte, is_slot_name};
+ghost use Rattle.replcmd.specs.Reading.{truth_of};
 
 /// The longest name of a slot, in bytes.
 pub const MOST_SLOT_NAME_BYTES: usize = 63;
@@ -13,6 +14,20 @@ pub(crate) fn is_keyword(keyword: &str, word: &str) -> bool
     ensures { result ≡ is_keyword keyword.now word.now }
 {
     word.eq_ignore_ascii_case(keyword)
+}
+
+/// What a word says that stands for a truth value: `true` or `on`, `false` or `off`, in either case.
+#[tactic(auto, unfolding(crate::specs::Reading::truth_of))]
+pub(crate) fn truth_of(word: &str) -> Option<bool>
+    ensures { result ≡ truth_of word.now }
+{
+    if is_keyword("true", word) || is_keyword("on", word) {
+        return Some(true);
+    }
+    if is_keyword("false", word) || is_keyword("off", word) {
+        return Some(false);
+    }
+    None
 }
 
 /// Whether the word is a bare name: a letter or an underscore, and then letters, digits, underscores or dollar signs.

@@ -1,5 +1,6 @@
 //! The events of a schedule, one a line.
 
+use crate::start_options::StartOptions;
 use pqformat::{Items, Text};
 
 /// One line of a schedule.
@@ -7,6 +8,9 @@ use pqformat::{Items, Text};
 pub enum Event {
     /// What a session does in the transaction of this name.
     Session(Text, SessionStep),
+    /// `note 'prefix' 'content'`: a session puts a message into the log that is of no transaction. Its content is the text's
+    /// bytes.
+    Note(Text, Text),
     /// What happens at the connection of this name.
     Connection(Text, ConnectionStep),
     /// `slot NAME`: a slot is created at the log's end.
@@ -26,6 +30,8 @@ pub enum SessionStep {
     Delete(Text, Items<Literal>),
     /// `truncate T TABLE ..`: one table or more.
     Truncate(Items<Text>),
+    /// `message T 'prefix' 'content'`: a message goes into the log with the transaction. Its content is the text's bytes.
+    Message(Text, Text),
     /// `savepoint T`
     Savepoint,
     /// `rollback T N`: N is the savepoint's depth, 1 the outermost.
@@ -41,8 +47,9 @@ pub enum SessionStep {
 /// What happens at a connection C, which has a sender, and a subscriber at its other end.
 #[derive(Debug, Drop)]
 pub enum ConnectionStep {
-    /// `start C SLOT POSITION PUB,PUB`: a sender starts. The slot `-` is none.
-    Start(Text, u64, Items<Text>),
+    /// `start C SLOT POSITION PUB,PUB`, or the same with the word `messages` behind it: a sender starts. The slot `-` is
+    /// none.
+    Start(Text, u64, StartOptions),
     /// `read C MAX CLOCK`: up to MAX records are fetched and fed.
     Read(u32, i64),
     /// `keepalive C CLOCK`

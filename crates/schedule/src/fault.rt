@@ -52,6 +52,7 @@ impl Display for BadEvent {
                 write!(f, "transaction {} is in progress", name.as_str())
             }
             Event::Session(name, _) => write!(f, "no transaction {}", name.as_str()),
+            Event::Note(_, _) => write!(f, "no note can be written"),
             Event::Connection(name, ConnectionStep::Start(_, _, _)) => {
                 write!(f, "connection {} has a sender already", name.as_str())
             }

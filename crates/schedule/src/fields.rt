@@ -2,7 +2,7 @@
 
 use crate::event::Literal;
 use crate::fault::WorldFault;
-use crate::literals::row_in;
+use crate::literals::{row_in, text_in};
 use pqformat::{Items, Text};
 use replcmd::{is_slot_name, parse_position};
 use std::alloc::Global;
@@ -50,6 +50,17 @@ impl<'a> Fields<'a> {
         }
     }
 
+    /// Whether this word is all that is left of the line; moves past it if so.
+    pub(crate) fn ends_with(&mut self, word: &str) -> bool {
+        if let Some(rest) = self.rest
+            && rest == word
+        {
+            self.rest = None;
+            return true;
+        }
+        false
+    }
+
     /// Any text without a space.
     pub(crate) fn text(&mut self, alloc: Global) -> Result<Text, WorldFault> {
         Ok(Text::copy_of(alloc, self.word()?)?)
@@ -70,11 +81,24 @@ impl<'a> Fields<'a> {
     /// Values in parentheses. Spaces may stand in their texts.
     pub(crate) fn row(&mut self, alloc: Global) -> Result<Items<Literal>, WorldFault> {
         let (row, behind) = row_in(alloc, self.remainder()?)?;
+        self.go_on(behind)?;
+        Ok(row)
+    }
+
+    /// A text in quotes. Spaces may stand in it.
+    pub(crate) fn quoted(&mut self, alloc: Global) -> Result<Text, WorldFault> {
+        let (text, behind) = text_in(alloc, self.remainder()?)?;
+        self.go_on(behind)?;
+        Ok(text)
+    }
+
+    /// Goes on with what stands behind a field: nothing, or a space and the next field.
+    fn go_on(&mut self, behind: &'a str) -> Result<(), WorldFault> {
         if !behind.is_empty() {
             let next = behind.strip_prefix(' ').ok_or(WorldFault::BadEvent)?;
             self.rest = Some(next);
         }
-        Ok(row)
+        Ok(())
     }
 
     /// The name of a transaction or a connection.

@@ -14,9 +14,11 @@ mod literals;
 mod parse;
 mod report;
 mod schedule;
+mod start_options;
 
 pub use answer::Answer;
 pub use event::{ConnectionStep, Event, Literal, SessionStep};
 pub use fault::{BadEvent, WorldFault};
 pub use report::{write_refusals, write_slot, write_stream, write_subscriber};
 pub use schedule::{LineFault, Schedule};
+pub use start_options::StartOptions;

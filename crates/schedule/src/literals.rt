@@ -1,4 +1,4 @@
-//! The rows and keys of a schedule: values in parentheses, which commas separate.
+//! The rows and keys of a schedule, which are values in parentheses that commas separate, and its texts in quotes.
 
 use crate::event::Literal;
 use crate::fault::WorldFault;
@@ -29,15 +29,22 @@ pub(crate) fn row_in(alloc: Global, text: &str) -> Result<(Items<Literal>, &str)
 
 /// The value that a text begins with, and what stands behind it.
 fn literal_of(alloc: Global, text: &str) -> Result<(Literal, &str), WorldFault> {
-    if let Some(quoted) = text.strip_prefix('\'') {
-        let (content, behind) = quoted_text(alloc, quoted)?;
-        return Ok((Literal::Text(Text::new(content)), behind));
+    if text.starts_with('\'') {
+        let (content, behind) = text_in(alloc, text)?;
+        return Ok((Literal::Text(content), behind));
     }
     let end = text
         .find(|c: char| c == ',' || c == ')')
         .ok_or(WorldFault::BadEvent)?;
     let (word, behind) = text.split_at_checked(end).ok_or(WorldFault::BadEvent)?;
     Ok((word_of(word)?, behind))
+}
+
+/// The content of the quoted text that a text begins with, such as `'it''s'`, and what stands behind it.
+pub(crate) fn text_in(alloc: Global, text: &str) -> Result<(Text, &str), WorldFault> {
+    let quoted = text.strip_prefix('\'').ok_or(WorldFault::BadEvent)?;
+    let (content, behind) = quoted_text(alloc, quoted)?;
+    Ok((Text::new(content), behind))
 }
 
 /// The content of a quoted text, in which a doubled quote stands for one, and what follows the quote that closes it.

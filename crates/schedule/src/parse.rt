@@ -3,6 +3,7 @@
 use crate::event::{ConnectionStep, Event, SessionStep};
 use crate::fault::WorldFault;
 use crate::fields::Fields;
+use crate::start_options::StartOptions;
 use std::alloc::Global;
 
 impl Event {
@@ -17,10 +18,13 @@ impl Event {
     }
 }
 
-/// The event whose line begins with this word. Each names a transaction or a connection next, but for a new slot's.
+/// The event whose line begins with this word. Each names a transaction or a connection next, but for a new slot's and a note's.
 fn event_of(alloc: Global, word: &str, fields: &mut Fields<'_>) -> Result<Event, WorldFault> {
     if word == "slot" {
         return Ok(Event::Slot(fields.slot(alloc)?));
+    }
+    if word == "note" {
+        return note(alloc, fields);
     }
     let name = fields.name(alloc)?;
     match session_step_of(alloc, word, fields)? {
@@ -41,6 +45,7 @@ fn session_step_of(
         "update" => update(alloc, fields)?,
         "delete" => delete(alloc, fields)?,
         "truncate" => SessionStep::Truncate(fields.texts(alloc)?),
+        "message" => message(alloc, fields)?,
         "savepoint" => SessionStep::Savepoint,
         "rollback" => SessionStep::Rollback(fields.count()?),
         "release" => SessionStep::Release(fields.count()?),
@@ -90,11 +95,26 @@ fn delete(alloc: Global, fields: &mut Fields<'_>) -> Result<SessionStep, WorldFa
     Ok(SessionStep::Delete(table, key))
 }
 
+fn message(alloc: Global, fields: &mut Fields<'_>) -> Result<SessionStep, WorldFault> {
+    let prefix = fields.quoted(alloc)?;
+    let content = fields.quoted(alloc)?;
+    Ok(SessionStep::Message(prefix, content))
+}
+
+fn note(alloc: Global, fields: &mut Fields<'_>) -> Result<Event, WorldFault> {
+    let prefix = fields.quoted(alloc)?;
+    let content = fields.quoted(alloc)?;
+    Ok(Event::Note(prefix, content))
+}
+
 fn start(alloc: Global, fields: &mut Fields<'_>) -> Result<ConnectionStep, WorldFault> {
     let slot = fields.text(alloc)?;
     let position = fields.position()?;
-    let publications = fields.publications(alloc)?;
-    Ok(ConnectionStep::Start(slot, position, publications))
+    let options = StartOptions {
+        publications: fields.publications(alloc)?,
+        messages: fields.ends_with("messages"),
+    };
+    Ok(ConnectionStep::Start(slot, position, options))
 }
 
 fn read(fields: &mut Fields<'_>) -> Result<ConnectionStep, WorldFault> {

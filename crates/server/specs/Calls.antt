@@ -1,5 +1,6 @@
 -- What a connection asks of its desk, with the answers.
 use Rattle.std.specs.Prelude.{◌≡◌, ℕ, Bool, List, [], ◌∷◌, Result}
+use Rattle.replcmd.specs.declared.stream_options.StreamOptions.{StreamOptions}
 use Rattle.server.specs.declared.fault.DeskFault.{DeskFault}
 
 pub data Call : Type 0 where
@@ -7,7 +8,7 @@ pub data Call : Type 0 where
   System : (systemid : List ℕ) → Call
   CreateSlot : (slot : List ℕ) → (answer : Result ℕ DeskFault) → Call
   DropSlot : (slot : List ℕ) → (answer : Result (Unit {0}) DeskFault) → Call
-  StartStream : (slot : List ℕ) → (position : ℕ) → (publications : List (List ℕ)) → (answer : Result (Unit {0}) DeskFault) → Call
+  StartStream : (slot : List ℕ) → (position : ℕ) → (options : StreamOptions) → (answer : Result (Unit {0}) DeskFault) → Call
   Flushed : (position : ℕ) → (ask : Bool) → Call
 
 -- The desk was asked these, one after the other.

@@ -43,8 +43,8 @@ abbrev pub Runs : List ℕ → Command → Bool → List Call → List ℕ → T
 Runs database Identify begins asked text = (end : ℕ) × (systemid : List ℕ) × (asked ≡ End end ∷ System systemid ∷ []) × (text ≡ identified systemid end database) × (begins ≡ false)
 Runs database (Create slot) begins asked text = (answer : Result ℕ DeskFault) × (asked ≡ CreateSlot slot answer ∷ []) × (text ≡ created slot answer) × (begins ≡ false)
 Runs database (Drop slot) begins asked text = (answer : Result (Unit {0}) DeskFault) × (asked ≡ DropSlot slot answer ∷ []) × (text ≡ dropped answer) × (begins ≡ false)
-Runs database (Start slot position publications) begins asked text =
-    (answer : Result (Unit {0}) DeskFault) × (asked ≡ StartStream slot position publications answer ∷ []) × (text ≡ started answer) × (begins ≡ is_ok answer)
+Runs database (Start slot position options) begins asked text =
+    (answer : Result (Unit {0}) DeskFault) × (asked ≡ StartStream slot position options answer ∷ []) × (text ≡ started answer) × (begins ≡ is_ok answer)
 
 -- the slot of a command to make one is no longer than slots' names are
 abbrev pub HasShortSlot : Command → Type 0

@@ -3,7 +3,7 @@
 ghost use Rattle.std.specs.Prelude.{◌<◌, ◌^◌, length};
 
 use crate::fault::DeskFault;
-use replcmd::Name;
+use replcmd::{CmdFault, StreamOptions};
 
 /// The desk of a connection. `told` is what one call with its answer says of a desk before and after it; a desk that
 /// tells nothing says `Unit`, one that keeps a record of its calls says that it grew by this one.
@@ -28,9 +28,13 @@ pub trait Desk {
     fn drop_slot(&mut self, slot: &str) -> Result<(), DeskFault>
         ensures { told self.old (DropSlot slot.now result) self.new };
 
-    /// Begins a stream of these publications for the slot, at this position or at a later one that it has confirmed.
-    fn start(&mut self, slot: &str, position: u64, publications: &[Name]) -> Result<(), DeskFault>
-        ensures { told self.old (StartStream slot.now position publications.now result) self.new };
+    /// Begins the stream that these options ask for, for the slot, at this position or at a later one that it has
+    /// confirmed.
+    fn start(&mut self, slot: &str, position: u64, options: &StreamOptions) -> Result<(), DeskFault>
+        ensures { told self.old (StartStream slot.now position options.now result) self.new };
+
+    /// A text was refused that is no command, or none that is served. It is told and asks nothing.
+    fn refused(&self, _text: &str, _fault: CmdFault) {}
 
     /// A client has flushed all before the position; `ask`: it wants an answer at once.
     fn flushed(&mut self, position: u64, ask: bool)

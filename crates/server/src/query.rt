@@ -10,7 +10,7 @@ use crate::fault::DeskFault;
 use crate::refusal::Refusal;
 use crate::say::{say_created, say_dropped, say_identified, say_refused_ready, say_started};
 use bytes::BytesMut;
-use replcmd::{Command, Name, Names, parse_command};
+use replcmd::{Command, Name, StreamOptions, parse_command};
 use std::alloc::{AllocError, Global};
 
 fn identify<D: Desk>(
@@ -58,13 +58,13 @@ fn start<D: Desk>(
     database: &Database,
     slot: &Name,
     position: u64,
-    publications: &Names,
+    options: &StreamOptions,
     desk: &mut D,
     out: &mut BytesMut,
 ) -> Result<bool, AllocError>
-    ensures { Answered D.told result (λ begun. Runs database.now (Start slot.now position publications.now) begun) desk.old out.old.items desk.new out.new.items }
+    ensures { Answered D.told result (λ begun. Runs database.now (Start slot.now position options.now) begun) desk.old out.old.items desk.new out.new.items }
 {
-    let answer = desk.start(slot.as_str(), position, publications.as_slice());
+    let answer = desk.start(slot.as_str(), position, options);
     let begun = has_begun(answer);
     say_started(alloc, out, answer)?;
     Ok(begun)
@@ -100,11 +100,9 @@ fn run<D: Desk>(
             drop_slot(alloc, database, slot, desk, out)?;
             Ok(false)
         }
-        Command::Start {
-            slot,
-            at,
-            publications,
-        } => { start(alloc, database, slot, *at, publications, desk, out) }
+        Command::Start { slot, at, options } => {
+            start(alloc, database, slot, *at, options, desk, out)
+        }
     }
 }
 
@@ -125,6 +123,7 @@ pub(crate) fn reply<D: Desk>(
     match parse_command(alloc, query) {
         Ok(command) => run(alloc, database, &command, desk, out),
         Err(fault) => {
+            desk.refused(query, fault);
             say_refused_ready(alloc, out, Refusal::Command(fault))?;
             Ok(false)
         }

@@ -4,5 +4,5 @@ use Rattle.replcmd.specs.Reading.{gathered}
 use Rattle.replcmd.proofs.setting.gathered.Given as goal
 
 abbrev pub invariant-loop-setting : goal.invariant-loop-setting
-invariant-loop-setting l = (gathered l.version l.publications (into_iter_items l.setting-iterator) ≡ gathered false None (into_iter_items l.initial.setting-iterator))
+invariant-loop-setting l = (gathered l.version l.publications l.messages (into_iter_items l.setting-iterator) ≡ gathered false None None (into_iter_items l.initial.setting-iterator))
     × (into_iter_len l.setting-iterator ≡ length (into_iter_items l.setting-iterator))

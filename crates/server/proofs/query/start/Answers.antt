@@ -6,9 +6,9 @@ use Rattle.server.proofs.query.start.Goals as goal
 
 pub returns : goal.returns
 returns g c =
-    let told = rw (c.as_str.ensures.value, c.as_slice.ensures) at c.start-answer.ensures in
+    let told = rw c.as_str.ensures.value at c.start-answer.ensures in
     record {
-      asked = StartStream c.args.slot.now c.args.position c.args.publications.now c.start-answer.result ∷ [];
+      asked = StartStream c.args.slot.now c.args.position c.args.options.now c.start-answer.result ∷ [];
       text = started c.start-answer.result;
       fact = (c.start-answer.result, refl, refl, c.has_begun-begun.ensures);
       asks = (c.start-answer.new.self, told, refl);
@@ -17,11 +17,11 @@ returns g c =
 
 pub returns-in_err-say_started : goal.returns-in_err-say_started
 returns-in_err-say_started g c =
-    let told = rw (c.as_str.ensures.value, c.as_slice.ensures) at c.start-answer.ensures in
+    let told = rw c.as_str.ensures.value at c.start-answer.ensures in
     let p = err_from_is_err_and c.from_residual.result c.from_residual.ensures.1 in
     rw p.1 (
       record {
-        asked = StartStream c.args.slot.now c.args.position c.args.publications.now c.start-answer.result ∷ [];
+        asked = StartStream c.args.slot.now c.args.position c.args.options.now c.start-answer.result ∷ [];
         fact = inr (c.has_begun-begun.result, started c.start-answer.result, (c.start-answer.result, refl, refl, c.has_begun-begun.ensures));
         asks = (c.start-answer.new.self, told, refl);
       },
