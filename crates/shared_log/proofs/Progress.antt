@@ -1,19 +1,19 @@
 -- Where transactions in progress began to write, record by record.
-use Rattle.std.proofs.Common.{◌≡◌, ◌+◌, ℕ, suc, ◌==◌, Bool, true, false, cond, ◌&&◌, ◌||◌, not, List, [], ◌∷◌, ◌++◌, length, filter, Option, Some, None, refl, sym, ap, ◌∙◌, arith, eq-eqb, length-append, reverse}
+use Rattle.std.proofs.Common.{◌≡◌, ◌+◌, ℕ, suc, ◌==◌, Bool, true, false, cond, ◌&&◌, ◌||◌, not, List, [], ◌∷◌, ◌++◌, length, filter, Option, Some, None, refl, sym, ap, subst, ◌∙◌, arith, eq-eqb, length-append, reverse}
 use Rattle.std.specs.List.{list_any, AllByRecursion}
 use Rattle.wal.specs.declared.record.Record.{Record}
 use Rattle.wal.specs.declared.record.Body.{Body}
-use Rattle.wal.specs.declared.record.Body.TheVariants.{Assign, Change as Changed, AbortSub, Abort, Commit}
-use Rattle.wal.specs.Log.{is_named, assigns, is_assigned, chain, chain_step, ends, has_ended, last_of, top_of, xid_in, IsNext, IsOpen, IsWellFormedLog, WellFormedAfter}
+use Rattle.wal.specs.declared.record.Body.TheVariants.{Assign, Change as Changed, AbortSub, Abort, Commit, Note}
+use Rattle.wal.specs.Log.{is_note, assigns, is_assigned, chain, chain_step, ends, has_ended, last_of, top_of, xid_in, IsNext, IsOpen, IsWellFormedLog, WellFormedAfter}
 use Rattle.wal.specs.Restart.{first_place, is_in_progress, oldest}
 use Rattle.std.proofs.lemmas.Bool.{eqb-true}
 use Rattle.wal.proofs.Lists.{and_true, each, eqb_comm}
 use Rattle.wal.proofs.Laws.{all_when, chain-append, chain-quiet, chain-unassigned, has_ended-one, WellFormedAfter-back}
 use Rattle.wal.proofs.Places.{chain-stable}
-use Rattle.wal.proofs.Restarts.{all_named}
+use Rattle.wal.proofs.Restarts.{IsNamedIn, all_named}
 use Rattle.wal.proofs.Sections.{ends_in}
 use Rattle.shared_log.specs.declared.openings.Opening.{Opening}
-use Rattle.shared_log.specs.Openings.{AreOpenings, found_from, is_end, openings_after, place_or, place_where, restart_after}
+use Rattle.shared_log.specs.Openings.{AreOpenings, found_from, is_end, openings_after, owner_of, place_or, place_where, restart_after}
 
 -- ---- What is found first.
 
@@ -88,34 +88,42 @@ parted : (a b c : Bool) → (not (a || b) && c) ≡ (not a && (not b && c))
 parted true b c = refl
 parted false b c = refl
 
+-- a note is of no transaction in progress
+unless_note : (note a b c d : Bool) → (note ≡ false → (not a && c) ≡ (not b && d)) → ((not note && not a) && c) ≡ ((not note && not b) && d)
+unless_note true a b c d same = refl
+unless_note false a b c d same = same refl
+
 earlier : (log : List Record) (r : Record) (p : ℕ → Bool) → WellFormedAfter log (r ∷ []) → AllByRecursion (λ q. some_of (log ++ r ∷ []) p q ≡ some_of log (λ x. not (ends x r.body) && p x) q) log
-earlier log r p next = all_when (λ (q : Record). is_named log (xid_in q.body) ≡ true) _ each log (all_named log)
+earlier log r p next = all_when (IsNamedIn log) _ each log (all_named log)
   where
-    each : (q : Record) → is_named log (xid_in q.body) ≡ true → some_of (log ++ r ∷ []) p q ≡ some_of log (λ x. not (ends x r.body) && p x) q
+    each : (q : Record) → IsNamedIn log q → some_of (log ++ r ∷ []) p q ≡ some_of log (λ x. not (ends x r.body) && p x) q
     each q named =
         let top = top_of log (xid_in q.body) in
-        let same : top_of (log ++ r ∷ []) (xid_in q.body) ≡ top = ap (last_of (xid_in q.body)) (chain-stable log (r ∷ []) (xid_in q.body) named next) in
+        let grown = top_of (log ++ r ∷ []) (xid_in q.body) in
+        unless_note (is_note q.body) (has_ended (log ++ r ∷ []) grown) (has_ended log top) (p grown) (not (ends top r.body) && p top) (λ other.
+        let same : grown ≡ top = ap (last_of (xid_in q.body)) (chain-stable log (r ∷ []) (xid_in q.body) (named other) next) in
         ap (λ (t : ℕ). not (has_ended (log ++ r ∷ []) t) && p t) same
         ∙ ap (λ b. not b && p top) (has_ended-one log r top)
-        ∙ parted (has_ended log top) (ends top r.body) (p top)
+        ∙ parted (has_ended log top) (ends top r.body) (p top))
 
 -- the record's own transaction is in progress behind it, unless it ends it
-own : (log : List Record) (r : Record) (top : ℕ) → IsNext log r.body → top_of (log ++ r ∷ []) (xid_in r.body) ≡ top → is_end r.body ≡ false → has_ended log top ≡ false
-own log r top next is goes_on = by_body r.body refl next goes_on
+own : (log : List Record) (r : Record) (top : ℕ) → IsNext log r.body → is_note r.body ≡ false → top_of (log ++ r ∷ []) (xid_in r.body) ≡ top → is_end r.body ≡ false → has_ended log top ≡ false
+own log r top next other is goes_on = by_body r.body refl next other goes_on
   where
     running_top : (xid : ℕ) → IsOpen log xid → top_of (log ++ r ∷ []) (xid_in r.body) ≡ top_of log xid → has_ended log top ≡ false
     running_top xid still same = ap (has_ended log) (sym is ∙ same) ∙ still.running
 
-    by_body : (body : Body) → r.body ≡ body → IsNext log body → is_end body ≡ false → has_ended log top ≡ false
-    by_body (Assign sub parent) at n e =
+    by_body : (body : Body) → r.body ≡ body → IsNext log body → is_note body ≡ false → is_end body ≡ false → has_ended log top ≡ false
+    by_body (Assign sub parent) at n o e =
         running_top parent n.2
         (ap (λ b. top_of (log ++ r ∷ []) (xid_in b)) at
         ∙ ap (last_of sub) (chain-append log r sub ∙ ap (λ (b : Body). chain_step (chain log) b sub) at ∙ ap (λ b. cond b (sub ∷ chain log parent) (chain log sub)) (eq-eqb sub sub refl))
         ∙ ends_in (reverse log) sub parent)
-    by_body (Changed xid change) at n e = running_top xid n (ap (λ b. top_of (log ++ r ∷ []) (xid_in b)) at ∙ ap (last_of xid) (chain-quiet log r xid (ap (assigns xid) at)))
-    by_body (AbortSub xid) at n e = running_top xid n.1 (ap (λ b. top_of (log ++ r ∷ []) (xid_in b)) at ∙ ap (last_of xid) (chain-quiet log r xid (ap (assigns xid) at)))
-    by_body (Abort xid) at n e = absurd cc
-    by_body (Commit xid time) at n e = absurd cc
+    by_body (Changed xid change) at n o e = running_top xid n (ap (λ b. top_of (log ++ r ∷ []) (xid_in b)) at ∙ ap (last_of xid) (chain-quiet log r xid (ap (assigns xid) at)))
+    by_body (AbortSub xid) at n o e = running_top xid n.1 (ap (λ b. top_of (log ++ r ∷ []) (xid_in b)) at ∙ ap (last_of xid) (chain-quiet log r xid (ap (assigns xid) at)))
+    by_body (Abort xid) at n o e = absurd cc
+    by_body (Commit xid time) at n o e = absurd cc
+    by_body (Note change) at n o e = absurd cc
 
 quiet_ends : (body : Body) (x : ℕ) → is_end body ≡ false → ends x body ≡ false
 quiet_ends (Assign sub parent) x e = refl
@@ -123,6 +131,7 @@ quiet_ends (Changed xid change) x e = refl
 quiet_ends (AbortSub xid) x e = refl
 quiet_ends (Abort xid) x e = absurd cc
 quiet_ends (Commit xid time) x e = absurd cc
+quiet_ends (Note change) x e = refl
 
 -- it ends the transaction that it is of
 own_ends : (log : List Record) (r : Record) (top : ℕ) → IsNext log r.body → top_of (log ++ r ∷ []) (xid_in r.body) ≡ top → is_end r.body ≡ true → (x : ℕ) → ends x r.body ≡ (x == top)
@@ -135,6 +144,7 @@ own_ends log r top next is over x = by_body r.body refl next over
     by_body (Assign sub parent) at n e = absurd cc
     by_body (Changed xid change) at n e = absurd cc
     by_body (AbortSub xid) at n e = absurd cc
+    by_body (Note change) at n e = absurd cc
     by_body (Abort xid) at n e = eqb_comm xid x ∙ ap (λ (t : ℕ). x == t) (alone xid n.0 (ap (assigns xid) at) (ap xid_in at))
     by_body (Commit xid time) at n e = eqb_comm xid x ∙ ap (λ (t : ℕ). x == t) (alone xid n.0 (ap (assigns xid) at) (ap xid_in at))
 
@@ -142,9 +152,28 @@ or_true : (b : Bool) → (b || true) ≡ true
 or_true true = refl
 or_true false = refl
 
-pub openings-next : (log : List Record) (r : Record) (os : List Opening) (top : ℕ) (over : Bool) → IsWellFormedLog (log ++ r ∷ []) → top_of (log ++ r ∷ []) (xid_in r.body) ≡ top → is_end r.body ≡ over
-    → AreOpenings log os → AreOpenings (log ++ r ∷ []) (openings_after top over (length log) os)
-openings-next log r os top over good is ends_is are p =
+-- a note begins and ends none
+openings-note : (log : List Record) (r : Record) (os : List Opening) → IsWellFormedLog (log ++ r ∷ []) → is_note r.body ≡ true → AreOpenings log os → AreOpenings (log ++ r ∷ []) os
+openings-note log r os good note are p =
+    found-push 0 (some_of (log ++ r ∷ []) p) log r
+    ∙ ap (λ found. first_of found (cond (some_of (log ++ r ∷ []) p r) (Some (length log + 0)) None))
+    (found-agrees 0 (some_of (log ++ r ∷ []) p) (some_of log (λ x. not (ends x r.body) && p x)) log (earlier log r p (WellFormedAfter-back [] log (r ∷ []) good.order)) ∙ are (λ x. not (ends x r.body) && p x))
+    ∙ ap (λ b. first_of (place_where (λ x. not (ends x r.body) && p x) os) (cond ((not b && not (has_ended (log ++ r ∷ []) (top_of (log ++ r ∷ []) (xid_in r.body)))) && p (top_of (log ++ r ∷ []) (xid_in r.body))) (Some (length log + 0)) None)) note
+    ∙ first-none (place_where (λ x. not (ends x r.body) && p x) os)
+    ∙ place-agrees (λ x. not (ends x r.body) && p x) p (λ x. ap (λ b. not b && p x) (by_body r.body note x)) os
+  where
+    by_body : (body : Body) → is_note body ≡ true → (x : ℕ) → ends x body ≡ false
+    by_body (Assign sub parent) is x = refl
+    by_body (Changed xid change) is x = refl
+    by_body (AbortSub xid) is x = refl
+    by_body (Abort xid) is x = absurd cc
+    by_body (Commit xid time) is x = absurd cc
+    by_body (Note change) is x = refl
+
+-- a record of a transaction
+openings-own : (log : List Record) (r : Record) (os : List Opening) (top : ℕ) (over : Bool) → IsWellFormedLog (log ++ r ∷ []) → is_note r.body ≡ false → top_of (log ++ r ∷ []) (xid_in r.body) ≡ top → is_end r.body ≡ over
+    → AreOpenings log os → AreOpenings (log ++ r ∷ []) (openings_after (Some top) over (length log) os)
+openings-own log r os top over good other is ends_is are p =
     found-push 0 (some_of (log ++ r ∷ []) p) log r
     ∙ ap (λ found. first_of found (cond (some_of (log ++ r ∷ []) p r) (Some (length log + 0)) None))
     (found-agrees 0 (some_of (log ++ r ∷ []) p) (some_of log (λ x. not (ends x r.body) && p x)) log (earlier log r p next) ∙ are (λ x. not (ends x r.body) && p x))
@@ -153,19 +182,24 @@ openings-next log r os top over good is ends_is are p =
     next : WellFormedAfter log (r ∷ [])
     next = WellFormedAfter-back [] log (r ∷ []) good.order
 
-    by_end : (b : Bool) → is_end r.body ≡ b → first_of (place_where (λ x. not (ends x r.body) && p x) os) (cond (some_of (log ++ r ∷ []) p r) (Some (length log + 0)) None) ≡ place_where p (openings_after top b (length log) os)
+    of_top : some_of (log ++ r ∷ []) p r ≡ (not (has_ended (log ++ r ∷ []) top) && p top)
+    of_top =
+        ap (λ b. (not b && not (has_ended (log ++ r ∷ []) (top_of (log ++ r ∷ []) (xid_in r.body)))) && p (top_of (log ++ r ∷ []) (xid_in r.body))) other
+        ∙ ap (λ (t : ℕ). not (has_ended (log ++ r ∷ []) t) && p t) is
+
+    by_end : (b : Bool) → is_end r.body ≡ b → first_of (place_where (λ x. not (ends x r.body) && p x) os) (cond (some_of (log ++ r ∷ []) p r) (Some (length log + 0)) None) ≡ place_where p (openings_after (Some top) b (length log) os)
     by_end true at =
         let same = own_ends log r top next.0 is at in
         let ended : some_of (log ++ r ∷ []) p r ≡ false =
-        ap (λ (t : ℕ). not (has_ended (log ++ r ∷ []) t) && p t) is
+        of_top
         ∙ ap (λ b. not b && p top) (has_ended-one log r top ∙ ap (λ b. has_ended log top || b) (same top ∙ eq-eqb top top refl) ∙ or_true (has_ended log top)) in
         rw ended (first-none (place_where (λ x. not (ends x r.body) && p x) os)
         ∙ place-agrees (λ x. not (ends x r.body) && p x) (λ x. not (x == top) && p x) (λ x. ap (λ b. not b && p x) (same x)) os
         ∙ sym (place-filter p (λ x. not (x == top)) os))
     by_end false at =
         let going : some_of (log ++ r ∷ []) p r ≡ p top =
-        ap (λ (t : ℕ). not (has_ended (log ++ r ∷ []) t) && p t) is
-        ∙ ap (λ b. not b && p top) (has_ended-one log r top ∙ ap (λ b. b || ends top r.body) (own log r top next.0 is at) ∙ quiet_ends r.body top at) in
+        of_top
+        ∙ ap (λ b. not b && p top) (has_ended-one log r top ∙ ap (λ b. b || ends top r.body) (own log r top next.0 other is at) ∙ quiet_ends r.body top at) in
         ap (λ b. first_of (place_where (λ x. not (ends x r.body) && p x) os) (cond b (Some (length log + 0)) None)) going
         ∙ ap (λ (n : ℕ). first_of (place_where (λ x. not (ends x r.body) && p x) os) (cond (p top) (Some n) None)) (omega arith)
         ∙ ap (λ found. first_of found (cond (p top) (Some (length log)) None)) (place-agrees (λ x. not (ends x r.body) && p x) p (λ x. ap (λ b. not b && p x) (quiet_ends r.body x at)) os)
@@ -174,6 +208,22 @@ openings-next log r os top over good is ends_is are p =
         by_there : (b : Bool) → list_any (λ o. o.xid == top) os ≡ b → first_of (place_where p os) (cond (p top) (Some (length log)) None) ≡ place_where p (cond b os (os ++ record { xid = top; place = length log } ∷ []))
         by_there true there = place-there p top os (length log) there
         by_there false there = sym (place-push p os (record { xid = top; place = length log }))
+
+-- one more record, of a transaction or of none
+pub openings-next : (log : List Record) (r : Record) (os : List Opening) (owner : Option ℕ) (over : Bool) → IsWellFormedLog (log ++ r ∷ []) → owner_of (log ++ r ∷ []) r ≡ owner → is_end r.body ≡ over
+    → AreOpenings log os → AreOpenings (log ++ r ∷ []) (openings_after owner over (length log) os)
+openings-next log r os owner over good is ends_is are = by_note (is_note r.body) refl
+  where
+    top : ℕ
+    top = top_of (log ++ r ∷ []) (xid_in r.body)
+
+    by_note : (b : Bool) → is_note r.body ≡ b → AreOpenings (log ++ r ∷ []) (openings_after owner over (length log) os)
+    by_note true note =
+        subst (λ (o : Option ℕ). AreOpenings (log ++ r ∷ []) (openings_after o over (length log) os)) (sym (ap (λ b. cond b None (Some top)) note) ∙ is)
+        (openings-note log r os good note are)
+    by_note false other =
+        subst (λ (o : Option ℕ). AreOpenings (log ++ r ∷ []) (openings_after o over (length log) os)) (sym (ap (λ b. cond b None (Some top)) other) ∙ is)
+        (openings-own log r os top over good other refl ends_is are)
 
 -- ---- The oldest of them.
 
@@ -193,15 +243,10 @@ oldest_of log os are =
     let zero_more : first_place (is_in_progress log) log + 0 ≡ oldest log = omega arith in
     sym zero_more ∙ sym (found-place 0 (is_in_progress log) log) ∙ ap (λ (n : ℕ). place_or n (found_from 0 (is_in_progress log) log)) (omega arith) ∙ ap (place_or (length log)) all
 
--- the oldest behind one more record
-pub oldest-next : (log : List Record) (r : Record) (os : List Opening) (top : ℕ) (over : Bool) → IsWellFormedLog (log ++ r ∷ []) → top_of (log ++ r ∷ []) (xid_in r.body) ≡ top → is_end r.body ≡ over
-    → AreOpenings log os → restart_after top over (length log) os ≡ oldest (log ++ r ∷ [])
-oldest-next log r os top over good is ends_is are =
-    sym (oldest_of (log ++ r ∷ []) (openings_after top over (length log) os) (openings-next log r os top over good is ends_is are)
-    ∙ ap (λ (n : ℕ). place_or n (place_where (λ x. true) (openings_after top over (length log) os))) (omega (arith, length-append log (r ∷ [])))
-    ∙ by_end over)
+restart-own : (log : List Record) (os : List Opening) (top : ℕ) (over : Bool) → place_or (suc (length log)) (place_where (λ x. true) (openings_after (Some top) over (length log) os)) ≡ restart_after (Some top) over (length log) os
+restart-own log os top over = by_end over
   where
-    by_first : (os : List Opening) → place_or (suc (length log)) (place_where (λ x. true) (openings_after top false (length log) os)) ≡ restart_after top false (length log) os
+    by_first : (os : List Opening) → place_or (suc (length log)) (place_where (λ x. true) (openings_after (Some top) false (length log) os)) ≡ restart_after (Some top) false (length log) os
     by_first [] = refl
     by_first (o ∷ os) = by_there (list_any (λ o. o.xid == top) (o ∷ os))
       where
@@ -209,7 +254,19 @@ oldest-next log r os top over good is ends_is are =
         by_there true = refl
         by_there false = refl
 
-    by_end : (b : Bool) → place_or (suc (length log)) (place_where (λ x. true) (openings_after top b (length log) os)) ≡ restart_after top b (length log) os
+    by_end : (b : Bool) → place_or (suc (length log)) (place_where (λ x. true) (openings_after (Some top) b (length log) os)) ≡ restart_after (Some top) b (length log) os
     by_end true =
         ap (place_or (suc (length log))) (place-filter (λ x. true) (λ x. not (x == top)) os ∙ place-agrees (λ x. not (x == top) && true) (λ x. not (x == top)) (λ x. sym (and_true (not (x == top)))) os)
     by_end false = by_first os
+
+-- the oldest behind one more record
+pub oldest-next : (log : List Record) (r : Record) (os : List Opening) (owner : Option ℕ) (over : Bool) → IsWellFormedLog (log ++ r ∷ []) → owner_of (log ++ r ∷ []) r ≡ owner → is_end r.body ≡ over
+    → AreOpenings log os → restart_after owner over (length log) os ≡ oldest (log ++ r ∷ [])
+oldest-next log r os owner over good is ends_is are =
+    sym (oldest_of (log ++ r ∷ []) (openings_after owner over (length log) os) (openings-next log r os owner over good is ends_is are)
+    ∙ ap (λ (n : ℕ). place_or n (place_where (λ x. true) (openings_after owner over (length log) os))) (omega (arith, length-append log (r ∷ [])))
+    ∙ by_owner owner)
+  where
+    by_owner : (o : Option ℕ) → place_or (suc (length log)) (place_where (λ x. true) (openings_after o over (length log) os)) ≡ restart_after o over (length log) os
+    by_owner None = refl
+    by_owner (Some top) = restart-own log os top over

@@ -7,7 +7,7 @@ use Rattle.std.proofs.lemmas.List.{append-nil}
 use Rattle.logbook.specs.declared.tokens.Seen.{Seen}
 use Rattle.wal.specs.declared.record.TheConstants.{FIRST_POSITION}
 use Rattle.wal.specs.declared.record.Record.{Record}
-use Rattle.wal.specs.Log.{IsWellFormedLog, end_of, top_of, xid_in}
+use Rattle.wal.specs.Log.{IsWellFormedLog, end_of}
 use Rattle.wal.specs.Restart.{oldest}
 use Rattle.wal.proofs.Laws.{end_of-append}
 use Rattle.shared_log.specs.declared.entry.Entry.{Entry}
@@ -18,7 +18,7 @@ use Rattle.shared_log.specs.Fronts.{settled, settled_from, shown}
 use Rattle.shared_log.specs.declared.copy.Logged.{Logged}
 use Rattle.shared_log.specs.declared.openings.Opening.{Opening}
 use Rattle.shared_log.specs.Kept.{kept_in, with_restarts, with_restarts_from}
-use Rattle.shared_log.specs.Openings.{AreOpenings, is_end, openings_after, restart_after}
+use Rattle.shared_log.specs.Openings.{AreOpenings, is_end, openings_after, owner_of, restart_after}
 use Rattle.shared_log.specs.Writing.{Stands}
 use Rattle.shared_log.proofs.Copies.{folded}
 use Rattle.shared_log.proofs.Kept.{restarts-push}
@@ -92,20 +92,20 @@ openings_offered front next r os new is same are =
     let now : settled next ≡ settled front = ap settled is ∙ settled_offer front r in
     subst (λ l. AreOpenings l new) (sym now) (subst (λ l. AreOpenings (settled front) l) (sym same) are)
 
--- a record of a transaction, at the end of what is settled
-pub record IsOf (log : List Record) (r : Record) (top : ℕ) (over : Bool) : Type 0 where
+-- a record of a transaction, or of none, at the end of what is settled
+pub record IsOf (log : List Record) (r : Record) (top : Option ℕ) (over : Bool) : Type 0 where
   pub good : IsWellFormedLog (log ++ r ∷ [])
-  pub top_is : top_of (log ++ r ∷ []) (xid_in r.body) ≡ top
+  pub top_is : owner_of (log ++ r ∷ []) r ≡ top
   pub over_is : is_end r.body ≡ over
 
-pub openings_grown : (front next : List Entry) (r : Record) (os old new : List Opening) (top : ℕ) (over : Bool) (count : ℕ) → next ≡ front ++ Offered r ∷ [] → IsOf (settled front) r top over → count ≡ length (settled front)
+pub openings_grown : (front next : List Entry) (r : Record) (os old new : List Opening) (top : Option ℕ) (over : Bool) (count : ℕ) → next ≡ front ++ Offered r ∷ [] → IsOf (settled front) r top over → count ≡ length (settled front)
     → old ≡ os → new ≡ openings_after top over count old → AreOpenings (settled front) os → AreOpenings (settled (next ++ Confirmed ∷ [])) new
 openings_grown front next r os old new top over count is of counted same noted are =
     let now : settled (next ++ Confirmed ∷ []) ≡ settled front ++ r ∷ [] = settled_confirm next ∙ ap shown is ∙ shown_offer front r in
     let new_is : new ≡ openings_after top over (length (settled front)) os = noted ∙ ap (λ (n : ℕ). openings_after top over n old) counted ∙ ap (openings_after top over (length (settled front))) same in
     subst (λ l. AreOpenings l new) (sym now) (subst (λ l. AreOpenings (settled front ++ r ∷ []) l) (sym new_is) (openings-next (settled front) r os top over of.good of.top_is of.over_is are))
 
-pub restart_grown : (front : List Entry) (r : Record) (os old : List Opening) (top : ℕ) (over : Bool) (count restart : ℕ) → IsOf (settled front) r top over → count ≡ length (settled front)
+pub restart_grown : (front : List Entry) (r : Record) (os old : List Opening) (top : Option ℕ) (over : Bool) (count restart : ℕ) → IsOf (settled front) r top over → count ≡ length (settled front)
     → old ≡ os → restart ≡ restart_after top over count old → AreOpenings (settled front) os → restart ≡ oldest (settled front ++ r ∷ [])
 restart_grown front r os old top over count restart of counted same is are =
     is ∙ ap (λ (n : ℕ). restart_after top over n old) counted ∙ ap (restart_after top over (length (settled front))) same
@@ -116,7 +116,7 @@ pub shown_grown : (front : List Entry) (r : Record) (restart : ℕ) (items : Lis
 shown_grown front r restart items restart_is is =
     is ∙ ap (λ (n : ℕ). with_restarts (settled front) ++ (r, n) ∷ []) restart_is ∙ sym (restarts-push [] (settled front) r)
 
-pub of_self : (self : List Record) (front : List Entry) (r : Record) (top : ℕ) (over : Bool) → settled front ≡ self → IsWellFormedLog (self ++ r ∷ []) → top_of (self ++ r ∷ []) (xid_in r.body) ≡ top → is_end r.body ≡ over → IsOf (settled front) r top over
+pub of_self : (self : List Record) (front : List Entry) (r : Record) (top : Option ℕ) (over : Bool) → settled front ≡ self → IsWellFormedLog (self ++ r ∷ []) → owner_of (self ++ r ∷ []) r ≡ top → is_end r.body ≡ over → IsOf (settled front) r top over
 of_self self front r top over is good top_is over_is =
     subst (λ l. IsOf l r top over) (sym is) (record { good = good; top_is = top_is; over_is = over_is })
 

@@ -4,7 +4,7 @@ use Rattle.std.specs.List.{list_any}
 use Rattle.wal.specs.declared.record.Record.{Record}
 use Rattle.wal.specs.declared.record.Body.{Body}
 use Rattle.wal.specs.declared.record.Body.TheVariants.{Abort, Commit}
-use Rattle.wal.specs.Log.{top_of, xid_in}
+use Rattle.wal.specs.Log.{is_note, top_of, xid_in}
 use Rattle.wal.specs.Restart.{is_in_progress}
 use Rattle.shared_log.specs.declared.openings.Opening.{Opening}
 
@@ -29,9 +29,14 @@ is_end (Abort xid) = true
 is_end (Commit xid time) = true
 is_end _ = false
 
--- what one more record of this transaction leaves
-abbrev pub openings_after : ℕ → Bool → ℕ → List Opening → List Opening
-openings_after top ends place os =
+-- the transaction of the last record of a log; a note is of none
+abbrev pub owner_of : List Record → Record → Option ℕ
+owner_of log r = if is_note r.body then None else Some (top_of log (xid_in r.body))
+
+-- what one more record of this transaction leaves, or of none
+abbrev pub openings_after : Option ℕ → Bool → ℕ → List Opening → List Opening
+openings_after None ends place os = os
+openings_after (Some top) ends place os =
     if ends then filter (λ o. not (o.xid == top)) os
     else if list_any (λ o. o.xid == top) os then os
     else os ++ record { xid = top; place = place } ∷ []
@@ -41,5 +46,6 @@ place_or other None = other
 place_or other (Some place) = place
 
 -- the place of the oldest behind that record
-abbrev pub restart_after : ℕ → Bool → ℕ → List Opening → ℕ
-restart_after top ends place os = place_or (if ends then suc place else place) (place_where (λ x. not ends || not (x == top)) os)
+abbrev pub restart_after : Option ℕ → Bool → ℕ → List Opening → ℕ
+restart_after None ends place os = place_or (suc place) (place_where (λ x. true) os)
+restart_after (Some top) ends place os = place_or (if ends then suc place else place) (place_where (λ x. not ends || not (x == top)) os)

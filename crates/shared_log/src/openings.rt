@@ -1,6 +1,6 @@
 //! The transactions in progress that have written.
 
-ghost use Rattle.std.specs.Prelude.{◌≡◌, ◌==◌, ◌<◌, ◌^◌, [], IfOk, OnOk, filter, not, vec_capacity, vec_len};
+ghost use Rattle.std.specs.Prelude.{◌≡◌, ◌==◌, ◌<◌, ◌^◌, [], IfOk, None, OnOk, Some, filter, not, vec_capacity, vec_len};
 ghost use Rattle.std.specs.List.{list_any};
 ghost use Rattle.shared_log.specs.Openings.{openings_after, restart_after};
 
@@ -39,10 +39,19 @@ impl Openings {
         self.items.reserve(1)
     }
 
-    /// Notes a record of the transaction `top` at this place, which ends the transaction or doesn't.
-    pub fn note(&mut self, top: u32, ends: bool, place: usize)
+    /// Notes a record of the transaction `top` at this place, which ends the transaction or doesn't, or one of no transaction.
+    pub fn note(&mut self, top: Option<u32>, ends: bool, place: usize)
         requires room { vec_len self.old.items < vec_capacity self.old.items }
         ensures { self.new.items.items ≡ openings_after top ends place self.old.items.items }
+    {
+        if let Some(top) = top {
+            self.note_of(top, ends, place);
+        }
+    }
+
+    fn note_of(&mut self, top: u32, ends: bool, place: usize)
+        requires room { vec_len self.old.items < vec_capacity self.old.items }
+        ensures { self.new.items.items ≡ openings_after (Some top) ends place self.old.items.items }
     {
         if ends {
             self.remove(top);
@@ -64,9 +73,22 @@ impl Openings {
     }
 
     /// The place of the oldest record of a transaction that is in progress behind that record, or the place behind it.
-    pub fn restart_after(&self, top: u32, ends: bool, place: usize) -> usize
+    pub fn restart_after(&self, top: Option<u32>, ends: bool, place: usize) -> usize
         requires few { place < 2 ^ 62 }
         ensures { result ≡ restart_after top ends place self.now.items.items }
+    {
+        match top {
+            Some(top) => self.restart_of(top, ends, place),
+            None => match self.items.first() {
+                Some(opening) => opening.place,
+                None => place + 1,
+            },
+        }
+    }
+
+    fn restart_of(&self, top: u32, ends: bool, place: usize) -> usize
+        requires few { place < 2 ^ 62 }
+        ensures { result ≡ restart_after (Some top) ends place self.now.items.items }
     {
         for opening in &self.items {
             if !ends || opening.xid != top {

@@ -1,14 +1,14 @@
 //! The writer of the log.
 
-ghost use Rattle.std.specs.Prelude.{◌≡◌, ◌+◌, ◌<◌, ◌≤◌, ◌^◌, ◌++◌, ◌∷◌, [], length, true, vec_len, IfOk, OnErr};
+ghost use Rattle.std.specs.Prelude.{◌≡◌, ◌+◌, ◌<◌, ◌≤◌, ◌^◌, ◌++◌, ◌∷◌, [], None, Some, false, length, true, vec_len, IfOk, OnErr};
 ghost use mathlib.Core.List.{IsPrefix};
-ghost use Rattle.wal.specs.Log.{IsWellFormedLog, end_of, size_of, top_of, xid_in};
+ghost use Rattle.wal.specs.Log.{IsWellFormedLog, end_of, is_note, size_of, top_of, xid_in};
 ghost use Rattle.wal.specs.Records.{record_after};
 ghost use Rattle.wal.specs.declared.record.TheConstants.{FIRST_POSITION};
 ghost use Rattle.std.specs.Arc.{arc_value};
 ghost use Rattle.std.specs.List.{AllByRecursion};
 ghost use Rattle.shared_log.specs.Fronts.{ends_confirmed, settled};
-ghost use Rattle.shared_log.specs.Openings.{is_end};
+ghost use Rattle.shared_log.specs.Openings.{is_end, owner_of};
 ghost use Rattle.shared_log.specs.Telling.{TellsOf};
 ghost use Rattle.shared_log.specs.declared.entry.Entry.TheVariants.{Confirmed};
 
@@ -26,7 +26,7 @@ use left_right::writer::Writer;
 use std::alloc::{AllocError, Global};
 use std::marker::Model;
 use std::sync::{Arc, Wait};
-use wal::{Body, FIRST_POSITION, Record};
+use wal::{Body, FIRST_POSITION, LoggedChange, Record};
 
 /// How long a history may become: each record that is written, or refused for memory, makes it longer.
 const MOST_STEPS: u64 = 1 << 61;
@@ -160,18 +160,40 @@ impl<L: LogName> LogWriter<L> {
         requires fits { end_of FIRST_POSITION self.old + size_of body < 2 ^ 64 }
         requires good { IsWellFormedLog (self.old ++ record_after self.old body ∷ []) }
         requires top { top_of (self.old ++ record_after self.old body ∷ []) (xid_in body) ≡ top }
+        requires own { is_note body ≡ false }
         ensures ok { IfOk result (λ r. (self.new ≡ self.old ++ record_after self.old body ∷ []) × TellsOf (record_after self.old body) r.start r.end × (r.place ≡ length self.old) × (settled r.front ≡ self.new)) }
         ensures err { OnErr result (self.new ≡ self.old) }
     {
         mem::replace_with(self, (rt, top, body), |writer, about: (&R, u32, Body)| {
-            writer.pushed(about.0, about.1, about.2)
+            writer.pushed(about.0, Some(about.1), about.2)
         })
     }
 
-    fn pushed<R: Wait>(self, rt: &R, top: u32, body: Body) -> (Self, Result<Receipt<L>, AllocError>)
+    /// Adds a note at the end, or, where memory is refused, nothing. It waits for readers that are in an older copy.
+    pub fn push_note<R: Wait>(
+        &mut self,
+        rt: &R,
+        message: LoggedChange,
+    ) -> Result<Receipt<L>, AllocError>
+        requires fits { end_of FIRST_POSITION self.old + size_of (Body.Note message) < 2 ^ 64 }
+        requires good { IsWellFormedLog (self.old ++ record_after self.old (Body.Note message) ∷ []) }
+        ensures ok { IfOk result (λ r. (self.new ≡ self.old ++ record_after self.old (Body.Note message) ∷ []) × TellsOf (record_after self.old (Body.Note message)) r.start r.end × (r.place ≡ length self.old) × (settled r.front ≡ self.new)) }
+        ensures err { OnErr result (self.new ≡ self.old) }
+    {
+        mem::replace_with(self, (rt, message), |writer, about: (&R, LoggedChange)| {
+            writer.pushed(about.0, None, Body::Note(about.1))
+        })
+    }
+
+    fn pushed<R: Wait>(
+        self,
+        rt: &R,
+        top: Option<u32>,
+        body: Body,
+    ) -> (Self, Result<Receipt<L>, AllocError>)
         requires fits { end_of FIRST_POSITION self + size_of body < 2 ^ 64 }
         requires good { IsWellFormedLog (self ++ record_after self body ∷ []) }
-        requires top { top_of (self ++ record_after self body ∷ []) (xid_in body) ≡ top }
+        requires top { owner_of (self ++ record_after self body ∷ []) (record_after self body) ≡ top }
         ensures ok { IfOk result.1 (λ r. (result.0 ≡ self ++ record_after self body ∷ []) × TellsOf (record_after self body) r.start r.end × (r.place ≡ length self) × (settled r.front ≡ result.0)) }
         ensures err { OnErr result.1 (result.0 ≡ self) }
     {
@@ -190,11 +212,11 @@ impl<L: LogName> LogWriter<L> {
         rt: &R,
         entry: Arc<Record>,
         bounds: (u64, u64),
-        about: (u32, bool),
+        about: (Option<u32>, bool),
     ) -> (Self, Result<Receipt<L>, AllocError>)
         requires tells { TellsOf (arc_value entry) bounds.0 bounds.1 }
         requires good { IsWellFormedLog (self ++ arc_value entry ∷ []) }
-        requires top { top_of (self ++ arc_value entry ∷ []) (xid_in (arc_value entry).body) ≡ about.0 }
+        requires top { owner_of (self ++ arc_value entry ∷ []) (arc_value entry) ≡ about.0 }
         requires ends { is_end (arc_value entry).body ≡ about.1 }
         ensures ok { IfOk result.1 (λ r. (result.0 ≡ self ++ arc_value entry ∷ []) × TellsOf (arc_value entry) r.start r.end × (r.place ≡ length self) × (settled r.front ≡ result.0)) }
         ensures err { OnErr result.1 (result.0 ≡ self) }

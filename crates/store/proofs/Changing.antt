@@ -17,11 +17,12 @@ use Rattle.store.specs.declared.slot.Slot.{Slot}
 use Rattle.tables.specs.declared.value.Value.{Value}
 use Rattle.tables.specs.declared.table.Table.{Table}
 use Rattle.tables.specs.declared.change.Change.{Change}
+use Rattle.tables.specs.declared.message.Message.{Message}
 use Rattle.tables.specs.declared.change.Change.TheVariants as changes
 use Rattle.store.specs.Slots.{same_key, vacant, slot_at}
 use Rattle.store.specs.Rows.{Key, key_text, key_of, key_in}
 use Rattle.tables.specs.Spelling.{row_length}
-use Rattle.tables.specs.Tables.{table_of, fits_table, fits_key, FitsRow, FitsChange}
+use Rattle.tables.specs.Tables.{table_of, fits_table, fits_key, FitsRow, FitsChange, FitsMessage}
 use Rattle.store.specs.History.{Made, made, is_other, is_held, is_key_held, is_there, row_place, table_place, of_table, unless, insert_fault, delete_fault, update_fault, insert_refusal, delete_refusal, update_refusal, Deletes, Updates}
 use Rattle.store.specs.Keeping.{StoreState, Put, Keeps, Makes, IsRefusal, DeletesAt, UpdatesAt, RefusedExactly, key_held, keys_fault, places_fault, row_at}
 use Rattle.store.proofs.Keys.{row_key_le, key_length}
@@ -289,3 +290,11 @@ update_of s top key row table to r is fits fits_row le at h =
     ∙ ap (λ (a : Bool). unless (not a) faults.RowShape (unless (nat_lt MAX_ROW_LENGTH (row_length row)) faults.TooLarge rest)) fits_row
     ∙ ap (λ (a : Bool). unless a faults.TooLarge rest) (not_longer (row_length row) MAX_ROW_LENGTH le) in
     subst (λ (o : Option StoreFault). RefusedExactly o r) (sym whole) (subst (λ (k : List ℕ). RefusedExactly (keys_fault s top key k) r) at h)
+
+-- a message concerns no place
+all_apart : (tables : List Table) (top : ℕ) (h : List Made) → AllByRecursion (OffAll tables top []) h
+all_apart tables top [] = tt
+all_apart tables top (m ∷ h) = (tt, all_apart tables top h)
+
+pub message_made : (s new : StoreState) (h : List Made) (top : ℕ) (message : Message) → FitsMessage message → Makes top [] s new → Keeps s h → Keeps new (h ++ made top (changes.Message message) ∷ [])
+message_made s new h top message fits makes keeps = keeps_made s new top (changes.Message message) h (λ k. refl) fits tt (all_apart s.tables top h) makes keeps

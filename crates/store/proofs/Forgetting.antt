@@ -48,6 +48,7 @@ emptied_freed : (top : ℕ) (change : Change) (k : List ℕ) (s : Slot) → empt
 emptied_freed top (changes.Insert oid row) k s = refl
 emptied_freed top (changes.Update oid old row) k s = refl
 emptied_freed top (changes.Delete oid old) k s = refl
+emptied_freed top (changes.Message message) k s = refl
 emptied_freed top (changes.Truncate oids) k s = freed_if top (is_within oids k) (without_row s) s
 
 by_freed : (tables : List Table) (top : ℕ) (m : Made) (k : List ℕ) (s : Slot) → slot_by tables (settled top m) k (freed top s) ≡ freed top (slot_by tables m k s)

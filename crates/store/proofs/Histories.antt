@@ -58,6 +58,7 @@ emptied_off (changes.Truncate oids) k s off = rw off refl
 emptied_off (changes.Insert oid row) k s off = refl
 emptied_off (changes.Update oid old row) k s off = refl
 emptied_off (changes.Delete oid old) k s off = refl
+emptied_off (changes.Message message) k s off = refl
 
 pub off_touch : (tables : List Table) (m : Made) (k : List ℕ) (s : Slot) → touches tables m.change k ≡ false → slot_by tables m k s ≡ s
 off_touch tables m k s off =

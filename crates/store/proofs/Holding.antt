@@ -98,6 +98,7 @@ row_by tables top (changes.Update oid old row) key s rows is =
 row_by tables top (changes.Delete oid old) key s rows is =
     let b = same_key (key_text key) (row_place tables oid old) in
     row_if b (record { row = None; owner = top }) s ∙ ap (λ (r : Option (List Value)). cond b None r) is
+row_by tables top (changes.Message message) key s rows is = is
 row_by tables top (changes.Truncate oids) key s rows is = by_test (is_within oids (key_text key)) refl
   where
     by_test : (a : Bool) → is_within oids (key_text key) ≡ a → (put_at top (all_emptied oids) (key_text key) (cond a (without_row s) s)).row ≡ cond a None (rows key)
@@ -115,6 +116,7 @@ pub places_put : (k : List ℕ) (tables : List Table) (change : Change) → is_a
 places_put k tables (changes.Insert oid row) = refl
 places_put k tables (changes.Update oid old row) = refl
 places_put k tables (changes.Delete oid old) = refl
+places_put k tables (changes.Message message) = refl
 places_put k tables (changes.Truncate oids) = all_places oids
   where
     all_places : (xs : List ℕ) → is_among k (map table_place xs) ≡ is_put k (all_emptied xs)
@@ -135,6 +137,7 @@ emptied_owner : (change : Change) (k : List ℕ) (s : Slot) → (emptied change 
 emptied_owner (changes.Insert oid row) k s = refl
 emptied_owner (changes.Update oid old row) k s = refl
 emptied_owner (changes.Delete oid old) k s = refl
+emptied_owner (changes.Message message) k s = refl
 emptied_owner (changes.Truncate oids) k s = by_test (is_within oids k)
   where
     by_test : (a : Bool) → (cond a (without_row s) s).owner ≡ s.owner
@@ -228,6 +231,7 @@ pub emptied_put : (tables : List Table) (change : Change) (p : List ℕ) (oid : 
 emptied_put tables (changes.Insert x row) p oid front on = absurd cc
 emptied_put tables (changes.Update x old row) p oid front on = absurd cc
 emptied_put tables (changes.Delete x old) p oid front on = absurd cc
+emptied_put tables (changes.Message message) p oid front on = absurd cc
 emptied_put tables (changes.Truncate oids) p oid front on = within_put p oid oids front on
 
 -- neither the place nor its table is held
@@ -309,6 +313,7 @@ home_by tables top (changes.Update oid old row) k s fits home =
     home_put tables top oid row k (cond (same_key k (row_place tables oid old)) (record { row = None; owner = top }) s) fits.1
     (home_gone tables top (same_key k (row_place tables oid old)) k s home)
 home_by tables top (changes.Delete oid old) k s fits home = home_gone tables top (same_key k (row_place tables oid old)) k s home
+home_by tables top (changes.Message message) k s fits home = home
 home_by tables top (changes.Truncate oids) k s fits home = all_gone oids (cond (is_within oids k) (without_row s) s) (by_test (is_within oids k))
   where
     by_test : (a : Bool) → AtHome tables k (cond a (without_row s) s)

@@ -43,6 +43,7 @@ refused_by a b faults.DuplicateKey same h = sym same ∙ h
 refused_by a b faults.NoSuchRow same h = sym same ∙ h
 refused_by a b faults.KeyHeld same h = sym same ∙ h
 refused_by a b faults.TooLarge same h = sym same ∙ h
+refused_by a b faults.BadPrefix same h = sym same ∙ h
 refused_by a b faults.Memory same h = absurd h
 
 pub refused_memory : {A : Type 0} (r : Result A StoreFault) (refusal : Option StoreFault) → refusal ≡ None → IfErr r (λ fault. fault ≡ faults.Memory) → RefusedOrMemory refusal r

@@ -5,6 +5,7 @@ use Rattle.std.specs.List.{list_all, list_any}
 use Rattle.pqformat.specs.Fields.{int32}
 use Rattle.tables.specs.declared.row.TheConstants.{MAX_ROW_LENGTH}
 use Rattle.tables.specs.declared.change_body.TheConstants.{MAX_TRUNCATED}
+use Rattle.tables.specs.declared.message.TheConstants.{MAX_CONTENT_LENGTH}
 use Rattle.tables.specs.declared.value.Value.{Value}
 use Rattle.tables.specs.declared.table.Table.{Table}
 use Rattle.tables.specs.declared.change.Change.{Change}
@@ -12,7 +13,7 @@ use Rattle.tables.specs.declared.change.Change.TheVariants as changes
 use Rattle.store.specs.declared.store_fault.StoreFault.{StoreFault}
 use Rattle.store.specs.declared.store_fault.StoreFault.TheVariants as faults
 use Rattle.tables.specs.Spelling.{row_length}
-use Rattle.tables.specs.Tables.{table_of, fits_table, fits_key, repeats}
+use Rattle.tables.specs.Tables.{table_of, fits_table, fits_key, is_prefix, repeats}
 use Rattle.store.specs.Rows.{Key, Rows, no_rows, with_row, key_of, key_text}
 use Rattle.store.specs.Slots.{same_key}
 
@@ -40,13 +41,14 @@ abbrev pub is_within : List ℕ → List ℕ → Bool
 is_within oids text = list_any (λ oid. same_key (take 4 text) (int32 oid)) oids
 
 -- An insert puts its row at its key. An update takes the old key away and puts the new row at its own. A delete takes its
--- key away, and a truncate all keys of its tables.
+-- key away, and a truncate all keys of its tables. A message changes no row.
 abbrev pub rows_with : List Table → Change → Rows → Rows
 rows_with tables (changes.Insert oid row) rows = with_row (key_of tables oid row) (Some row) rows
 rows_with tables (changes.Update oid old row) rows =
     with_row (key_of tables oid row) (Some row) (with_row (key_of tables oid old) None rows)
 rows_with tables (changes.Delete oid old) rows = with_row (key_of tables oid old) None rows
 rows_with tables (changes.Truncate oids) rows = λ key. if is_within oids (key_text key) then None else rows key
+rows_with tables (changes.Message message) rows = rows
 
 abbrev pub rows_from : List Table → List Made → Rows → Rows
 rows_from tables [] rows = rows
@@ -65,12 +67,13 @@ row_place tables oid row = key_text (key_of tables oid row)
 abbrev pub table_place : ℕ → List ℕ
 table_place oid = int32 oid ++ 255 ∷ []
 
--- what a change holds until its transaction ends or it is undone: keys, old and new, and truncated tables
+-- what a change holds until its transaction ends or it is undone: keys, old and new, and truncated tables; a message holds nothing
 abbrev pub places_of : List Table → Change → List (List ℕ)
 places_of tables (changes.Insert oid row) = row_place tables oid row ∷ []
 places_of tables (changes.Update oid old row) = row_place tables oid old ∷ row_place tables oid row ∷ []
 places_of tables (changes.Delete oid old) = row_place tables oid old ∷ []
 places_of tables (changes.Truncate oids) = map table_place oids
+places_of tables (changes.Message message) = []
 
 abbrev pub is_among : List ℕ → List (List ℕ) → Bool
 is_among place places = list_any (λ p. same_key place p) places
@@ -143,6 +146,10 @@ truncate_fault tables oids held =
     unless (not (list_all (λ oid. is_some (table_of oid tables)) oids)) faults.UnknownTable (
     unless ((length oids == 0) || repeats oids) faults.RowShape (
     unless (nat_lt MAX_TRUNCATED (length oids)) faults.TooLarge (unless held faults.KeyHeld None)))
+
+-- S13 is of a prefix that no message has, S6 of a content that is too long
+abbrev pub message_fault : List ℕ → List ℕ → Option StoreFault
+message_fault prefix content = unless (not (is_prefix prefix)) faults.BadPrefix (unless (nat_lt MAX_CONTENT_LENGTH (length content)) faults.TooLarge None)
 
 abbrev pub is_there : List Table → List Made → Key → Bool
 is_there tables history key = is_some (rows_after tables history key)

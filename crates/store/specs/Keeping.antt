@@ -48,6 +48,7 @@ puts_of tables (changes.Insert oid row) = (row_place tables oid row, Some row) �
 puts_of tables (changes.Update oid old row) = (row_place tables oid old, None) ∷ (row_place tables oid row, Some row) ∷ []
 puts_of tables (changes.Delete oid old) = (row_place tables oid old, None) ∷ []
 puts_of tables (changes.Truncate oids) = all_emptied oids
+puts_of tables (changes.Message message) = []
 
 abbrev pub put_at : Option ℕ → List Put → List ℕ → Slot → Slot
 put_at top [] place slot = slot

@@ -5,10 +5,12 @@ mod emptying;
 mod journals;
 mod judging;
 mod key;
+mod message;
 mod slot;
 mod slots;
 mod store;
 mod store_fault;
 
+pub use message::message_of;
 pub use store::Store;
 pub use store_fault::StoreFault;

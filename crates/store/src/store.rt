@@ -263,7 +263,7 @@ impl Store {
     }
 
     /// Notes what was put, or undoes it where memory is refused.
-    fn note(&mut self, top: u32, undos: Items<Undo>) -> Result<(), AllocError>
+    pub(crate) fn note(&mut self, top: u32, undos: Items<Undo>) -> Result<(), AllocError>
         ensures tables { self.new.tables ≡ self.old.tables }
         ensures slots { OnOk result (self.new.slots ≡ self.old.slots) }
         ensures journals { OnOk result ((x : ℕ) → journal_of x self.new.journals ≡ (if top == x then journal_of x self.old.journals ++ undos ∷ [] else journal_of x self.old.journals)) }

@@ -21,6 +21,8 @@ pub enum StoreFault {
     KeyHeld,
     #[error("the row is too large")]
     TooLarge,
+    #[error("no message has this prefix")]
+    BadPrefix,
     #[error("out of memory")]
     Memory,
 }

@@ -6,19 +6,20 @@ use Rattle.std.specs.List.{flat_map, AllByRecursion}
 use Rattle.std.specs.Option.{ok_or}
 use Rattle.std.proofs.lemmas.Bool.{eqb-true}
 use Rattle.std.proofs.lemmas.List.{append-nil, nil_from_length}
-use Rattle.pqformat.specs.Fields.{byte_at, number_at, int16, int32}
+use Rattle.std.specs.Str.{is_utf8}
+use Rattle.pqformat.specs.Fields.{byte_at, bytes_at, number_at, int16, int32}
 use Rattle.pqformat.specs.Steps.{◌>>=◌, repeat_at}
-use Rattle.pqformat.proofs.Codec.{IsBytes, IsBytes-rest, Takes, bind_ok, passed, Codec, field, last_field, codec_of, counted, repeated, Chooses, no_choice, choice, choice_codec}
-use Rattle.pqformat.proofs.Numbers.{number16, number32}
-use Rattle.tables.specs.declared.change_body.TheConstants.{INSERT_TAG, UPDATE_TAG, DELETE_TAG, TRUNCATE_TAG}
+use Rattle.pqformat.proofs.Codec.{IsBytes, IsBytes-rest, Takes, bind_ok, passed, Codec, field, last_field, codec_of, with_range, tested, counted, repeated, Chooses, no_choice, choice, choice_codec}
+use Rattle.pqformat.proofs.Numbers.{number16, number32, bytes_codec}
+use Rattle.tables.specs.declared.change_body.TheConstants.{INSERT_TAG, UPDATE_TAG, DELETE_TAG, TRUNCATE_TAG, MESSAGE_TAG}
 use Rattle.tables.specs.declared.fault.BodyFault.{BodyFault}
-use Rattle.tables.specs.declared.fault.BodyFault.TheVariants.{Short, UnknownTag, Trailing}
+use Rattle.tables.specs.declared.fault.BodyFault.TheVariants.{Short, BadText, UnknownTag, Trailing}
 use Rattle.tables.specs.declared.value.Value.{Value}
 use Rattle.tables.specs.declared.change.Change.{Change}
 use Rattle.tables.specs.declared.change.Change.TheVariants as changes
-use Rattle.tables.specs.Spelling.{spell_row, spell_value, spell_oids, spell_body}
-use Rattle.tables.specs.Reading.{IsCodedRow, value_at, RowHasValue, InsertHasValue, Gives, IsCodedOids, IsCoded, SpellsBody, oid_at, oids_at, update_at, change_tagged, change_at, body_at, BeginsRow, is_row_tag, HoldsRow, HoldsOid, HoldsPart, SecondHasValue, OidsHaveOne, ChangeHasPart}
-use Rattle.tables.proofs.RowBodies.{row_codec, insert_codec, value_codec, is_read, is_there}
+use Rattle.tables.specs.Spelling.{spell_row, spell_value, spell_oids, spell_message, spell_body}
+use Rattle.tables.specs.Reading.{IsCodedRow, value_at, RowHasValue, InsertHasValue, Gives, IsCodedOids, IsCoded, SpellsBody, oid_at, oids_at, prefix_sized_at, prefix_at, message_at, IsCodedMessage, HoldsMessage, update_at, change_tagged, change_at, body_at, BeginsRow, is_row_tag, HoldsRow, HoldsOid, HoldsPart, SecondHasValue, OidsHaveOne, ChangeHasPart}
+use Rattle.tables.proofs.RowBodies.{sized_codec, row_codec, insert_codec, value_codec, is_read, is_there}
 
 oids_codec : Codec oids_at spell_oids IsCodedOids
 unfolding oids_at
@@ -29,19 +30,35 @@ unfolding update_at
 update_codec = codec_of (field insert_codec (λ m. m.0) _ _ _ _ (λ first.
     last_field row_codec (λ m. m.1) _ (λ row. (first, row)) (λ _. refl) (λ _ _. (refl, tt)) (λ m known. rw (← known.0) refl)))
 
+prefix_sized_codec : Codec prefix_sized_at (λ text. int16 (length text) ++ text) (λ text. length text < 2 ^ 16)
+prefix_sized_codec = with_range (λ text. length text < 2 ^ 16) (counted (number16 Short) length (λ n bytes. ok_or (bytes_at n bytes) Short) (λ text. text) (λ _. Unit {0})
+    (λ n. with_range (λ text. (length text ≡ n) × Unit {0}) (bytes_codec Short n) (λ text is. (is, tt)) (λ text is. is.0)))
+    (λ text fits. fits.0) (λ text fits. (fits, tt))
+
+prefix_codec : Codec prefix_at (λ text. int16 (length text) ++ text) (λ text. (length text < 2 ^ 16) × (is_utf8 text ≡ true))
+unfolding prefix_at
+prefix_codec = tested prefix_sized_codec is_utf8 BadText
+
+message_codec : Codec message_at spell_message IsCodedMessage
+unfolding message_at
+message_codec = codec_of (field prefix_codec (λ m. m.prefix) _ _ _ _ (λ prefix.
+    last_field sized_codec (λ m. m.content) _ (λ content. record { prefix = prefix; content = content }) (λ _. refl) (λ _ _. (refl, tt)) (λ m known. rw (← known.0) refl)))
+
 changes_choose : Chooses change_tagged spell_body IsCoded
 changes_choose =
     choice INSERT_TAG insert_codec (λ m. changes.Insert m.0 m.1) spell_body IsCoded (λ _. refl) (λ _ fits. fits)
     (choice UPDATE_TAG update_codec (λ m. changes.Update m.0.0 m.0.1 m.1) spell_body IsCoded (λ _. refl) (λ _ fits. fits)
     (choice DELETE_TAG insert_codec (λ m. changes.Delete m.0 m.1) spell_body IsCoded (λ _. refl) (λ _ fits. fits)
     (choice TRUNCATE_TAG oids_codec (λ m. changes.Truncate m) spell_body IsCoded (λ _. refl) (λ _ fits. fits)
-    (no_choice UnknownTag spell_body IsCoded))))
+    (choice MESSAGE_TAG message_codec (λ m. changes.Message m) spell_body IsCoded (λ _. refl) (λ _ fits. fits)
+    (no_choice UnknownTag spell_body IsCoded)))))
 
 change_again : (x : Change) (rest : List ℕ) → IsCoded x → (ok_or (byte_at (spell_body x ++ rest)) Short >>= λ tag. change_tagged tag.0 tag.1) ≡ Ok (x, rest)
 change_again (changes.Insert oid row) rest fits = let m : ℕ × List Value = (oid, row) in rw (insert_codec.again m rest fits) refl
 change_again (changes.Update oid old row) rest fits = let m : (ℕ × List Value) × List Value = ((oid, old), row) in rw (update_codec.again m rest fits) refl
 change_again (changes.Delete oid old) rest fits = let m : ℕ × List Value = (oid, old) in rw (insert_codec.again m rest fits) refl
 change_again (changes.Truncate oids) rest fits = rw (oids_codec.again oids rest fits) refl
+change_again (changes.Message message) rest fits = rw (message_codec.again message rest fits) refl
 
 change_codec : Codec change_at spell_body IsCoded
 unfolding change_at
@@ -122,6 +139,17 @@ holds_oid bytes fits h =
       text = ap (λ (bs : List ℕ). TRUNCATE_TAG ∷ bs) (count_is.0.parts ∙ ap (λ (bs : List ℕ). int16 count.0.0 ++ bs) oid_is.0.parts);
     }
 
+holds_message : (bytes : List ℕ) → IsBytes bytes → IsOk (message_at bytes) → HoldsMessage (MESSAGE_TAG ∷ bytes)
+holds_message bytes fits h =
+    let message = is_read (message_at bytes) h in
+    let message_is = message_codec.takes bytes message.0.0 message.0.1 fits message.1 in
+    record {
+      message = message.0.0;
+      rest = message.0.1;
+      in_range = message_is.1;
+      text = ap (λ (bs : List ℕ). MESSAGE_TAG ∷ bs) message_is.0.parts;
+    }
+
 -- the new row of an update, whose old one was read
 holds_new : (bytes : List ℕ) → IsBytes bytes → SecondHasValue bytes → HoldsPart (UPDATE_TAG ∷ bytes)
 unfolding int16
@@ -172,7 +200,10 @@ is_held (tag ∷ bytes) fits h =
         ])
         | inr d ↦ elim d [
           | inl e ↦ inl (holds_row tag bytes rest (rw e.0 refl) e.1)
-          | inr o ↦ inr (inr (subst (λ (k : ℕ). HoldsOid (k ∷ bytes)) (sym o.0) (holds_oid bytes rest o.1)))
+          | inr o ↦ elim o [
+            | inl t ↦ inr (inr (inl (subst (λ (k : ℕ). HoldsOid (k ∷ bytes)) (sym t.0) (holds_oid bytes rest t.1))))
+            | inr m ↦ inr (inr (inr (subst (λ (k : ℕ). HoldsMessage (k ∷ bytes)) (sym m.0) (holds_message bytes rest m.1))))
+          ]
         ]
       ]
     ]

@@ -1,6 +1,6 @@
 -- The lengths of numbers, rows and bodies in a spelling.
-use Rattle.std.proofs.Common.{◌≡◌, ◌≤◌, ◌<◌, ◌^◌, ◌+◌, ◌*◌, ℕ, List, [], ◌∷◌, length, arith, length-append}
-use Rattle.std.specs.Prelude.{IsSome}
+use Rattle.std.proofs.Common.{◌≡◌, ◌≤◌, ◌<◌, ◌^◌, ◌+◌, ◌*◌, ℕ, List, [], ◌∷◌, ◌++◌, Bool, true, false, ◌&&◌, length, arith, length-append, refl}
+use Rattle.std.specs.Prelude.{IsSome, nat_le}
 use Rattle.std.specs.List.{AllByRecursion, flat_map}
 use Rattle.pqformat.specs.Fields.{int16, int32}
 use Rattle.pqformat.proofs.Numbers.{length-int16, length-int32, length-int64}
@@ -11,9 +11,12 @@ use Rattle.tables.specs.declared.change.Change.{Change}
 use Rattle.tables.specs.declared.change.Change.TheVariants as changes
 use Rattle.tables.specs.declared.change_body.TheConstants.{MAX_BODY_LENGTH}
 use Rattle.tables.specs.declared.row.TheConstants.{MAX_ROW_LENGTH}
-use Rattle.tables.specs.Reading.{IsCodedValue, IsCodedRow, IsCoded}
-use Rattle.tables.specs.Tables.{FitsChange, IsValue, table_of}
-use Rattle.tables.specs.Spelling.{spell_value, spell_row, row_length, spell_one, body_length, IsShort}
+use Rattle.tables.specs.declared.message.TheConstants.{MAX_PREFIX_LENGTH}
+use Rattle.tables.specs.declared.message.Message.{Message}
+use Rattle.std.proofs.lemmas.Bool.{leb-true}
+use Rattle.tables.specs.Reading.{IsCodedValue, IsCodedRow, IsCodedMessage, IsCoded}
+use Rattle.tables.specs.Tables.{FitsChange, FitsMessage, IsValue, has_no_zero, is_prefix, table_of}
+use Rattle.tables.specs.Spelling.{spell_value, spell_row, row_length, spell_one, body_length, IsShort, IsShortMessage}
 
 pub ruleset lengths = (length-int16, length-int32, length-int64)
 
@@ -51,6 +54,17 @@ oids_length (x ∷ oids) = omega (arith, length-append (int32 x) (flat_map int32
 pub truncate_length : (oids : List ℕ) → body_length (changes.Truncate oids) ≡ 3 + 4 * length oids
 truncate_length oids = omega (arith, length-append (int16 (length oids)) (flat_map int32 oids), length-int16 (length oids), oids_length oids)
 
+pub message_length : (message : Message) → body_length (changes.Message message) ≡ 7 + length message.prefix + length message.content
+message_length message =
+    omega (
+      arith,
+      length-append (int16 (length message.prefix) ++ message.prefix) (int32 (length message.content) ++ message.content),
+      length-append (int16 (length message.prefix)) message.prefix,
+      length-append (int32 (length message.content)) message.content,
+      length-int16 (length message.prefix),
+      length-int32 (length message.content),
+    )
+
 -- a value that a short row holds can be read again
 coded_value : (value : Value) → IsValue value → length (spell_value value) ≤ MAX_ROW_LENGTH → IsCodedValue value
 coded_value values.Null fits short = tt
@@ -73,12 +87,28 @@ all_numbers : (P : ℕ → Type 0) (oids : List ℕ) → AllByRecursion (λ oid.
 all_numbers P [] all = tt
 all_numbers P (oid ∷ oids) all = (all.0.0, all_numbers P oids all.1)
 
+both_hold : (a b : Bool) → (a && b) ≡ true → (a ≡ true) × (b ≡ true)
+both_hold true b is = (refl, is)
+both_hold false b is = absurd cc
+
+-- a prefix is short
+pub short_prefix : (text : List ℕ) → is_prefix text ≡ true → length text ≤ MAX_PREFIX_LENGTH
+short_prefix text is = leb-true (length text) MAX_PREFIX_LENGTH (both_hold (nat_le (length text) MAX_PREFIX_LENGTH) (has_no_zero text) is).0
+
+pub short_message : (message : Message) → FitsMessage message → IsShortMessage message
+short_message message fits = (short_prefix message.prefix fits.prefix, fits.short)
+
+coded_message : (message : Message) → FitsMessage message → IsCodedMessage message
+coded_message message fits =
+    ((omega (arith, short_prefix message.prefix fits.prefix), fits.in_range), omega (arith, fits.short))
+
 -- what fits the tables can be written
 pub short_of_fits : (tables : List Table) (change : Change) → FitsChange tables change → IsShort change
 short_of_fits tables (changes.Insert oid row) fits = fits.short
 short_of_fits tables (changes.Update oid old row) fits = (fits.0.short, fits.1.short)
 short_of_fits tables (changes.Delete oid old) fits = fits.short
 short_of_fits tables (changes.Truncate oids) fits = fits.0
+short_of_fits tables (changes.Message message) fits = short_message message fits
 
 -- and can be read again
 pub coded_of_fits : (tables : List Table) (change : Change) → FitsChange tables change → IsCoded change
@@ -87,6 +117,7 @@ coded_of_fits tables (changes.Update oid old row) fits =
     ((fits.0.number, coded_row old fits.0.in_range fits.0.short), coded_row row fits.1.in_range fits.1.short)
 coded_of_fits tables (changes.Delete oid old) fits = (fits.number, coded_row old fits.in_range fits.short)
 coded_of_fits tables (changes.Truncate oids) fits = (omega (arith, fits.0), all_numbers (λ oid. IsSome (table_of oid tables)) oids fits.1)
+coded_of_fits tables (changes.Message message) fits = coded_message message fits
 
 pub insert_length : (oid : ℕ) (row : List Value) → body_length (changes.Insert oid row) ≡ 5 + row_length row
 insert_length oid row = one_row_length 1 oid row
@@ -100,3 +131,4 @@ body_bounded (changes.Insert oid row) short = omega (arith, insert_length oid ro
 body_bounded (changes.Update oid old row) short = omega (arith, two_rows_length oid old row, short.0, short.1)
 body_bounded (changes.Delete oid old) short = omega (arith, delete_length oid old, short)
 body_bounded (changes.Truncate oids) short = omega (arith, truncate_length oids, short)
+body_bounded (changes.Message message) short = omega (arith, message_length message, short.0, short.1)

@@ -18,7 +18,7 @@ use Rattle.tables.specs.declared.value.Value.TheVariants as values
 use Rattle.tables.specs.Spelling.{spell_value, spell_row}
 use Rattle.tables.specs.Reading.{IsCodedValue, IsCodedRow, bool_of, sized_at, text_at, tagged_at, value_at, row_at, insert_at, Fails}
 
-sized_codec : Codec sized_at (λ text. int32 (length text) ++ text) (λ text. length text < 2 ^ 32)
+pub sized_codec : Codec sized_at (λ text. int32 (length text) ++ text) (λ text. length text < 2 ^ 32)
 sized_codec = with_range (λ text. length text < 2 ^ 32) (counted (number32 Short) length (λ n bytes. ok_or (bytes_at n bytes) Short) (λ text. text) (λ _. Unit {0})
     (λ n. with_range (λ text. (length text ≡ n) × Unit {0}) (bytes_codec Short n) (λ text is. (is, tt)) (λ text is. is.0)))
     (λ text fits. fits.0) (λ text fits. (fits, tt))

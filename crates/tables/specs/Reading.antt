@@ -7,14 +7,15 @@ use Rattle.std.specs.Str.{is_utf8}
 use Rattle.pqformat.specs.Fields.{byte_at, bytes_at, number_at, int16, int32}
 use Rattle.pqformat.specs.Steps.{◌>>=◌, letter_at, signed_at, repeat_at}
 use Rattle.tables.specs.declared.row_body.TheConstants.{NULL_TAG, BOOL_TAG, INT4_TAG, INT8_TAG, TEXT_TAG}
-use Rattle.tables.specs.declared.change_body.TheConstants.{INSERT_TAG, UPDATE_TAG, DELETE_TAG, TRUNCATE_TAG}
+use Rattle.tables.specs.declared.change_body.TheConstants.{INSERT_TAG, UPDATE_TAG, DELETE_TAG, TRUNCATE_TAG, MESSAGE_TAG}
 use Rattle.tables.specs.declared.fault.BodyFault.{BodyFault}
 use Rattle.tables.specs.declared.fault.BodyFault.TheVariants.{Short, UnknownTag, BadBool, BadText, Trailing, Memory}
 use Rattle.tables.specs.declared.value.Value.{Value}
 use Rattle.tables.specs.declared.value.Value.TheVariants as values
 use Rattle.tables.specs.declared.change.Change.{Change}
 use Rattle.tables.specs.declared.change.Change.TheVariants as changes
-use Rattle.tables.specs.Spelling.{spell_value, spell_body}
+use Rattle.tables.specs.declared.message.Message.{Message}
+use Rattle.tables.specs.Spelling.{spell_value, spell_message, spell_body}
 
 -- WHAT HAS A BODY
 
@@ -30,11 +31,15 @@ IsCodedRow row = (length row < 2 ^ 16) × AllByRecursion IsCodedValue row
 abbrev pub IsCodedOids : List ℕ → Type 0
 IsCodedOids oids = (length oids < 2 ^ 16) × AllByRecursion (λ oid. oid < 2 ^ 32) oids
 
+abbrev pub IsCodedMessage : Message → Type 0
+IsCodedMessage message = ((length message.prefix < 2 ^ 16) × (is_utf8 message.prefix ≡ true)) × (length message.content < 2 ^ 32)
+
 abbrev pub IsCoded : Change → Type 0
 IsCoded (changes.Insert oid row) = (oid < 2 ^ 32) × IsCodedRow row
 IsCoded (changes.Update oid old row) = ((oid < 2 ^ 32) × IsCodedRow old) × IsCodedRow row
 IsCoded (changes.Delete oid old) = (oid < 2 ^ 32) × IsCodedRow old
 IsCoded (changes.Truncate oids) = IsCodedOids oids
+IsCoded (changes.Message message) = IsCodedMessage message
 
 -- the bytes are the one spelling of the change
 pub record SpellsBody (bytes : List ℕ) (change : Change) : Type 0 where
@@ -83,12 +88,24 @@ oids_at bytes = short (number_at w16 bytes) >>= λ n. repeat_at oid_at n.0 n.1
 unfoldable pub update_at : List ℕ → Result (((ℕ × List Value) × List Value) × List ℕ) BodyFault
 update_at bytes = insert_at bytes >>= λ m. row_at m.1 >>= λ row. Ok ((m.0, row.0), row.1)
 
+-- a text behind its length in two bytes
+abbrev pub prefix_sized_at : List ℕ → Result (List ℕ × List ℕ) BodyFault
+prefix_sized_at bytes = short (number_at w16 bytes) >>= λ n. short (bytes_at n.0 n.1)
+
+unfoldable pub prefix_at : List ℕ → Result (List ℕ × List ℕ) BodyFault
+prefix_at bytes = prefix_sized_at bytes >>= λ text. if is_utf8 text.0 then Ok text else Err BadText
+
+-- a prefix, and a content behind its length in four bytes
+unfoldable pub message_at : List ℕ → Result (Message × List ℕ) BodyFault
+message_at bytes = prefix_at bytes >>= λ prefix. sized_at prefix.1 >>= λ content. Ok (record { prefix = prefix.0; content = content.0 }, content.1)
+
 abbrev pub change_tagged : ℕ → List ℕ → Result (Change × List ℕ) BodyFault
 change_tagged tag bytes =
     if tag == INSERT_TAG then insert_at bytes >>= (λ m. Ok (changes.Insert m.0.0 m.0.1, m.1))
     else (if tag == UPDATE_TAG then update_at bytes >>= (λ m. Ok (changes.Update m.0.0.0 m.0.0.1 m.0.1, m.1))
     else (if tag == DELETE_TAG then insert_at bytes >>= (λ m. Ok (changes.Delete m.0.0 m.0.1, m.1))
-    else (if tag == TRUNCATE_TAG then oids_at bytes >>= (λ m. Ok (changes.Truncate m.0, m.1)) else Err UnknownTag)))
+    else (if tag == TRUNCATE_TAG then oids_at bytes >>= (λ m. Ok (changes.Truncate m.0, m.1))
+    else (if tag == MESSAGE_TAG then message_at bytes >>= (λ m. Ok (changes.Message m.0, m.1)) else Err UnknownTag))))
 
 unfoldable pub change_at : List ℕ → Result (Change × List ℕ) BodyFault
 change_at bytes = short (byte_at bytes) >>= λ tag. change_tagged tag.0 tag.1
@@ -128,7 +145,7 @@ pub record HoldsNewRow (bytes : List ℕ) : Type 0 where
   pub begins : BeginsRow row
   pub text : bytes ≡ UPDATE_TAG ∷ (int32 oid ++ (int16 0 ++ row))
 
--- or a truncate's count of at least one, and its first OID.
+-- a truncate's count of at least one, and its first OID,
 pub record HoldsOid (bytes : List ℕ) : Type 0 where
   pub count : ℕ
   pub oid : ℕ
@@ -138,8 +155,15 @@ pub record HoldsOid (bytes : List ℕ) : Type 0 where
   pub in_range : oid < 2 ^ 32
   pub text : bytes ≡ TRUNCATE_TAG ∷ (int16 count ++ (int32 oid ++ rest))
 
+-- or a message.
+pub record HoldsMessage (bytes : List ℕ) : Type 0 where
+  pub message : Message
+  pub rest : List ℕ
+  pub in_range : IsCodedMessage message
+  pub text : bytes ≡ MESSAGE_TAG ∷ (spell_message message ++ rest)
+
 abbrev pub HoldsPart : List ℕ → Type 0
-HoldsPart bytes = HoldsRow bytes ⊎ (HoldsNewRow bytes ⊎ HoldsOid bytes)
+HoldsPart bytes = HoldsRow bytes ⊎ (HoldsNewRow bytes ⊎ (HoldsOid bytes ⊎ HoldsMessage bytes))
 
 -- the same said of the reader: a row, or a row behind an OID, of which the first value is read
 abbrev pub RowHasValue : List ℕ → Type 0
@@ -163,7 +187,8 @@ OidsHaveOne bytes = IsSomeAnd (number_at w16 bytes) (λ n. (0 < n.0) × IsOk (oi
 abbrev pub KindHasPart : ℕ → List ℕ → Type 0
 KindHasPart tag bytes =
     ((tag ≡ INSERT_TAG) × InsertHasValue bytes) ⊎ (((tag ≡ UPDATE_TAG) × UpdateHasValue bytes)
-    ⊎ (((tag ≡ DELETE_TAG) × InsertHasValue bytes) ⊎ ((tag ≡ TRUNCATE_TAG) × OidsHaveOne bytes)))
+    ⊎ (((tag ≡ DELETE_TAG) × InsertHasValue bytes) ⊎ (((tag ≡ TRUNCATE_TAG) × OidsHaveOne bytes)
+    ⊎ ((tag ≡ MESSAGE_TAG) × IsOk (message_at bytes)))))
 
 abbrev pub ChangeHasPart : List ℕ → Type 0
 ChangeHasPart bytes = IsSomeAnd (byte_at bytes) (λ tag. KindHasPart tag.0 tag.1)

@@ -1,4 +1,4 @@
--- Values and rows that are read where they lie.
+-- Values, rows and messages that are read where they lie.
 use Rattle.std.specs.Prelude.{◌⊎◌, ◌<◌, List, length}
 use Rattle.tables.specs.declared.value.Value.{Value}
 use Rattle.tables.specs.declared.value.Value.TheVariants as values
@@ -6,6 +6,8 @@ use Rattle.tables.specs.declared.config_table.TheConstants.{MAX_COLUMNS}
 use Rattle.tables.specs.declared.row.TheConstants.{MAX_ROW_LENGTH}
 use Rattle.tables.specs.declared.row_ref.ValueRef.{ValueRef}
 use Rattle.tables.specs.declared.row_ref.ValueRef.TheVariants as refs
+use Rattle.tables.specs.declared.message.Message.{Message}
+use Rattle.tables.specs.declared.message.MessageRef.{MessageRef}
 use Rattle.tables.specs.Spelling.{row_length}
 
 abbrev pub value_of : ValueRef → Value
@@ -14,6 +16,9 @@ value_of (refs.Bool b) = values.Bool b
 value_of (refs.Int4 n) = values.Int4 n
 value_of (refs.Int8 n) = values.Int8 n
 value_of (refs.Text text) = values.Text text.now
+
+abbrev pub message_of : MessageRef → Message
+message_of m = record { prefix = m.prefix.now; content = m.content.now }
 
 -- more than any row of a table has: over 64 values, or over 8,000 bytes in the log
 abbrev pub IsLarge : List Value → Type 0

@@ -16,6 +16,8 @@ use Rattle.tables.specs.declared.column.Column.{Column}
 use Rattle.tables.specs.declared.table.Table.{Table}
 use Rattle.tables.specs.declared.change.Change.{Change}
 use Rattle.tables.specs.declared.change.Change.TheVariants as changes
+use Rattle.tables.specs.declared.message.TheConstants.{MAX_PREFIX_LENGTH, MAX_CONTENT_LENGTH}
+use Rattle.tables.specs.declared.message.Message.{Message}
 use Rattle.tables.specs.Spelling.{spell_row}
 
 -- the table public.item: id int4 in the key, name text, qty int8
@@ -119,12 +121,23 @@ pub record FitsRow (tables : List Table) (oid : ℕ) (row : List Value) : Type 0
   pub in_range : AllByRecursion IsValue row
   pub short : length (spell_row row) ≤ MAX_ROW_LENGTH
 
+-- at most 63 bytes, and no zero byte
+abbrev pub is_prefix : List ℕ → Bool
+is_prefix text = nat_le (length text) MAX_PREFIX_LENGTH && has_no_zero text
+
+-- a message that may stand in the log, whatever the tables are
+pub record FitsMessage (message : Message) : Type 0 where
+  pub prefix : is_prefix message.prefix ≡ true
+  pub in_range : is_utf8 message.prefix ≡ true
+  pub short : length message.content ≤ MAX_CONTENT_LENGTH
+
 abbrev pub FitsChange : List Table → Change → Type 0
 FitsChange tables (changes.Insert oid row) = FitsRow tables oid row
 FitsChange tables (changes.Update oid old row) = FitsRow tables oid old × FitsRow tables oid row
 FitsChange tables (changes.Delete oid old) = FitsRow tables oid old
 FitsChange tables (changes.Truncate oids) =
     (length oids ≤ MAX_TRUNCATED) × AllByRecursion (λ oid. (oid < 2 ^ 32) × IsSome (table_of oid tables)) oids
+FitsChange tables (changes.Message message) = FitsMessage message
 
 -- a table stands there twice
 abbrev pub repeats : List ℕ → Bool

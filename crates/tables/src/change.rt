@@ -1,9 +1,10 @@
-//! What a session changed in the tables.
+//! What a session changed in the tables, or said to the readers of the log.
 
+use crate::message::Message;
 use crate::row::Row;
 use pqformat::Items;
 
-/// A change of tables, by their OIDs.
+/// A change of tables, by their OIDs, or a message, which stands where a change would.
 #[derive(Debug, Drop)]
 pub enum Change {
     /// The table and its new row.
@@ -14,4 +15,6 @@ pub enum Change {
     Delete(u32, Row),
     /// The tables that were emptied, in the order of the call.
     Truncate(Items<u32>),
+    /// What is told to those who read the log. No table is changed.
+    Message(Message),
 }

@@ -5,10 +5,11 @@ ghost use Rattle.std.specs.Prelude.{◌≡◌, ◌+◌, ◌*◌, ◌++◌, ◌�
 ghost use Rattle.std.specs.List.{flat_map};
 ghost use Rattle.pqformat.specs.Fields.{int16, int32};
 ghost use Rattle.pqformat.specs.Putting.{Puts};
-ghost use Rattle.tables.specs.Spelling.{IsShort, body_length, row_length, spell_body, spell_oids, spell_one};
+ghost use Rattle.tables.specs.Spelling.{IsShort, IsShortMessage, body_length, row_length, spell_body, spell_message, spell_oids, spell_one};
 ghost use Rattle.tables.specs.declared.row.TheConstants.{MAX_ROW_LENGTH};
 
 use crate::change::Change;
+use crate::message::Message;
 use crate::row::Row;
 use crate::row_body::{put_int16, put_int32, put_row};
 use bytes::{BufMut, BytesMut};
@@ -26,11 +27,13 @@ pub const DELETE_TAG: u8 = 3;
 
 pub const TRUNCATE_TAG: u8 = 4;
 
+pub const MESSAGE_TAG: u8 = 5;
+
 /// The most tables that a truncate names.
 pub const MAX_TRUNCATED: usize = 256;
 
 /// The length of the change's body in bytes.
-#[tactic(auto, using(crate::proofs::Lengths::truncate_length, crate::proofs::Lengths::insert_length, crate::proofs::Lengths::delete_length, crate::proofs::Lengths::two_rows_length))]
+#[tactic(auto, using(crate::proofs::Lengths::message_length, crate::proofs::Lengths::truncate_length, crate::proofs::Lengths::insert_length, crate::proofs::Lengths::delete_length, crate::proofs::Lengths::two_rows_length))]
 pub fn body_len(change: &Change) -> usize
     requires { IsShort change.now }
     ensures value { result ≡ body_length change.now }
@@ -41,6 +44,7 @@ pub fn body_len(change: &Change) -> usize
         Change::Update(_, old, row) => 5 + short_len(old) + short_len(row),
         Change::Delete(_, old) => 5 + short_len(old),
         Change::Truncate(oids) => 3 + 4 * oids.len(),
+        Change::Message(message) => 7 + message.prefix.as_str().len() + message.content.len(),
     }
 }
 
@@ -81,6 +85,7 @@ fn put_change(change: &Change, out: &mut BytesMut) -> Result<(), AllocError>
         }
         Change::Delete(oid, old) => put_one_row(DELETE_TAG, *oid, old, out),
         Change::Truncate(oids) => put_oids(oids.as_slice(), out),
+        Change::Message(message) => put_message(message, out),
     }
 }
 
@@ -103,4 +108,17 @@ fn put_oids(oids: &[u32], out: &mut BytesMut) -> Result<(), AllocError>
         put_int32(out, *oid)?;
     }
     Ok(())
+}
+
+fn put_message(message: &Message, out: &mut BytesMut) -> Result<(), AllocError>
+    requires { IsShortMessage message.now }
+    ensures { Puts result out.old.items out.new.items (MESSAGE_TAG ∷ spell_message message.now) }
+{
+    let prefix = message.prefix.as_str().as_bytes();
+    let content = message.content.as_slice();
+    out.put_u8(MESSAGE_TAG)?;
+    put_int16(out, prefix.len() as u16)?;
+    out.put_slice(prefix)?;
+    put_int32(out, content.len() as u32)?;
+    out.put_slice(content)
 }

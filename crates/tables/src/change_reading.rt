@@ -3,12 +3,13 @@
 ghost use Rattle.std.specs.Prelude.{◌≡◌, ◌≢◌, ◌<◌, [], IfOk, IsOk, Ok, Err};
 ghost use Rattle.pqformat.specs.Steps.{repeat_at};
 ghost use Rattle.tables.specs.declared.fault.BodyFault.TheVariants.{Memory};
-ghost use Rattle.tables.specs.Reading.{ChangeHasPart, Gives, HoldsPart, InsertHasValue, KindHasPart, OidsHaveOne, SpellsBody, UpdateHasValue, change_tagged, insert_at, oid_at, oids_at, body_at, change_at, update_at};
+ghost use Rattle.tables.specs.Reading.{ChangeHasPart, Gives, HoldsPart, InsertHasValue, KindHasPart, OidsHaveOne, SpellsBody, UpdateHasValue, change_tagged, insert_at, message_at, oid_at, oids_at, body_at, change_at, update_at};
 ghost use Rattle.tables.specs.declared.change.Change.{Change as Changed};
 
 use crate::change::Change;
-use crate::change_body::{DELETE_TAG, INSERT_TAG, TRUNCATE_TAG, UPDATE_TAG};
+use crate::change_body::{DELETE_TAG, INSERT_TAG, MESSAGE_TAG, TRUNCATE_TAG, UPDATE_TAG};
 use crate::fault::BodyFault;
+use crate::message::{Message, message_in};
 use crate::row::Row;
 use crate::row_reading::row_of;
 use pqformat::{Cursor, Items};
@@ -66,6 +67,7 @@ fn kind_of(alloc: Global, tag: u8, cursor: &mut Cursor<'_>) -> Result<Change, Bo
             Ok(Change::Delete(oid, old))
         }
         TRUNCATE_TAG => Ok(Change::Truncate(oids_of(alloc, cursor)?)),
+        MESSAGE_TAG => Ok(Change::Message(message_from(alloc, cursor)?)),
         _ => Err(BodyFault::UnknownTag),
     }
 }
@@ -119,4 +121,12 @@ fn oid_of(cursor: &mut Cursor<'_>) -> Result<u32, BodyFault>
 {
     let oid = cursor.u32().ok_or(BodyFault::Short)?;
     Ok(oid)
+}
+
+fn message_from(alloc: Global, cursor: &mut Cursor<'_>) -> Result<Message, BodyFault>
+    ensures exact { Gives result cursor.new (message_at cursor.old) }
+    ensures memory { result ≡ Err Memory → IsOk (message_at cursor.old) }
+{
+    let message = message_in(cursor)?;
+    Ok(Message::copy_of(alloc, message.prefix, message.content)?)
 }

@@ -1,4 +1,4 @@
-//! The tables that a publisher knows, what their rows are, and the changes of rows as the log keeps them.
+//! The tables that a publisher knows, what their rows are, and the changes of rows and the messages as the log keeps them.
 #![tactic(auto)]
 
 mod catalog;
@@ -15,6 +15,7 @@ mod fault;
 mod identity;
 mod kind;
 mod lending;
+mod message;
 mod oids;
 mod row;
 mod row_body;
@@ -26,8 +27,8 @@ mod value;
 pub use catalog::Catalog;
 pub use change::Change;
 pub use change_body::{
-    DELETE_TAG, INSERT_TAG, MAX_BODY_LENGTH, MAX_TRUNCATED, TRUNCATE_TAG, UPDATE_TAG, body_len,
-    write_body,
+    DELETE_TAG, INSERT_TAG, MAX_BODY_LENGTH, MAX_TRUNCATED, MESSAGE_TAG, TRUNCATE_TAG, UPDATE_TAG,
+    body_len, write_body,
 };
 pub use change_reading::read_body;
 pub use column::Column;
@@ -40,6 +41,9 @@ pub use fault::BodyFault;
 pub use identity::Identity;
 pub use kind::Kind;
 pub use lending::lend_oids;
+pub use message::{
+    MAX_CONTENT_LENGTH, MAX_PREFIX_LENGTH, Message, MessageRef, is_prefix, lend_message,
+};
 pub use oids::repeats;
 pub use row::{MAX_ROW_LENGTH, Row};
 pub use row_body::{BOOL_TAG, INT4_TAG, INT8_TAG, NULL_TAG, TEXT_TAG};

@@ -10,13 +10,13 @@ use Rattle.tables.specs.Spelling.{IsShort}
 use Rattle.tables.specs.Tables.{FitsChange}
 use Rattle.store.specs.History.{made, count_of, rolled_back, forgotten}
 use Rattle.store.specs.Keeping.{StoreState, Keeps}
-use Rattle.tables.proofs.Lengths.{insert_length, delete_length, two_rows_length, truncate_length}
+use Rattle.tables.proofs.Lengths.{insert_length, delete_length, two_rows_length, truncate_length, message_length}
 use Rattle.txlog.specs.declared.savepoint.Savepoint.{Savepoint}
 use Rattle.txlog.specs.declared.limits.TheConstants.{MAX_DEPTH, MAX_LIVE, MAX_RECORDS}
 use Rattle.wal.specs.declared.record.TheConstants.{FIRST_POSITION}
 use Rattle.wal.specs.declared.record.Record.{Record}
-use Rattle.wal.specs.declared.record.Body.TheVariants.{Assign, Change as Changed, AbortSub, Abort, Commit}
-use Rattle.wal.specs.Log.{IsOpen, IsWellFormedLog, end_of, size_of, top_of}
+use Rattle.wal.specs.declared.record.Body.TheVariants.{Assign, Change as Changed, AbortSub, Abort, Commit, Note}
+use Rattle.wal.specs.Log.{IsOpen, IsMessage, IsWellFormedLog, end_of, size_of, top_of}
 use Rattle.txlog.specs.Rows.{standing, history_of}
 use Rattle.txlog.specs.Publishing as calls
 use Rattle.wal.specs.Records.{record_after}
@@ -25,10 +25,10 @@ use Rattle.txlog.specs.Invariants.{IsPublisher, IsInProgress, IsBehind, IsMarked
 use Rattle.wal.proofs.Lists.{all_append}
 use Rattle.txlog.proofs.LiveList.{found, restored}
 use Rattle.txlog.proofs.Progress.{IsOpen-innermost, xids-top}
-use Rattle.txlog.proofs.Histories.{history-change, history-commit, history-abort, history-undo, history-assign}
+use Rattle.txlog.proofs.Histories.{history-change, history-commit, history-abort, history-undo, history-assign, history-note}
 use Rattle.txlog.proofs.Marks.{rolled_last}
-use Rattle.txlog.proofs.Marking.{marked-changed, marked-saved, marked-released, marked-rolled_back, marked-commit, marked-abort}
-use Rattle.txlog.proofs.Transitions.{all_innermost, open_at, new_publisher-IsPublisher, begun-IsPublisher, changed-IsPublisher, after_commit-IsPublisher, after_abort-IsPublisher, saved-IsPublisher, rolled_back-IsPublisher, released-IsPublisher}
+use Rattle.txlog.proofs.Marking.{marked-changed, marked-saved, marked-released, marked-rolled_back, marked-commit, marked-abort, marked-note}
+use Rattle.txlog.proofs.Transitions.{all_innermost, open_at, new_publisher-IsPublisher, begun-IsPublisher, changed-IsPublisher, noted-IsPublisher, after_commit-IsPublisher, after_abort-IsPublisher, saved-IsPublisher, rolled_back-IsPublisher, released-IsPublisher}
 
 pub some_room : (s now : PublisherState) (n : ℕ) → s ≡ now → n ≡ room now → (n ≡ 0 → ⊥) → 0 < room s
 some_room s now n same is some = omega (arith, is, some, ap room same)
@@ -42,6 +42,7 @@ change_small x (changes.Insert oid row) short = omega (arith, insert_length oid 
 change_small x (changes.Update oid old row) short = omega (arith, two_rows_length oid old row, short.0, short.1)
 change_small x (changes.Delete oid old) short = omega (arith, delete_length oid old, short)
 change_small x (changes.Truncate oids) short = omega (arith, truncate_length oids, short)
+change_small x (changes.Message message) short = omega (arith, message_length message, short.0, short.1)
 
 some_is : {A : Type 0} (x y : A) → Some x ≡ Some y → x ≡ y
 some_is x y is = ap (λ o. unwrap_or o x) is
@@ -51,7 +52,7 @@ change_fits log x c d short fits is = rw is (omega (arith, fits, change_small x 
 
 -- CHANGES
 
-innermost_open : (s : PublisherState) (xid : ℕ) → IsPublisher s → is_live xid s.live ≡ true → IsOpen s.log (innermost xid s.live) × (top_of s.log (innermost xid s.live) ≡ xid)
+pub innermost_open : (s : PublisherState) (xid : ℕ) → IsPublisher s → is_live xid s.live ≡ true → IsOpen s.log (innermost xid s.live) × (top_of s.log (innermost xid s.live) ≡ xid)
 innermost_open s xid h is =
     let running : IsInProgress s.log s.next_xid xid (xids (savepoints_of xid s.live)) = open_at s xid h is in (
       IsOpen-innermost s.log s.next_xid xid (xids (savepoints_of xid s.live)) running,
@@ -68,6 +69,15 @@ changed_kept store new s xid change h is free fits short keeps =
       marked = marked-changed s xid change h.publisher h.marked is;
       rows = subst (Keeps new) (sym (history-change s.log (end_of FIRST_POSITION s.log) (end_of FIRST_POSITION s.log + size_of (Changed (innermost xid s.live) change)) (innermost xid s.live) xid change at.0 at.1)) keeps;
     }
+
+-- a note concerns no table and no transaction
+pub noted_kept : (store : StoreState) (s : PublisherState) (change : Change) → KeepsLog store s → 0 < room s → IsMessage change → FitsChange s.tables change → IsShort change →
+    KeepsLog store (with_record (Note change) s)
+noted_kept store s change h free is fits short = record {
+  publisher = noted-IsPublisher s change h.publisher free is fits (change_small 0 change short);
+  marked = marked-note s change h.marked;
+  rows = subst (Keeps store) (sym (history-note s.log (end_of FIRST_POSITION s.log) (end_of FIRST_POSITION s.log + size_of (Note change)) change)) h.rows;
+}
 
 -- a change that the tables took, and that was undone
 pub unchanged_kept : (store new : StoreState) (s : PublisherState) (xid mark : ℕ) (change : Change) → KeepsLog store s → mark ≡ count_of xid (history_of s.log) →

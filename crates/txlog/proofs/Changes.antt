@@ -120,6 +120,7 @@ err_refused refusal s now tx at fault result same own free refused is =
     by_fault store_faults.NoSuchRow e = some_fault store_faults.NoSuchRow e
     by_fault store_faults.KeyHeld e = some_fault store_faults.KeyHeld e
     by_fault store_faults.TooLarge e = some_fault store_faults.TooLarge e
+    by_fault store_faults.BadPrefix e = some_fault store_faults.BadPrefix e
     by_fault store_faults.Memory e =
         let none : change_refusal tx now (refusal now tx) ≡ tables_refusal None (room_refusal now) = judged (refusal now tx) now tx None own.1 e in
         subst (λ (r : Option SessionFault). IsRefusalOrMemory r (fault_at at.room store_faults.Memory)) (sym none)

@@ -6,13 +6,13 @@ use Rattle.std.proofs.lemmas.List.{map-append}
 use Rattle.tables.specs.declared.change.Change.{Change}
 use Rattle.store.specs.History.{Made, made, is_top, no_longer, settled, forgotten, rolled_back}
 use Rattle.wal.specs.declared.record.Record.{Record}
-use Rattle.wal.specs.declared.record.Body.TheVariants.{Assign, Change as Changed, AbortSub, Abort, Commit}
+use Rattle.wal.specs.declared.record.Body.TheVariants.{Assign, Change as Changed, AbortSub, Abort, Commit, Note}
 use Rattle.wal.specs.Log.{is_named, chain, last_of, top_of, ends, has_ended, Entry, entries, IsOpen}
 use Rattle.txlog.specs.Rows.{stands, standing, while_live, made_by, history_of}
 use Rattle.txlog.specs.Invariants.{is_own, is_under, IsBehind}
 use Rattle.wal.proofs.Lists.{or_false, map_agrees, map_twice, each, all_filter, eqb_comm}
 use Rattle.wal.proofs.Laws.{has_ended-one, chain-append, top-kept, KeepsChains, all_when, changes_named}
-use Rattle.txlog.proofs.Standing.{standing-commit, standing-abort, standing-undo, standing-change, standing-assign, chain-assign}
+use Rattle.txlog.proofs.Standing.{standing-commit, standing-abort, standing-undo, standing-change, standing-assign, standing-note, chain-assign}
 use Rattle.txlog.proofs.Marks.{undone_behind, undone_all}
 
 abbrev EndsIn : (ℕ → Bool) → Record → Type 0
@@ -120,3 +120,12 @@ history-assign log start end sub parent unnamed = assigned (record { start = sta
         ∙ map_agrees (made_by (log ++ r ∷ [])) (made_by log) (standing log) (all_when _ _ (λ (e : Entry) (other : (sub == e.xid) ≡ false).
         same_made log r e (chain-assign log r sub parent e.xid is other) ending) (standing log)
         (all_filter _ (stands log) (entries log) (changes_named log sub unnamed)))
+
+-- Nor does a note.
+pub history-note : (log : List Record) (start end : ℕ) (c : Change) → history_of (log ++ record { start = start; end = end; body = Note c } ∷ []) ≡ history_of log
+history-note log start end c = noted (record { start = start; end = end; body = Note c }) (standing-note log start end c) (λ above x. refl) (λ x. refl)
+  where
+    noted : (r : Record) → standing (log ++ r ∷ []) ≡ standing log → KeepsChains r.body → EndsIn (λ x. false) r → history_of (log ++ r ∷ []) ≡ history_of log
+    noted r stood keeps ending =
+        ap (map (made_by (log ++ r ∷ []))) stood
+        ∙ map_agrees (made_by (log ++ r ∷ [])) (made_by log) (standing log) (each _ (λ e. same_made log r e (chain-append log r e.xid ∙ keeps (chain log) e.xid) ending) (standing log))

@@ -7,19 +7,19 @@ use Rattle.tables.specs.declared.change.Change.{Change}
 use Rattle.txlog.specs.declared.savepoint.Savepoint.{Savepoint}
 use Rattle.wal.specs.declared.record.Record.{Record}
 use Rattle.wal.specs.declared.record.Body.{Body}
-use Rattle.wal.specs.declared.record.Body.TheVariants.{Assign, Change as Changed, AbortSub, Abort, Commit}
+use Rattle.wal.specs.declared.record.Body.TheVariants.{Assign, Change as Changed, AbortSub, Abort, Commit, Note}
 use Rattle.wal.specs.Log.{IsWellFormedLog, IsOpen, names, is_named, chain_step, chain_back, chain, last_of, top_of, Entry, entries}
 use Rattle.wal.specs.Places.{IsChain}
 use Rattle.txlog.specs.Rows.{stands, standing, made_by}
 use Rattle.wal.specs.Records.{record_after}
-use Rattle.txlog.specs.Publishing.{LiveTransaction, PublisherState, xids, next_savepoint, is_live, savepoints_of, innermost, changed, saved, released, rolled_back, after_commit, after_abort}
+use Rattle.txlog.specs.Publishing.{LiveTransaction, PublisherState, xids, next_savepoint, with_record, is_live, savepoints_of, innermost, changed, saved, released, rolled_back, after_commit, after_abort}
 use Rattle.txlog.specs.Invariants.{IsInProgress, IsRunning, IsPublisher, IsBehind, IsMarked, is_own, is_under}
 use Rattle.wal.proofs.Lists.{or_false, each, all_both, all_filter, all_fewer, eqb_comm, all_append}
 use Rattle.wal.proofs.Laws.{chain-append, chain-unassigned, top-kept, KeepsChains, all_when, changes_named}
 use Rattle.txlog.proofs.LiveList.{xids_take, xids_length, found, all_changed, all_without, with-own}
 use Rattle.wal.proofs.Places.{chain-IsChain, chain-only}
 use Rattle.txlog.proofs.Progress.{onto, chain-innermost, IsOpen-innermost, xids-top, all_take, in_progress_cut, last_of-take, all_at}
-use Rattle.txlog.proofs.Standing.{standing-commit, standing-abort, standing-undo, standing-change, standing-assign, chain-assign}
+use Rattle.txlog.proofs.Standing.{standing-commit, standing-abort, standing-undo, standing-change, standing-assign, standing-note, chain-assign}
 use Rattle.txlog.proofs.Histories.{tells_own}
 use Rattle.txlog.proofs.Marks.{behind_agrees, behind_push, behind_filter, behind_all}
 use Rattle.txlog.proofs.Transitions.{open_at, all_innermost}
@@ -99,6 +99,7 @@ absent_back (r ∷ older) z x none other =
     by_body (Changed xid change) unnamed rest = rest x other
     by_body (AbortSub xid) unnamed rest = rest x other
     by_body (Abort xid) unnamed rest = rest x other
+    by_body (Note change) unnamed rest = rest x other
     by_body (Commit xid time) unnamed rest = rest x other
 
 absent_in_chain : (log : List Record) (z x : ℕ) → is_named log z ≡ false → (z == x) ≡ false → list_any (λ y. z == y) (chain log x) ≡ false
@@ -263,3 +264,10 @@ marked-abort s xid h marked =
     (each _ (λ e gone own.
     let same : o.xid ≡ xid = sym (eqb-true (top_of s.log e.xid) o.xid own) ∙ eqb-true (top_of s.log e.xid) xid (true_by_not (is_own s.log xid e) gone) in
     absurd (eqb-false o.xid xid other same)) (standing s.log)) one)) o.savepoints mark)
+
+pub marked-note : (s : PublisherState) (change : Change) → AllByRecursion (IsMarked s.log) s.live → AllByRecursion (IsMarked (with_record (Note change) s).log) s.live
+marked-note s change marked =
+    let r : Record = record_after s.log (Note change) in
+    all_when (IsMarked s.log) (IsMarked (s.log ++ r ∷ [])) (λ o mark.
+    all_when (MarkedAt s.log o.xid) (MarkedAt (s.log ++ r ∷ []) o.xid)
+    (λ p one. kept_mark s.log r (λ above x. refl) o.xid p (standing s.log) (standing-note s.log r.start r.end change) one) o.savepoints mark) s.live marked

@@ -7,7 +7,7 @@ use Rattle.std.proofs.lemmas.List.Folds.{list_any-append}
 use Rattle.tables.specs.declared.change.Change.{Change}
 use Rattle.wal.specs.declared.record.Record.{Record}
 use Rattle.wal.specs.declared.record.Body.{Body}
-use Rattle.wal.specs.declared.record.Body.TheVariants.{Assign, Change as Changed, AbortSub, Abort, Commit}
+use Rattle.wal.specs.declared.record.Body.TheVariants.{Assign, Change as Changed, AbortSub, Abort, Commit, Note}
 use Rattle.wal.specs.Log.{is_named, chain, top_of, undoes, is_undone, is_dropped, ends, has_ended, Entry, entry_at, entries}
 use Rattle.txlog.specs.Rows.{aborts, is_aborted, stands, standing}
 use Rattle.txlog.specs.Invariants.{is_own, is_under}
@@ -22,6 +22,7 @@ aborts-ends x (Assign sub parent) none = refl
 aborts-ends x (Changed xid change) none = refl
 aborts-ends x (AbortSub xid) none = refl
 aborts-ends x (Abort xid) none = none
+aborts-ends x (Note change) none = refl
 aborts-ends x (Commit xid time) none = refl
 
 -- what has not ended was not aborted
@@ -104,6 +105,13 @@ standing-commit log start end t time = committed (record { start = start; end = 
   where
     committed : (r : Record) → entry_at r.start r.body ≡ [] → KeepsChains r.body → UndoesIn no_xid r → AbortsIn no_xid r → standing (log ++ r ∷ []) ≡ standing log
     committed r empty keeps undoing aborting = standing-same log r empty (all_agree _ _ (quiet log r keeps undoing aborting) (entries log))
+
+-- A note is no change.
+pub standing-note : (log : List Record) (start end : ℕ) (c : Change) → standing (log ++ record { start = start; end = end; body = Note c } ∷ []) ≡ standing log
+standing-note log start end c = noted (record { start = start; end = end; body = Note c }) refl (λ above x. refl) (λ x. refl) (λ x. refl)
+  where
+    noted : (r : Record) → entry_at r.start r.body ≡ [] → KeepsChains r.body → UndoesIn no_xid r → AbortsIn no_xid r → standing (log ++ r ∷ []) ≡ standing log
+    noted r empty keeps undoing aborting = standing-same log r empty (all_agree _ _ (quiet log r keeps undoing aborting) (entries log))
 
 -- An abort takes the changes of its transaction.
 pub standing-abort : (log : List Record) (start end t : ℕ) →

@@ -12,10 +12,10 @@ use Rattle.wal.specs.declared.record.TheConstants.{FIRST_POSITION, FIRST_XID}
 use Rattle.txlog.specs.declared.savepoint.Savepoint.{Savepoint}
 use Rattle.wal.specs.declared.record.Record.{Record}
 use Rattle.wal.specs.declared.record.Body.{Body}
-use Rattle.wal.specs.declared.record.Body.TheVariants.{Assign, Change as Changed, AbortSub, Abort, Commit}
-use Rattle.wal.specs.Log.{IsSized, IsOpen, IsNext, FitsBody, FitsRecord, size_of, end_of, names, is_named, assigns, is_assigned, chain, last_of, top_of, undoes, is_undone, ends}
+use Rattle.wal.specs.declared.record.Body.TheVariants.{Assign, Change as Changed, AbortSub, Abort, Commit, Note}
+use Rattle.wal.specs.Log.{IsSized, IsOpen, IsNext, FitsBody, FitsRecord, IsMessage, size_of, end_of, names, is_named, assigns, is_assigned, chain, last_of, top_of, undoes, is_undone, ends}
 use Rattle.wal.specs.Records.{record_after}
-use Rattle.txlog.specs.Publishing.{LiveTransaction, PublisherState, xids, next_savepoint, room, is_live, savepoints_of, innermost, with_savepoints, without, begun, changed, saved, released, rolled_back, ended, after_commit, after_abort}
+use Rattle.txlog.specs.Publishing.{LiveTransaction, PublisherState, xids, with_record, next_savepoint, room, is_live, savepoints_of, innermost, with_savepoints, without, begun, changed, saved, released, rolled_back, ended, after_commit, after_abort}
 use Rattle.txlog.specs.Invariants.{IsLog, IsInProgress, IsRunning, IsPublisher}
 use Rattle.wal.proofs.Laws.{end_of-append, follows-append, WellFormedAfter-append, is_named-one, is_assigned-one, is_undone-one, chain-append, chain-unassigned, all_when}
 use Rattle.wal.proofs.Lists.{eqb_comm, all_append}
@@ -64,6 +64,7 @@ unnamed-assigns x (Assign sub parent) none = eqb_comm sub x ∙ or_first (x == s
 unnamed-assigns x (Changed xid change) none = refl
 unnamed-assigns x (AbortSub xid) none = refl
 unnamed-assigns x (Abort xid) none = refl
+unnamed-assigns x (Note change) none = refl
 unnamed-assigns x (Commit xid time) none = refl
 
 unnamed-ends : (x : ℕ) (body : Body) → names x body ≡ false → ends x body ≡ false
@@ -71,6 +72,7 @@ unnamed-ends x (Assign sub parent) none = refl
 unnamed-ends x (Changed xid change) none = refl
 unnamed-ends x (AbortSub xid) none = refl
 unnamed-ends x (Abort xid) none = eqb_comm xid x ∙ none
+unnamed-ends x (Note change) none = refl
 unnamed-ends x (Commit xid time) none = eqb_comm xid x ∙ none
 
 unnamed-undoes : (x : ℕ) (body : Body) → names x body ≡ false → undoes x body ≡ false
@@ -78,6 +80,7 @@ unnamed-undoes x (Assign sub parent) none = refl
 unnamed-undoes x (Changed xid change) none = refl
 unnamed-undoes x (AbortSub xid) none = eqb_comm xid x ∙ none
 unnamed-undoes x (Abort xid) none = refl
+unnamed-undoes x (Note change) none = refl
 unnamed-undoes x (Commit xid time) none = refl
 
 -- CALLS THAT WRITE NO RECORD
@@ -187,6 +190,23 @@ changed-IsPublisher s xid change h is free fits small =
       rising = h.rising;
       live = all_when (IsRunning s.log s.next_xid) (IsRunning (s.log ++ r ∷ []) s.next_xid) (λ (p : LiveTransaction) (running : IsRunning s.log s.next_xid p).
           in_progress_quiet s.log r s.next_xid s.next_xid p.xid (xids p.savepoints) (omega arith) (all_quiet body (λ x. record { assigned = refl; ended = refl; undone = refl }) (p.xid ∷ xids p.savepoints)) running) s.live h.live;
+    }
+
+pub noted-IsPublisher : (s : PublisherState) (change : Change) → IsPublisher s → 0 < room s → IsMessage change → FitsChange s.tables change → size_of (Note change) ≤ 2 ^ 14 →
+    IsPublisher (with_record (Note change) s)
+noted-IsPublisher s change h free is fits small =
+    let r : Record = record_after s.log (Note change) in
+    let longer : length (s.log ++ record_after s.log (Note change) ∷ []) ≡ length s.log + 1 = length-append s.log (r ∷ []) in
+    record {
+      log = log_grown s.tables s.log (Note change) h.log tt (is, fits) small (omega (arith, h.limit, free));
+      limit = h.limit;
+      reserve = omega (arith, longer, free);
+      xids = omega (arith, longer, h.xids);
+      few = h.few;
+      fresh = fresh_grown s.log r s.next_xid s.next_xid (omega arith) h.fresh (λ x above. refl);
+      rising = h.rising;
+      live = all_when (IsRunning s.log s.next_xid) (IsRunning (s.log ++ r ∷ []) s.next_xid) (λ (p : LiveTransaction) (running : IsRunning s.log s.next_xid p).
+          in_progress_quiet s.log r s.next_xid s.next_xid p.xid (xids p.savepoints) (omega arith) (all_quiet (Note change) (λ x. record { assigned = refl; ended = refl; undone = refl }) (p.xid ∷ xids p.savepoints)) running) s.live h.live;
     }
 
 -- the end of another transaction does nothing to the xids of this one

@@ -15,7 +15,7 @@ use Rattle.txlog.specs.declared.limits.TheConstants.{MAX_LIVE, MAX_DEPTH, MAX_RE
 use Rattle.wal.specs.declared.record.TheConstants.{FIRST_POSITION, FIRST_XID}
 use Rattle.wal.specs.declared.record.Record.{Record}
 use Rattle.wal.specs.declared.record.Body.{Body}
-use Rattle.wal.specs.declared.record.Body.TheVariants.{Assign, Change as Changed, AbortSub, Abort, Commit}
+use Rattle.wal.specs.declared.record.Body.TheVariants.{Assign, Change as Changed, AbortSub, Abort, Commit, Note}
 use Rattle.txlog.specs.declared.fault.SessionFault.{SessionFault}
 use Rattle.txlog.specs.declared.fault.SessionFault.TheVariants as faults
 use Rattle.txlog.specs.declared.savepoint.Savepoint.{Savepoint}
@@ -97,6 +97,13 @@ updated xid key row s = with_old (rows_of s.tables s.log key) (λ old. changed x
 abbrev pub deleted : ℕ → Key → PublisherState → PublisherState
 deleted xid key s = with_old (rows_of s.tables s.log key) (λ old. changed xid (changes.Delete key.oid old) s) s
 
+-- a message, of a transaction where a change would stand, or of none
+abbrev pub message_with : List ℕ → List ℕ → Change
+message_with prefix content = changes.Message (record { prefix = prefix; content = content })
+
+abbrev pub noted : List ℕ → List ℕ → PublisherState → PublisherState
+noted prefix content s = with_record (Note (message_with prefix content)) s
+
 -- a new savepoint has the next xid, and marks how many changes of its transaction stand
 abbrev pub next_savepoint : ℕ → PublisherState → Savepoint
 next_savepoint xid s = record { xid = s.next_xid; mark = count_of xid (history_of s.log) }
@@ -160,6 +167,7 @@ fault_of store_faults.DuplicateKey = faults.DuplicateKey
 fault_of store_faults.NoSuchRow = faults.NoSuchRow
 fault_of store_faults.KeyHeld = faults.KeyHeld
 fault_of store_faults.TooLarge = faults.TooLarge
+fault_of store_faults.BadPrefix = faults.BadPrefix
 fault_of store_faults.Memory = faults.Memory
 
 -- want of memory comes behind want of room
@@ -186,6 +194,12 @@ delete_refusal xid key s = change_refusal xid s (history.delete_refusal s.tables
 
 abbrev pub truncate_refusal : ℕ → List ℕ → PublisherState → Option SessionFault
 truncate_refusal xid oids s = change_refusal xid s (history.truncate_refusal s.tables (history_of s.log) xid oids)
+
+abbrev pub message_refusal : ℕ → List ℕ → List ℕ → PublisherState → Option SessionFault
+message_refusal xid prefix content s = change_refusal xid s (history.message_fault prefix content)
+
+abbrev pub note_refusal : List ℕ → List ℕ → PublisherState → Option SessionFault
+note_refusal prefix content s = tables_refusal (history.message_fault prefix content) (room_refusal s)
 
 abbrev pub savepoint_refusal : ℕ → PublisherState → Option SessionFault
 savepoint_refusal xid s =
@@ -239,4 +253,5 @@ code_of faults.TooDeep = codes "S9"
 code_of faults.TooManyLive = codes "S10"
 code_of faults.Memory = codes "S11"
 code_of faults.NoReader = codes "S12"
+code_of faults.BadPrefix = codes "S13"
 code_of faults.NoTransaction = codes "S14"

@@ -1,4 +1,4 @@
-//! How sessions change rows: the tables take the change, and the log a record of it.
+//! How sessions change rows: the tables take the change, and the log a record of it. A message goes the same way.
 
 ghost use Rattle.std.specs.Prelude.{◌≡◌, ◌+◌, ◌∷◌, ◌++◌, [], ◌<◌, ◌^◌, IfErr, IfOk, List, OnErr, OnOk, false, true};
 ghost use Rattle.store.specs.History.{Made, count_of, rolled_back};
@@ -8,7 +8,7 @@ ghost use Rattle.tables.specs.Spelling.{IsShort};
 ghost use Rattle.txlog.specs.Invariants.{IsPublisher};
 ghost use Rattle.wal.specs.Log.{IsWellFormedLog, end_of, top_of};
 ghost use Rattle.wal.specs.Records.{record_after};
-ghost use Rattle.txlog.specs.Publishing.{RefusedOrMemory, changed, deleted, delete_refusal, fault_at, innermost, insert_refusal, is_live, room, truncate_refusal, update_refusal, updated};
+ghost use Rattle.txlog.specs.Publishing.{RefusedOrMemory, changed, deleted, delete_refusal, fault_at, innermost, insert_refusal, is_live, message_refusal, message_with, room, truncate_refusal, update_refusal, updated};
 ghost use Rattle.txlog.specs.Rows.{history_of};
 ghost use Rattle.wal.specs.declared.record.TheConstants.{FIRST_POSITION};
 
@@ -119,6 +119,27 @@ impl<L: LogName> Publisher<L> {
         }
     }
 
+    /// Writes a message, which is the transaction's as a change of it is, and changes no row. S14, S13, S6, S7, S11 in this order.
+    pub fn message<R: Wait>(
+        &mut self,
+        rt: &R,
+        tx: &mut Tx,
+        prefix: &str,
+        content: &[u8],
+    ) -> Result<(), SessionFault>
+        ensures ok { OnOk result (self.new ≡ changed tx.old (message_with prefix.now content.now) self.old) }
+        ensures err { OnErr result (self.new ≡ self.old) }
+        ensures refused { RefusedOrMemory (message_refusal tx.old prefix.now content.now self.old) result }
+        ensures tx { tx.new ≡ tx.old }
+        ensures publisher { IsPublisher self.new }
+    {
+        let at = self.changing(tx)?;
+        match self.store.message(at.xid, prefix, content) {
+            Ok(change) => write(&mut self.store, &mut self.log, rt, at, change),
+            Err(fault) => Err(refusal(fault, at.room)),
+        }
+    }
+
     /// What a change of a live transaction needs.
     fn changing(&self, tx: &Tx) -> Result<Changing, SessionFault>
         ensures live { IfOk result (λ at. (at.xid ≡ tx.now) × (is_live tx.now self.now.live ≡ true)) }
@@ -195,7 +216,7 @@ fn push<L: LogName, R: Wait>(
 }
 
 /// Why the publisher refuses what the store refused: want of memory comes behind want of room.
-fn refusal(fault: StoreFault, room: usize) -> SessionFault
+pub(crate) fn refusal(fault: StoreFault, room: usize) -> SessionFault
     ensures { result ≡ fault_at room fault }
 {
     match fault {

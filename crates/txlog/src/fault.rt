@@ -35,6 +35,8 @@ pub enum SessionFault {
     Memory,
     #[error("no reader can be made")]
     NoReader,
+    #[error("no message has this prefix")]
+    BadPrefix,
     #[error("the transaction is not live")]
     NoTransaction,
 }
@@ -57,6 +59,7 @@ impl SessionFault {
             SessionFault::TooManyLive => "S10",
             SessionFault::Memory => "S11",
             SessionFault::NoReader => "S12",
+            SessionFault::BadPrefix => "S13",
             SessionFault::NoTransaction => "S14",
         }
     }
@@ -89,6 +92,7 @@ impl From<StoreFault> for SessionFault {
             StoreFault::NoSuchRow => SessionFault::NoSuchRow,
             StoreFault::KeyHeld => SessionFault::KeyHeld,
             StoreFault::TooLarge => SessionFault::TooLarge,
+            StoreFault::BadPrefix => SessionFault::BadPrefix,
             StoreFault::Memory => SessionFault::Memory,
         }
     }

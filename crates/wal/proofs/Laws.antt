@@ -7,7 +7,7 @@ use Rattle.std.proofs.lemmas.List.Folds.{list_any-append}
 use Rattle.std.proofs.lemmas.List.Sorted.{list_any-IsPermutation, IsPermutation-reverse}
 use Rattle.wal.specs.declared.record.Record.{Record}
 use Rattle.wal.specs.declared.record.Body.{Body}
-use Rattle.wal.specs.declared.record.Body.TheVariants.{Assign, Change as Changed, AbortSub, Abort, Commit}
+use Rattle.wal.specs.declared.record.Body.TheVariants.{Assign, Change as Changed, AbortSub, Abort, Commit, Note}
 use Rattle.wal.specs.Log.{follows, end_of, names, is_named, assigns, is_assigned, chain_step, chain_back, chain, last_of, top_of, undoes, is_undone, is_dropped, ends, has_ended, Entry, entry_at, entries, committed_by, committed_from, WellFormedAfter}
 use Rattle.wal.proofs.Lists.{or_false, list_any_agrees, list_any_or}
 
@@ -90,6 +90,7 @@ body_none (Assign sub parent) above rest x k none = step_none (sub == x) rest (x
 body_none (Changed xid change) above rest x k none = k none
 body_none (AbortSub xid) above rest x k none = k none
 body_none (Abort xid) above rest x k none = k none
+body_none (Note change) above rest x k none = k none
 body_none (Commit xid time) above rest x k none = k none
 
 pub chain_back-unassigned : (older : List Record) (x : ℕ) → is_assigned older x ≡ false → chain_back older x ≡ x ∷ []
@@ -138,6 +139,7 @@ changes_named (r ∷ log) x none = by_body r.start r.body (is_named log x) (entr
     by_body start (Changed xid change) rest es none k = (left (x == xid) rest none, k (right (x == xid) rest none))
     by_body start (AbortSub xid) rest es none k = k (right (x == xid) rest none)
     by_body start (Abort xid) rest es none k = k (right (x == xid) rest none)
+    by_body start (Note change) rest es none k = k none
     by_body start (Commit xid time) rest es none k = k (right (x == xid) rest none)
 
 -- a record that makes no subtransaction of an xid
@@ -146,6 +148,7 @@ step-quiet above (Assign sub parent) x other = rw other refl
 step-quiet above (Changed xid change) x other = refl
 step-quiet above (AbortSub xid) x other = refl
 step-quiet above (Abort xid) x other = refl
+step-quiet above (Note change) x other = refl
 step-quiet above (Commit xid time) x other = refl
 
 pub chain-quiet : (log : List Record) (r : Record) (x : ℕ) → assigns x r.body ≡ false → chain (log ++ r ∷ []) x ≡ chain log x

@@ -8,7 +8,7 @@ use Rattle.std.proofs.lemmas.List.Folds.{list_any-append}
 use Rattle.std.proofs.Math.Seq.{take-append_seam}
 use Rattle.wal.specs.declared.record.Record.{Record}
 use Rattle.wal.specs.declared.record.Body.{Body}
-use Rattle.wal.specs.declared.record.Body.TheVariants.{Assign, Change as Changed, AbortSub, Abort, Commit}
+use Rattle.wal.specs.declared.record.Body.TheVariants.{Assign, Change as Changed, AbortSub, Abort, Commit, Note}
 use Rattle.wal.specs.Log.{names, is_named, assigns, chain, top_of, is_assigned, is_undone, Entry, entry_at, entries, is_kept, kept, committed_at, committed_by, committed_from, committed, IsNext, WellFormedAfter, IsWellFormedLog, chain_step}
 use Rattle.wal.specs.Places.{puts_under, is_parent, IsChain, kept_at, placed_at, placed_from, committed_by_places}
 use Rattle.wal.proofs.Lists.{or_false, filter_agrees, eqb_comm}
@@ -20,6 +20,7 @@ next-assigns before (Assign sub parent) x named next = ne_eqb sub x (λ same. le
 next-assigns before (Changed xid change) x named next = refl
 next-assigns before (AbortSub xid) x named next = refl
 next-assigns before (Abort xid) x named next = refl
+next-assigns before (Note change) x named next = refl
 next-assigns before (Commit xid time) x named next = refl
 
 -- the chain of an xid that is named stays
@@ -45,6 +46,7 @@ changes-named (r ∷ log) = by_body r.start r.body (all_when _ _ (λ (e : Entry)
     by_body start (Changed xid change) all = (rw (eq-eqb xid xid refl) refl, all)
     by_body start (AbortSub xid) all = all
     by_body start (Abort xid) all = all
+    by_body start (Note change) all = all
     by_body start (Commit xid time) all = all
 
 pub kept-at : (before rest : List Record) (top : ℕ) → WellFormedAfter before rest → kept_at (before ++ rest) top (length before) ≡ kept before top
@@ -58,11 +60,12 @@ placed-same s before rest start end (Assign sub parent) h = refl
 placed-same s before rest start end (Changed xid change) h = refl
 placed-same s before rest start end (AbortSub xid) h = refl
 placed-same s before rest start end (Abort xid) h = refl
+placed-same s before rest start end (Note change) h = refl
 placed-same s before rest start end (Commit xid time) h = by_changes (kept-at before rest xid h)
   where
     by_changes : kept_at (before ++ rest) xid (length before) ≡ kept before xid →
         placed_at s (before ++ rest) (length before) start end (Commit xid time) ≡ committed_at s before start end (Commit xid time)
-    by_changes e = ap (λ (es : List Entry). cond (nat_le s start) (record { start = start; end = end; time = time; xid = xid; changes = es } ∷ []) []) e
+    by_changes e = ap (λ (es : List Entry). cond (nat_le s start) (record { is_note = false; start = start; end = end; time = time; xid = xid; changes = es } ∷ []) []) e
 
 placed-from : (s : ℕ) (before rest : List Record) → WellFormedAfter before rest → placed_from s (before ++ rest) (length before) rest ≡ committed_from s before rest
 placed-from s before [] h = refl
@@ -100,6 +103,7 @@ parent-body (Assign sub parent) x y is = by_test (sub == x) (parent == y) refl i
 parent-body (Changed xid change) x y is = absurd cc
 parent-body (AbortSub xid) x y is = absurd cc
 parent-body (Abort xid) x y is = absurd cc
+parent-body (Note change) x y is = absurd cc
 parent-body (Commit xid time) x y is = absurd cc
 
 parent-named : (log : List Record) (x y : ℕ) → is_parent log x y ≡ true → is_named log y ≡ true
@@ -135,6 +139,7 @@ chain-one log start end (Assign sub parent) next h x = by_test (sub == x) refl
 chain-one log start end (Changed xid change) next h x = chain-kept log (record { start = start; end = end; body = Changed xid change }) x (chain log x) next refl (h x)
 chain-one log start end (AbortSub xid) next h x = chain-kept log (record { start = start; end = end; body = AbortSub xid }) x (chain log x) next refl (h x)
 chain-one log start end (Abort xid) next h x = chain-kept log (record { start = start; end = end; body = Abort xid }) x (chain log x) next refl (h x)
+chain-one log start end (Note change) next h x = chain-kept log (record { start = start; end = end; body = Note change }) x (chain log x) next refl (h x)
 chain-one log start end (Commit xid time) next h x = chain-kept log (record { start = start; end = end; body = Commit xid time }) x (chain log x) next refl (h x)
 
 chain-all : (before rest : List Record) → WellFormedAfter before rest → ((x : ℕ) → IsChain before x (chain before x)) → (x : ℕ) → IsChain (before ++ rest) x (chain (before ++ rest) x)
@@ -160,6 +165,7 @@ under_assigns (Assign sub parent) x y is = by_test (sub == x) is
 under_assigns (Changed xid change) x y is = absurd cc
 under_assigns (AbortSub xid) x y is = absurd cc
 under_assigns (Abort xid) x y is = absurd cc
+under_assigns (Note change) x y is = absurd cc
 under_assigns (Commit xid time) x y is = absurd cc
 
 -- an xid with a parent is assigned
@@ -176,6 +182,7 @@ assigned-body (Assign sub parent) x is = or_left (x == sub) (x == parent) (eqb_c
 assigned-body (Changed xid change) x is = absurd cc
 assigned-body (AbortSub xid) x is = absurd cc
 assigned-body (Abort xid) x is = absurd cc
+assigned-body (Note change) x is = absurd cc
 assigned-body (Commit xid time) x is = absurd cc
 
 pub assigned-named : (log : List Record) (x : ℕ) → is_assigned log x ≡ true → is_named log x ≡ true
@@ -205,6 +212,7 @@ same_parent (Assign sub parent) x y z a b = sym (eqb-true parent y (right (sub =
 same_parent (Changed xid change) x y z a b = absurd cc
 same_parent (AbortSub xid) x y z a b = absurd cc
 same_parent (Abort xid) x y z a b = absurd cc
+same_parent (Note change) x y z a b = absurd cc
 same_parent (Commit xid time) x y z a b = absurd cc
 
 one_parent-next : (log : List Record) (r : Record) → IsNext log r.body → HasOneParent log → HasOneParent (log ++ r ∷ [])

@@ -9,9 +9,9 @@ use Rattle.std.proofs.lemmas.List.Folds.{list_any-append}
 use Rattle.std.proofs.lemmas.List.Sorted.{list_any-IsPermutation, IsPermutation-reverse}
 use Rattle.wal.specs.declared.record.Record.{Record}
 use Rattle.wal.specs.declared.record.Body.{Body}
-use Rattle.wal.specs.declared.record.Body.TheVariants.{Assign, Change as Changed, AbortSub, Abort, Commit}
-use Rattle.wal.specs.Log.{names, is_named, xid_in, assigns, is_assigned, chain_step, chain_back, last_of, top_of, undoes, is_undone, is_dropped, Entry, entry_at, entries, is_kept, kept, Transaction, committed_at, committed_by, committed_from, committed, IsNext, WellFormedAfter, IsWellFormedLog}
-use Rattle.wal.specs.Places.{committed_by_places, commits_at, commits_from, SkipsNone}
+use Rattle.wal.specs.declared.record.Body.TheVariants.{Assign, Change as Changed, AbortSub, Abort, Commit, Note}
+use Rattle.wal.specs.Log.{names, is_named, is_note, xid_in, assigns, is_assigned, chain_step, chain_back, last_of, top_of, undoes, is_undone, is_dropped, Entry, noted, entry_at, entries, is_kept, kept, Transaction, committed_at, committed_by, committed_from, committed, IsNext, WellFormedAfter, IsWellFormedLog}
+use Rattle.wal.specs.Places.{committed_by_places, commits_at, commits_from, is_needed, SkipsNone}
 use Rattle.wal.proofs.Lists.{filter_agrees, filter_none, eqb_comm, all_both, each}
 use Rattle.wal.proofs.Laws.{is_named-append, is_named-one, is_assigned-append, is_undone-append, entries-append, all_when, chain_back-unassigned, chain-unassigned, chain-quiet, committed_from-append, WellFormedAfter-front, WellFormedAfter-back}
 use Rattle.wal.proofs.Places.{or_of, or_left, or_right, next-assigns, chain-stable, changes-named, assigned-named, committed-by_places}
@@ -32,6 +32,7 @@ ends_in (r ∷ older) a x = by_body r.body (ends_in older a x)
     by_body (Changed xid change) above = above
     by_body (AbortSub xid) above = above
     by_body (Abort xid) above = above
+    by_body (Note change) above = above
     by_body (Commit xid time) above = above
 
 -- the end of a chain in the newer records goes on in the older ones
@@ -52,6 +53,7 @@ goes_on (r ∷ newer) older x = by_body r.body (goes_on newer older)
     by_body (Changed xid change) above = above x
     by_body (AbortSub xid) above = above x
     by_body (Abort xid) above = above x
+    by_body (Note change) above = above x
     by_body (Commit xid time) above = above x
 
 -- Two tests that agree at the end of the chain of x in the newer records, which the older ones put under none.
@@ -80,12 +82,13 @@ any_alike p q (r ∷ newer) older inner x end =
     by_body (Changed xid change) here above end = above x end
     by_body (AbortSub xid) here above end = above x end
     by_body (Abort xid) here above end = above x end
+    by_body (Note change) here above end = above x end
     by_body (Commit xid time) here above end = above x end
 
 -- WHAT RECORDS ARE ABOUT
 
 is_about : List Record → ℕ → Bool
-is_about log x = list_any (λ r. xid_in r.body == x) log
+is_about log x = list_any (λ r. not (is_note r.body) && (xid_in r.body == x)) log
 
 any_more : {A : Type 0} (p q : A → Bool) → ((x : A) → p x ≡ true → q x ≡ true) → (xs : List A) → list_any p xs ≡ true → list_any q xs ≡ true
 any_more p q more [] is = is
@@ -97,57 +100,76 @@ any_more p q more (x ∷ xs) is =
 
 assigned_about : (log : List Record) (x : ℕ) → is_assigned log x ≡ true → is_about log x ≡ true
 unfolding is_about
-assigned_about log x = any_more (λ r. assigns x r.body) (λ r. xid_in r.body == x) (λ (r : Record). by_body r.body) log
+assigned_about log x = any_more (λ r. assigns x r.body) (λ r. not (is_note r.body) && (xid_in r.body == x)) (λ (r : Record). by_body r.body) log
   where
-    by_body : (body : Body) → assigns x body ≡ true → (xid_in body == x) ≡ true
+    by_body : (body : Body) → assigns x body ≡ true → (not (is_note body) && (xid_in body == x)) ≡ true
     by_body (Assign sub parent) is = is
     by_body (Changed xid change) is = absurd cc
     by_body (AbortSub xid) is = absurd cc
     by_body (Abort xid) is = absurd cc
+    by_body (Note change) is = absurd cc
     by_body (Commit xid time) is = absurd cc
 
 undone_about : (log : List Record) (x : ℕ) → is_undone log x ≡ true → is_about log x ≡ true
 unfolding is_about
-undone_about log x = any_more (λ r. undoes x r.body) (λ r. xid_in r.body == x) (λ (r : Record). by_body r.body) log
+undone_about log x = any_more (λ r. undoes x r.body) (λ r. not (is_note r.body) && (xid_in r.body == x)) (λ (r : Record). by_body r.body) log
   where
-    by_body : (body : Body) → undoes x body ≡ true → (xid_in body == x) ≡ true
+    by_body : (body : Body) → undoes x body ≡ true → (not (is_note body) && (xid_in body == x)) ≡ true
     by_body (Assign sub parent) is = absurd cc
     by_body (Changed xid change) is = absurd cc
     by_body (AbortSub xid) is = is
     by_body (Abort xid) is = absurd cc
+    by_body (Note change) is = absurd cc
     by_body (Commit xid time) is = absurd cc
 
 about_named : (log : List Record) (x : ℕ) → is_about log x ≡ true → is_named log x ≡ true
 unfolding is_about
-about_named log x = any_more (λ r. xid_in r.body == x) (λ r. names x r.body) (λ (r : Record). by_body r.body) log
+about_named log x = any_more (λ r. not (is_note r.body) && (xid_in r.body == x)) (λ r. names x r.body) (λ (r : Record). by_body r.body) log
   where
-    by_body : (body : Body) → (xid_in body == x) ≡ true → names x body ≡ true
+    by_body : (body : Body) → (not (is_note body) && (xid_in body == x)) ≡ true → names x body ≡ true
     by_body (Assign sub parent) is = or_left (x == sub) (x == parent) (eqb_comm x sub ∙ is)
     by_body (Changed xid change) is = eqb_comm x xid ∙ is
     by_body (AbortSub xid) is = eqb_comm x xid ∙ is
     by_body (Abort xid) is = eqb_comm x xid ∙ is
+    by_body (Note change) is = absurd cc
     by_body (Commit xid time) is = eqb_comm x xid ∙ is
 
--- what holds of the xid of each record holds of what one is about, and of each change
-of_about : (P : ℕ → Type 0) (log : List Record) (x : ℕ) → AllByRecursion (λ (r : Record). P (xid_in r.body)) log → is_about log x ≡ true → P x
+about_other : (b c : Bool) → (not b && c) ≡ true → (b ≡ false) × (c ≡ true)
+about_other true c is = absurd cc
+about_other false c is = (refl, is)
+
+-- what holds of the xid of each record that is no note
+abbrev OfEach : (ℕ → Type 0) → List Record → Type 0
+OfEach P log = AllByRecursion (λ (r : Record). is_note r.body ≡ false → P (xid_in r.body)) log
+
+-- holds of what one is about, and of each change
+of_about : (P : ℕ → Type 0) (log : List Record) (x : ℕ) → OfEach P log → is_about log x ≡ true → P x
 unfolding is_about
 of_about P [] x all is = absurd cc
 of_about P (r ∷ log) x all is =
-    elim (or_of (xid_in r.body == x) (list_any (λ (q : Record). xid_in q.body == x) log) is) [
-      | inl here ↦ subst P (eqb-true (xid_in r.body) x here) all.0
+    elim (or_of (not (is_note r.body) && (xid_in r.body == x)) (list_any (λ (q : Record). not (is_note q.body) && (xid_in q.body == x)) log) is) [
+      | inl here ↦ let own = about_other (is_note r.body) (xid_in r.body == x) here in subst P (eqb-true (xid_in r.body) x own.1) (all.0 own.0)
       | inr there ↦ of_about P log x all.1 there
     ]
 
-of_changes : (P : ℕ → Type 0) (log : List Record) → AllByRecursion (λ (r : Record). P (xid_in r.body)) log → AllByRecursion (λ (e : Entry). P e.xid) (entries log)
+of_changes : (P : ℕ → Type 0) (log : List Record) → OfEach P log → AllByRecursion (λ (e : Entry). P e.xid) (entries log)
 of_changes P [] all = tt
 of_changes P (r ∷ log) all = by_body r.start r.body all.0 (of_changes P log all.1)
   where
-    by_body : (start : ℕ) (body : Body) → P (xid_in body) → AllByRecursion (λ (e : Entry). P e.xid) (entries log) → AllByRecursion (λ (e : Entry). P e.xid) (entry_at start body ++ entries log)
+    by_body : (start : ℕ) (body : Body) → (is_note body ≡ false → P (xid_in body)) → AllByRecursion (λ (e : Entry). P e.xid) (entries log) → AllByRecursion (λ (e : Entry). P e.xid) (entry_at start body ++ entries log)
     by_body start (Assign sub parent) here rest = rest
-    by_body start (Changed xid change) here rest = (here, rest)
+    by_body start (Changed xid change) here rest = (here refl, rest)
     by_body start (AbortSub xid) here rest = rest
     by_body start (Abort xid) here rest = rest
+    by_body start (Note change) here rest = rest
     by_body start (Commit xid time) here rest = rest
+
+-- a record that is skipped and is no note is of no transaction that commits at s or later
+others_away : (log : List Record) (s : ℕ) (skipped : List Record) → SkipsNone log s skipped → OfEach (λ y. commits_from log s (top_of log y) ≡ false) skipped
+others_away log s skipped none = all_when _ _ away skipped none
+  where
+    away : (r : Record) → is_needed log s r ≡ false → is_note r.body ≡ false → commits_from log s (top_of log (xid_in r.body)) ≡ false
+    away r unneeded other = ap (λ (b : Bool). cond b (nat_le s r.start) (commits_from log s (top_of log (xid_in r.body)))) (sym other) ∙ unneeded
 
 -- what was named is put under nothing later
 named_apart : (before rest : List Record) (x : ℕ) → is_named before x ≡ true → WellFormedAfter before rest → is_assigned rest x ≡ false
@@ -170,7 +192,7 @@ module _ (log : List Record) (s : ℕ) (skipped before : List Record) (none : Sk
   -- no record that was skipped is about something of it
   not_skipped : (x : ℕ) → is_about skipped x ≡ true → top_of log x ≡ top → ⊥
   not_skipped x is same =
-      let never : commits_from log s (top_of log x) ≡ false = of_about (λ (y : ℕ). commits_from log s (top_of log y) ≡ false) skipped x none is in
+      let never : commits_from log s (top_of log x) ≡ false = of_about (λ (y : ℕ). commits_from log s (top_of log y) ≡ false) skipped x (others_away log s skipped none) is in
       let both : true ≡ false = sym commits ∙ ap (commits_from log s) (sym same) ∙ never in cc
 
   named_all : (x : ℕ) → is_named skipped x ≡ true → is_named (skipped ++ before) x ≡ true
@@ -233,7 +255,7 @@ module _ (log : List Record) (s : ℕ) (skipped before : List Record) (none : Sk
   kept_alike =
       let away : AllByRecursion (λ (e : Entry). is_kept (skipped ++ before) top e ≡ false) (entries skipped) =
       all_when _ _ skipped_away (entries skipped)
-      (all_both _ _ (entries skipped) (of_changes (λ (y : ℕ). commits_from log s (top_of log y) ≡ false) skipped none) (changes-named skipped)) in
+      (all_both _ _ (entries skipped) (of_changes (λ (y : ℕ). commits_from log s (top_of log y) ≡ false) skipped (others_away log s skipped none)) (changes-named skipped)) in
       ap (filter (is_kept (skipped ++ before) top)) (entries-append skipped before)
       ∙ filter-append (is_kept (skipped ++ before) top) (entries skipped) (entries before)
       ∙ ap (λ es. es ++ filter (is_kept (skipped ++ before) top) (entries before)) (filter_none (is_kept (skipped ++ before) top) (entries skipped) away)
@@ -294,14 +316,15 @@ commits_alike log s skipped before (r ∷ rest) whole none good =
     by_body (Changed xid change) is = refl
     by_body (AbortSub xid) is = refl
     by_body (Abort xid) is = refl
+    by_body (Note change) is = refl
     by_body (Commit xid time) is = by_test (nat_le s r.start) refl
       where
         by_test : (b : Bool) → nat_le s r.start ≡ b →
-            cond {A = List Transaction} b (record { start = r.start; end = r.end; time = time; xid = xid; changes = kept (skipped ++ before) xid } ∷ []) []
-            ≡ cond {A = List Transaction} b (record { start = r.start; end = r.end; time = time; xid = xid; changes = kept before xid } ∷ []) []
+            cond {A = List Transaction} b (record { is_note = false; start = r.start; end = r.end; time = time; xid = xid; changes = kept (skipped ++ before) xid } ∷ []) []
+            ≡ cond {A = List Transaction} b (record { is_note = false; start = r.start; end = r.end; time = time; xid = xid; changes = kept before xid } ∷ []) []
         by_test true late =
             let it = commit_counts log (skipped ++ before) rest r s xid time parted behind is late in
-            ap (λ (es : List Entry). record { start = r.start; end = r.end; time = time; xid = xid; changes = es } ∷ [])
+            ap (λ (es : List Entry). record { is_note = false; start = r.start; end = r.end; time = time; xid = xid; changes = es } ∷ [])
             (kept_alike log s skipped before none (WellFormedAfter-front skipped before (r ∷ rest) good) stable xid it.counts it.own it.free)
         by_test false early = refl
 
@@ -318,12 +341,17 @@ skipped_none log s before (r ∷ skipped) rest whole good none =
     by_body (Changed xid change) is = refl
     by_body (AbortSub xid) is = refl
     by_body (Abort xid) is = refl
+    by_body (Note change) is = by_test (nat_le s r.start) (ap (λ b. cond (is_note b) (nat_le s r.start) (commits_from log s (top_of log (xid_in b)))) (sym is) ∙ none.0)
+      where
+        by_test : (b : Bool) → b ≡ false → cond {A = List Transaction} b (noted r.start r.end change ∷ []) [] ≡ []
+        by_test true late = absurd cc
+        by_test false early = refl
     by_body (Commit xid time) is = by_test (nat_le s r.start) refl
       where
-        by_test : (b : Bool) → nat_le s r.start ≡ b → cond {A = List Transaction} b (record { start = r.start; end = r.end; time = time; xid = xid; changes = kept before xid } ∷ []) [] ≡ []
+        by_test : (b : Bool) → nat_le s r.start ≡ b → cond {A = List Transaction} b (record { is_note = false; start = r.start; end = r.end; time = time; xid = xid; changes = kept before xid } ∷ []) [] ≡ []
         by_test true late =
             let it = commit_counts log before (skipped ++ rest) r s xid time whole good is late in
-            let never : commits_from log s (top_of log xid) ≡ false = ap (λ b. commits_from log s (top_of log (xid_in b))) (sym is) ∙ none.0 in
+            let never : commits_from log s (top_of log xid) ≡ false = ap (λ b. cond (is_note b) (nat_le s r.start) (commits_from log s (top_of log (xid_in b)))) (sym is) ∙ none.0 in
             let both : true ≡ false = sym it.counts ∙ ap (commits_from log s) (sym it.own) ∙ never in cc
         by_test false early = refl
 

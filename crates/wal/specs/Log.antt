@@ -2,17 +2,18 @@
 -- committed. Places.antt says the last two of the whole log, and is read first.
 -- Where a definition judges a record by the records before it, those are an argument, so that a longer log is judged
 -- record by record as a shorter one was.
-use Rattle.std.specs.Prelude.{◌≡◌, ℕ, ◌+◌, ◌*◌, ◌/◌, ◌^◌, ◌<◌, ◌==◌, ℤ, Bool, true, false, ◌&&◌, ◌||◌, not, List, [], ◌∷◌, ◌++◌, reverse, filter, nat_le, FitsSigned, if◌then◌else◌}
+use Rattle.std.specs.Prelude.{◌≡◌, ℕ, ◌+◌, ◌*◌, ◌/◌, ◌^◌, ◌<◌, ◌==◌, ℤ, pos, Bool, true, false, ◌&&◌, ◌||◌, not, List, [], ◌∷◌, ◌++◌, reverse, filter, nat_le, FitsSigned, if◌then◌else◌}
 use Rattle.std.specs.List.{list_any, flat_map, AllByRecursion}
 use Rattle.std.specs.Int.{w64}
 use Rattle.tables.specs.declared.table.Table.{Table}
 use Rattle.tables.specs.declared.change.Change.{Change}
+use Rattle.tables.specs.declared.change.Change.TheVariants as changes
 use Rattle.tables.specs.Spelling.{body_length}
 use Rattle.tables.specs.Tables.{FitsChange}
 use Rattle.wal.specs.declared.record.TheConstants.{FIRST_POSITION}
 use Rattle.wal.specs.declared.record.Record.{Record}
 use Rattle.wal.specs.declared.record.Body.{Body}
-use Rattle.wal.specs.declared.record.Body.TheVariants.{Assign, Change as Changed, AbortSub, Abort, Commit}
+use Rattle.wal.specs.declared.record.Body.TheVariants.{Assign, Change as Changed, AbortSub, Abort, Commit, Note}
 
 -- POSITIONS
 
@@ -23,6 +24,7 @@ payload_length (Changed xid change) = 4 + body_length change
 payload_length (AbortSub xid) = 4
 payload_length (Abort xid) = 4
 payload_length (Commit xid time) = 12
+payload_length (Note change) = 4 + body_length change
 
 -- 16, and the payload rounded up to a multiple of 8
 abbrev pub size_of : Body → ℕ
@@ -40,21 +42,28 @@ end_of at (r ∷ rs) = end_of r.end rs
 
 -- TRANSACTIONS AND SUBTRANSACTIONS
 
--- the xid that a record is about: of an Assign it is the subtransaction's
+-- a message outside of all transactions
+abbrev pub is_note : Body → Bool
+is_note (Note change) = true
+is_note body = false
+
+-- the xid that a record is about: of an Assign it is the subtransaction's, of a note 0, which is no transaction's
 abbrev pub xid_in : Body → ℕ
 xid_in (Assign sub parent) = sub
 xid_in (Changed xid change) = xid
 xid_in (AbortSub xid) = xid
 xid_in (Abort xid) = xid
 xid_in (Commit xid time) = xid
+xid_in (Note change) = 0
 
--- whether the record names the xid; an Assign names the parent too
+-- whether the record names the xid; an Assign names the parent too, a note none
 abbrev pub names : ℕ → Body → Bool
 names x (Assign sub parent) = (x == sub) || (x == parent)
 names x (Changed xid change) = x == xid
 names x (AbortSub xid) = x == xid
 names x (Abort xid) = x == xid
 names x (Commit xid time) = x == xid
+names x (Note change) = false
 
 abbrev pub is_named : List Record → ℕ → Bool
 is_named log x = list_any (λ r. names x r.body) log
@@ -137,29 +146,37 @@ kept log top = filter (is_kept log top) (entries log)
 
 -- COMMITTED TRANSACTIONS
 
--- a transaction: where its Commit record starts and ends, its time and xid, and the changes that it keeps
+-- a transaction: where its Commit record starts and ends, its time and xid, and the changes that it keeps; or a note, a message
+-- outside of all transactions, which has neither time nor xid
 pub record Transaction : Type 0 where
+  pub is_note : Bool
   pub start : ℕ
   pub end : ℕ
   pub time : ℤ
   pub xid : ℕ
   pub changes : List Entry
 
--- what a record commits, if it is a Commit that starts at the start position s or later
+-- a note: its record's message, at its own start
+abbrev pub noted : (start end : ℕ) → Change → Transaction
+noted start end change =
+    record { is_note = true; start = start; end = end; time = pos 0; xid = 0; changes = record { position = start; xid = 0; change = change } ∷ [] }
+
+-- what a record commits, if it is a Commit, or a note, that starts at the start position s or later
 abbrev pub committed_at : ℕ → List Record → ℕ → ℕ → Body → List Transaction
 committed_at s before start end (Commit xid time) =
-    if nat_le s start then record { start = start; end = end; time = time; xid = xid; changes = kept before xid } ∷ [] else []
+    if nat_le s start then record { is_note = false; start = start; end = end; time = time; xid = xid; changes = kept before xid } ∷ [] else []
+committed_at s before start end (Note change) = if nat_le s start then noted start end change ∷ [] else []
 committed_at s before start end body = []
 
 abbrev pub committed_by : ℕ → List Record → Record → List Transaction
 committed_by s before r = committed_at s before r.start r.end r.body
 
--- the transactions that the records commit, in order, given those before them
+-- the transactions that the records commit, and the notes, in order, given those before them
 abbrev pub committed_from : ℕ → List Record → List Record → List Transaction
 committed_from s before [] = []
 committed_from s before (r ∷ rs) = committed_by s before r ++ committed_from s (before ++ r ∷ []) rs
 
--- the transactions of a log that commit at the start position or later
+-- the transactions of a log that commit at the start position or later, and the notes from there on
 abbrev pub committed : List Record → ℕ → List Transaction
 committed log s = committed_from s [] log
 
@@ -172,13 +189,14 @@ pub record IsOpen (before : List Record) (x : ℕ) : Type 0 where
 
 -- What may come next after these records. A savepoint begins with an Assign: its xid stands in no record yet, and it goes
 -- under another one, which is open. Changes are made under an open xid. Only savepoints are rolled back by an AbortSub,
--- only whole transactions end, by Abort or Commit, and all of them were open until then.
+-- only whole transactions end, by Abort or Commit, and all of them were open until then. A note may stand anywhere.
 abbrev pub IsNext : List Record → Body → Type 0
 IsNext before (Assign sub parent) = (is_named before sub ≡ false) × ((sub == parent) ≡ false) × IsOpen before parent
 IsNext before (Changed xid change) = IsOpen before xid
 IsNext before (AbortSub xid) = (is_assigned before xid ≡ true) × IsOpen before xid
 IsNext before (Abort xid) = (is_assigned before xid ≡ false) × IsOpen before xid
 IsNext before (Commit xid time) = (is_assigned before xid ≡ false) × IsOpen before xid
+IsNext before (Note change) = Unit {0}
 
 -- each record may follow those before it
 abbrev pub WellFormedAfter : List Record → List Record → Type 0
@@ -195,13 +213,18 @@ pub record IsWellFormedLog (log : List Record) : Type 0 where
 
 -- RANGES
 
--- xids are of 32 bits, times are signed and of 64 bits, changes fit the tables
+abbrev pub IsMessage : Change → Type 0
+IsMessage (changes.Message message) = Unit {0}
+IsMessage change = ⊥
+
+-- xids are of 32 bits, times are signed and of 64 bits, changes fit the tables, and a note is a message
 abbrev pub FitsBody : List Table → Body → Type 0
 FitsBody tables (Assign sub parent) = (sub < 2 ^ 32) × (parent < 2 ^ 32)
 FitsBody tables (Changed xid change) = (xid < 2 ^ 32) × FitsChange tables change
 FitsBody tables (AbortSub xid) = xid < 2 ^ 32
 FitsBody tables (Abort xid) = xid < 2 ^ 32
 FitsBody tables (Commit xid time) = (xid < 2 ^ 32) × FitsSigned w64 time
+FitsBody tables (Note change) = IsMessage change × FitsChange tables change
 
 -- positions are of 64 bits
 pub record FitsRecord (tables : List Table) (r : Record) : Type 0 where

@@ -5,8 +5,8 @@ use Rattle.std.specs.Prelude.{◌≡◌, ℕ, ◌+◌, ◌==◌, Bool, true, fal
 use Rattle.std.specs.List.{list_any, AllByRecursion}
 use Rattle.wal.specs.declared.record.Record.{Record}
 use Rattle.wal.specs.declared.record.Body.{Body}
-use Rattle.wal.specs.declared.record.Body.TheVariants.{Assign, Commit}
-use Rattle.wal.specs.Log.{Entry, Transaction, entries, xid_in, is_assigned, is_undone, chain, top_of}
+use Rattle.wal.specs.declared.record.Body.TheVariants.{Assign, Commit, Note}
+use Rattle.wal.specs.Log.{Entry, Transaction, noted, entries, is_note, xid_in, is_assigned, is_undone, chain, top_of}
 
 -- CHAINS
 
@@ -40,7 +40,8 @@ kept_at log top n = filter (λ e. (top_of log e.xid == top) && not (is_dropped_a
 -- what the record at place n commits, if it is a Commit that starts at s or later
 abbrev pub placed_at : ℕ → List Record → ℕ → ℕ → ℕ → Body → List Transaction
 placed_at s log n start end (Commit xid time) =
-    if nat_le s start then record { start = start; end = end; time = time; xid = xid; changes = kept_at log xid n } ∷ [] else []
+    if nat_le s start then record { is_note = false; start = start; end = end; time = time; xid = xid; changes = kept_at log xid n } ∷ [] else []
+placed_at s log n start end (Note change) = if nat_le s start then noted start end change ∷ [] else []
 placed_at s log n start end body = []
 
 -- what the records from place n on commit
@@ -48,7 +49,7 @@ abbrev pub placed_from : ℕ → List Record → ℕ → List Record → List Tr
 placed_from s log n [] = []
 placed_from s log n (r ∷ rs) = placed_at s log n r.start r.end r.body ++ placed_from s log (n + 1) rs
 
--- the transactions of the log that commit at s or later, in the order of their Commits
+-- the transactions of the log that commit at s or later, and the notes from there on, in the order of their records
 abbrev pub committed_by_places : List Record → ℕ → List Transaction
 committed_by_places log s = placed_from s log 0 log
 
@@ -63,7 +64,11 @@ commits_at s top start body = false
 abbrev pub commits_from : List Record → ℕ → ℕ → Bool
 commits_from log s top = list_any (λ r. commits_at s top r.start r.body) log
 
--- None of these records of the log is one of a transaction that commits at s or later. A record is of the transaction that its
--- xid belongs to in the whole log.
+-- Whether a stream that starts at s needs the record: a note that starts at s or later, or a record of a transaction that commits
+-- there or later. A record is of the transaction that its xid belongs to in the whole log.
+abbrev pub is_needed : List Record → ℕ → Record → Bool
+is_needed log s r = if is_note r.body then nat_le s r.start else commits_from log s (top_of log (xid_in r.body))
+
+-- none of these records of the log is needed
 abbrev pub SkipsNone : List Record → ℕ → List Record → Type 0
-SkipsNone log s skipped = AllByRecursion (λ r. commits_from log s (top_of log (xid_in r.body)) ≡ false) skipped
+SkipsNone log s skipped = AllByRecursion (λ r. is_needed log s r ≡ false) skipped

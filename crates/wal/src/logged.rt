@@ -10,8 +10,8 @@ use std::alloc::{AllocError, Global};
 use std::marker::Model;
 use tables::{Change, body_len, write_body};
 
-/// A change whose rows are at most 8,000 bytes long, and which truncates at most 256 tables, written as the log keeps it: in one
-/// piece of at most 16,005 bytes, from which it can be read again. Contracts see the change.
+/// A change whose rows are at most 8,000 bytes long, or which truncates at most 256 tables, or a message of at most 63 and 8,000
+/// bytes, written as the log keeps it: in one piece of at most 16,005 bytes, from which it can be read again. Contracts see the change.
 #[derive(Debug, Drop)]
 pub struct LoggedChange {
     body: Vec<u8>,

@@ -34,6 +34,8 @@ pub enum Body {
     Abort(u32),
     /// A transaction, and when it committed, in microseconds since 2000-01-01.
     Commit(u32, i64),
+    /// A message outside of all transactions. The change is one; in its payload the xid is 0.
+    Note(LoggedChange),
 }
 
 impl Body {
@@ -54,6 +56,7 @@ impl Body {
             Body::Change(_, change) => 4 + change.body_len() as u64,
             Body::AbortSub(_) | Body::Abort(_) => 4,
             Body::Commit(_, _) => 12,
+            Body::Note(message) => 4 + message.body_len() as u64,
         }
     }
 }

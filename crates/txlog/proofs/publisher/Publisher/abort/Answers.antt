@@ -9,7 +9,7 @@ use Rattle.txlog.proofs.publisher.Publisher.abort.Goals as goal
 pub push-requires : goal.push-requires
 push-requires g c =
     let s : PublisherState = record { tables = c.self.inside.store.tables; capacity = c.self.inside.capacity; log = c.self.inside.log; next_xid = c.self.inside.next_xid; live = c.self.inside.live } in
-    record { fits = record_fits s _ c.self.invariant.publisher (omega arith); good = abort_good c.self.inside.store s c.xid-xid.result c.self.invariant c.if-not-contains.ensures; top = ended-top s s c.xid-xid.result _ refl c.self.invariant.publisher (sym c.if-not-contains.ensures) refl }
+    record { fits = record_fits s _ c.self.invariant.publisher (omega arith); good = abort_good c.self.inside.store s c.xid-xid.result c.self.invariant c.if-not-contains.ensures; top = ended-top s s c.xid-xid.result _ refl c.self.invariant.publisher (sym c.if-not-contains.ensures) refl; own = refl }
 
 pub invariant_of-self-2 : goal.invariant_of-self-2
 invariant_of-self-2 g c =

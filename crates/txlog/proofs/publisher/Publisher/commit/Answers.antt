@@ -17,6 +17,7 @@ push-requires g c =
       fits = record_fits s _ c.self.invariant.publisher (omega arith);
       good = commit_good c.self.inside.store s c.xid-xid.result c.args.time _ c.self.invariant c.if-not-contains.ensures (record { sfits = c.ranges.time.sfits }) (to_z-of_z w64 c.args.time (record { sfits = c.ranges.time.sfits }));
       top = ended-top s s c.xid-xid.result _ refl c.self.invariant.publisher (sym c.if-not-contains.ensures) refl;
+      own = refl;
     }
 
 pub new-requires : goal.new-requires

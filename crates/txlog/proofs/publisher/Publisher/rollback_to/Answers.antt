@@ -3,7 +3,7 @@ use Rattle.txlog.specs.Rows.{history_of}
 use Rattle.txlog.proofs.Calls.{rolled_back_is, rolled_back_kept, rolled_back_good, record_fits}
 use Rattle.txlog.proofs.Tops.{undone-top}
 use Rattle.txlog.proofs.publisher.Publisher.rollback_to.Goals as goal
-use Rattle.std.proofs.Common.{arith}
+use Rattle.std.proofs.Common.{arith, refl}
 
 pub push-requires : goal.push-requires
 push-requires g c =
@@ -13,6 +13,7 @@ push-requires g c =
       fits = record_fits s _ c.self.invariant.publisher (omega arith);
       good = rolled_back_good c.self.inside.store s c.args.self.now c.xid-xid.result c.args.depth c.in_ok-savepoint.savepoint c.self.view_is c.self.invariant test.live test.room test.depth.0 test.depth.1 test.value;
       top = undone-top s c.args.self.now c.xid-xid.result c.args.depth c.in_ok-savepoint.savepoint c.self.view_is c.self.invariant.publisher test.live test.depth.1 test.value test.depth.0;
+      own = refl;
     }
 
 pub invariant_of-self-2 : goal.invariant_of-self-2

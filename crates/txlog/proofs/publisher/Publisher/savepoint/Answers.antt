@@ -1,4 +1,4 @@
-use Rattle.std.proofs.Common.{sym, subst, ap, arith, ◌∙◌}
+use Rattle.std.proofs.Common.{refl, sym, subst, ap, arith, ◌∙◌}
 use Rattle.txlog.specs.Invariants.{KeepsLog}
 use Rattle.txlog.specs.Publishing.{PublisherState}
 use Rattle.txlog.specs.Rows.{history_of}
@@ -14,6 +14,7 @@ push-requires g c =
       fits = record_fits s _ c.self.invariant.publisher (omega arith);
       good = saved_good c.self.inside.store s c.args.self.now c.xid-xid.result c.innermost-parent.result c.in_ok-depth.depth c.self.view_is c.self.invariant test.live test.room test.depth.0 test.depth.1 c.innermost-parent.ensures;
       top = saved-top s c.args.self.now c.xid-xid.result _ c.innermost-parent.result c.self.view_is c.self.invariant.publisher test.live c.innermost-parent.ensures;
+      own = refl;
     }
 
 pub returns-in-Err-clause-err : goal.returns-in-Err-clause-err

@@ -1,6 +1,6 @@
 use Rattle.std.proofs.Common.{◌≡◌, ◌==◌, ◌||◌, not, drop}
 use Rattle.shared_log.specs.Openings.{place_where}
-use Rattle.shared_log.proofs.openings.Openings.restart_after.Given as goal
+use Rattle.shared_log.proofs.openings.Openings.restart_of.Given as goal
 
 abbrev pub invariant-loop-opening : goal.invariant-loop-opening
 invariant-loop-opening l =
