@@ -7,7 +7,7 @@ use Rattle.pgoutput.specs.declared.fault.OutFault.TheVariants.{Short, UnknownKin
 use Rattle.pgoutput.specs.declared.logical.Logical.{Logical}
 use Rattle.pgoutput.specs.Logical.{FitsLogical, logical_at, spell_logical}
 use Rattle.pgoutput.specs.Layout.{Field, spell_fields, IsAtFault, IsNoText, IsOther, StopsIn}
-use Rattle.pgoutput.specs.Layout.Field.{Number, Letter, Count16, Count32, Name, Text}
+use Rattle.pgoutput.specs.Layout.Field.{Number, Letter, Count16, Count32, Name, Text, Bytes}
 use Rattle.pgoutput.proofs.StoppedRows.{logical_stands}
 use Rattle.pgoutput.proofs.Wires.{logical_codec}
 
@@ -18,10 +18,12 @@ still_other (Count32 count) rest more at = (at.0, at.1 ++ more, ap (λ (l : List
 still_other (Number bytes) rest more at = absurd at
 still_other (Name name) rest more at = absurd at
 still_other (Text text) rest more at = absurd at
+still_other (Bytes bytes) rest more at = absurd at
 
 still_no_text : (next : Field) (rest more : List ℕ) → IsNoText next rest → IsNoText next (rest ++ more)
 still_no_text (Name name) rest more at = (at.0, at.1 ++ more, ap (λ (l : List ℕ). l ++ more) at.2 ∙ append_assoc (string at.0) at.1 more, at.3, at.4)
 still_no_text (Text text) rest more at = (at.0, at.1 ++ more, ap (λ (l : List ℕ). l ++ more) at.2 ∙ append_assoc at.0 at.1 more, at.3, at.4)
+still_no_text (Bytes bytes) rest more at = absurd at
 still_no_text (Number bytes) rest more at = absurd at
 still_no_text (Letter letters letter) rest more at = absurd at
 still_no_text (Count16 count) rest more at = absurd at

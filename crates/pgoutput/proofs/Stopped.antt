@@ -13,6 +13,7 @@ use Rattle.pgoutput.specs.declared.relation.TheConstants.{IDENTITY_DEFAULT, IDEN
 use Rattle.pgoutput.specs.declared.commit.TheConstants.{COMMIT_FLAGS}
 use Rattle.pgoutput.specs.declared.insert.TheConstants.{NEW}
 use Rattle.pgoutput.specs.declared.truncate.TheConstants.{NO_OPTIONS, CASCADE, RESTART_IDENTITY, CASCADE_AND_RESTART_IDENTITY}
+use Rattle.pgoutput.specs.declared.message.TheConstants.{TRANSACTIONAL, NOT_TRANSACTIONAL}
 use Rattle.pgoutput.specs.Reading.{one_of}
 use Rattle.pgoutput.specs.Begin.{begin, FitsBegin, begin_at}
 use Rattle.pgoutput.specs.Commit.{commit, FitsCommit, commit_at}
@@ -20,8 +21,9 @@ use Rattle.pgoutput.specs.Relation.{column, FitsColumn, column_at, columns_at, r
 use Rattle.pgoutput.specs.Tuple.{cell, FitsCell, cell_at, FitsSentCell, sent_cell_at, tuple, FitsTuple, tuple_at, FitsSentTuple, sent_tuple_at}
 use Rattle.pgoutput.specs.Insert.{insert, FitsInsert, insert_at}
 use Rattle.pgoutput.specs.Truncate.{options_letter, options_of, options}
+use Rattle.pgoutput.specs.Message.{is_transactional_of, message_flags}
 use Rattle.pgoutput.specs.Layout as layout
-use Rattle.pgoutput.specs.Layout.{Field, spell_field, spell_fields, IsAtFault, mark, flags, identities, cell_letters, row_letters, old_letters, begin_fields, commit_fields, column_fields, relation_fields, cell_fields, tuple_fields, sent_letters, sent_cell_fields, sent_fields, insert_fields, row_fields, update_fields, old_fields, delete_fields, truncate_fields, oid_field}
+use Rattle.pgoutput.specs.Layout.{Field, spell_field, spell_fields, IsAtFault, mark, flags, identities, cell_letters, row_letters, old_letters, begin_fields, commit_fields, column_fields, relation_fields, cell_fields, tuple_fields, sent_letters, sent_cell_fields, sent_fields, insert_fields, row_fields, update_fields, old_fields, delete_fields, truncate_fields, oid_field, transactional_flags}
 use Rattle.pgoutput.specs.Layout.Field.{Letter, Count16, Count32, Name, Text}
 use Rattle.pgoutput.proofs.Wires as wires
 use Rattle.pgoutput.proofs.Wires.{FitRows, FitTuples, Rows, Tuples, rows, tuples}
@@ -92,6 +94,10 @@ pub truncate_options : Told (one_of options_of) (λ o. options_letter o ∷ []) 
 truncate_options = letter options_of options_letter layout.options wires.options_wire (options false false)
     (λ b e. four_none (eqb b NO_OPTIONS) (eqb b CASCADE) (eqb b RESTART_IDENTITY) (eqb b CASCADE_AND_RESTART_IDENTITY) _ _ _ _ e)
     (λ b e. four_other (eqb b NO_OPTIONS) (eqb b CASCADE) (eqb b RESTART_IDENTITY) (eqb b CASCADE_AND_RESTART_IDENTITY) _ _ _ _ e)
+
+pub is_transactional : Told (one_of is_transactional_of) (λ b. message_flags b ∷ []) (λ _. Unit {0}) (λ b. Letter transactional_flags (message_flags b) ∷ [])
+is_transactional = letter is_transactional_of message_flags transactional_flags wires.is_transactional_wire true
+    (λ b e. two_none (eqb b TRANSACTIONAL) (eqb b NOT_TRANSACTIONAL) true false e) (λ b e. two_other (eqb b TRANSACTIONAL) (eqb b NOT_TRANSACTIONAL) true false e)
 
 -- ---- relation
 

@@ -1,4 +1,4 @@
--- Where a fault stands in the messages of old and new rows, in Truncate, and in any message.
+-- Where a fault stands in the messages of old and new rows, in Truncate and Message, and in any message.
 use Rattle.std.proofs.Common.{◌≡◌, ℕ, ◌<◌, ◌^◌, false, eqb, List, [], ◌∷◌, ◌++◌, length, Option, Some, None, Err, refl, sym, ap, subst, ◌∙◌, arith, inl, inr}
 use Rattle.std.specs.Prelude.{◌⊎◌, ◌==◌}
 use Rattle.std.specs.List.{flat_map, list_any, AllByRecursion}
@@ -19,21 +19,23 @@ use Rattle.pgoutput.specs.declared.truncate.TheConstants.{TRUNCATE}
 use Rattle.pgoutput.specs.declared.old_tuple.OldTuple.{OldTuple}
 use Rattle.pgoutput.specs.declared.old_tuple.OldTuple.TheVariants as olds
 use Rattle.pgoutput.specs.declared.old_tuple.TheConstants.{KEY, OLD}
+use Rattle.pgoutput.specs.declared.message.TheConstants.{MESSAGE}
 use Rattle.pgoutput.specs.OldTuple.{old_tuple, FitsOldTuple, old_tuple_at}
 use Rattle.pgoutput.specs.Update.{update, FitsUpdate, tuples_at, rows_at, update_at}
 use Rattle.pgoutput.specs.Delete.{delete, FitsDelete, delete_at}
 use Rattle.pgoutput.specs.Truncate.{options_letter, truncate, FitsTruncate, truncate_at}
+use Rattle.pgoutput.specs.Message.{message, message_at, FitsMessage}
 use Rattle.pgoutput.specs.Logical.{logical_at, fields_at, is_kind, spell_logical, FitsLogical}
 use Rattle.pgoutput.specs.Layout as layout
-use Rattle.pgoutput.specs.Layout.{Field, spell_field, spell_fields, IsAtFault, Stops, StopsIn, mark, row_letters, old_letters, tuple_fields, row_fields, update_fields, old_fields, delete_fields, truncate_fields, oid_field, fields_behind, fields_of}
+use Rattle.pgoutput.specs.Layout.{Field, spell_field, spell_fields, IsAtFault, Stops, StopsIn, mark, row_letters, old_letters, tuple_fields, row_fields, update_fields, old_fields, delete_fields, truncate_fields, oid_field, message_fields, fields_behind, fields_of}
 use Rattle.pgoutput.specs.Layout.Field.{Number, Letter, Count32}
 use Rattle.pgoutput.proofs.Wires as wires
 use Rattle.pgoutput.proofs.Wires.{FitRows, FitTuples, Rows, Tuples, rows, tuples, logical_chosen, logical_codec}
 use Rattle.pgoutput.proofs.Stopping.{Told, field, last_field, free_field, told_of, counted, spell-cons}
 use Rattle.pgoutput.proofs.StoppingLists.{ChosenTold, repeated, no_choice, choice, chosen_stands, letter_stands, choice_told, none_of_two, none_of_three}
-use Rattle.pgoutput.proofs.StoppingFields.{number32, number_at_fault, count32}
-use Rattle.pgoutput.proofs.StoppingTexts.{one_letter}
-use Rattle.pgoutput.proofs.Stopped.{begin_told, commit_told, relation_told, tuple_told, insert_told, truncate_options}
+use Rattle.pgoutput.proofs.StoppingFields.{number32, number64, number_at_fault, count32}
+use Rattle.pgoutput.proofs.StoppingTexts.{name, content_told, one_letter}
+use Rattle.pgoutput.proofs.Stopped.{begin_told, commit_told, relation_told, tuple_told, insert_told, truncate_options, is_transactional}
 
 -- ---- old rows
 
@@ -123,6 +125,17 @@ truncate_told = counted count32 (λ m. length m.oids) _ (λ m. (options_letter m
     last_field (repeated number32 n) (λ m. m.oids) _ (λ oids. record { options = options; oids = oids })
     (λ _. refl) (λ _ _. (refl, tt)))))
 
+-- ---- message
+
+message_told : Told message_at message FitsMessage message_fields
+unfolding message_at
+message_told = told_of wires.message_wire (
+    free_field is_transactional (λ _. tt) (λ m. m.is_transactional) _ _ _ _ _ (λ is_transactional _.
+    field number64 (λ m. m.position) _ _ _ _ _ (λ position _.
+    field name (λ m. m.prefix) _ _ _ _ _ (λ prefix _.
+    last_field content_told (λ m. m.content) _ (λ content. record { is_transactional = is_transactional; position = position; prefix = prefix; content = content })
+    (λ _. refl) (λ _ _. (refl, (refl, (refl, tt))))))))
+
 -- ---- any message
 
 abbrev kind : ℕ → Field
@@ -139,6 +152,7 @@ logical_spelled (logical.Insert m) = behind_kind INSERT (layout.insert_fields m)
 logical_spelled (logical.Update m) = behind_kind UPDATE (layout.update_fields m) _ (update_told.spelled m)
 logical_spelled (logical.Delete m) = behind_kind DELETE (layout.delete_fields m) _ (delete_told.spelled m)
 logical_spelled (logical.Truncate m) = behind_kind TRUNCATE (layout.truncate_fields m) _ (truncate_told.spelled m)
+logical_spelled (logical.Message m) = behind_kind MESSAGE (layout.message_fields m) _ (message_told.spelled m)
 
 logical_told : ChosenTold UnknownKind fields_at fields_of FitsLogical is_kind
 logical_told =
@@ -149,7 +163,8 @@ logical_told =
     choice UPDATE (kind UPDATE) refl update_told (λ m. logical.Update m) fields_of FitsLogical (λ _. refl) (λ _ fits. fits) (
     choice DELETE (kind DELETE) refl delete_told (λ m. logical.Delete m) fields_of FitsLogical (λ _. refl) (λ _ fits. fits) (
     choice TRUNCATE (kind TRUNCATE) refl truncate_told (λ m. logical.Truncate m) fields_of FitsLogical (λ _. refl) (λ _ fits. fits) (
-    no_choice UnknownKind fields_of FitsLogical)))))))
+    choice MESSAGE (kind MESSAGE) refl message_told (λ m. logical.Message m) fields_of FitsLogical (λ _. refl) (λ _ fits. fits) (
+    no_choice UnknownKind fields_of FitsLogical))))))))
 
 -- where reading a message fails, but for its kind byte
 pub logical_stops : (bytes : List ℕ) (e : OutFault) → IsBytes bytes → logical_at bytes ≡ Err e → StopsIn e bytes ⊎ (e ≡ UnknownKind)
@@ -180,6 +195,7 @@ stands_so (logical.Insert m) fits before next after rest e parts at = chosen_sta
 stands_so (logical.Update m) fits before next after rest e parts at = chosen_stands update_told UPDATE (kind UPDATE) (λ m. logical.Update m) logical_at refl (λ bytes. refl) (no_kind UPDATE) m fits before next after rest e parts at
 stands_so (logical.Delete m) fits before next after rest e parts at = chosen_stands delete_told DELETE (kind DELETE) (λ m. logical.Delete m) logical_at refl (λ bytes. refl) (no_kind DELETE) m fits before next after rest e parts at
 stands_so (logical.Truncate m) fits before next after rest e parts at = chosen_stands truncate_told TRUNCATE (kind TRUNCATE) (λ m. logical.Truncate m) logical_at refl (λ bytes. refl) (no_kind TRUNCATE) m fits before next after rest e parts at
+stands_so (logical.Message m) fits before next after rest e parts at = chosen_stands message_told MESSAGE (kind MESSAGE) (λ m. logical.Message m) logical_at refl (λ bytes. refl) (no_kind MESSAGE) m fits before next after rest e parts at
 
 pub logical_stands : (bytes : List ℕ) (e : OutFault) → StopsIn e bytes → logical_at bytes ≡ Err e
 logical_stands bytes e s = ap logical_at s.text ∙ stands_so s.value s.in_range s.before s.next s.after s.rest e s.parts s.at_fault

@@ -77,6 +77,16 @@ in_another there s = record {
   at_fault = s.at_fault;
 }
 
+pub with_range : {A : Type 0} {read : List ℕ → Result (A × List ℕ) OutFault} {t : A → List ℕ} {F : A → Type 0} {fields : A → List Field} (G : A → Type 0) → Wire read t G → Told read t F fields
+    → ((x : A) → F x → G x) → ((x : A) → G x → F x) → Told read t G fields
+with_range G wire c there back = record {
+  wire = wire;
+  some = record { value = c.some.value; fits = there c.some.value c.some.fits };
+  spelled = c.spelled;
+  stops = λ bytes e fits is. in_another there (c.stops bytes e fits is);
+  stands = λ bytes e s. c.stands bytes e (in_another back s);
+}
+
 -- the same of a value with more fields behind
 pub with_behind : {A B : Type 0} {fa : A → List Field} {F : A → Type 0} {fields : B → List Field} {G : B → Type 0} {e : OutFault} {bytes : List ℕ}
     → (s : Stops fa F e bytes) (x : B) (behind : List Field) → G x → fields x ≡ fa s.value ++ behind → Stops fields G e bytes

@@ -17,12 +17,14 @@ use Rattle.pgoutput.specs.declared.fault.OutFault.TheVariants.{Short, UnknownKin
 use Rattle.pgoutput.specs.Reading.{short, as_text, expected, one_of, name_at, text_at}
 use Rattle.pgoutput.specs.Relation.{FitsName}
 use Rattle.pgoutput.specs.Tuple.{counted_text, FitsText}
+use Rattle.pgoutput.specs.Message.{content, content_at, FitsContent}
 use Rattle.pgoutput.specs.Layout.{mark, IsAtFault}
-use Rattle.pgoutput.specs.Layout.Field.{Letter, Count32, Name, Text}
+use Rattle.pgoutput.specs.Layout.Field.{Letter, Count32, Name, Text, Bytes}
 use Rattle.pgoutput.proofs.Engine.{Wire, bind_err, tested}
 use Rattle.pgoutput.proofs.Plain as plain
 use Rattle.pgoutput.proofs.Plain.{before_zero-is, none_there, zero_free, bytes_of, ended_by_zero}
-use Rattle.pgoutput.proofs.Stopping.{Told, counted, none_in}
+use Rattle.pgoutput.proofs.Wires.{NoMore, bytes_wire, counted_wire, content_wire}
+use Rattle.pgoutput.proofs.Stopping.{Told, counted, with_range, none_in}
 use Rattle.pgoutput.proofs.StoppingLists.{letter_stands}
 use Rattle.pgoutput.proofs.StoppingFields.{AtOne, one_told, missing, is_missing, count32}
 
@@ -120,6 +122,36 @@ long_text n = one_told (tested (bytes_of n) is_utf8 BadText tt) (λ t. Text t) (
 pub text : Told text_at counted_text FitsText (λ t. Count32 (length t) ∷ Text t ∷ [])
 unfolding text_at
 text = counted count32 length _ (λ text. text) (λ text. is_utf8 text ≡ true) (λ t. Text t ∷ []) plain.text_wire (λ n. long_text n)
+
+-- ---- bytes behind their length
+
+any_bytes : (n : ℕ) → Told (λ bytes. short (bytes_at n bytes)) (λ t. t) (λ t. (length t ≡ n) × NoMore t) (λ t. Bytes t ∷ [])
+any_bytes n = one_told (bytes_wire n) (λ t. Bytes t) (record { value = replicate n 0; fits = some_fits }) (λ t. refl) stops stands
+  where
+    some_fits : (length {A = ℕ} (replicate n 0) ≡ n) × NoMore (replicate n 0)
+    some_fits = (length-replicate {A = ℕ} n 0, tt)
+
+    stops : (bytes : List ℕ) (e : OutFault) → IsBytes bytes → short (bytes_at n bytes) ≡ Err e → AtOne (λ t. Bytes t) (λ t. (length t ≡ n) × NoMore t) e bytes
+    stops bytes e fits is =
+        let m = missing (ltb (length bytes) n) _ e is in
+        let less : length bytes < n = ltb-true (length bytes) n m.1 in
+        let early : IsAtFault Short (Bytes (replicate n 0)) bytes = omega (arith, less, length-replicate {A = ℕ} n 0) in
+        record { value = replicate n 0; fits = some_fits; at_fault = subst (λ (f : OutFault). IsAtFault f (Bytes (replicate n 0)) bytes) (sym m.0) early }
+
+    stands : (t : List ℕ) (rest : List ℕ) (e : OutFault) → (length t ≡ n) × NoMore t → IsAtFault e (Bytes t) rest → short (bytes_at n rest) ≡ Err e
+    stands t rest Short fits at = rw (is_missing (ltb (length rest) n) _ (lt-ltb (length rest) n (omega (arith, at, fits.0)))) refl
+    stands t rest BadText fits at = absurd at
+    stands t rest BadMark fits at = absurd at
+    stands t rest UnknownKind fits at = absurd at
+    stands t rest Trailing fits at = absurd at
+    stands t rest Memory fits at = absurd at
+
+counted_content : Told content_at content (λ bytes. FitsContent bytes × NoMore bytes) (λ bytes. Count32 (length bytes) ∷ Bytes bytes ∷ [])
+unfolding content_at
+counted_content = counted count32 length _ (λ bytes. bytes) NoMore (λ bytes. Bytes bytes ∷ []) counted_wire any_bytes
+
+pub content_told : Told content_at content FitsContent (λ bytes. Count32 (length bytes) ∷ Bytes bytes ∷ [])
+content_told = with_range FitsContent content_wire counted_content (λ bytes fits. fits.0) (λ bytes fits. (fits, tt))
 
 -- ---- letters
 

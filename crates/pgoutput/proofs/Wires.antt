@@ -1,13 +1,13 @@
 -- Each message is read as it is spelled, with its faults.
 use Rattle.std.proofs.Common.{◌≡◌, ℕ, suc, ◌<◌, ◌^◌, Bool, true, false, List, [], ◌∷◌, ◌++◌, length, take, Option, Some, None, Result, Ok, Err, refl, arith}
 use Rattle.std.specs.List.{flat_map, AllByRecursion}
-use Rattle.pqformat.specs.Fields.{int16, int32}
+use Rattle.pqformat.specs.Fields.{int16, int32, bytes_at}
 use Rattle.std.proofs.lemmas.Bool.Decides.{nat_tests}
 use Rattle.pqformat.specs.Steps.{◌>>=◌, repeat_at}
 use Rattle.pgoutput.specs.declared.fault.OutFault.{OutFault}
 use Rattle.pgoutput.specs.declared.fault.OutFault.TheVariants.{Short, UnknownKind, BadMark}
 use Rattle.pgoutput.specs.declared.truncate.Truncate.{Truncate}
-use Rattle.pgoutput.specs.Reading.{one_of}
+use Rattle.pgoutput.specs.Reading.{short, one_of}
 use Rattle.pgoutput.specs.declared.tuple.Cell.{Cell}
 use Rattle.pgoutput.specs.declared.tuple.Cell.TheVariants as cells
 use Rattle.pgoutput.specs.declared.tuple.TheConstants.{NULL, UNCHANGED, TEXT}
@@ -25,6 +25,7 @@ use Rattle.pgoutput.specs.declared.old_tuple.TheConstants.{KEY, OLD}
 use Rattle.pgoutput.specs.declared.update.TheConstants.{UPDATE}
 use Rattle.pgoutput.specs.declared.delete.TheConstants.{DELETE}
 use Rattle.pgoutput.specs.declared.truncate.TheConstants.{TRUNCATE}
+use Rattle.pgoutput.specs.declared.message.TheConstants.{MESSAGE}
 use Rattle.pgoutput.specs.Begin.{begin, FitsBegin, begin_at}
 use Rattle.pgoutput.specs.Commit.{commit, FitsCommit, commit_at}
 use Rattle.pgoutput.specs.Relation.{column, FitsColumn, column_at, columns_at, relation, FitsRelation, relation_at, identity_of, identity_letter, is_key_of, key_flag}
@@ -34,10 +35,11 @@ use Rattle.pgoutput.specs.OldTuple.{old_tuple, FitsOldTuple, old_tuple_at}
 use Rattle.pgoutput.specs.Update.{old_if_any, update, FitsIfAny, FitsUpdate, tuples_at, rows_at, update_at}
 use Rattle.pgoutput.specs.Delete.{delete, FitsDelete, delete_at}
 use Rattle.pgoutput.specs.Truncate.{letter_of, options, options_letter, options_of, oid_at, truncate, FitsTruncate, truncate_at}
+use Rattle.pgoutput.specs.Message.{content, content_at, is_transactional_of, message, message_at, message_flags, FitsContent, FitsMessage}
 use Rattle.pgoutput.specs.Logical.{logical_at, fields_at, is_kind, spell_logical, FitsLogical}
 use Rattle.pqformat.proofs.Codec.{Codec, choice_codec}
-use Rattle.pgoutput.proofs.Engine.{Wire, field, last_field, free_field, wire_of, counted, repeated, Chosen, choice, no_choice, choice_wire, choice_cut}
-use Rattle.pgoutput.proofs.Plain.{number32, number64, count32, signed32, signed64, name_wire, text_wire, list_wire, letter_wire, expected_wire, nothing}
+use Rattle.pgoutput.proofs.Engine.{Wire, field, last_field, free_field, wire_of, with_range, counted, repeated, Chosen, choice, no_choice, choice_wire, choice_cut}
+use Rattle.pgoutput.proofs.Plain.{number32, number64, count32, signed32, signed64, bytes_of, name_wire, text_wire, list_wire, letter_wire, expected_wire, nothing}
 
 pub begin_wire : Wire begin_at begin FitsBegin
 unfolding begin_at
@@ -277,6 +279,42 @@ pub truncate_wire : Wire truncate_at truncate FitsTruncate
 unfolding truncate_at
 truncate_wire = counted count32 (λ m. length m.oids) _ (λ m. (options_letter m.options ∷ []) ++ flat_map int32 m.oids) (λ m. AllByRecursion (λ oid. oid < 2 ^ 32) m.oids) oids_wire
 
+-- ---- message
+
+is_transactional_there : (b : ℕ) (x : Bool) → is_transactional_of b ≡ Some x → message_flags x ≡ b
+is_transactional_there b true e = grind (arith, nat_tests)
+is_transactional_there b false e = grind (arith, nat_tests)
+
+is_transactional_back : (x : Bool) → is_transactional_of (message_flags x) ≡ Some x
+is_transactional_back true = refl
+is_transactional_back false = refl
+
+pub is_transactional_wire : Wire (one_of is_transactional_of) (λ b. message_flags b ∷ []) (λ _. Unit {0})
+is_transactional_wire = letter_wire is_transactional_of message_flags is_transactional_there is_transactional_back
+
+-- of a content nothing more is asked than its length
+abbrev pub NoMore : List ℕ → Type 0
+NoMore bytes = Unit {0}
+
+pub bytes_wire : (n : ℕ) → Wire (λ bytes. short (bytes_at n bytes)) (λ bytes. bytes) (λ bytes. (length bytes ≡ n) × NoMore bytes)
+bytes_wire n = with_range (λ bytes. (length bytes ≡ n) × NoMore bytes) (bytes_of n) (λ bytes is. (is, tt)) (λ bytes is. is.0)
+
+pub counted_wire : Wire content_at content (λ bytes. FitsContent bytes × NoMore bytes)
+unfolding content_at
+counted_wire = counted count32 length _ (λ bytes. bytes) NoMore bytes_wire
+
+pub content_wire : Wire content_at content FitsContent
+content_wire = with_range FitsContent counted_wire (λ bytes fits. fits.0) (λ bytes fits. (fits, tt))
+
+pub message_wire : Wire message_at message FitsMessage
+unfolding message_at
+message_wire = wire_of (
+    free_field is_transactional_wire (λ _. tt) (λ m. m.is_transactional) _ _ _ _ (λ is_transactional.
+    field number64 (λ m. m.position) _ _ _ _ (λ position.
+    field name_wire (λ m. m.prefix) _ _ _ _ (λ prefix.
+    last_field content_wire (λ m. m.content) _ (λ content. record { is_transactional = is_transactional; position = position; prefix = prefix; content = content })
+    (λ _. refl) (λ _ _. (refl, (refl, (refl, tt)))) (λ m known. rw (← known.0, ← known.1.0, ← known.1.1.0) refl)))))
+
 -- ---- any message
 
 logical_again : (m : Logical) (rest : List ℕ) → FitsLogical m → logical_at (spell_logical m ++ rest) ≡ Ok (m, rest)
@@ -288,6 +326,7 @@ logical_again (logical.Insert m) rest fits = rw (insert_wire.codec.again m rest 
 logical_again (logical.Update m) rest fits = rw (update_wire.codec.again m rest fits) refl
 logical_again (logical.Delete m) rest fits = rw (delete_wire.codec.again m rest fits) refl
 logical_again (logical.Truncate m) rest fits = rw (truncate_wire.codec.again m rest fits) refl
+logical_again (logical.Message m) rest fits = rw (message_wire.codec.again m rest fits) refl
 
 logical_cut : (m : Logical) (n : ℕ) → FitsLogical m → suc n < length (spell_logical m) → logical_at (take (suc n) (spell_logical m)) ≡ Err Short
 unfolding logical_at
@@ -298,6 +337,7 @@ logical_cut (logical.Insert m) n fits lt = rw (insert_wire.cut m n fits (omega a
 logical_cut (logical.Update m) n fits lt = rw (update_wire.cut m n fits (omega arith)) refl
 logical_cut (logical.Delete m) n fits lt = rw (delete_wire.cut m n fits (omega arith)) refl
 logical_cut (logical.Truncate m) n fits lt = rw (truncate_wire.cut m n fits (omega arith)) refl
+logical_cut (logical.Message m) n fits lt = rw (message_wire.cut m n fits (omega arith)) refl
 
 pub logical_chosen : Chosen UnknownKind fields_at spell_logical FitsLogical is_kind
 logical_chosen =
@@ -308,7 +348,8 @@ logical_chosen =
     choice UPDATE update_wire (λ m. logical.Update m) spell_logical FitsLogical (λ _. refl) (λ _ fits. fits) (
     choice DELETE delete_wire (λ m. logical.Delete m) spell_logical FitsLogical (λ _. refl) (λ _ fits. fits) (
     choice TRUNCATE truncate_wire (λ m. logical.Truncate m) spell_logical FitsLogical (λ _. refl) (λ _ fits. fits) (
-    no_choice UnknownKind spell_logical FitsLogical)))))))
+    choice MESSAGE message_wire (λ m. logical.Message m) spell_logical FitsLogical (λ _. refl) (λ _ fits. fits) (
+    no_choice UnknownKind spell_logical FitsLogical))))))))
 
 pub logical_codec : Codec logical_at spell_logical FitsLogical
 unfolding logical_at

@@ -25,14 +25,18 @@ use Rattle.pgoutput.specs.declared.update.Update.{Update}
 use Rattle.pgoutput.specs.declared.delete.Delete.{Delete}
 use Rattle.pgoutput.specs.declared.truncate.Truncate.{Truncate}
 use Rattle.pgoutput.specs.declared.truncate.TheConstants.{NO_OPTIONS, CASCADE, RESTART_IDENTITY, CASCADE_AND_RESTART_IDENTITY}
+use Rattle.pgoutput.specs.declared.message.Message.{Message}
+use Rattle.pgoutput.specs.declared.message.TheConstants.{TRANSACTIONAL, NOT_TRANSACTIONAL}
 use Rattle.pgoutput.specs.declared.logical.Logical.{Logical}
 use Rattle.pgoutput.specs.declared.logical.Logical.TheVariants as logical
 use Rattle.pgoutput.specs.Relation.{identity_letter, key_flag}
 use Rattle.pgoutput.specs.Truncate.{options_letter}
+use Rattle.pgoutput.specs.Message.{message_flags}
 use Rattle.pgoutput.specs.Logical.{kind_byte, FitsLogical}
 
 -- a number, of which any bytes are one; a letter or a flag, one of those that may stand there; a count or a length with no top
--- bit; a name, that a zero byte ends; a text, as long as the length before it says
+-- bit; a name, that a zero byte ends; a text, or any bytes, as many as the length before
+-- them says
 pub data Field : Type 0 where
   Number : (bytes : List ℕ) → Field
   Letter : (letters : List ℕ) → (letter : ℕ) → Field
@@ -40,6 +44,7 @@ pub data Field : Type 0 where
   Count32 : (count : ℕ) → Field
   Name : (name : List ℕ) → Field
   Text : (text : List ℕ) → Field
+  Bytes : (bytes : List ℕ) → Field
 
 abbrev pub spell_field : Field → List ℕ
 spell_field (Number bytes) = bytes
@@ -48,6 +53,7 @@ spell_field (Count16 count) = int16 count
 spell_field (Count32 count) = int32 count
 spell_field (Name name) = string name
 spell_field (Text text) = text
+spell_field (Bytes bytes) = bytes
 
 abbrev pub spell_fields : List Field → List ℕ
 spell_fields fields = flat_map spell_field fields
@@ -135,6 +141,14 @@ oid_field oid = Number (int32 oid) ∷ []
 abbrev pub truncate_fields : Truncate → List Field
 truncate_fields m = Count32 (length m.oids) ∷ Letter options (options_letter m.options) ∷ flat_map oid_field m.oids
 
+abbrev pub transactional_flags : List ℕ
+transactional_flags = TRANSACTIONAL ∷ NOT_TRANSACTIONAL ∷ []
+
+abbrev pub message_fields : Message → List Field
+message_fields m =
+    Letter transactional_flags (message_flags m.is_transactional) ∷ Number (int64 m.position) ∷ Name m.prefix
+    ∷ Count32 (length m.content) ∷ Bytes m.content ∷ []
+
 abbrev pub fields_behind : Logical → List Field
 fields_behind (logical.Begin m) = begin_fields m
 fields_behind (logical.Commit m) = commit_fields m
@@ -143,6 +157,7 @@ fields_behind (logical.Insert m) = insert_fields m
 fields_behind (logical.Update m) = update_fields m
 fields_behind (logical.Delete m) = delete_fields m
 fields_behind (logical.Truncate m) = truncate_fields m
+fields_behind (logical.Message m) = message_fields m
 
 -- The kind byte is judged by itself, as O2.
 abbrev pub fields_of : Logical → List Field

@@ -8,5 +8,6 @@ pub mod OldTuple
 pub mod Update
 pub mod Delete
 pub mod Truncate
+pub mod Message
 pub mod Logical
 pub mod Layout

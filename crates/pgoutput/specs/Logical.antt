@@ -15,6 +15,7 @@ use Rattle.pgoutput.specs.declared.insert.TheConstants.{INSERT}
 use Rattle.pgoutput.specs.declared.update.TheConstants.{UPDATE}
 use Rattle.pgoutput.specs.declared.delete.TheConstants.{DELETE}
 use Rattle.pgoutput.specs.declared.truncate.TheConstants.{TRUNCATE}
+use Rattle.pgoutput.specs.declared.message.TheConstants.{MESSAGE}
 use Rattle.pgoutput.specs.Begin.{begin, FitsBegin, begin_at}
 use Rattle.pgoutput.specs.Commit.{commit, FitsCommit, commit_at}
 use Rattle.pgoutput.specs.Relation.{relation, FitsRelation, IsShortRelation, relation_at}
@@ -22,6 +23,7 @@ use Rattle.pgoutput.specs.Insert.{insert, FitsInsert, IsShortInsert, insert_at}
 use Rattle.pgoutput.specs.Update.{update, FitsUpdate, IsShortUpdate, update_at}
 use Rattle.pgoutput.specs.Delete.{delete, FitsDelete, IsShortDelete, delete_at}
 use Rattle.pgoutput.specs.Truncate.{truncate, FitsTruncate, IsShortTruncate, truncate_at}
+use Rattle.pgoutput.specs.Message.{message, FitsMessage, HasShortContent, message_at}
 
 -- of a message: its kind byte, the spelling of its fields, and the range of its values
 pub record Form : Type 1 where
@@ -37,6 +39,7 @@ form_of (logical.Insert m) = record { kind = INSERT; fields = insert m; Fits = F
 form_of (logical.Update m) = record { kind = UPDATE; fields = update m; Fits = FitsUpdate m }
 form_of (logical.Delete m) = record { kind = DELETE; fields = delete m; Fits = FitsDelete m }
 form_of (logical.Truncate m) = record { kind = TRUNCATE; fields = truncate m; Fits = FitsTruncate m }
+form_of (logical.Message m) = record { kind = MESSAGE; fields = message m; Fits = FitsMessage m }
 
 abbrev pub kind_byte : Logical → ℕ
 kind_byte m = (form_of m).kind
@@ -60,6 +63,7 @@ IsShort (logical.Insert m) = IsShortInsert m
 IsShort (logical.Update m) = IsShortUpdate m
 IsShort (logical.Delete m) = IsShortDelete m
 IsShort (logical.Truncate m) = IsShortTruncate m
+IsShort (logical.Message m) = HasShortContent m
 IsShort _ = Unit {0}
 
 -- the message at the front: its kind byte, and then the fields of that kind
@@ -72,6 +76,7 @@ fields_at kind bytes =
     else if kind == UPDATE then (update_at bytes >>= λ m. Ok (logical.Update m.0, m.1))
     else if kind == DELETE then (delete_at bytes >>= λ m. Ok (logical.Delete m.0, m.1))
     else if kind == TRUNCATE then (truncate_at bytes >>= λ m. Ok (logical.Truncate m.0, m.1))
+    else if kind == MESSAGE then (message_at bytes >>= λ m. Ok (logical.Message m.0, m.1))
     else Err UnknownKind
 
 unfoldable pub logical_at : List ℕ → Result (Logical × List ℕ) OutFault
@@ -88,7 +93,7 @@ whole_of bytes = logical_at bytes >>= λ m. alone m.0 m.1
 -- ---- Where a fault stands.
 
 abbrev pub is_kind : ℕ → Bool
-is_kind b = list_any (λ k. b == k) (BEGIN ∷ COMMIT ∷ RELATION ∷ INSERT ∷ UPDATE ∷ DELETE ∷ TRUNCATE ∷ [])
+is_kind b = list_any (λ k. b == k) (BEGIN ∷ COMMIT ∷ RELATION ∷ INSERT ∷ UPDATE ∷ DELETE ∷ TRUNCATE ∷ MESSAGE ∷ [])
 
 -- Begin and Commit hold nothing to keep; the others hold texts and lists.
 abbrev pub needs_memory : ℕ → Bool

@@ -12,6 +12,7 @@ use crate::delete::{DELETE, Delete, delete_of, put_delete};
 use crate::fault::OutFault;
 use crate::fields::byte_of;
 use crate::insert::{INSERT, Insert, insert_of, put_insert};
+use crate::message::{MESSAGE, Message, message_of, put_message};
 use crate::relation::{RELATION, Relation, put_relation, relation_of};
 use crate::truncate::{TRUNCATE, Truncate, put_truncate, truncate_of};
 use crate::update::{UPDATE, Update, put_update, update_of};
@@ -31,6 +32,7 @@ pub enum Logical {
     Update(Update),
     Delete(Delete),
     Truncate(Truncate),
+    Message(Message),
 }
 
 /// The message that the bytes spell, all of them.
@@ -97,6 +99,7 @@ fn fields_of(alloc: Global, kind: u8, cursor: &mut Cursor<'_>) -> Result<Logical
         UPDATE => Ok(Logical::Update(update_of(alloc, cursor)?)),
         DELETE => Ok(Logical::Delete(delete_of(alloc, cursor)?)),
         TRUNCATE => Ok(Logical::Truncate(truncate_of(alloc, cursor)?)),
+        MESSAGE => Ok(Logical::Message(message_of(alloc, cursor)?)),
         _ => Err(OutFault::UnknownKind),
     }
 }
@@ -129,6 +132,7 @@ fn put_logical(out: &mut BytesMut, message: &Logical) -> Result<(), AllocError>
         Logical::Update(message) => put_update(out, message),
         Logical::Delete(message) => put_delete(out, message),
         Logical::Truncate(message) => put_truncate(out, message),
+        Logical::Message(message) => put_message(out, message),
     }
 }
 
@@ -143,6 +147,7 @@ fn kind_of(message: &Logical) -> u8
         Logical::Update(_) => UPDATE,
         Logical::Delete(_) => DELETE,
         Logical::Truncate(_) => TRUNCATE,
+        Logical::Message(_) => MESSAGE,
     }
 }
 

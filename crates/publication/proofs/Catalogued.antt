@@ -11,7 +11,7 @@ use Rattle.tables.specs.Tables.{IsName, IsTable, has_no_zero}
 use Rattle.publication.specs.Selection.{FitsTable}
 use Rattle.publication.proofs.Rows.{both_true}
 
-no_zero : (text : List ℕ) → has_no_zero text ≡ true → has_zero text ≡ false
+pub no_zero : (text : List ℕ) → has_no_zero text ≡ true → has_zero text ≡ false
 no_zero [] e = refl
 no_zero (b ∷ text) e = by_test (eqb b 0) e (no_zero text)
   where

@@ -9,10 +9,10 @@ use Rattle.tables.specs.declared.value.Value.{Value}
 use Rattle.std.specs.Prelude.{IfSome}
 use Rattle.tables.specs.declared.change.Change.{Change}
 use Rattle.tables.specs.declared.change.Change.TheVariants as changes
-use Rattle.tables.specs.declared.change_body.TheConstants.{DELETE_TAG, INSERT_TAG, TRUNCATE_TAG, UPDATE_TAG}
+use Rattle.tables.specs.declared.change_body.TheConstants.{DELETE_TAG, INSERT_TAG, MESSAGE_TAG, TRUNCATE_TAG, UPDATE_TAG}
 use Rattle.pqformat.proofs.Codec.{IsBytes, bind_ok, passed}
 use Rattle.tables.proofs.ChangeBodies.{body_again, is_found}
-use Rattle.tables.specs.Reading.{SpellsBody, body_at, change_at, change_tagged, insert_at, oids_at, row_at, update_at}
+use Rattle.tables.specs.Reading.{SpellsBody, body_at, change_at, change_tagged, insert_at, message_at, oids_at, row_at, update_at}
 use Rattle.publication.specs.Spelling.{IsReadWhole}
 
 abbrev row_in : Result ((ℕ × List Value) × List ℕ) BodyFault → Result (List Value × List ℕ) BodyFault
@@ -88,6 +88,10 @@ module _ (fields : List ℕ) where
   pub found_truncate : (r : Option ℕ) → IfSome r (λ _. IsReadWhole (oids_at fields)) → IfSome r (λ _. IsReadWhole (change_tagged TRUNCATE_TAG fields))
   found_truncate None is = is
   found_truncate (Some n) is = (changes.Truncate is.0, rw is.1 refl)
+
+  pub found_message : (r : Option ℕ) → IfSome r (λ _. IsReadWhole (message_at fields)) → IfSome r (λ _. IsReadWhole (change_tagged MESSAGE_TAG fields))
+  found_message None is = is
+  found_message (Some n) is = (changes.Message is.0, rw is.1 refl)
 
 -- ---- a whole body
 

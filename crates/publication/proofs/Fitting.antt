@@ -250,6 +250,7 @@ message_fits s (changes.Delete oid old) m all in_range e =
     let both = only_some (message_by s (changes.Delete oid old)) (stands (table_of oid s.tables) old) m e in
     deleted_row_fits s oid old m all in_range both.true_is (selected_table s oid) refl
     (where_it_passes (passes s Delete oid old) (option_and_then (delete_message (shown s oid old)) (selected_table s oid)) m both.is)
+message_fits s (changes.Message logged) m all in_range e = absurd cc
 message_fits s (changes.Truncate oids) m all in_range e =
     let both = only_some (message_by s (changes.Truncate oids)) (may_be_emptied s.tables oids) m e in
     let some = both_true (list_all (λ oid. is_some (table_of oid s.tables)) oids) _ both.true_is in

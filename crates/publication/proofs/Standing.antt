@@ -1,5 +1,5 @@
 -- A row that is larger than any of a table stands in none, and the message of one that stands in one has room.
-use Rattle.std.proofs.Common.{◌≡◌, ◌⊎◌, ℕ, suc, ◌≤◌, Bool, true, false, cond, eqb, leb, List, [], ◌∷◌, ◌++◌, Option, Some, None, length, inl, inr, refl, sym, ap, subst, ◌∙◌, arith}
+use Rattle.std.proofs.Common.{◌≡◌, ◌⊎◌, ℕ, suc, ◌≤◌, ◌<◌, ◌^◌, Bool, true, false, cond, eqb, leb, List, [], ◌∷◌, ◌++◌, Option, Some, None, length, inl, inr, refl, sym, ap, subst, ◌∙◌, arith}
 use Rattle.std.specs.Prelude.{◌&&◌}
 use Rattle.std.specs.List.{AllByRecursion}
 use Rattle.std.proofs.lemmas.Bool.{eqb-true, leb-true, le-leb}
@@ -28,14 +28,15 @@ use Rattle.tables.specs.Refs.{IsLarge}
 use Rattle.tables.specs.Spelling.{row_length}
 use Rattle.tables.specs.Tables.{IsValue, fits_table, table_of}
 use Rattle.publication_config.specs.Published.{PublicationSet}
-use Rattle.publication.specs.Projection.{delete_message, insert_message, message, only_if, stands, stands_in, update_message, AreValues, MessageFits}
+use Rattle.publication.specs.Projection.{delete_message, insert_message, only_if, stands, stands_in, update_message, AreValues, MessageFits}
 use Rattle.publication.specs.Selection.{FitTables, FitsTable, chosen, narrowed}
 use Rattle.publication.specs.Spelling.{FitsRoom, HasRoom, IsShortRow, IsWritten}
 use Rattle.publication.specs.Tuples.{changes_key, key_tuple_of, old_by, replaced_by, tuple_behind, tuple_of}
 use Rattle.publication.proofs.Bounds.{behind_bound, key_bound, tuple_bound}
 use Rattle.publication.proofs.Choosing.{all_chosen, narrowed_stands}
 use Rattle.publication.proofs.Relations.{found_table}
-use Rattle.publication.proofs.Fitting.{message_fits}
+use Rattle.publication.specs.Logged.{change_message}
+use Rattle.publication.proofs.LoggedMessages.{change_fits}
 use Rattle.publication.proofs.Rows.{both_true}
 use Rattle.publication.proofs.Written.{chosen_short}
 
@@ -91,15 +92,16 @@ pub values_are : (row : List Value) → AllByRecursion IsCodedValue row → AllB
 values_are [] all = tt
 values_are (v ∷ row) all = (value_is v all.0, values_are row all.1)
 
-coded_values : (c : Change) → IsCoded c → AreValues c
+pub coded_values : (c : Change) → IsCoded c → AreValues c
 coded_values (changes.Insert oid row) is = values_are row is.1.1
 coded_values (changes.Update oid old new) is = (values_are old is.0.1.1, values_are new is.1.1)
 coded_values (changes.Delete oid old) is = values_are old is.1.1
 coded_values (changes.Truncate oids) is = tt
+coded_values (changes.Message m) is = is.0.1
 
 -- the message of a change that is read from its body
-pub spelled_fits : (s : PublicationSet) (body : List ℕ) → FitTables s → (c : Change) (m : Logical) → SpellsBody body c → message s c ≡ Some m → MessageFits s m
-spelled_fits s body all c m spelled is = message_fits s c m all (coded_values c spelled.in_range) is
+pub spelled_fits : (s : PublicationSet) (position : ℕ) (body : List ℕ) → position < 2 ^ 64 → FitTables s → (c : Change) (m : Logical) → SpellsBody body c → change_message s position c ≡ Some m → MessageFits s m
+spelled_fits s position body lt all c m spelled is = change_fits s position c m lt all (coded_values c spelled.in_range) is
 
 alike : {A B : Type 0} (flags : List Bool) (xs : List A) (ys : List B) → length xs ≡ length ys → length (chosen flags xs) ≡ length (chosen flags ys)
 alike [] xs ys same = refl

@@ -50,6 +50,7 @@ abbrev builtin_publications : List Table → PublicationSet
 builtin_publications tables = record {
   tables = tables;
   publications = publication_of (codes "p") (codes "public.item") tables ∷ publication_of (codes "t") (codes "public.tag") tables ∷ [];
+  messages = false;
 }
 
 abbrev by : List (List ℕ) → PublicationSet

@@ -1,6 +1,7 @@
 -- The message of a change, or none (PostgreSQL 15, 31.1 to 31.4 and 55.9).
-use Rattle.std.specs.Prelude.{◌&&◌, ◌==◌, ℕ, Bool, true, false, not, List, [], length, filter, nat_le, is_some, Option, Some, None, IsSome, option_map, option_and_then, if◌then◌else◌}
+use Rattle.std.specs.Prelude.{◌≡◌, ◌&&◌, ◌==◌, ℕ, Bool, true, false, not, List, [], length, filter, nat_le, is_some, Option, Some, None, IsSome, option_map, option_and_then, if◌then◌else◌}
 use Rattle.std.specs.List.{list_all, list_any, AllByRecursion}
+use Rattle.std.specs.Str.{is_utf8}
 use Rattle.pgoutput.specs.declared.logical.Logical.{Logical}
 use Rattle.pgoutput.specs.declared.logical.Logical.TheVariants as logical
 use Rattle.pgoutput.specs.Logical.{FitsLogical}
@@ -51,6 +52,7 @@ fits_catalogue tables (changes.Insert oid row) = stands (table_of oid tables) ro
 fits_catalogue tables (changes.Update oid old new) = stands (table_of oid tables) old && stands (table_of oid tables) new
 fits_catalogue tables (changes.Delete oid old) = stands (table_of oid tables) old
 fits_catalogue tables (changes.Truncate oids) = may_be_emptied tables oids
+fits_catalogue tables (changes.Message m) = false
 
 -- ---- Messages.
 
@@ -79,12 +81,14 @@ updated false false t old new = None
 abbrev pub shown : PublicationSet → ℕ → List Value → List Value
 shown s oid row = chosen (list_by s.publications oid) row
 
--- The message of a change that fits the catalogue. The whole row is judged, its listed columns are told.
+-- The message of a change that fits the catalogue. The whole row is judged, its listed columns are told. A message of the log is no
+-- change of a table (`Logged.antt`).
 abbrev pub message_by : PublicationSet → Change → Option Logical
 message_by s (changes.Insert oid row) = if passes s Insert oid row then option_map (insert_message (shown s oid row)) (selected_table s oid) else None
 message_by s (changes.Update oid old new) = updated (passes s Update oid old) (passes s Update oid new) (selected_table s oid) (shown s oid old) (shown s oid new)
 message_by s (changes.Delete oid old) = if passes s Delete oid old then option_and_then (delete_message (shown s oid old)) (selected_table s oid) else None
 message_by s (changes.Truncate oids) = truncate_message (filter (is_published s Truncate) oids)
+message_by s (changes.Message m) = None
 
 abbrev pub only_if : Option Logical → Bool → Option Logical
 only_if None fits = None
@@ -97,12 +101,13 @@ abbrev pub projected : Option Logical → Projected
 projected None = Nothing
 projected (Some m) = Message m
 
--- the values in the rows of a change are those of Rust
+-- the values in the rows of a change, and the prefix of a message, are those of Rust
 abbrev pub AreValues : Change → Type 0
 AreValues (changes.Insert oid row) = AllByRecursion IsValue row
 AreValues (changes.Update oid old new) = AllByRecursion IsValue old × AllByRecursion IsValue new
 AreValues (changes.Delete oid old) = AllByRecursion IsValue old
 AreValues (changes.Truncate oids) = Unit {0}
+AreValues (changes.Message m) = is_utf8 m.prefix ≡ true
 
 -- ---- What the stream asks of the message of a change.
 

@@ -2,6 +2,7 @@
 #![tactic(auto)]
 
 mod cells;
+mod logged;
 mod messages;
 mod passing;
 mod projection;

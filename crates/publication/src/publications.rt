@@ -41,7 +41,7 @@ impl Model for Publications {
 
     ghost coded = { Prim.hlevel (codes, condition_code (Prim.hlevel codes)) };
 
-    ghost view = { λ p. record { tables = p.tables; publications = p.publications } };
+    ghost view = { λ p. record { tables = p.tables; publications = p.publications; messages = false } };
 
     ghost invariant = { λ p. AllByRecursion FitsTable p.tables × (repeats (oids_of p.tables) ≡ false) };
 }
@@ -71,7 +71,7 @@ impl Publications {
         catalog: &Catalog,
         publications: Items<Publication>,
     ) -> Result<Self, AllocError>
-        ensures { IfOk result (λ p. p ≡ record { tables = catalog.now; publications = publications }) }
+        ensures { IfOk result (λ p. p ≡ record { tables = catalog.now; publications = publications; messages = false }) }
     {
         Ok(Publications {
             alloc,

@@ -5,6 +5,7 @@ ghost use Rattle.tables.specs.Reading.{SpellsBody, change_tagged, insert_at, upd
 ghost use Rattle.tables.specs.declared.change.Change.{Change as Changed};
 ghost use Rattle.tables.specs.declared.value.Value.{Value as Datum};
 ghost use Rattle.pgoutput.specs.declared.logical.Logical.{Logical};
+ghost use Rattle.publication.specs.Logged.{change_message};
 ghost use Rattle.publication.specs.Projection.{MessageFits, message};
 ghost use Rattle.publication.specs.Spelling.{HasRoom, IsPut, IsReadWhole, IsShortRow, IsWritten};
 
@@ -12,30 +13,31 @@ use crate::put_messages::{put_deletion, put_insertion, put_replacement};
 use crate::row_reading::{one_row, two_rows};
 use crate::selection::Selection;
 use publication_config::Operation;
-use tables::{DELETE_TAG, INSERT_TAG, RowRef, TRUNCATE_TAG, UPDATE_TAG};
+use tables::{DELETE_TAG, INSERT_TAG, MESSAGE_TAG, RowRef, TRUNCATE_TAG, UPDATE_TAG};
 
 /// The longest message of a change, in bytes.
 pub const MAX_MESSAGE_LENGTH: usize = 32_000;
 
 impl Selection {
-    /// Writes the message of the change whose body these bytes are to the front of `out`, and answers how long it is. None where the
-    /// change has no message, and where the bytes are the body of none that the catalogue's tables have. It takes no memory.
-    pub fn put(&self, body: &[u8], out: &mut [u8]) -> Option<usize>
+    /// Writes the message of the change whose body these bytes are, and whose record starts at the position, to the front of `out`, and
+    /// answers how long it is. None where the change has no message, and where the bytes are the body of none that the catalogue's tables
+    /// have. It takes no memory.
+    pub fn put(&self, position: u64, body: &[u8], out: &mut [u8]) -> Option<usize>
         requires { MAX_MESSAGE_LENGTH ≤ length out.old }
-        ensures message { (c : Changed) → SpellsBody body.now c → IsPut result out.new (message self.now c) }
-        ensures fits { (c : Changed) (m : Logical) → SpellsBody body.now c → message self.now c ≡ Some m → MessageFits self.now m }
+        ensures message { (c : Changed) → SpellsBody body.now c → IsPut result out.new (change_message self.now position c) }
+        ensures fits { (c : Changed) (m : Logical) → SpellsBody body.now c → change_message self.now position c ≡ Some m → MessageFits self.now m }
         ensures found { IfSome result (λ _. (c : Changed) × SpellsBody body.now c) }
         ensures same { length out.new ≡ length out.old }
     {
         // All tables fit: here the prover learns it.
         let _ = &self.tables;
         let (tag, fields) = body.split_first()?;
-        self.put_tagged(*tag, fields, &mut out[..MAX_MESSAGE_LENGTH])
+        self.put_tagged(position, *tag, fields, &mut out[..MAX_MESSAGE_LENGTH])
     }
 
-    fn put_tagged(&self, tag: u8, fields: &[u8], out: &mut [u8]) -> Option<usize>
+    fn put_tagged(&self, position: u64, tag: u8, fields: &[u8], out: &mut [u8]) -> Option<usize>
         requires { HasRoom out.old }
-        ensures told { (c : Changed) → change_tagged tag fields.now ≡ Ok (c, []) → IsWritten result out.old out.new (message self.now c) }
+        ensures told { (c : Changed) → change_tagged tag fields.now ≡ Ok (c, []) → IsWritten result out.old out.new (change_message self.now position c) }
         ensures found { IfSome result (λ _. IsReadWhole (change_tagged tag fields.now)) }
         ensures same { length out.new ≡ length out.old }
     {
@@ -44,6 +46,7 @@ impl Selection {
             UPDATE_TAG => self.put_updated(fields, out),
             DELETE_TAG => self.put_deleted(fields, out),
             TRUNCATE_TAG => self.put_truncated(fields, out),
+            MESSAGE_TAG => self.put_logged(true, position, fields, out),
             _ => None,
         }
     }

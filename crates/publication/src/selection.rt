@@ -11,6 +11,7 @@ ghost use Rattle.stream.specs.Items.{IsShortMessage};
 ghost use Rattle.publication_config.specs.Published.{has};
 ghost use Rattle.publication.specs.Selection.{relation_of, FitsTable, has_table, list_by, selected_oids, selected_table, whole_table};
 ghost use Rattle.publication_config.specs.declared.operations.Operation.{Operation};
+ghost use Rattle.publication.specs.Logged.{change_message};
 ghost use Rattle.publication.specs.Projection.{is_published, may_be_emptied, message, passes, projected, stands_in, AreValues, FitsProjected, MessageFits};
 
 use crate::messages::{deletion, insertion, replacement, truncation};
@@ -31,11 +32,13 @@ use tables::{Change, MAX_TRUNCATED, Row, RowRef, Table, repeats};
 /// and their only error is want of memory.
 #[derive(Drop)]
 pub struct Selection {
-    alloc: Global,
+    pub(crate) alloc: Global,
     /// All tables of the catalogue.
     pub(crate) tables: Items<Table>,
     publications: Items<Publication>,
     oids: Items<u32>,
+    /// Whether messages of the log are sent too.
+    pub(crate) messages: bool,
 }
 
 impl Model for Selection {
@@ -50,21 +53,22 @@ impl Model for Selection {
 
     ghost coded = { Prim.hlevel (codes, condition_code (Prim.hlevel codes)) };
 
-    ghost view = { λ s. record { tables = s.tables; publications = s.publications } };
+    ghost view = { λ s. record { tables = s.tables; publications = s.publications; messages = s.messages } };
 
-    ghost invariant = { λ s. AllByRecursion FitsTable s.tables × (s.oids ≡ selected_oids (record { tables = s.tables; publications = s.publications })) × (repeats (oids_of s.tables) ≡ false) };
+    ghost invariant = { λ s. AllByRecursion FitsTable s.tables × (s.oids ≡ selected_oids (record { tables = s.tables; publications = s.publications; messages = s.messages })) × (repeats (oids_of s.tables) ≡ false) };
 }
 
 impl Selection {
     /// A selection of nothing, which takes no memory.
     pub fn empty(alloc: Global) -> Self
-        ensures { result ≡ record { tables = []; publications = [] } }
+        ensures { result ≡ record { tables = []; publications = []; messages = false } }
     {
         Selection {
             alloc,
             tables: Items::new(Vec::new(alloc)),
             publications: Items::new(Vec::new(alloc)),
             oids: Items::new(Vec::new(alloc)),
+            messages: false,
         }
     }
 
@@ -76,7 +80,7 @@ impl Selection {
     ) -> Result<Self, AllocError>
         requires fit { AllByRecursion FitsTable tables }
         requires each_once { repeats (oids_of tables) ≡ false }
-        ensures { IfOk result (λ s. s ≡ record { tables = tables; publications = publications }) }
+        ensures { IfOk result (λ s. s ≡ record { tables = tables; publications = publications; messages = false }) }
     {
         let oids = oids_of(alloc, tables.as_slice(), publications.as_slice())?;
         Ok(Selection {
@@ -84,7 +88,28 @@ impl Selection {
             tables,
             publications,
             oids,
+            messages: false,
         })
+    }
+
+    /// The same publications, with the messages of the log or without them; at first they are left out.
+    pub fn with_messages(self, messages: bool) -> Self
+        ensures { result ≡ record self { messages = messages } }
+    {
+        let Selection {
+            alloc,
+            tables,
+            publications,
+            oids,
+            ..
+        } = self;
+        Selection {
+            alloc,
+            tables,
+            publications,
+            oids,
+            messages,
+        }
     }
 
     /// The OIDs of its tables, in the order of the catalogue.
@@ -96,21 +121,21 @@ impl Selection {
         self.oids.as_slice()
     }
 
-    /// The message of a change, if it has one.
-    pub fn project(&self, change: &Change) -> Result<Projected, AllocError>
-        ensures value { IfOk result (λ p. p ≡ projected (message self.now change.now)) }
+    /// The message of a change whose record starts at the position, if it has one.
+    pub fn project(&self, position: u64, change: &Change) -> Result<Projected, AllocError>
+        ensures value { IfOk result (λ p. p ≡ projected (change_message self.now position change.now)) }
         ensures fits { IfOk result (FitsProjected self.now) }
     {
         // All tables fit: here the prover learns it.
         let _ = &self.tables;
-        match self.message(change)? {
+        match self.message(position, change)? {
             None => Ok(Projected::Nothing),
             Some(message) => Ok(Projected::Message(message)),
         }
     }
 
-    fn message(&self, change: &Change) -> Result<Option<Logical>, AllocError>
-        ensures value { IfOk result (λ o. o ≡ message self.now change.now) }
+    fn message(&self, position: u64, change: &Change) -> Result<Option<Logical>, AllocError>
+        ensures value { IfOk result (λ o. o ≡ change_message self.now position change.now) }
         ensures in_range { IfOk result (λ o. OnSome o (AreValues change.now)) }
     {
         match change {
@@ -118,6 +143,7 @@ impl Selection {
             Change::Update(oid, old, new) => self.updated(*oid, old, new),
             Change::Delete(oid, old) => self.deleted(*oid, old),
             Change::Truncate(oids) => self.truncated(oids.as_slice()),
+            Change::Message(message) => self.logged(position, message),
         }
     }
 
@@ -268,7 +294,7 @@ fn oids_of(
     tables: &[Table],
     publications: &[Publication],
 ) -> Result<Items<u32>, AllocError>
-    ensures { IfOk result (λ oids. oids ≡ selected_oids (record { tables = tables.now; publications = publications.now })) }
+    ensures { IfOk result (λ oids. oids ≡ selected_oids (record { tables = tables.now; publications = publications.now; messages = false })) }
 {
     let mut oids = Vec::new(alloc);
     for table in tables {

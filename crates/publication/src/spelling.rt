@@ -1,7 +1,7 @@
 //! Writing fields and cells one behind the other into a slice that has room for them.
 
 ghost use Rattle.std.specs.Prelude.{◌≡◌, ◌+◌, ◌<◌, ◌≤◌, ◌^◌, ◌∷◌, [], length};
-ghost use Rattle.pqformat.specs.Fields.{int16, int32};
+ghost use Rattle.pqformat.specs.Fields.{int16, int32, int64};
 ghost use Rattle.pgoutput.specs.Tuple.{cell};
 ghost use Rattle.pgoutput.specs.declared.tuple.Cell.TheVariants as cells;
 ghost use Rattle.publication.specs.Spelling.{FitsRoom, Writes};
@@ -42,6 +42,14 @@ pub(crate) fn put_int16(out: &mut [u8], at: usize, n: u16) -> usize
 pub(crate) fn put_int32(out: &mut [u8], at: usize, n: u32) -> usize
     requires { at + 4 ≤ length out.old }
     ensures { Writes at result out.old out.new (int32 n) }
+{
+    put_bytes(out, at, &n.to_be_bytes())
+}
+
+#[tactic(auto, unfolding(pqformat::specs::Fields::int64))]
+pub(crate) fn put_int64(out: &mut [u8], at: usize, n: u64) -> usize
+    requires { at + 8 ≤ length out.old }
+    ensures { Writes at result out.old out.new (int64 n) }
 {
     put_bytes(out, at, &n.to_be_bytes())
 }

@@ -303,7 +303,7 @@ fault_of (refusals.ListWithoutIdentity place) = faults.ListWithoutIdentity place
 fault_of (refusals.FilterOutsideIdentity place) = faults.FilterOutsideIdentity place
 
 abbrev pub over : List Table → Result (List Publication) Refusal → Result PublicationSet PubFault
-over tables (Ok publications) = Ok (record { tables = tables; publications = publications })
+over tables (Ok publications) = Ok (record { tables = tables; publications = publications; messages = false })
 over tables (Err refusal) = Err (fault_of refusal)
 
 -- the publications that a document names over the tables of a catalogue, or why it names none
@@ -316,7 +316,7 @@ configured_by tables text = option_map (publications_in tables) (document_of tex
 
 -- publications that were read, as a set over these tables
 abbrev pub set_over : List Table → Result (List Publication) PubFault → Result PublicationSet PubFault
-set_over tables (Ok publications) = Ok (record { tables = tables; publications = publications })
+set_over tables (Ok publications) = Ok (record { tables = tables; publications = publications; messages = false })
 set_over tables (Err fault) = Err fault
 
 -- What a reader of documents answers is what the document names, memory apart.

@@ -14,10 +14,12 @@ use Rattle.publication_config.specs.declared.operations.Operations.{Operations}
 use Rattle.publication_config.specs.declared.published_table.PublishedTable.{PublishedTable}
 use Rattle.publication_config.specs.declared.publication.Publication.{Publication}
 
--- Publications, and the tables of the catalogue that they are over. What names select of them is such a set too.
+-- Publications, and the tables of the catalogue that they are over. What a stream selects of them by names is such a set too; it also
+-- tells whether the stream asked for the messages of the log.
 pub record PublicationSet : Type 0 where
   pub tables : List Table
   pub publications : List Publication
+  pub messages : Bool
 
 -- ---- What a publication has and publishes.
 

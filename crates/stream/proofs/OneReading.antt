@@ -1,6 +1,6 @@
 -- A stream has one reading. In three steps: frames to words, by the law of frames and of their bodies; words to items;
 -- and both together.
-use Rattle.std.proofs.Common.{◌≡◌, ℕ, ℤ, ◌^◌, ◌<◌, Bool, true, false, cond, List, [], ◌∷◌, ◌++◌, length, refl, sym, ap, ◌∙◌, append_assoc, arith}
+use Rattle.std.proofs.Common.{◌≡◌, ℕ, ℤ, ◌^◌, ◌<◌, Bool, true, false, cond, List, [], ◌∷◌, ◌++◌, length, map, refl, sym, ap, subst, ◌∙◌, append_assoc, arith}
 use Rattle.std.specs.Prelude.{FitsSigned}
 use Rattle.std.specs.List.{flat_map, AllByRecursion}
 use Rattle.std.specs.Int.{w64, cast_signed, cast_unsigned}
@@ -20,6 +20,8 @@ use Rattle.frames.proofs.Frames.{frame_begins}
 use Rattle.copyboth.specs.Keepalive.{ask_byte}
 use Rattle.pgoutput.specs.declared.logical.Logical.{Logical}
 use Rattle.pgoutput.specs.declared.logical.Logical.TheVariants as logical
+use Rattle.pgoutput.specs.declared.begin.Begin.{Begin}
+use Rattle.pgoutput.specs.declared.message.Message.{Message}
 use Rattle.pgoutput.specs.declared.relation.Relation.{Relation}
 use Rattle.pgoutput.specs.Logical.{spell_logical, FitsLogical}
 use Rattle.stream.specs.declared.word.Word.{Word}
@@ -30,7 +32,7 @@ use Rattle.stream.specs.declared.published.Published.{Published}
 use Rattle.stream.specs.declared.published.PublishedChange.{PublishedChange}
 use Rattle.stream.proofs.Lists.{all_of_both}
 use Rattle.stream.specs.Words.{word_body, word_bytes, FitsWord}
-use Rattle.stream.specs.Items.{Item, KeepaliveItem, Block, xlogdata_word, tables_of, is_relation_sent, relations_due, relations_sent_by, relation_words, change_words, changes_words, item_words, relations_sent_after, words_of, spelled, IsShortMessage, FitsRelationOf, IsOfChange, FitsChange, FitsItem, FitItems}
+use Rattle.stream.specs.Items.{Item, KeepaliveItem, Block, words_by, note_words, transaction_words, xlogdata_word, tables_of, is_relation_sent, relations_due, relations_sent_by, relation_words, change_words, changes_words, item_words, relations_sent_after, words_of, spelled, IsShortMessage, FitsRelationOf, IsOfChange, FitsChange, FitsNote, FitChanges, FitsPublished, FitsItem, FitItems}
 
 -- ---- frames to words
 
@@ -127,6 +129,7 @@ abbrev message_kind : Logical → ℕ
 message_kind (logical.Begin m) = 1
 message_kind (logical.Commit m) = 2
 message_kind (logical.Relation m) = 3
+message_kind (logical.Message m) = cond m.is_transactional 4 5
 message_kind _ = 4
 
 abbrev kind_of : Word → ℕ
@@ -138,6 +141,11 @@ change_kind relation (logical.Insert m) h = (λ e. omega (arith, e), λ e. omega
 change_kind relation (logical.Update m) h = (λ e. omega (arith, e), λ e. omega (arith, e))
 change_kind relation (logical.Delete m) h = (λ e. omega (arith, e), λ e. omega (arith, e))
 change_kind relation (logical.Truncate m) h = (λ e. omega (arith, e), λ e. omega (arith, e))
+change_kind relation (logical.Message m) h = (λ e. omega (arith, e, sent_with m.is_transactional h), λ e. omega (arith, e, sent_with m.is_transactional h))
+  where
+    sent_with : (b : Bool) → b ≡ true → cond {A = ℕ} b 4 5 ≡ 4
+    sent_with true h = refl
+    sent_with false h = absurd cc
 change_kind relation (logical.Begin m) h = absurd h
 change_kind relation (logical.Commit m) h = absurd h
 change_kind relation (logical.Relation m) h = absurd h
@@ -208,18 +216,56 @@ same_changes relation relations_sent clock (c ∷ cs) (d ∷ ds) w v x y fits_c 
     let inner = same_changes relation (relations_sent_by relations_sent d) clock cs ds w v x y fits_c.1 fits_d.1 is_w is_v aligned in
     (ap (λ (a : PublishedChange). a ∷ cs) change ∙ ap (λ (l : List PublishedChange). d ∷ l) inner.0, inner.1, inner.2)
 
-abbrev published_of : ℕ → ℕ → ℤ → ℕ → List PublishedChange → Published
-published_of start end time xid changes = record { start = start; end = end; time = time; xid = xid; changes = changes }
+abbrev published_of : Bool → ℕ → ℕ → ℤ → ℕ → List PublishedChange → Published
+published_of is_note start end time xid changes = record { is_note = is_note; start = start; end = end; time = time; xid = xid; changes = changes }
 
-same_item : (relation : ℕ → Relation) (relations_sent : List ℕ) (i j : Item) (x y : List Word) → FitsItem relation i → FitsItem relation j
-    → item_words relation relations_sent i ++ x ≡ item_words relation relations_sent j ++ y → (i ≡ j) × (x ≡ y)
-same_item relation relations_sent (KeepaliveItem k) (KeepaliveItem l) x y fits_i fits_j e =
-    let heads : words.Keepalive k ≡ words.Keepalive l = cc in
-    let same : k ≡ l = cc in
-    (ap KeepaliveItem same, cc)
-same_item relation relations_sent (KeepaliveItem k) (Block clock t) x y fits_i fits_j e = absurd cc
-same_item relation relations_sent (Block clock t) (KeepaliveItem k) x y fits_i fits_j e = absurd cc
-same_item relation relations_sent (Block clock t) (Block other u) x y fits_i fits_j e =
+-- what two published transactions or notes have in common that are the same but for their kind
+record AreSame (t u : Published) : Type 0 where
+  start : t.start ≡ u.start
+  end : t.end ≡ u.end
+  time : t.time ≡ u.time
+  xid : t.xid ≡ u.xid
+  changes : t.changes ≡ u.changes
+
+-- a note's words
+one_word : (clock : ℤ) (t : Published) (fits : FitsNote t) → note_words clock t ≡ xlogdata_word t.end clock (logical.Message fits.message) ∷ []
+one_word clock t fits = ap (λ (cs : List PublishedChange). map (λ c. xlogdata_word t.end clock c.message) cs) fits.is
+
+is_no_begin : (m : Message) (b : Begin) → logical.Message m ≡ logical.Begin b → ⊥
+is_no_begin m b e = cc
+
+same_block : (relation : ℕ → Relation) (relations_sent : List ℕ) (a b : Bool) (clock other : ℤ) (t u : Published) (x y : List Word) → FitChanges a relation t → FitChanges b relation u
+    → words_by a relation relations_sent clock t ++ x ≡ words_by b relation relations_sent other u ++ y → (clock ≡ other) × (a ≡ b) × AreSame t u × (x ≡ y)
+same_block relation relations_sent true true clock other t u x y fits_t fits_u e =
+    let words : xlogdata_word t.end clock (logical.Message fits_t.message) ∷ x ≡ xlogdata_word u.end other (logical.Message fits_u.message) ∷ y =
+    ap (λ (ws : List Word). ws ++ x) (sym (one_word clock t fits_t)) ∙ e ∙ ap (λ (ws : List Word). ws ++ y) (one_word other u fits_u) in
+    let first : xlogdata_word t.end clock (logical.Message fits_t.message) ≡ xlogdata_word u.end other (logical.Message fits_u.message) = cc in
+    let same = same_xlogdata t.end u.end clock other (logical.Message fits_t.message) (logical.Message fits_u.message) first in
+    let messages : fits_t.message ≡ fits_u.message = let is = same.2 in cc in
+    let starts : t.start ≡ u.start = sym fits_t.position ∙ ap (λ (m : Message). m.position) messages ∙ fits_u.position in
+    let behind : x ≡ y = cc in (
+      same.1,
+      refl,
+      record {
+        start = starts;
+        end = same.0;
+        time = fits_t.time ∙ sym fits_u.time;
+        xid = fits_t.xid ∙ sym fits_u.xid;
+        changes = fits_t.is ∙ ap (λ (p : ℕ). change_of p (logical.Message fits_t.message) ∷ []) starts ∙ ap (λ (m : Message). change_of u.start (logical.Message m) ∷ []) messages ∙ sym fits_u.is;
+      },
+      behind,
+    )
+same_block relation relations_sent true false clock other t u x y fits_t fits_u e =
+    let begun : Begin = record { position = u.start; time = u.time; xid = u.xid } in
+    let words : xlogdata_word t.end clock (logical.Message fits_t.message) ∷ x ≡ transaction_words relation relations_sent other u ++ y = ap (λ (ws : List Word). ws ++ x) (sym (one_word clock t fits_t)) ∙ e in
+    let first : xlogdata_word t.end clock (logical.Message fits_t.message) ≡ xlogdata_word u.start other (logical.Begin begun) = cc in
+    absurd (is_no_begin fits_t.message begun (same_xlogdata t.end u.start clock other (logical.Message fits_t.message) (logical.Begin begun) first).2)
+same_block relation relations_sent false true clock other t u x y fits_t fits_u e =
+    let begun : Begin = record { position = t.start; time = t.time; xid = t.xid } in
+    let words : transaction_words relation relations_sent clock t ++ x ≡ xlogdata_word u.end other (logical.Message fits_u.message) ∷ y = e ∙ ap (λ (ws : List Word). ws ++ y) (one_word other u fits_u) in
+    let first : xlogdata_word t.start clock (logical.Begin begun) ≡ xlogdata_word u.end other (logical.Message fits_u.message) = cc in
+    absurd (is_no_begin fits_u.message begun (sym (same_xlogdata t.start u.end clock other (logical.Begin begun) (logical.Message fits_u.message) first).2))
+same_block relation relations_sent false false clock other t u x y fits_t fits_u e =
     let begun : Logical = logical.Begin (record { position = t.start; time = t.time; xid = t.xid }) in
     let begun_too : Logical = logical.Begin (record { position = u.start; time = u.time; xid = u.xid }) in
     let ended : Word = xlogdata_word t.end clock (logical.Commit (record { position = t.start; end = t.end; time = t.time })) in
@@ -231,13 +277,9 @@ same_item relation relations_sent (Block clock t) (Block other u) x y fits_i fit
     let aligned : changes_words relation relations_sent other t.changes ++ (ended ∷ x) ≡ changes_words relation relations_sent other u.changes ++ (ended_too ∷ y) =
     ap (λ (z : ℤ). changes_words relation relations_sent z t.changes ++ (ended ∷ x)) (sym clocks)
     ∙ sym (append_assoc (changes_words relation relations_sent clock t.changes) (ended ∷ []) x) ∙ tails ∙ append_assoc (changes_words relation relations_sent other u.changes) (ended_too ∷ []) y in
-    let inner = same_changes relation relations_sent other t.changes u.changes ended ended_too x y fits_i.1.changes fits_j.1.changes refl refl aligned in
+    let inner = same_changes relation relations_sent other t.changes u.changes ended ended_too x y fits_t fits_u refl refl aligned in
     let last = same_xlogdata t.end u.end clock other (logical.Commit (record { position = t.start; end = t.end; time = t.time })) (logical.Commit (record { position = u.start; end = u.end; time = u.time })) inner.1 in
-    let times : t.time ≡ u.time = ap (time_in t.time) front.2 in
-    let numbers : t.xid ≡ u.xid = ap (xid_in t.xid) front.2 in
-    let whole : t ≡ u = ap (λ (n : ℕ). published_of n t.end t.time t.xid t.changes) front.0 ∙ ap (λ (n : ℕ). published_of u.start n t.time t.xid t.changes) last.0
-    ∙ ap (λ (z : ℤ). published_of u.start u.end z t.xid t.changes) times ∙ ap (λ (n : ℕ). published_of u.start u.end u.time n t.changes) numbers ∙ ap (published_of u.start u.end u.time u.xid) inner.0 in
-    (ap (λ (z : ℤ). Block z t) clocks ∙ ap (Block other) whole, inner.2)
+    (clocks, refl, record { start = front.0; end = last.0; time = ap (time_in t.time) front.2; xid = ap (xid_in t.xid) front.2; changes = inner.0 }, inner.2)
   where
     time_in : ℤ → Logical → ℤ
     time_in z (logical.Begin m) = m.time
@@ -247,12 +289,44 @@ same_item relation relations_sent (Block clock t) (Block other u) x y fits_i fit
     xid_in z (logical.Begin m) = m.xid
     xid_in z _ = z
 
+no_keepalive : (relation : ℕ → Relation) (relations_sent : List ℕ) (is_note : Bool) (clock : ℤ) (t : Published) (k : Keepalive) (x y : List Word) → FitChanges is_note relation t
+    → words_by is_note relation relations_sent clock t ++ x ≡ words.Keepalive k ∷ y → ⊥
+no_keepalive relation relations_sent false clock t k x y fits e = cc
+no_keepalive relation relations_sent true clock t k x y fits e =
+    let words : xlogdata_word t.end clock (logical.Message fits.message) ∷ x ≡ words.Keepalive k ∷ y = ap (λ (ws : List Word). ws ++ x) (sym (one_word clock t fits)) ∙ e in
+    cc
+
+no_words : (relation : ℕ → Relation) (relations_sent : List ℕ) (is_note : Bool) (clock : ℤ) (t : Published) (x : List Word) → FitChanges is_note relation t
+    → words_by is_note relation relations_sent clock t ++ x ≡ [] → ⊥
+no_words relation relations_sent false clock t x fits e = cc
+no_words relation relations_sent true clock t x fits e =
+    let words : xlogdata_word t.end clock (logical.Message fits.message) ∷ x ≡ [] = ap (λ (ws : List Word). ws ++ x) (sym (one_word clock t fits)) ∙ e in
+    cc
+
+same_item : (relation : ℕ → Relation) (relations_sent : List ℕ) (i j : Item) (x y : List Word) → FitsItem relation i → FitsItem relation j
+    → item_words relation relations_sent i ++ x ≡ item_words relation relations_sent j ++ y → (i ≡ j) × (x ≡ y)
+same_item relation relations_sent (KeepaliveItem k) (KeepaliveItem l) x y fits_i fits_j e =
+    let heads : words.Keepalive k ≡ words.Keepalive l = cc in
+    let same : k ≡ l = cc in
+    (ap KeepaliveItem same, cc)
+same_item relation relations_sent (KeepaliveItem k) (Block clock t) x y fits_i fits_j e = absurd (no_keepalive relation relations_sent t.is_note clock t k y x fits_j.1.changes (sym e))
+same_item relation relations_sent (Block clock t) (KeepaliveItem k) x y fits_i fits_j e = absurd (no_keepalive relation relations_sent t.is_note clock t k x y fits_i.1.changes e)
+same_item relation relations_sent (Block clock t) (Block other u) x y fits_i fits_j e =
+    let inner = same_block relation relations_sent t.is_note u.is_note clock other t u x y fits_i.1.changes fits_j.1.changes e in
+    let same = inner.2 in
+    let whole : t ≡ u = ap (λ (b : Bool). published_of b t.start t.end t.time t.xid t.changes) inner.1 ∙ ap (λ (n : ℕ). published_of u.is_note n t.end t.time t.xid t.changes) same.start
+    ∙ ap (λ (n : ℕ). published_of u.is_note u.start n t.time t.xid t.changes) same.end ∙ ap (λ (z : ℤ). published_of u.is_note u.start u.end z t.xid t.changes) same.time
+    ∙ ap (λ (n : ℕ). published_of u.is_note u.start u.end u.time n t.changes) same.xid ∙ ap (published_of u.is_note u.start u.end u.time u.xid) same.changes in
+    (ap (λ (z : ℤ). Block z t) inner.0 ∙ ap (Block other) whole, inner.3)
+
 -- items whose words begin the words of others are a beginning of those
 pub begun_words : (relation : ℕ → Relation) (relations_sent : List ℕ) (a b : List Item) (x : List Word) → FitItems relation a → FitItems relation b
     → words_of relation relations_sent a ++ x ≡ words_of relation relations_sent b → (more : List Item) × (b ≡ a ++ more)
 begun_words relation relations_sent [] b x fits_a fits_b e = (b, refl)
 begun_words relation relations_sent (KeepaliveItem k ∷ a) [] x fits_a fits_b e = absurd cc
-begun_words relation relations_sent (Block clock t ∷ a) [] x fits_a fits_b e = absurd cc
+begun_words relation relations_sent (Block clock t ∷ a) [] x fits_a fits_b e =
+    let behind = words_of relation (relations_sent_after relations_sent (Block clock t)) a in
+    absurd (no_words relation relations_sent t.is_note clock t (behind ++ x) fits_a.0.1.changes (sym (append_assoc (words_by t.is_note relation relations_sent clock t) behind x) ∙ e))
 begun_words relation relations_sent (i ∷ a) (j ∷ b) x fits_a fits_b e =
     let parted : item_words relation relations_sent i ++ (words_of relation (relations_sent_after relations_sent i) a ++ x) ≡ item_words relation relations_sent j ++ words_of relation (relations_sent_after relations_sent j) b = sym (append_assoc (item_words relation relations_sent i) (words_of relation (relations_sent_after relations_sent i) a) x) ∙ e in
     let same = same_item relation relations_sent i j (words_of relation (relations_sent_after relations_sent i) a ++ x) (words_of relation (relations_sent_after relations_sent j) b) fits_a.0 fits_b.0 parted in
@@ -312,19 +386,26 @@ changes_fit relation relations_sent clock (c ∷ cs) fits all =
     (xlogdata_fits c.position clock c.message all.0.position fits all.0.fits all.0.short, tt))
     (changes_fit relation (relations_sent_by relations_sent c) clock cs fits all.1)
 
-item_fits : (relation : ℕ → Relation) (relations_sent : List ℕ) (i : Item) → FitsItem relation i → AllByRecursion FitsWord (item_words relation relations_sent i)
-item_fits relation relations_sent (KeepaliveItem k) fits = (keepalive_fits k fits, tt)
-item_fits relation relations_sent (Block clock t) fits =
+block_fits : (relation : ℕ → Relation) (relations_sent : List ℕ) (is_note : Bool) (clock : ℤ) (t : Published) → FitsSigned w64 clock → FitsPublished relation t → FitChanges is_note relation t
+    → AllByRecursion FitsWord (words_by is_note relation relations_sent clock t)
+block_fits relation relations_sent true clock t in_range fits changes =
+    let All : List Word → Type 0 = λ ws. AllByRecursion FitsWord ws in
+    subst All (sym (one_word clock t changes)) (xlogdata_fits t.end clock (logical.Message changes.message) fits.end in_range changes.fits changes.short, tt)
+block_fits relation relations_sent false clock t in_range fits changes =
     let begun : FitsWord (xlogdata_word t.start clock (logical.Begin (record { position = t.start; time = t.time; xid = t.xid }))) =
-    xlogdata_fits t.start clock (logical.Begin (record { position = t.start; time = t.time; xid = t.xid })) fits.1.start fits.0 (fits.1.start, (fits.1.time, fits.1.xid))
+    xlogdata_fits t.start clock (logical.Begin (record { position = t.start; time = t.time; xid = t.xid })) fits.start in_range (fits.start, (fits.time, fits.xid))
     (omega (arith, length-int64 t.start, length-int64 (cast_unsigned w64 t.time), length-int32 t.xid, length-append (int64 t.start) (int64 (cast_unsigned w64 t.time) ++ int32 t.xid), length-append (int64 (cast_unsigned w64 t.time)) (int32 t.xid))) in
     let ended : FitsWord (xlogdata_word t.end clock (logical.Commit (record { position = t.start; end = t.end; time = t.time }))) =
-    xlogdata_fits t.end clock (logical.Commit (record { position = t.start; end = t.end; time = t.time })) fits.1.end fits.0 (fits.1.start, (fits.1.end, fits.1.time))
+    xlogdata_fits t.end clock (logical.Commit (record { position = t.start; end = t.end; time = t.time })) fits.end in_range (fits.start, (fits.end, fits.time))
     (omega (arith, length-int64 t.start, length-int64 t.end, length-int64 (cast_unsigned w64 t.time), length-append (int64 t.start) (int64 t.end ++ int64 (cast_unsigned w64 t.time)), length-append (int64 t.end) (int64 (cast_unsigned w64 t.time)))) in (
       begun,
       all_of_both FitsWord (changes_words relation relations_sent clock t.changes) (xlogdata_word t.end clock (logical.Commit (record { position = t.start; end = t.end; time = t.time })) ∷ [])
-          (changes_fit relation relations_sent clock t.changes fits.0 fits.1.changes) (ended, tt),
+          (changes_fit relation relations_sent clock t.changes in_range changes) (ended, tt),
     )
+
+item_fits : (relation : ℕ → Relation) (relations_sent : List ℕ) (i : Item) → FitsItem relation i → AllByRecursion FitsWord (item_words relation relations_sent i)
+item_fits relation relations_sent (KeepaliveItem k) fits = (keepalive_fits k fits, tt)
+item_fits relation relations_sent (Block clock t) fits = block_fits relation relations_sent t.is_note clock t fits.0 fits.1 fits.1.changes
 
 pub words_fit : (relation : ℕ → Relation) (relations_sent : List ℕ) (items : List Item) → FitItems relation items → AllByRecursion FitsWord (words_of relation relations_sent items)
 words_fit relation relations_sent [] fits = tt

@@ -1,10 +1,12 @@
--- The items of a stream, and the words that spell them. An item is a keepalive, or a block: one published transaction
--- whole, under one clock. Before the first message of the stream that names a table stands the table's Relation.
-use Rattle.std.specs.Prelude.{◌≡◌, ℕ, ℤ, ◌+◌, ◌<◌, ◌≤◌, ◌^◌, FitsSigned, Bool, ◌==◌, if◌then◌else◌, List, [], ◌∷◌, ◌++◌, map, reverse, length, Option, Some, None}
+-- The items of a stream, and the words that spell them. An item is a keepalive, or a block under one clock: one published
+-- transaction whole, or a note, a message outside of transactions. Before the first message of the stream that names a table
+-- stands the table's Relation.
+use Rattle.std.specs.Prelude.{◌≡◌, ℕ, ℤ, pos, true, false, ◌+◌, ◌<◌, ◌≤◌, ◌^◌, FitsSigned, Bool, ◌==◌, if◌then◌else◌, List, [], ◌∷◌, ◌++◌, map, reverse, length, Option, Some, None}
 use Rattle.std.specs.List.{list_any, AllByRecursion}
 use Rattle.std.specs.Int.{w64}
 use Rattle.pgoutput.specs.declared.logical.Logical.{Logical}
 use Rattle.pgoutput.specs.declared.logical.Logical.TheVariants as logical
+use Rattle.pgoutput.specs.declared.message.Message.{Message}
 use Rattle.pgoutput.specs.declared.relation.Relation.{Relation}
 use Rattle.pgoutput.specs.declared.tuple.Cell.{Cell}
 use Rattle.pgoutput.specs.declared.old_tuple.OldTuple.{OldTuple}
@@ -40,6 +42,7 @@ tables_of (logical.Truncate m) = m.oids
 tables_of (logical.Begin m) = []
 tables_of (logical.Commit m) = []
 tables_of (logical.Relation m) = []
+tables_of (logical.Message m) = []
 
 abbrev pub is_relation_sent : List ℕ → ℕ → Bool
 is_relation_sent relations_sent oid = list_any (λ n. n == oid) relations_sent
@@ -76,12 +79,24 @@ begin_message t = logical.Begin (record { position = t.start; time = t.time; xid
 abbrev pub commit_message : Published → Logical
 commit_message t = logical.Commit (record { position = t.start; end = t.end; time = t.time })
 
--- a block: Begin at the start of the commit record, the changes in order, Commit at its end
-abbrev pub block_words : (ℕ → Relation) → List ℕ → ℤ → Published → List Word
-block_words relation relations_sent clock t =
+-- a transaction: Begin at the start of the commit record, the changes in order, Commit at its end
+abbrev pub transaction_words : (ℕ → Relation) → List ℕ → ℤ → Published → List Word
+transaction_words relation relations_sent clock t =
     xlogdata_word t.start clock (begin_message t)
     ∷ (changes_words relation relations_sent clock t.changes
     ++ (xlogdata_word t.end clock (commit_message t) ∷ []))
+
+-- a note: its message by itself, at the end of its record
+abbrev pub note_words : ℤ → Published → List Word
+note_words clock t = map (λ c. xlogdata_word t.end clock c.message) t.changes
+
+abbrev pub words_by : (is_note : Bool) → (ℕ → Relation) → List ℕ → ℤ → Published → List Word
+words_by false relation relations_sent clock t = transaction_words relation relations_sent clock t
+words_by true relation relations_sent clock t = note_words clock t
+
+-- a block
+abbrev pub block_words : (ℕ → Relation) → List ℕ → ℤ → Published → List Word
+block_words relation relations_sent clock t = words_by t.is_note relation relations_sent clock t
 
 abbrev pub item_words : (ℕ → Relation) → List ℕ → Item → List Word
 item_words relation relations_sent (KeepaliveItem k) = words.Keepalive k ∷ []
@@ -105,7 +120,7 @@ abbrev pub relations_sent_through : List ℕ → List Published → List ℕ
 relations_sent_through relations_sent [] = relations_sent
 relations_sent_through relations_sent (t ∷ ts) = relations_sent_through (relations_sent_by_all relations_sent t.changes) ts
 
--- the transactions of the items, in order
+-- the transactions of the items, in order, and the notes among them
 abbrev pub transactions_of : List Item → List Published
 transactions_of [] = []
 transactions_of (KeepaliveItem k ∷ items) = transactions_of items
@@ -137,6 +152,7 @@ IsOfChange relation (logical.Insert m) = IsTupleOf relation m.oid m.new
 IsOfChange relation (logical.Update m) = IsOldOf relation m.oid m.old × IsTupleOf relation m.oid m.new
 IsOfChange relation (logical.Delete m) = IsTupleOf relation m.oid (cells_of m.old)
 IsOfChange relation (logical.Truncate m) = Unit {0}
+IsOfChange relation (logical.Message m) = m.is_transactional ≡ true
 IsOfChange relation _ = ⊥
 
 pub record FitsChange (relation : ℕ → Relation) (c : PublishedChange) : Type 0 where
@@ -146,12 +162,27 @@ pub record FitsChange (relation : ℕ → Relation) (c : PublishedChange) : Type
   pub short : IsShortMessage c.message
   pub relations : AllByRecursion (FitsRelationOf relation) (tables_of c.message)
 
+-- a note: one message outside of transactions, at its start, with no time and no xid
+pub record FitsNote (t : Published) : Type 0 where
+  pub time : t.time ≡ pos 0
+  pub xid : t.xid ≡ 0
+  pub message : Message
+  pub is : t.changes ≡ record { position = t.start; message = logical.Message message } ∷ []
+  pub outside : message.is_transactional ≡ false
+  pub position : message.position ≡ t.start
+  pub fits : FitsLogical (logical.Message message)
+  pub short : IsShortMessage (logical.Message message)
+
+abbrev pub FitChanges : (is_note : Bool) → (ℕ → Relation) → Published → Type 0
+FitChanges false relation t = AllByRecursion (FitsChange relation) t.changes
+FitChanges true relation t = FitsNote t
+
 pub record FitsPublished (relation : ℕ → Relation) (t : Published) : Type 0 where
   pub start : t.start < 2 ^ 64
   pub end : t.end < 2 ^ 64
   pub time : FitsSigned w64 t.time
   pub xid : t.xid < 2 ^ 32
-  pub changes : AllByRecursion (FitsChange relation) t.changes
+  pub changes : FitChanges t.is_note relation t
 
 abbrev pub FitsItem : (ℕ → Relation) → Item → Type 0
 FitsItem relation (KeepaliveItem k) = (k.position < 2 ^ 64) × FitsSigned w64 k.clock

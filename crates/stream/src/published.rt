@@ -1,14 +1,16 @@
-//! A published transaction, what a subscriber is to apply: its commit's place and time, and its changes as messages.
+//! A published transaction or note, what a subscriber is to apply: its place in the log, its time, and its changes as messages.
 
 use pgoutput::Logical;
 use pqformat::Items;
 
-/// A transaction as it is published.
+/// A transaction as it is published; or a note, a message of the log outside of all transactions.
 #[derive(Debug, Drop)]
 pub struct Published {
-    /// The position at which the commit record starts.
+    /// Whether it is a note: then its one change is its message, and its time and its xid are 0.
+    pub is_note: bool,
+    /// The position at which the commit record starts, or the note's.
     pub start: u64,
-    /// The position at which the commit record ends.
+    /// The position at which that record ends.
     pub end: u64,
     /// The commit time, in microseconds since 2000-01-01.
     pub time: i64,

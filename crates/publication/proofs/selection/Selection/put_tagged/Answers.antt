@@ -2,7 +2,7 @@ use Rattle.std.proofs.Common.{ℕ, subst, sym}
 use Rattle.std.specs.Prelude.{IfSome}
 use Rattle.tables.specs.Reading.{change_tagged}
 use Rattle.publication.specs.Spelling.{IsReadWhole}
-use Rattle.publication.proofs.Fields.{found_delete, found_insert, found_truncate, found_update}
+use Rattle.publication.proofs.Fields.{found_delete, found_insert, found_message, found_truncate, found_update}
 use Rattle.publication.proofs.selection.Selection.put_tagged.Goals as goal
 
 pub returns-in-1-clause-found : goal.returns-in-1-clause-found
@@ -20,3 +20,7 @@ returns-in-3-clause-found c =
 pub returns-in-4-clause-found : goal.returns-in-4-clause-found
 returns-in-4-clause-found c =
     subst (λ (tag : ℕ). IfSome c.put_truncated.result (λ _. IsReadWhole (change_tagged tag c.args.fields.now))) (sym c.in-4.is) (found_truncate c.args.fields.now c.put_truncated.result c.put_truncated.ensures.found)
+
+pub returns-in-5-clause-found : goal.returns-in-5-clause-found
+returns-in-5-clause-found c =
+    subst (λ (tag : ℕ). IfSome c.put_logged.result (λ _. IsReadWhole (change_tagged tag c.args.fields.now))) (sym c.in-5.is) (found_message c.args.fields.now c.put_logged.result c.put_logged.ensures.found)

@@ -1,0 +1,140 @@
+//! Messages of the log, sent to streams that ask for them.
+#![tactic(auto, using(crate::proofs::Written::sizes))]
+
+ghost use Rattle.std.specs.Prelude.{◌≡◌, ◌≤◌, [], IfOk, IfSome, Ok, OnSome, Some, length, true};
+ghost use Rattle.std.specs.Str.{is_utf8};
+ghost use Rattle.pgoutput.specs.Logical.{spell_logical};
+ghost use Rattle.pgoutput.specs.Message.{message_flags};
+ghost use Rattle.pgoutput.specs.declared.logical.Logical.{Logical as Meant};
+ghost use Rattle.tables.specs.Reading.{SpellsBody, change_tagged, message_at};
+ghost use Rattle.tables.specs.Refs.{message_of};
+ghost use Rattle.tables.specs.declared.change.Change.{Change as Changed};
+ghost use Rattle.tables.specs.declared.message.Message.{Message as Held};
+ghost use Rattle.publication.specs.Logged.{IsNoteAt, change_message, fits_log, note_message, logged, told_of};
+ghost use Rattle.publication.specs.Spelling.{FitsRoom, HasRoom, IsPut, IsReadWhole, IsWritten, Writes};
+
+use crate::putting::MAX_MESSAGE_LENGTH;
+use crate::selection::Selection;
+use crate::spelling::{put_byte, put_bytes, put_int32, put_int64};
+use pgoutput::{Logical, MESSAGE, Message as Told, NOT_TRANSACTIONAL, TRANSACTIONAL};
+use pqformat::Items;
+use std::alloc::AllocError;
+use tables::{MAX_CONTENT_LENGTH, MESSAGE_TAG, Message, MessageRef, is_prefix, lend_message};
+
+impl Selection {
+    /// Writes the message of the note whose body these bytes are, and whose record starts at the position, to the front of `out`, and
+    /// answers how long it is. None where no messages were asked for, and where the bytes are no body of a message. It takes no memory.
+    pub fn put_note(&self, position: u64, body: &[u8], out: &mut [u8]) -> Option<usize>
+        requires { MAX_MESSAGE_LENGTH ≤ length out.old }
+        ensures message { (c : Changed) → SpellsBody body.now c → IsPut result out.new (note_message self.now position c) }
+        ensures fits { (c : Changed) (m : Meant) → SpellsBody body.now c → note_message self.now position c ≡ Some m → IsNoteAt position m }
+        ensures short { IfSome result (λ n. n ≤ MAX_MESSAGE_LENGTH) }
+        ensures same { length out.new ≡ length out.old }
+    {
+        let (tag, fields) = body.split_first()?;
+        self.put_note_tagged(position, *tag, fields, &mut out[..MAX_MESSAGE_LENGTH])
+    }
+
+    fn put_note_tagged(
+        &self,
+        position: u64,
+        tag: u8,
+        fields: &[u8],
+        out: &mut [u8],
+    ) -> Option<usize>
+        requires { HasRoom out.old }
+        ensures told { (c : Changed) → change_tagged tag fields.now ≡ Ok (c, []) → IsWritten result out.old out.new (note_message self.now position c) }
+        ensures short { IfSome result (λ n. n ≤ MAX_MESSAGE_LENGTH) }
+        ensures same { length out.new ≡ length out.old }
+    {
+        if tag != MESSAGE_TAG {
+            return None;
+        }
+        self.put_logged(false, position, fields, out)
+    }
+
+    /// The message of which these are the fields, with its transaction or by itself.
+    pub(crate) fn put_logged(
+        &self,
+        is_transactional: bool,
+        position: u64,
+        fields: &[u8],
+        out: &mut [u8],
+    ) -> Option<usize>
+        requires { HasRoom out.old }
+        ensures told { (m : Held) → message_at fields.now ≡ Ok (m, []) → IsWritten result out.old out.new (logged is_transactional self.now position m) }
+        ensures found { IfSome result (λ _. IsReadWhole (message_at fields.now)) }
+        ensures short { IfSome result (λ n. n ≤ MAX_MESSAGE_LENGTH) }
+        ensures same { length out.new ≡ length out.old }
+    {
+        if !self.messages {
+            return None;
+        }
+        let message = lend_message(fields)?;
+        if !fits_log(message) {
+            return None;
+        }
+        Some(put_message(out, is_transactional, position, message))
+    }
+
+    /// The message itself, if messages were asked for.
+    pub(crate) fn logged(
+        &self,
+        position: u64,
+        message: &Message,
+    ) -> Result<Option<Logical>, AllocError>
+        ensures value { IfOk result (λ o. o ≡ logged true self.now position message.now) }
+        ensures in_range { IfOk result (λ o. OnSome o (is_utf8 message.now.prefix ≡ true)) }
+    {
+        let lent = MessageRef {
+            prefix: message.prefix.as_str(),
+            content: message.content.as_slice(),
+        };
+        if !self.messages || !fits_log(lent) {
+            return Ok(None);
+        }
+        let prefix = message.prefix.copy(self.alloc)?;
+        let content = Vec::from_slice(self.alloc, lent.content)?;
+        Ok(Some(Logical::Message(Told {
+            is_transactional: true,
+            position,
+            prefix,
+            content: Items::new(content),
+        })))
+    }
+}
+
+/// Whether it may stand in the log.
+fn fits_log(message: MessageRef<'_>) -> bool
+    ensures { result ≡ fits_log (message_of message.entry) }
+{
+    is_prefix(message.prefix) && message.content.len() <= MAX_CONTENT_LENGTH
+}
+
+fn put_message(
+    out: &mut [u8],
+    is_transactional: bool,
+    position: u64,
+    message: MessageRef<'_>,
+) -> usize
+    requires { FitsRoom 0 out.old (spell_logical (told_of is_transactional position (message_of message))) }
+    ensures { Writes 0 result out.old out.new (spell_logical (told_of is_transactional position (message_of message.entry))) }
+{
+    let kind = put_byte(out, 0, MESSAGE);
+    let flags = put_byte(out, kind, flags_of(is_transactional));
+    let placed = put_int64(out, flags, position);
+    let named = put_bytes(out, placed, message.prefix.as_bytes());
+    let ended = put_byte(out, named, 0);
+    let counted = put_int32(out, ended, message.content.len() as u32);
+    put_bytes(out, counted, message.content)
+}
+
+fn flags_of(is_transactional: bool) -> u8
+    ensures { result ≡ message_flags is_transactional }
+{
+    if is_transactional {
+        TRANSACTIONAL
+    } else {
+        NOT_TRANSACTIONAL
+    }
+}
