@@ -210,6 +210,34 @@ undo_kept l rs r x h keeps undoing ending naming none =
         given_up true dropped both = nothing_left ((x == q) || (is_in q (behind x (back_from_last l x)) && is_in x s.above)) s.changes (o.freed dropped)
         given_up false live both = under_it (x == q) (is_in x s.above) refl refl (ap (is_in x) (sym o.chain) ∙ both)
 
+-- A RECORD OF NO TRANSACTION
+
+pub quiet_kept : (l : ByXid) (rs : List Record) (r : Record) → AreStrandsOf l rs → KeepsChains r.body → ((y : ℕ) → undoes y r.body ≡ false) → ((y : ℕ) → ends y r.body ≡ false) →
+    ((y : ℕ) → names y r.body ≡ false) → entry_at r.start r.body ≡ [] → AreStrandsOf l (rs ++ r ∷ [])
+quiet_kept l rs r h keeps undoing ending naming none = record {
+  strands = λ q s is. strand q s (h.strands q s is);
+  transactions = λ t xs is. strands_changed l l rs r keeps ending (λ q some. some) (λ q. refl) t xs (h.transactions t xs is);
+  complete = λ q named kept running. h.complete q (sym (named_same q) ∙ named) (sym (undone_same q) ∙ kept) (sym (ended_same rs r keeps ending q) ∙ running);
+  rising = subst (λ (es : List Entry). IsRising es) (sym (entries_push rs r ∙ ap (λ es. entries rs ++ es) none ∙ append-nil (entries rs))) h.rising;
+}
+  where
+    named_same : (q : ℕ) → is_named (rs ++ r ∷ []) q ≡ is_named rs q
+    named_same q = is_named-one rs r q ∙ ap (λ b. is_named rs q || b) (naming q) ∙ or_false (is_named rs q)
+
+    undone_same : (q : ℕ) → is_undone (rs ++ r ∷ []) q ≡ is_undone rs q
+    undone_same q = is_undone-one rs r q ∙ ap (λ b. is_undone rs q || b) (undoing q) ∙ or_false (is_undone rs q)
+
+    strand : (q : ℕ) (s : StrandState) → IsStrand l rs q s → IsStrand l (rs ++ r ∷ []) q s
+    strand q s o = record {
+      chain = chain-append rs r q ∙ keeps (chain rs) q ∙ o.chain;
+      changes = λ live. o.changes (sym (dropped_same rs r keeps undoing q) ∙ live)
+          ∙ sym (changes_push rs r q ∙ ap (λ es. changes_of rs q ++ filter (λ f. f.xid == q) es) none ∙ append-nil (changes_of rs q));
+      freed = λ dropped. o.freed (sym (dropped_same rs r keeps undoing q) ∙ dropped);
+      members = o.members;
+      members_are = o.members_are;
+      within = o.within;
+    }
+
 -- AN END
 
 pub top_of_member : (l : ByXid) (rs : List Record) (t q : ℕ) → AreStrandsOf l rs → is_in q (all_in (l.members t)) ≡ true → top_of rs q ≡ t

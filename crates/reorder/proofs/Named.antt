@@ -4,7 +4,7 @@ use Rattle.std.specs.List.{filter, list_any, AllByRecursion}
 use Rattle.std.proofs.lemmas.Bool.{eqb-true}
 use Rattle.wal.specs.declared.record.Record.{Record}
 use Rattle.wal.specs.declared.record.Body.{Body}
-use Rattle.wal.specs.declared.record.Body.TheVariants.{Assign, Change as Changed, AbortSub, Abort, Commit}
+use Rattle.wal.specs.declared.record.Body.TheVariants.{Assign, Change as Changed, AbortSub, Abort, Commit, Note}
 use Rattle.wal.specs.Log.{Entry, names, is_named, assigns, is_assigned, chain_step, chain_back, is_undone, is_dropped, entry_at, entries}
 use Rattle.wal.proofs.Lists.{eqb_comm, all_append}
 use Rattle.wal.proofs.Laws.{all_when}
@@ -33,6 +33,7 @@ assigns_named x (Assign sub parent) none = eqb_comm sub x ∙ or_left (x == sub)
 assigns_named x (Changed xid change) none = refl
 assigns_named x (AbortSub xid) none = refl
 assigns_named x (Abort xid) none = refl
+assigns_named x (Note change) none = refl
 assigns_named x (Commit xid time) none = refl
 
 pub unassigned : (log : List Record) (x : ℕ) → is_named log x ≡ false → is_assigned log x ≡ false
@@ -52,6 +53,7 @@ none_first p (r ∷ older) x none = by_body r.body (none_first p older x) none
     by_body (Changed xid change) earlier none' = earlier none'
     by_body (AbortSub xid) earlier none' = earlier none'
     by_body (Abort xid) earlier none' = earlier none'
+    by_body (Note change) earlier none' = earlier none'
     by_body (Commit xid time) earlier none' = earlier none'
 
 -- what is not dropped is not undone
@@ -70,6 +72,7 @@ entries_named (r ∷ log) =
     here start (Changed xid change) = (rw (eq-eqb xid xid refl) refl, tt)
     here start (AbortSub xid) = tt
     here start (Abort xid) = tt
+    here start (Note change) = tt
     here start (Commit xid time) = tt
 
 -- their positions are those of records
@@ -82,6 +85,7 @@ entries_before (q ∷ log) r behind = all_append _ (entry_at q.start q.body) (en
     here start (Changed xid change) lt = (lt, tt)
     here start (AbortSub xid) lt = tt
     here start (Abort xid) lt = tt
+    here start (Note change) lt = tt
     here start (Commit xid time) lt = tt
 
 none_pass : (p : Entry → Bool) (es : List Entry) → AllByRecursion (λ e. p e ≡ false) es → filter p es ≡ []

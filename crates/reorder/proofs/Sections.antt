@@ -5,7 +5,7 @@ use Rattle.std.proofs.lemmas.Bool.{eqb-true}
 use Rattle.std.proofs.lemmas.List.{reverse-append}
 use Rattle.wal.specs.declared.record.Record.{Record}
 use Rattle.wal.specs.declared.record.Body.{Body}
-use Rattle.wal.specs.declared.record.Body.TheVariants.{Assign, Change as Changed, AbortSub, Abort, Commit}
+use Rattle.wal.specs.declared.record.Body.TheVariants.{Assign, Change as Changed, AbortSub, Abort, Commit, Note}
 use Rattle.wal.specs.Log.{IsNext, IsOpen, WellFormedAfter, is_named, is_assigned, chain_step, chain_back, chain, last_of, top_of, is_undone, is_dropped, ends, has_ended}
 use Rattle.wal.proofs.Laws.{chain-unassigned, has_ended-append, is_named-append, is_assigned-append, is_assigned-one, is_undone-append}
 use Rattle.wal.proofs.Sections.{goes_on}
@@ -29,6 +29,7 @@ none_newer p (r ∷ newer) older x none = by_body r.body (none_newer p newer old
     by_body (Changed xid change) above none' = above x none'
     by_body (AbortSub xid) above none' = above x none'
     by_body (Abort xid) above none' = above x none'
+    by_body (Note change) above none' = above x none'
     by_body (Commit xid time) above none' = above x none'
 
 -- A SECTION
@@ -48,6 +49,7 @@ never_ended before (r ∷ rs) x assigned good =
     not_here (Changed xid change) next = refl
     not_here (AbortSub xid) next = refl
     not_here (Abort xid) next = apart xid next.0 (xid == x) refl
+    not_here (Note change) next = refl
     not_here (Commit xid time) next = apart xid next.0 (xid == x) refl
 
 -- what is open in the log is open in its section
@@ -84,5 +86,6 @@ next_within skipped before (Changed xid change) good next = open_within skipped 
 next_within skipped before (AbortSub xid) good next = open_within skipped before xid good next.1
 next_within skipped before (Abort xid) good next =
     (or_right (is_assigned skipped xid) (is_assigned before xid) (sym (is_assigned-append skipped before xid) ∙ next.0), open_within skipped before xid good next.1)
+next_within skipped before (Note change) good next = next
 next_within skipped before (Commit xid time) good next =
     (or_right (is_assigned skipped xid) (is_assigned before xid) (sym (is_assigned-append skipped before xid) ∙ next.0), open_within skipped before xid good next.1)

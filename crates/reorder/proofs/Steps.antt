@@ -7,7 +7,7 @@ use Rattle.std.specs.List.Sorted.{IsNonDecreasingBy, IsStableByKey}
 use Rattle.tables.specs.declared.change.Change.{Change}
 use Rattle.wal.specs.declared.record.Record.{Record}
 use Rattle.wal.specs.declared.record.Body.{Body}
-use Rattle.wal.specs.declared.record.Body.TheVariants.{Assign, Change as Changed, AbortSub, Abort, Commit}
+use Rattle.wal.specs.declared.record.Body.TheVariants.{Assign, Change as Changed, AbortSub, Abort, Commit, Note}
 use Rattle.wal.specs.Log.{Entry, names, is_named, has_ended, last_of, top_of, kept}
 use Rattle.wal.proofs.Lists.{eqb_comm}
 use Rattle.wal.proofs.Laws.{chain-unassigned, is_named-one}
@@ -19,7 +19,7 @@ use Rattle.reorder.specs.Taking.{ReorderState, HasTaken, IsSameTaken, MayCome, S
 use Rattle.reorder.proofs.Named.{or_left, or_right}
 use Rattle.reorder.proofs.Opening.{Opened, opened, same_kept}
 use Rattle.reorder.proofs.Assigning.{assign_kept}
-use Rattle.reorder.proofs.Keeping.{push_kept, undo_kept, end_kept}
+use Rattle.reorder.proofs.Keeping.{push_kept, undo_kept, end_kept, quiet_kept}
 use Rattle.reorder.proofs.Committing.{kept_merged, kept_permuted, none_kept}
 
 abbrev pub state : StrandsState → Bool → ReorderState
@@ -130,6 +130,15 @@ taken_abort s now b d r t body same = takes s now b d r (Abort t) None body (λ 
               (end_kept (by_xid s) before r t h.strands next.0 (rw body (λ above y. refl)) (rw body (λ y. refl)) (rw body (λ y. refl)) (rw body (λ y. refl)) (rw body refl));
           unnamed = λ q unheard. same.strand q ∙ gone (by_xid s) t q (h.unnamed q (before_too before r q unheard));
         }
+
+pub taken_note : (s : StrandsState) (b d : Bool) (r : Record) (c : Change) → r.body ≡ Note c → Takes (state s b) (state s d) r None
+taken_note s b d r c body = takes s s b d r (Note c) None body (λ before h next behind. (after before h, refl))
+  where
+    after : (before : List Record) → IsBookkeeping (by_xid s) before → IsBookkeeping (by_xid s) (before ++ r ∷ [])
+    after before h = record {
+      strands = quiet_kept (by_xid s) before r h.strands (rw body (λ above y. refl)) (rw body (λ y. refl)) (rw body (λ y. refl)) (rw body (λ y. refl)) (rw body refl);
+      unnamed = λ q unheard. h.unnamed q (before_too before r q unheard);
+    }
 
 pub taken_commit : (s now : StrandsState) (b d : Bool) (r : Record) (t : ℕ) (time : ℤ) (sorted : List Entry) → r.body ≡ Commit t time →
     IsNonDecreasingBy (λ (e : Entry). e.position) sorted → IsStableByKey (λ (e : Entry). e.position) nat_cmp (joined (by_xid s) t) sorted →

@@ -20,7 +20,8 @@ use wal::{Body, Record};
 
 /// The changes of the transactions in progress, by the xids that made them, in an arena.
 ///
-/// Records go in one by one and in log order, each by `take`. `Step::Quiet` means that nothing is to be published yet.
+/// Records go in one by one and in log order, each by `take`. `Step::Quiet` means that nothing of a transaction is to be published yet;
+/// a note is quiet too, and takes no room.
 /// `Step::Ready` comes with a commit: `entry` lends its changes one by one, and `finish` takes the `Ready` back. Several may be in
 /// being while more records are taken.
 ///
@@ -112,6 +113,7 @@ impl Reorder {
             }
             Body::AbortSub(xid) => self.strands.undo(*xid),
             Body::Abort(top) => self.strands.end(*top),
+            Body::Note(_) => {}
             Body::Commit(top, _) => return Ok(Step::Ready(self.strands.make_ready(*top)?)),
         }
         Ok(Step::Quiet)

@@ -2,7 +2,7 @@
 use Rattle.std.proofs.Common.{◌≡◌, ◌<◌, ◌+◌, zero, suc, take, get_or, ℕ, ℤ, Bool, true, false, cond, List, [], ◌∷◌, ◌++◌, Some, None, length, map, filter, refl, sym, ap, subst, ◌∙◌, append_assoc, arith}
 use Rattle.std.proofs.lemmas.List.{append-nil, take_all}
 use Rattle.std.proofs.lemmas.Grind.{flat_map-append}
-use Rattle.std.specs.Prelude.{slice_get}
+use Rattle.std.specs.Prelude.{nat_le, slice_get}
 use Rattle.std.specs.Option.{option_map}
 use Rattle.std.proofs.lemmas.Option.{slice_get-get_or, slice_get-map}
 use Rattle.std.specs.Global.{Global}
@@ -13,8 +13,9 @@ use Rattle.wal.specs.Records.{shared}
 use Rattle.publication.specs.Publications.{PublicationSet}
 use Rattle.wal.specs.declared.record.Record.{Record}
 use Rattle.wal.specs.declared.record.Body.{Body}
-use Rattle.wal.specs.declared.record.Body.TheVariants.{Assign, Change as Changed, AbortSub, Abort, Commit}
-use Rattle.wal.specs.Log.{committed_at, committed_from, end_of}
+use Rattle.wal.specs.declared.record.Body.TheVariants.{Assign, Change as Changed, AbortSub, Abort, Commit, Note}
+use Rattle.tables.specs.declared.change.Change.{Change}
+use Rattle.wal.specs.Log.{noted, committed_at, committed_from, end_of}
 use Rattle.wal.proofs.Laws.{end_of-append, committed_from-append}
 use Rattle.reorder.specs.Chunks.{LeavesNoRoom}
 use Rattle.reorder.specs.Taking.{HasTaken, MayCome, promised}
@@ -23,8 +24,8 @@ use Rattle.pgoutput.specs.declared.relation.Relation.{Relation}
 use Rattle.stream.specs.declared.published.Published.{Published}
 use Rattle.stream.specs.Words.{word_bytes, frames_of}
 use Rattle.stream.specs.Items.{Block, FitsPublished, words_of, item_words, spelled, relations_sent_by_all, relations_sent_through}
-use Rattle.sender.specs.Published.{published, published_as, published_from, has_message}
-use Rattle.sender.specs.Sending.{SenderState, MayFollow, HasChunks, HasRead, LacksRoom, blocks, published_bytes, published_by_commit, ReadOne, ReadAll, RanOut, OutputUnchanged, AddsPublished}
+use Rattle.sender.specs.Published.{published, published_as, published_from, published_note, has_message}
+use Rattle.sender.specs.Sending.{SenderState, MayFollow, HasChunks, HasRead, LacksRoom, blocks, published_bytes, published_by_record, ReadOne, ReadAll, RanOut, OutputUnchanged, AddsPublished}
 
 -- ---- items behind items
 
@@ -73,20 +74,25 @@ MayFollow-back before (r ∷ m) n may = let P : List Record → Type 0 = λ l. M
 -- ---- one record
 
 -- what is ready by the definition is what the record publishes
-published_by_commit_is : (selection : PublicationSet) (s : ℕ) (before : List Record) (r : Record) → published_by_commit selection s r (promised before r.body) ≡ published_from selection s before (r ∷ [])
-published_by_commit_is selection s before r = by_body r.body refl
+published_by_record_is : (selection : PublicationSet) (s : ℕ) (before : List Record) (r : Record) → published_by_record selection s r (promised before r.body) ≡ published_from selection s before (r ∷ [])
+published_by_record_is selection s before r = by_body r.body refl
   where
     Same : Body → Type 0
-    Same body = published_by_commit selection s (record r { body = body }) (promised before body) ≡ filter has_message (map (published_as selection) (committed_at s before r.start r.end body ++ []))
+    Same body = published_by_record selection s (record r { body = body }) (promised before body) ≡ filter has_message (map (published_as selection) (committed_at s before r.start r.end body ++ []))
 
     by_commit : (xid : ℕ) (time : ℤ) → Same (Commit xid time)
     by_commit xid time = ap (λ ts. filter has_message (map (published_as selection) ts)) (sym (append-nil (committed_at s before r.start r.end (Commit xid time))))
+
+    by_note : (change : Change) (b : Bool) → cond b (published_note selection r.start r.end change) [] ≡ filter has_message (map (published_as selection) (cond b (noted r.start r.end change ∷ []) [] ++ []))
+    by_note change true = refl
+    by_note change false = refl
 
     by_body : (body : Body) → r.body ≡ body → Same body
     by_body (Assign sub parent) is = refl
     by_body (Changed xid change) is = refl
     by_body (AbortSub xid) is = refl
     by_body (Abort xid) is = refl
+    by_body (Note change) is = by_note change (nat_le s r.start)
     by_body (Commit xid time) is = by_commit xid time
 
 pub ReadOne-ReadAll : (clock : ℤ) (old new : SenderState) (r : Record) → ReadOne clock old new r → ReadAll clock old new (r ∷ [])
@@ -96,11 +102,11 @@ ReadOne-ReadAll clock old new r one = record {
   position = one.position;
   after = λ before has may.
       let taken = one.takes.after before has.taken may.0 may.1 in
-      let is : commits ≡ published_from old.selection old.start before (r ∷ []) = ap (published_by_commit old.selection old.start r) taken.1 ∙ published_by_commit_is old.selection old.start before r in
+      let is : commits ≡ published_from old.selection old.start before (r ∷ []) = ap (published_by_record old.selection old.start r) taken.1 ∙ published_by_record_is old.selection old.start before r in
       (record { taken = taken.0; relations_sent = sent before has is }, adds before has is);
 } where
   commits : List Published
-  commits = published_by_commit old.selection old.start r one.ready
+  commits = published_by_record old.selection old.start r one.ready
 
   sent : (before : List Record) → HasRead old before → commits ≡ published_from old.selection old.start before (r ∷ []) → new.relations_sent ≡ relations_sent_through [] (published new.selection (before ++ r ∷ []) new.start)
   sent before has is =

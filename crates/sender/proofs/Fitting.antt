@@ -18,12 +18,13 @@ changes_fit selection (c ∷ cs) all =
     let f = all.0.1 in
     (record { position = all.0.0; of_change = f.of_change; fits = f.fits; short = f.short; relations = f.relations }, changes_fit selection cs all.1)
 
-pub transaction_fits : (selection : PublicationSet) (t : Published) → (t.start < 2 ^ 64) × (t.end < 2 ^ 64) × FitsSigned w64 t.time × (t.xid < 2 ^ 32) → AllByRecursion (CanBeTold selection) t.changes → FitsPublished (relation selection) t
-transaction_fits selection t (start, end, time, xid) all = record { start = start; end = end; time = time; xid = xid; changes = changes_fit selection t.changes all }
+transaction_fits : (selection : PublicationSet) (entries : List Entry) (h : Header) → (h.start < 2 ^ 64) × (h.end < 2 ^ 64) × FitsSigned w64 h.time × (h.xid < 2 ^ 32)
+    → AllByRecursion (CanBeTold selection) (published_changes selection entries) → FitsPublished (relation selection) (published_with selection entries h)
+transaction_fits selection entries h (start, end, time, xid) all = record { start = start; end = end; time = time; xid = xid; changes = changes_fit selection (published_changes selection entries) all }
 
 -- the one transaction that a commit publishes
 pub commit_fits : (selection : PublicationSet) (entries : List Entry) (h : Header) (ts : List Published) → published_with selection entries h ∷ [] ≡ ts →
     (h.start < 2 ^ 64) × (h.end < 2 ^ 64) × FitsSigned w64 h.time × (h.xid < 2 ^ 32) → AllByRecursion (CanBeTold selection) (published_changes selection entries) → AllByRecursion (FitsPublished (relation selection)) ts
 commit_fits selection entries h ts is numbers told =
     let P : List Published → Type 0 = λ l. AllByRecursion (FitsPublished (relation selection)) l in
-    subst P is (transaction_fits selection (published_with selection entries h) numbers told, tt)
+    subst P is (transaction_fits selection entries h numbers told, tt)

@@ -18,7 +18,7 @@ use Rattle.pgoutput.specs.declared.relation.Relation.{Relation}
 use Rattle.stream.specs.declared.word.Word.{Word}
 use Rattle.stream.specs.declared.published.Published.{Published}
 use Rattle.stream.specs.Words.{word_bytes, frames_of}
-use Rattle.stream.specs.Items.{xlogdata_word, keepalive_word, begin_message, commit_message, changes_words, block_words, IsShortMessage}
+use Rattle.stream.specs.Items.{xlogdata_word, keepalive_word, begin_message, commit_message, changes_words, transaction_words, IsShortMessage}
 
 length-xlogdata : (start end : ℕ) (clock : ℤ) (payload : List ℕ) → length (xlogdata start end clock payload) ≡ 25 + length payload
 length-xlogdata start end clock payload =
@@ -57,7 +57,7 @@ frames_append ws vs = flat_map-append word_bytes ws vs
 pub frames_one : (w : Word) → frames_of (w ∷ []) ≡ word_bytes w
 frames_one w = flat_map-cons word_bytes w [] ∙ append-nil (word_bytes w)
 
-pub block_is : (relation : ℕ → Relation) (relations_sent : List ℕ) (clock : ℤ) (t : Published) → frames_of (block_words relation relations_sent clock t)
+pub block_is : (relation : ℕ → Relation) (relations_sent : List ℕ) (clock : ℤ) (t : Published) → frames_of (transaction_words relation relations_sent clock t)
     ≡ (word_bytes (xlogdata_word t.start clock (begin_message t)) ++ frames_of (changes_words relation relations_sent clock t.changes)) ++ word_bytes (xlogdata_word t.end clock (commit_message t))
 block_is relation relations_sent clock t =
     let begun = xlogdata_word t.start clock (begin_message t) in
@@ -74,7 +74,7 @@ commit_short m = omega (arith, length-int64 m.position, length-int64 m.end, leng
 
 pub block_whole : (relation : ℕ → Relation) (relations_sent : List ℕ) (clock : ℤ) (t : Published) (old begun changed ended : List ℕ) (m n : Logical) → m ≡ begin_message t → n ≡ commit_message t
     → begun ≡ old ++ word_bytes (xlogdata_word t.start clock m) → changed ≡ begun ++ frames_of (changes_words relation relations_sent clock t.changes) → ended ≡ changed ++ word_bytes (xlogdata_word t.end clock n)
-    → ended ≡ old ++ frames_of (block_words relation relations_sent clock t)
+    → ended ≡ old ++ frames_of (transaction_words relation relations_sent clock t)
 block_whole relation relations_sent clock t old begun changed ended m n is_m is_n e f g =
     let first = word_bytes (xlogdata_word t.start clock (begin_message t)) in
     let middle = frames_of (changes_words relation relations_sent clock t.changes) in

@@ -1,4 +1,5 @@
 pub mod Framing
+pub mod Noting
 pub mod Lists
 pub mod Batches
 pub mod Changes

@@ -6,9 +6,9 @@ use Rattle.std.specs.Int.{w32, from_be_bytes}
 use Rattle.std.proofs.lemmas.Bool.{le-ltb}
 use Rattle.std.proofs.lemmas.List.{append-nil, drop_at, length-append, take_at}
 use Rattle.std.proofs.lemmas.List.Concat.{flat_map-cons}
-use Rattle.pqformat.specs.Fields.{int32, number_at}
+use Rattle.pqformat.specs.Fields.{int32, int64, number_at, string}
 use Rattle.pqformat.proofs.Codec.{found_some, not_missing}
-use Rattle.pqformat.proofs.Numbers.{length-int32, number32}
+use Rattle.pqformat.proofs.Numbers.{length-int32, length-int64, number32}
 use Rattle.pgoutput.specs.declared.logical.Logical.{Logical}
 use Rattle.pgoutput.specs.declared.logical.Logical.TheVariants as logical
 use Rattle.pgoutput.specs.declared.relation.Relation.{Relation}
@@ -16,6 +16,8 @@ use Rattle.pgoutput.specs.declared.insert.TheConstants.{INSERT, NEW}
 use Rattle.pgoutput.specs.declared.update.TheConstants.{UPDATE}
 use Rattle.pgoutput.specs.declared.delete.TheConstants.{DELETE}
 use Rattle.pgoutput.specs.declared.truncate.TheConstants.{TRUNCATE}
+use Rattle.pgoutput.specs.declared.message.TheConstants.{MESSAGE}
+use Rattle.pgoutput.specs.Message.{content}
 use Rattle.pgoutput.specs.Logical.{FitsLogical, spell_logical}
 use Rattle.pgoutput.specs.Tuple.{tuple}
 use Rattle.pgoutput.specs.declared.old_tuple.OldTuple.{OldTuple}
@@ -25,7 +27,8 @@ use Rattle.pgoutput.specs.Update.{old_if_any}
 use Rattle.pgoutput.specs.Truncate.{options_letter}
 use Rattle.pgoutput.proofs.Wires.{logical_codec}
 use Rattle.publication.specs.Publications.{PublicationSet}
-use Rattle.publication.specs.Projection.{MessageFits, message}
+use Rattle.publication.specs.Logged.{change_message}
+use Rattle.publication.specs.Projection.{MessageFits}
 use Rattle.publication.specs.Spelling.{IsPut}
 use Rattle.tables.specs.declared.change.Change.{Change}
 use Rattle.tables.specs.Reading.{SpellsBody}
@@ -89,10 +92,11 @@ oids_all [] all = refl
 oids_all (oid ∷ oids) all = ap oids_in (flat_map-cons int32 oid oids) ∙ oid_first oid (flat_map int32 oids) all.0 ∙ ap (λ (l : List ℕ). oid ∷ l) (oids_all oids all.1)
 
 -- what names one table
-one_named : (kind oid : ℕ) (rest : List ℕ) → eqb kind TRUNCATE ≡ false → oid < 2 ^ 32 → named_in (kind ∷ (int32 oid ++ rest)) ≡ oid ∷ []
-one_named kind oid rest other low =
+one_named : (kind oid : ℕ) (rest : List ℕ) → eqb kind TRUNCATE ≡ false → eqb kind MESSAGE ≡ false → oid < 2 ^ 32 → named_in (kind ∷ (int32 oid ++ rest)) ≡ oid ∷ []
+one_named kind oid rest other no_message low =
     let whole = kind ∷ (int32 oid ++ rest) in
-    ap (λ (b : Bool). cond b (oids_in (drop 6 whole)) (oids_in (take 4 (drop 1 whole)))) other
+    ap (λ (b : Bool). cond b (oids_in (drop 6 whole)) (cond (eqb kind MESSAGE) [] (oids_in (take 4 (drop 1 whole))))) other
+    ∙ ap (λ (b : Bool). cond b [] (oids_in (take 4 (drop 1 whole)))) no_message
     ∙ ap (λ (l : List ℕ). oids_in (take 4 l)) (drop_at (kind ∷ []) (int32 oid ++ rest) 1 refl)
     ∙ ap oids_in (take_at (int32 oid) rest 4 (length-int32 oid) ∙ sym (append-nil (int32 oid))) ∙ oid_first oid [] low
 
@@ -100,9 +104,10 @@ pub named_is : (rel : ℕ → Relation) (m : Logical) → IsOfChange rel m → F
 named_is rel (logical.Begin m) of fits = absurd of
 named_is rel (logical.Commit m) of fits = absurd of
 named_is rel (logical.Relation m) of fits = absurd of
-named_is rel (logical.Insert m) of fits = one_named INSERT m.oid ((NEW ∷ []) ++ tuple m.new) refl fits.0
-named_is rel (logical.Update m) of fits = one_named UPDATE m.oid (old_if_any m.old ++ ((NEW ∷ []) ++ tuple m.new)) refl fits.0
-named_is rel (logical.Delete m) of fits = one_named DELETE m.oid (old_tuple m.old) refl fits.0
+named_is rel (logical.Insert m) of fits = one_named INSERT m.oid ((NEW ∷ []) ++ tuple m.new) refl refl fits.0
+named_is rel (logical.Update m) of fits = one_named UPDATE m.oid (old_if_any m.old ++ ((NEW ∷ []) ++ tuple m.new)) refl refl fits.0
+named_is rel (logical.Delete m) of fits = one_named DELETE m.oid (old_tuple m.old) refl refl fits.0
+named_is rel (logical.Message m) of fits = refl
 named_is rel (logical.Truncate m) of fits =
     let head = int32 (length m.oids) ++ (options_letter m.options ∷ []) in
     let tail = flat_map int32 m.oids in
@@ -124,21 +129,27 @@ long_enough rel (logical.Insert m) of = omega (arith, length-append (int32 m.oid
 long_enough rel (logical.Update m) of =
     omega (arith, length-append (int32 m.oid) (old_if_any m.old ++ ((NEW ∷ []) ++ tuple m.new)), length-append (old_if_any m.old) ((NEW ∷ []) ++ tuple m.new), length-int32 m.oid)
 long_enough rel (logical.Delete m) of = omega (arith, length-append (int32 m.oid) (old_tuple m.old), length-int32 m.oid, old_some m.old)
+long_enough rel (logical.Message m) of =
+    omega (
+      arith,
+      length-append (int64 m.position) (string m.prefix ++ content m.content),
+      length-int64 m.position,
+    )
 long_enough rel (logical.Truncate m) of =
     omega (arith, length-append (int32 (length m.oids)) ((options_letter m.options ∷ []) ++ flat_map int32 m.oids), length-int32 (length m.oids))
 
 -- ---- a change of a commit
 
 pub put_yields : (selection : PublicationSet) (entries : List Entry) (k position : ℕ) (body room : List ℕ) (put : Option ℕ) → k < length entries → position < 2 ^ 64 → IsEntryAt entries k position body
-    → ((c : Change) → SpellsBody body c → IsPut put room (message selection c)) → ((c : Change) (m : Logical) → SpellsBody body c → message selection c ≡ Some m → MessageFits selection m)
+    → ((c : Change) → SpellsBody body c → IsPut put room (change_message selection position c)) → ((c : Change) (m : Logical) → SpellsBody body c → change_message selection position c ≡ Some m → MessageFits selection m)
     → Yields selection (published_changes selection (drop k entries)) (published_changes selection (drop (k + 1) entries)) (option_map (λ n. (position, n)) put) room
 put_yields selection entries k position body room put low in_range is puts fits =
     let t = there entries k low in
     let at = is t.entry t.gets in
     let next = published_changes selection (drop (k + 1) entries) in
-    let here : published_changes selection (drop k entries) ≡ published_at position (message selection t.entry.change) ++ next =
-    ap (published_changes selection) t.parts ∙ ap (λ p. published_at p (message selection t.entry.change) ++ next) (sym at.0) in
-    by_message put (message selection t.entry.change) next here (puts t.entry.change at.1) (λ m. fits t.entry.change m at.1)
+    let here : published_changes selection (drop k entries) ≡ published_at position (change_message selection position t.entry.change) ++ next =
+    ap (published_changes selection) t.parts ∙ ap (λ p. published_at p (change_message selection p t.entry.change) ++ next) (sym at.0) in
+    by_message put (change_message selection position t.entry.change) next here (puts t.entry.change at.1) (λ m. fits t.entry.change m at.1)
   where
     by_message : (put : Option ℕ) (o : Option Logical) (next : List PublishedChange) → published_changes selection (drop k entries) ≡ published_at position o ++ next → IsPut put room o
         → ((m : Logical) → o ≡ Some m → MessageFits selection m) → Yields selection (published_changes selection (drop k entries)) next (option_map (λ n. (position, n)) put) room

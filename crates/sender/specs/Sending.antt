@@ -1,11 +1,11 @@
 -- A sender between its calls, and what reading records does to it. The records may be those of a whole log or of a section of
 -- one, which begins behind earlier records of its transactions.
-use Rattle.std.specs.Prelude.{◌≡◌, ◌⊎◌, ◌<◌, ℕ, ℤ, Bool, true, List, [], ◌∷◌, ◌++◌, length, take, map, filter, nat_le, slice_get, Option, Some, None, if◌then◌else◌}
+use Rattle.std.specs.Prelude.{◌≡◌, ◌⊎◌, ◌<◌, ℕ, ℤ, Bool, true, false, List, [], ◌∷◌, ◌++◌, length, take, map, filter, nat_le, slice_get, Option, Some, None, if◌then◌else◌}
 use Rattle.std.specs.List.{AllByRecursion}
 use Rattle.publication.specs.Publications.{PublicationSet}
 use Rattle.wal.specs.declared.record.Record.{Record}
 use Rattle.wal.specs.declared.record.Body.{Body}
-use Rattle.wal.specs.declared.record.Body.TheVariants.{Commit}
+use Rattle.wal.specs.declared.record.Body.TheVariants.{Commit, Note}
 use Rattle.wal.specs.Log.{Entry, Transaction, end_of}
 use Rattle.reorder.specs.Chunks.{IsTidy, LeavesNoRoom}
 use Rattle.reorder.specs.Taking.{ReorderState, HasTaken, MayCome, StartsBehind, Takes}
@@ -14,7 +14,7 @@ use Rattle.stream.specs.declared.published.Published.{Published}
 use Rattle.stream.specs.Items.{Item, Block, FitsPublished, spelled, relations_sent_through}
 use Rattle.sender.specs.declared.fault.SendFault.{SendFault}
 use Rattle.sender.specs.declared.fault.SendFault.TheVariants.{ArenaFull, Memory}
-use Rattle.sender.specs.Published.{published, published_as, published_from, has_message}
+use Rattle.sender.specs.Published.{published, published_as, published_from, published_note, has_message}
 
 -- what determines the bytes to come
 pub record SenderState : Type 0 where
@@ -88,13 +88,18 @@ pub record LacksRoom (old new : SenderState) (rs : List Record) : Type 0 where
 -- the transaction that a record with these changes commits, if it starts at the start position s or later
 abbrev pub ready_at : ℕ → ℕ → ℕ → Body → List Entry → List Transaction
 ready_at s start end (Commit xid time) entries =
-    if nat_le s start then record { start = start; end = end; time = time; xid = xid; changes = entries } ∷ [] else []
+    if nat_le s start then record { is_note = false; start = start; end = end; time = time; xid = xid; changes = entries } ∷ [] else []
 ready_at s start end _ entries = []
 
+-- what a record publishes that makes nothing ready: a note that starts at the start position s or later
+abbrev pub published_quietly : PublicationSet → (s start end : ℕ) → Body → List Published
+published_quietly selection s start end (Note change) = if nat_le s start then published_note selection start end change else []
+published_quietly selection s start end _ = []
+
 -- what a record publishes by what it made ready
-abbrev pub published_by_commit : PublicationSet → ℕ → Record → Option (List Entry) → List Published
-published_by_commit selection s r None = []
-published_by_commit selection s r (Some entries) = filter has_message (map (published_as selection) (ready_at s r.start r.end r.body entries))
+abbrev pub published_by_record : PublicationSet → ℕ → Record → Option (List Entry) → List Published
+published_by_record selection s r None = published_quietly selection s r.start r.end r.body
+published_by_record selection s r (Some entries) = filter has_message (map (published_as selection) (ready_at s r.start r.end r.body entries))
 
 -- one record was read
 pub record ReadOne (clock : ℤ) (old new : SenderState) (r : Record) : Type 0 where
@@ -103,9 +108,9 @@ pub record ReadOne (clock : ℤ) (old new : SenderState) (r : Record) : Type 0 w
   pub selection : new.selection ≡ old.selection
   pub start : new.start ≡ old.start
   pub position : new.position ≡ r.end
-  pub held : new.held ≡ old.held ++ spelled (relation old.selection) old.relations_sent (blocks clock (published_by_commit old.selection old.start r ready))
-  pub fit : AllByRecursion (FitsPublished (relation old.selection)) (published_by_commit old.selection old.start r ready)
-  pub relations_sent : new.relations_sent ≡ relations_sent_through old.relations_sent (published_by_commit old.selection old.start r ready)
+  pub held : new.held ≡ old.held ++ spelled (relation old.selection) old.relations_sent (blocks clock (published_by_record old.selection old.start r ready))
+  pub fit : AllByRecursion (FitsPublished (relation old.selection)) (published_by_record old.selection old.start r ready)
+  pub relations_sent : new.relations_sent ≡ relations_sent_through old.relations_sent (published_by_record old.selection old.start r ready)
 
 -- nothing that a drain or a reader of the position sees has changed
 pub record OutputUnchanged (old new : SenderState) : Type 0 where

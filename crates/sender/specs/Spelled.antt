@@ -7,6 +7,7 @@ use Rattle.pgoutput.specs.declared.logical.Logical.{Logical}
 use Rattle.pgoutput.specs.declared.logical.Logical.TheVariants as logical
 use Rattle.pgoutput.specs.declared.fault.OutFault.{OutFault}
 use Rattle.pgoutput.specs.declared.truncate.TheConstants.{TRUNCATE}
+use Rattle.pgoutput.specs.declared.message.TheConstants.{MESSAGE}
 use Rattle.pgoutput.specs.Logical.{spell_logical, whole_of}
 use Rattle.pgoutput.specs.declared.relation.Relation.{Relation}
 use Rattle.publication.specs.Publications.{PublicationSet}
@@ -39,10 +40,13 @@ abbrev pub oids_in : List ℕ → List ℕ
 oids_in (a ∷ b ∷ c ∷ d ∷ bytes) = from_be_bytes w32 (a ∷ b ∷ c ∷ d ∷ []) ∷ oids_in bytes
 oids_in _ = []
 
--- The tables that a message of a change names: a Truncate has their OIDs behind its letter, their count and its options, any other one OID
--- behind its letter.
+-- The tables that a message of a change names: a Truncate has their OIDs behind its letter, their count and its options, a Message names
+-- none, any other has one OID behind its letter.
 abbrev pub named_in : List ℕ → List ℕ
-named_in bytes = if get_or bytes 0 0 == TRUNCATE then oids_in (drop 6 bytes) else oids_in (take 4 (drop 1 bytes))
+named_in bytes =
+    if get_or bytes 0 0 == TRUNCATE then oids_in (drop 6 bytes)
+    else if get_or bytes 0 0 == MESSAGE then []
+    else oids_in (take 4 (drop 1 bytes))
 
 -- The first of the published changes that are left, with its position and how many bytes of the room spell it; or there is none here.
 abbrev pub Yields : PublicationSet → (here next : List PublishedChange) → Option (ℕ × ℕ) → List ℕ → Type 0

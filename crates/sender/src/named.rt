@@ -3,7 +3,7 @@
 ghost use Rattle.std.specs.Prelude.{◌≡◌, ◌≤◌, length};
 ghost use Rattle.sender.specs.Spelled.{named_in, oids_in};
 
-use pgoutput::TRUNCATE;
+use pgoutput::{MESSAGE, TRUNCATE};
 use pqformat::Cursor;
 
 /// Where the one OID stands that a message of a change has, behind its letter.
@@ -19,6 +19,9 @@ pub(crate) fn named_in(message: &[u8]) -> Cursor<'_>
 {
     if message[0] == TRUNCATE {
         return Cursor::new(&message[TRUNCATED..]);
+    }
+    if message[0] == MESSAGE {
+        return Cursor::new(&[]);
     }
     Cursor::new(&message[OID..OID + 4])
 }

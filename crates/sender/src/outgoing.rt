@@ -4,6 +4,10 @@
 ghost use Rattle.std.specs.Prelude.{◌≡◌, ◌+◌, ◌≤◌, ◌<◌, ◌^◌, ◌++◌, ◌∷◌, [], OnErr, OnOk, reverse, IsSome, min, take, drop, length};
 ghost use Rattle.std.specs.List.{AllByRecursion};
 ghost use Rattle.pqformat.specs.Putting.{Puts};
+ghost use Rattle.copyboth.specs.XLogData.{xlogdata};
+ghost use Rattle.frames.specs.Frame.{frame};
+ghost use Rattle.frames.specs.declared.copy_data.TheConstants.{COPY_DATA};
+ghost use Rattle.frames.specs.declared.frame.TheConstants.{FRAME_LIMIT};
 ghost use Rattle.pgoutput.specs.Logical.{IsShort};
 ghost use Rattle.pgoutput.specs.declared.logical.Logical.TheVariants as logical;
 ghost use Rattle.publication.specs.Selection.{relation, selected_table};
@@ -116,6 +120,26 @@ impl Outgoing {
     {
         let length = self.held.len();
         let written = self.block(selection, reorder, ready, header, clock, room);
+        if written.is_err() {
+            self.held.truncate(length);
+        }
+        written
+    }
+
+    /// Adds the message of a note at a position, of which this is the spelling, or, where memory is refused, nothing.
+    pub(crate) fn note(
+        &mut self,
+        position: u64,
+        clock: i64,
+        message: &[u8],
+    ) -> Result<(), AllocError>
+        requires { 29 + length message.now ≤ FRAME_LIMIT }
+        ensures ok { OnOk result (self.new.held.items ≡ self.old.held.items ++ frame COPY_DATA (xlogdata position position clock message.now)) }
+        ensures err { OnErr result (self.new.held.items ≡ self.old.held.items) }
+        ensures relations_sent { self.new.relations_sent ≡ self.old.relations_sent }
+    {
+        let length = self.held.len();
+        let written = put_spelled(&mut self.held, position, clock, message);
         if written.is_err() {
             self.held.truncate(length);
         }

@@ -4,7 +4,7 @@ ghost use Rattle.std.specs.Prelude.{◌≡◌, ◌+◌, ◌<◌, ◌≤◌, ◌=
 ghost use Rattle.std.specs.Int.{w64};
 ghost use Rattle.reorder.specs.Ready.{IsReadyIn, ready_entries};
 ghost use Rattle.sender.specs.Published.{published_changes, published_with};
-ghost use Rattle.sender.specs.Sending.{published_by_commit};
+ghost use Rattle.sender.specs.Sending.{published_by_record};
 ghost use Rattle.sender.specs.Spelled.{Yields};
 
 use crate::header::Header;
@@ -35,7 +35,7 @@ pub(crate) fn header_of(
     requires held { IsReadyIn reorder.now.strands.pool ready.now }
     requires room { MAX_MESSAGE_LENGTH ≤ length room.old }
     ensures value { option_to_list (option_map (published_with selection.now (ready_entries reorder.now.strands.pool ready.now)) result)
-        ≡ published_by_commit selection.now start next.now (Some (ready_entries reorder.now.strands.pool ready.now)) }
+        ≡ published_by_record selection.now start next.now (Some (ready_entries reorder.now.strands.pool ready.now)) }
     ensures numbers { IfSome result (λ h. (h.start < 2 ^ 64) × (h.end < 2 ^ 64) × FitsSigned w64 h.time × (h.xid < 2 ^ 32)) }
     ensures same { length room.new ≡ length room.old }
 {
@@ -83,6 +83,6 @@ pub(crate) fn put_entry(
     ensures same { length room.new ≡ length room.old }
 {
     let (position, body) = reorder.entry(ready, k);
-    let length = selection.put(body, room)?;
+    let length = selection.put(position, body, room)?;
     Some((position, length))
 }

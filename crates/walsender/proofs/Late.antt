@@ -3,8 +3,8 @@ use Rattle.std.proofs.Common.{◌≡◌, ◌≤◌, ℕ, Bool, true, false, cond
 use Rattle.std.specs.List.{AllByRecursion}
 use Rattle.wal.specs.declared.record.Record.{Record}
 use Rattle.wal.specs.declared.record.Body.{Body}
-use Rattle.wal.specs.declared.record.Body.TheVariants.{Assign, Change as Changed, AbortSub, Abort, Commit}
-use Rattle.wal.specs.Log.{kept, Transaction, committed_at, committed_by, committed_from, IsSized, follows}
+use Rattle.wal.specs.declared.record.Body.TheVariants.{Assign, Change as Changed, AbortSub, Abort, Commit, Note}
+use Rattle.wal.specs.Log.{kept, noted, Transaction, committed_at, committed_by, committed_from, IsSized, follows}
 use Rattle.publication.specs.Publications.{PublicationSet}
 use Rattle.stream.specs.declared.published.Published.{Published}
 use Rattle.stream.proofs.Lists.{all_of_both}
@@ -28,9 +28,14 @@ late_at selection s at before start end (Assign sub parent) le = tt
 late_at selection s at before start end (Changed xid change) le = tt
 late_at selection s at before start end (AbortSub xid) le = tt
 late_at selection s at before start end (Abort xid) le = tt
+late_at selection s at before start end (Note change) le = by_test (leb s start)
+  where
+    by_test : (b : Bool) → AllByRecursion (λ (t : Transaction). at ≤ t.start) (cond b (noted start end change ∷ []) [])
+    by_test true = (le, tt)
+    by_test false = tt
 late_at selection s at before start end (Commit xid time) le = by_test (leb s start)
   where
-    by_test : (b : Bool) → AllByRecursion (λ (t : Transaction). at ≤ t.start) (cond b (record { start = start; end = end; time = time; xid = xid; changes = kept before xid } ∷ []) [])
+    by_test : (b : Bool) → AllByRecursion (λ (t : Transaction). at ≤ t.start) (cond b (record { is_note = false; start = start; end = end; time = time; xid = xid; changes = kept before xid } ∷ []) [])
     by_test true = (le, tt)
     by_test false = tt
 

@@ -6,12 +6,14 @@ ghost use mathlib.Core.List.{IsPrefix};
 ghost use Rattle.std.specs.declared.io.Error.{Error};
 ghost use Rattle.wal.specs.declared.record.Record.{Record};
 ghost use Rattle.wal.specs.Log.{IsWellFormedLog};
+ghost use Rattle.reorder.specs.Chunks.{live_chunks};
 ghost use Rattle.stream.specs.Words.{word_bytes};
 ghost use Rattle.stream.specs.Items.{keepalive_word};
 ghost use Rattle.shared_log.specs.Fronts.{settled};
 ghost use Rattle.shared_log.specs.Readers.{HasSeen, seen_of};
 ghost use Rattle.shared_log.specs.declared.fault.ReadFault.{ReadFault};
 ghost use Rattle.sender.specs.Faults.{fault_of_fetch, has_fetched, has_written};
+ghost use Rattle.sender.specs.Sending.{HasChunks, HasRead};
 ghost use Rattle.sender.specs.Turning.{fetched_from};
 ghost use Rattle.walsender.specs.Serving.{BeginsAt, Gives, GoesOn, Reads, ReadsAndWrites, ReadsOn, Serves, StaysOn, WritesFirst, next_records};
 
@@ -70,6 +72,14 @@ impl<L: LogName> Walsender<L> {
         ensures { result ≡ min flushed self.now.sender.position }
     {
         flushed.min(self.sender.position())
+    }
+
+    /// How many chunks of its arena are free: all but those that changes of transactions in progress fill, savepoints that were rolled
+    /// back left out.
+    pub fn free_chunks(&self) -> usize
+        ensures { (rs : List Record) (count : ℕ) → HasRead self.now.sender rs → HasChunks self.now.sender count → result + live_chunks rs ≡ count }
+    {
+        self.sender.free_chunks()
     }
 
     /// Whether any bytes are held.

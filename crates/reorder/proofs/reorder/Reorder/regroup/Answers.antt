@@ -9,13 +9,13 @@ use Rattle.reorder.specs.Taking.{MayCome, ReorderState, Takes}
 use Rattle.reorder.specs.Bookkeeping.{IsBookkeeping}
 use Rattle.reorder.specs.Chunks.{IsTidy}
 use Rattle.reorder.specs.Pool.{IsLent, StaysLent}
-use Rattle.reorder.proofs.Lending.{stays_lent}
+use Rattle.reorder.proofs.Lending.{stays_itself, stays_lent}
 use Rattle.reorder.proofs.Coding.{entry_length, kept_again}
 use Rattle.reorder.proofs.Counting.{no_room_left}
 use Rattle.reorder.proofs.Opening.{Opened, opened}
-use Rattle.reorder.proofs.Steps.{state, taken_assign, taken_change, taken_rollback, taken_abort, taken_commit}
+use Rattle.reorder.proofs.Steps.{state, taken_assign, taken_change, taken_rollback, taken_abort, taken_commit, taken_note}
 use Rattle.reorder.proofs.reorder.Reorder.regroup.Goals as goal
-use Rattle.reorder.proofs.reorder.Reorder.regroup.Goals.{in-Assign+in_ok-open-in-Assign+in_ok-assign-in-Assign, in-Change+in_ok-open-in-Change+in_ok-write_entry-in-Change+in_ok-push-in-Change, in-AbortSub, in-Abort}
+use Rattle.reorder.proofs.reorder.Reorder.regroup.Goals.{in-Assign+in_ok-open-in-Assign+in_ok-assign-in-Assign, in-Change+in_ok-open-in-Change+in_ok-write_entry-in-Change+in_ok-push-in-Change, in-AbortSub, in-Abort, in-Note}
 
 carried : (s old after now : ReorderState) (r : Record) (ready : Option (List Entry)) → s ≡ old → now ≡ after → Takes s after r ready → Takes old now r ready
 carried s old after now r ready same same' taken =
@@ -41,6 +41,9 @@ returns-clause-takes c =
       | in-Abort w ↦
           carried (state c.self.inside.strands c.self.inside.failed) c.args.self.now (state w.end.new.self c.self.inside.failed) c.match-next.self c.args.next.now None c.self.view_is w.self-is
           (taken_abort c.self.inside.strands w.end.new.self c.self.inside.failed c.self.inside.failed c.args.next.now w.in-Abort.top w.in-Abort.is w.end.ensures.ended)
+      | in-Note w ↦
+          subst (λ (now : ReorderState). Takes c.args.self.now now c.args.next.now None) (sym w.self-is) (subst (λ (old : ReorderState). Takes old old c.args.next.now None) c.self.view_is
+          (taken_note c.self.inside.strands c.self.inside.failed c.self.inside.failed c.args.next.now w.in-Note.field-0 w.in-Note.is))
     ]
 
 pub returns-in-Commit-clause-takes : goal.returns-in-Commit-clause-takes
@@ -73,6 +76,7 @@ returns-clause-tidy c = λ count held tidy.
           subst (λ (s : ReorderState). IsTidy count held s.strands) (sym w.self-is) (w.in_ok-push-in-Change.ensures.tidy w.in_ok-open-in-Change.ensures.there count held (w.in_ok-open-in-Change.ensures.tidy count held before))
       | in-AbortSub w ↦ subst (λ (s : ReorderState). IsTidy count held s.strands) (sym w.self-is) (w.undo.ensures.tidy count held before)
       | in-Abort w ↦ subst (λ (s : ReorderState). IsTidy count held s.strands) (sym w.self-is) (w.end.ensures.tidy count held before)
+      | in-Note w ↦ subst (λ (s : ReorderState). IsTidy count held s.strands) (sym w.self-is) tidy
     ]
 
 pub returns-in-Commit-clause-apart : goal.returns-in-Commit-clause-apart
@@ -91,4 +95,5 @@ returns-clause-lent c =
           subst (λ (s : ReorderState). StaysLent s.strands.pool c.match-next.self.strands.pool) c.self.view_is (subst (λ (s : ReorderState). StaysLent c.self.inside.strands.pool s.strands.pool) (sym w.self-is) w.undo.ensures.lent)
       | in-Abort w ↦
           subst (λ (s : ReorderState). StaysLent s.strands.pool c.match-next.self.strands.pool) c.self.view_is (subst (λ (s : ReorderState). StaysLent c.self.inside.strands.pool s.strands.pool) (sym w.self-is) w.end.ensures.lent)
+      | in-Note w ↦ subst (λ (s : ReorderState). StaysLent c.args.self.now.strands.pool s.strands.pool) (sym w.self-is) (stays_itself c.args.self.now.strands.pool)
     ]

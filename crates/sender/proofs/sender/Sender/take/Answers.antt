@@ -55,7 +55,10 @@ returns-in-Ok-Ready-clause-ok c =
 
 pub returns-in-Ok-Quiet-clause-chunks : goal.returns-in-Ok-Quiet-clause-chunks
 returns-in-Ok-Quiet-clause-chunks c = λ count chunks.
-    (rw c.in-Ok-Quiet.field-0-is at c.in-Ok-Quiet.ensures.tidy) count [] (subst (λ (s : SenderState). HasChunks s count) (sym c.self.view_is) chunks)
+    let before : IsTidy count [] c.self.inside.reorder.strands = subst (λ (s : SenderState). HasChunks s count) (sym c.self.view_is) chunks in
+    let taken = rw c.in-Ok-Quiet.field-0-is at c.in-Ok-Quiet.ensures.tidy in
+    let same : c.self-in-Ok-Quiet.inside.reorder ≡ c.take.new.self = ap (λ (s : SenderState). s.reorder) c.self-in-Ok-Quiet.view_is ∙ c.note.ensures.reorder in
+    subst (λ (m : ReorderState). IsTidy count [] m.strands) (sym same) (taken count [] before)
 
 pub returns-in-Ok-Ready-clause-chunks : goal.returns-in-Ok-Ready-clause-chunks
 returns-in-Ok-Ready-clause-chunks c = λ count chunks.
