@@ -1,6 +1,6 @@
 -- The words of an item, and what they make of a subscriber that knows the tables whose Relation was sent.
-use Rattle.std.proofs.Common.{◌≡◌, ℕ, ℤ, Bool, true, false, cond, eqb, leb, ◌||◌, List, [], ◌∷◌, ◌++◌, length, max, Option, Some, None, Result, Ok, Err, refl, sym, ap, subst, ◌∙◌, append_assoc, arith}
-use Rattle.std.specs.Prelude.{nat_eq, reverse}
+use Rattle.std.proofs.Common.{◌≡◌, ℕ, ℤ, Bool, true, false, cond, eqb, leb, ◌||◌, List, [], ◌∷◌, ◌++◌, length, map, max, Option, Some, None, Result, Ok, Err, refl, sym, ap, subst, ◌∙◌, append_assoc, arith}
+use Rattle.std.specs.Prelude.{nat_eq, pos, reverse}
 use Rattle.std.specs.List.{AllByRecursion}
 use Rattle.std.specs.Option.{ok_or}
 use Rattle.std.specs.Map.{lookup}
@@ -19,10 +19,10 @@ use Rattle.pgoutput.specs.OldTuple.{cells_of}
 use Rattle.stream.specs.declared.word.Word.{Word}
 use Rattle.stream.specs.declared.published.Published.{Published}
 use Rattle.stream.specs.declared.published.PublishedChange.{PublishedChange}
-use Rattle.stream.specs.Items.{Item, KeepaliveItem, Block, xlogdata_word, tables_of, is_relation_sent, relations_due, relations_sent_by, relations_sent_by_all, relation_words, change_words, changes_words, commit_message, item_words, relations_sent_after, FitsRelationOf, IsOldOf, IsOfChange, FitsChange, FitsItem}
+use Rattle.stream.specs.Items.{Item, KeepaliveItem, Block, words_by, note_words, xlogdata_word, tables_of, is_relation_sent, relations_due, relations_sent_by, relations_sent_by_all, relation_words, change_words, changes_words, commit_message, item_words, relations_sent_after, FitsRelationOf, IsOldOf, IsOfChange, FitsChange, FitsNote, FitChanges, FitsItem}
 use Rattle.client.specs.declared.fault.ClientFault.{ClientFault}
 use Rattle.client.specs.declared.fault.ClientFault.TheVariants.{Order, UnknownRelation}
-use Rattle.client.specs.Subscriber.{Subscriber, HalfTransaction, tell, columns_of, fits, fits_old, are_told, judged, with_change, after_word, after_words}
+use Rattle.client.specs.Subscriber.{Subscriber, HalfTransaction, tell, columns_of, fits, fits_old, are_told, judged, with_change, note_of, heard, after_word, after_words}
 use Rattle.client.specs.Law.{position_after, gained}
 use Rattle.client.proofs.Reaching.{after_append}
 
@@ -145,6 +145,7 @@ change_fits relation tables (logical.Insert m) of known = rw known.0 (cells_fit 
 change_fits relation tables (logical.Update m) of known = rw (known.0, old_fits relation m.oid m.old of.0) (cells_fit (length (relation m.oid).columns) m.new of.1)
 change_fits relation tables (logical.Delete m) of known = rw known.0 (cells_fit (length (relation m.oid).columns) (cells_of m.old) of)
 change_fits relation tables (logical.Truncate m) of known = tables_known relation tables m.oids known
+change_fits relation tables (logical.Message m) of known = refl
 change_fits relation tables (logical.Begin m) of known = absurd of
 change_fits relation tables (logical.Commit m) of known = absurd of
 change_fits relation tables (logical.Relation m) of known = absurd of
@@ -155,6 +156,7 @@ message_goes relation p a tables half position clock (logical.Insert m) of fit =
 message_goes relation p a tables half position clock (logical.Update m) of fit = rw fit refl
 message_goes relation p a tables half position clock (logical.Delete m) of fit = rw fit refl
 message_goes relation p a tables half position clock (logical.Truncate m) of fit = rw fit refl
+message_goes relation p a tables half position clock (logical.Message m) of fit = rw of refl
 message_goes relation p a tables half position clock (logical.Begin m) of fit = absurd of
 message_goes relation p a tables half position clock (logical.Commit m) of fit = absurd of
 message_goes relation p a tables half position clock (logical.Relation m) of fit = absurd of
@@ -203,28 +205,75 @@ pub record GoesOn (relation : ℕ → Relation) (relations_sent : List ℕ) (p :
   pub steps : after_words (at p a tables None) (item_words relation relations_sent item) ≡ Ok (at (position_after p (item ∷ [])) (a ++ gained p (item ∷ [])) after None)
   pub told : Told relation (relations_sent_after relations_sent item) after
 
-commits : (p : ℕ) (a : List Published) (tables : List (ℕ × ℕ)) (clock : ℤ) (t : Published)
-    → after_word (at p a tables (Some (record { begin = record { position = t.start; time = t.time; xid = t.xid }; changes = t.changes }))) (xlogdata_word t.end clock (commit_message t))
-    ≡ Ok (at (max p t.end) (a ++ cond (leb p t.start) (t ∷ []) []) tables None)
-commits p a tables clock t = by_test (eqb t.start t.start) (grind (arith, nat_tests))
-  where
-    after : Subscriber
-    after = at (max p t.end) (a ++ cond (leb p t.start) (t ∷ []) []) tables None
+abbrev published_of : Bool → ℕ → ℕ → ℤ → ℕ → List PublishedChange → Published
+published_of is_note start end time xid changes = record { is_note = is_note; start = start; end = end; time = time; xid = xid; changes = changes }
 
-    by_test : (b : Bool) → b ≡ true → cond b (gone after) (Err Order) ≡ gone after
+-- what was published, where it isn't applied already
+abbrev new_one : ℕ → ℕ → Published → List Published
+new_one p start t = cond (leb p start) (t ∷ []) []
+
+commits : (p : ℕ) (a : List Published) (tables : List (ℕ × ℕ)) (clock : ℤ) (t : Published) → t.is_note ≡ false
+    → after_word (at p a tables (Some (record { begin = record { position = t.start; time = t.time; xid = t.xid }; changes = t.changes }))) (xlogdata_word t.end clock (commit_message t))
+    ≡ Ok (at (max p t.end) (a ++ new_one p t.start t) tables None)
+commits p a tables clock t kind = by_test (eqb t.start t.start) (grind (arith, nat_tests)) ∙ ap (λ (b : Bool). gone (after (published_of b t.start t.end t.time t.xid t.changes))) (sym kind)
+  where
+    after : Published → Subscriber
+    after u = at (max p t.end) (a ++ new_one p t.start u) tables None
+
+    by_test : (b : Bool) → b ≡ true → cond b (gone (after (published_of false t.start t.end t.time t.xid t.changes))) (Err Order) ≡ gone (after (published_of false t.start t.end t.time t.xid t.changes))
     by_test true is = refl
     by_test false is = absurd cc
 
-pub item_goes : (relation : ℕ → Relation) (relations_sent : List ℕ) (p : ℕ) (a : List Published) (tables : List (ℕ × ℕ)) (item : Item) → FitsItem relation item → Told relation relations_sent tables → GoesOn relation relations_sent p a tables item
-item_goes relation relations_sent p a tables (KeepaliveItem k) fit told = record { after = tables; steps = ap (λ (l : List Published). gone (at (max p k.position) l tables None)) (sym (append-nil a)); told = told }
-item_goes relation relations_sent p a tables (Block clock t) fit told =
+-- a note is as it is told
+note_is : (t : Published) → t.is_note ≡ true → (fits : FitsNote t) → note_of t.end fits.message ≡ t
+note_is t kind fits =
+    ap (λ (n : ℕ). published_of true n t.end (pos 0) 0 (record { position = n; message = logical.Message fits.message } ∷ [])) fits.position
+    ∙ ap (published_of true t.start t.end (pos 0) 0) (sym fits.is)
+    ∙ ap (λ (b : Bool). published_of b t.start t.end (pos 0) 0 t.changes) (sym kind)
+    ∙ ap (λ (z : ℤ). published_of t.is_note t.start t.end z 0 t.changes) (sym fits.time)
+    ∙ ap (λ (n : ℕ). published_of t.is_note t.start t.end t.time n t.changes) (sym fits.xid)
+
+notes : (p : ℕ) (a : List Published) (tables : List (ℕ × ℕ)) (clock : ℤ) (t : Published) → t.is_note ≡ true → (fits : FitsNote t)
+    → after_words (at p a tables None) (note_words clock t) ≡ Ok (at (max p t.end) (a ++ new_one p t.start t) tables None)
+notes p a tables clock t kind fits =
+    ap (λ (cs : List PublishedChange). after_words s (map (λ c. xlogdata_word t.end clock c.message) cs)) fits.is
+    ∙ ap (λ (b : Bool). heard b s t.end t.end fits.message >>= λ u. after_words u []) fits.outside
+    ∙ ap (λ (n : ℕ). gone (at (max p t.end) (a ++ new_one p n (note_of t.end fits.message)) tables None)) fits.position
+    ∙ ap (λ (u : Published). gone (at (max p t.end) (a ++ new_one p t.start u) tables None)) (note_is t kind fits)
+  where
+    s : Subscriber
+    s = at p a tables None
+
+-- what a block's words make of a subscriber between transactions
+record BlockGoes (relation : ℕ → Relation) (relations_sent : List ℕ) (p : ℕ) (a : List Published) (tables : List (ℕ × ℕ)) (clock : ℤ) (t : Published) (is_note : Bool) : Type 0 where
+  after : List (ℕ × ℕ)
+  steps : after_words (at p a tables None) (words_by is_note relation relations_sent clock t) ≡ Ok (at (max p t.end) (a ++ new_one p t.start t) after None)
+  told : Told relation (relations_sent_by_all relations_sent t.changes) after
+
+block_goes : (relation : ℕ → Relation) (relations_sent : List ℕ) (p : ℕ) (a : List Published) (tables : List (ℕ × ℕ)) (clock : ℤ) (t : Published) (is_note : Bool) → t.is_note ≡ is_note → FitChanges is_note relation t → Told relation relations_sent tables
+    → BlockGoes relation relations_sent p a tables clock t is_note
+block_goes relation relations_sent p a tables clock t true kind fit told = record {
+  after = tables;
+  steps = notes p a tables clock t kind fit;
+  told = subst (λ (cs : List PublishedChange). Told relation (relations_sent_by_all relations_sent cs) tables) (sym fit.is) told;
+}
+block_goes relation relations_sent p a tables clock t false kind fit told =
     let begin : Begin = record { position = t.start; time = t.time; xid = t.xid } in
-    let changes = changes_go relation relations_sent p a tables begin [] clock t.changes fit.1.changes told in
+    let changes = changes_go relation relations_sent p a tables begin [] clock t.changes fit told in
     let begun = at p a tables (Some (record { begin = begin; changes = [] })) in
     record {
       after = changes.tables;
       steps = after_append begun (changes_words relation relations_sent clock t.changes) (xlogdata_word t.end clock (commit_message t) ∷ []) (at p a changes.tables (Some (record { begin = begin; changes = t.changes }))) changes.steps
-          ∙ ap (λ (x : Result Subscriber ClientFault). x >>= λ u. after_words u []) (commits p a changes.tables clock t)
-          ∙ ap (λ (l : List Published). gone (at (max p t.end) (a ++ l) changes.tables None)) (sym (append-nil (cond (leb p t.start) (t ∷ []) [])));
+          ∙ ap (λ (x : Result Subscriber ClientFault). x >>= λ u. after_words u []) (commits p a changes.tables clock t kind);
       told = changes.told;
+    }
+
+pub item_goes : (relation : ℕ → Relation) (relations_sent : List ℕ) (p : ℕ) (a : List Published) (tables : List (ℕ × ℕ)) (item : Item) → FitsItem relation item → Told relation relations_sent tables → GoesOn relation relations_sent p a tables item
+item_goes relation relations_sent p a tables (KeepaliveItem k) fit told = record { after = tables; steps = ap (λ (l : List Published). gone (at (max p k.position) l tables None)) (sym (append-nil a)); told = told }
+item_goes relation relations_sent p a tables (Block clock t) fit told =
+    let goes = block_goes relation relations_sent p a tables clock t t.is_note refl fit.1.changes told in
+    record {
+      after = goes.after;
+      steps = goes.steps ∙ ap (λ (l : List Published). gone (at (max p t.end) (a ++ l) goes.after None)) (sym (append-nil (new_one p t.start t)));
+      told = goes.told;
     }

@@ -11,6 +11,7 @@ use Rattle.pgoutput.specs.declared.logical.Logical.{Logical}
 use Rattle.pgoutput.specs.declared.logical.Logical.TheVariants as logical
 use Rattle.pgoutput.specs.declared.begin.Begin.{Begin}
 use Rattle.pgoutput.specs.declared.commit.Commit.{Commit}
+use Rattle.pgoutput.specs.declared.message.Message.{Message}
 use Rattle.pgoutput.specs.declared.relation.Relation.{Relation}
 use Rattle.pgoutput.specs.declared.tuple.Cell.{Cell}
 use Rattle.pgoutput.specs.declared.old_tuple.OldTuple.{OldTuple}
@@ -20,7 +21,7 @@ use Rattle.stream.specs.declared.word.Word.TheVariants as words
 use Rattle.client.specs.declared.fault.ClientFault.{ClientFault}
 use Rattle.client.specs.declared.fault.ClientFault.TheVariants as faults
 use Rattle.client.specs.Words.{SpellsWord, AreSpelled, IsUnread}
-use Rattle.client.specs.Subscriber.{Subscriber, HalfTransaction, columns_of, fits, fits_old, are_told, judged, begun, told, changed, committed, finished, with_change, after_message, after_word, after_words, Makes}
+use Rattle.client.specs.Subscriber.{Subscriber, HalfTransaction, columns_of, fits, fits_old, are_told, judged, begun, told, changed, noted, heard, committed, finished, with_change, after_message, after_word, after_words, Makes}
 use Rattle.client.specs.Taking.{Reached, Stops}
 
 -- a step that fails, or the one behind it
@@ -138,6 +139,7 @@ refused_change tables (logical.Delete m) e is = elim (refused_at (columns_of tab
   | inr later ↦ refused_cells later.0 (cells_of m.old) e later.2
 ]
 refused_change tables (logical.Truncate m) e is = refused_tables tables m.oids e is
+refused_change tables (logical.Message m) e is = absurd cc
 refused_change tables (logical.Begin m) e is = absurd cc
 refused_change tables (logical.Commit m) e is = absurd cc
 refused_change tables (logical.Relation m) e is = absurd cc
@@ -168,11 +170,19 @@ refused_changed (Some half) s position m e is = elim (refused_at (judged s.table
   | inr later ↦ absurd cc
 ]
 
+refused_note : (half : Option HalfTransaction) (s : Subscriber) (end : ℕ) (m : Message) (e : ClientFault) → noted half s end m ≡ Err e → IsRefusal e
+refused_note None s end m e is = absurd cc
+refused_note (Some half) s end m e is = out_of_order e (noted (Some half) s end m) refl is
+
+refused_heard : (is_transactional : Bool) (s : Subscriber) (start end : ℕ) (m : Message) (e : ClientFault) → heard is_transactional s start end m ≡ Err e → IsRefusal e
+refused_heard true s start end m e is = refused_changed s.half s start (logical.Message m) e is
+refused_heard false s start end m e is = refused_note s.half s end m e is
+
 refused_word : (s : Subscriber) (w : Word) (e : ClientFault) → after_word s w ≡ Err e → IsRefusal e
 refused_word s (words.Keepalive k) e is = absurd cc
 refused_word s (words.XLogData x) e is = by_message x.message is
   where
-    by_message : (m : Logical) → after_message s x.start m ≡ Err e → IsRefusal e
+    by_message : (m : Logical) → after_message s x.start x.end m ≡ Err e → IsRefusal e
     by_message (logical.Begin m) is = refused_begin s.half s m e is
     by_message (logical.Relation m) is = refused_relation s.half s m e is
     by_message (logical.Commit m) is = refused_commit s.half s m e is
@@ -180,6 +190,7 @@ refused_word s (words.XLogData x) e is = by_message x.message is
     by_message (logical.Update m) is = refused_changed s.half s x.start (logical.Update m) e is
     by_message (logical.Delete m) is = refused_changed s.half s x.start (logical.Delete m) e is
     by_message (logical.Truncate m) is = refused_changed s.half s x.start (logical.Truncate m) e is
+    by_message (logical.Message m) is = refused_heard m.is_transactional s x.start x.end m e is
 
 -- the word at the front stops it
 pub stopped : (s : Subscriber) (bytes : List ℕ) (w : Word) (n : ℕ) (e : ClientFault) (new : Subscriber) → SpellsWord (take n bytes) w → Makes (Err e) s new (after_word s w) → Stops e s bytes

@@ -1,5 +1,5 @@
 -- Of a beginning of the words of items: which items stand whole in it, and what it makes of a subscriber.
-use Rattle.std.proofs.Common.{◌≡◌, ℕ, ℤ, leb, cond, List, [], ◌∷◌, ◌++◌, max, Option, Some, None, Result, Ok, Err, refl, sym, ap, subst, ◌∙◌, append_assoc, inl, inr}
+use Rattle.std.proofs.Common.{◌≡◌, ℕ, ℤ, Bool, true, false, leb, cond, List, [], ◌∷◌, ◌++◌, map, max, Option, Some, None, Result, Ok, Err, refl, sym, ap, subst, ◌∙◌, append_assoc, inl, inr}
 use Rattle.std.specs.Prelude.{◌⊎◌}
 use Rattle.std.specs.List.{AllByRecursion}
 use Rattle.std.proofs.lemmas.List.{append-nil}
@@ -12,17 +12,18 @@ use Rattle.stream.specs.declared.word.Word.TheVariants as words
 use Rattle.stream.specs.declared.published.Published.{Published}
 use Rattle.stream.specs.declared.published.PublishedChange.{PublishedChange}
 use Rattle.stream.proofs.Lists.{all_of_both}
-use Rattle.stream.specs.Items.{Item, KeepaliveItem, Block, xlogdata_word, tables_of, relations_due, relations_sent_by, relation_words, change_words, changes_words, begin_message, commit_message, item_words, words_of, relations_sent_after, IsOfChange, FitsChange, FitsItem, FitItems}
+use Rattle.stream.specs.Items.{Item, KeepaliveItem, Block, words_by, note_words, xlogdata_word, tables_of, relations_due, relations_sent_by, relation_words, change_words, changes_words, begin_message, commit_message, item_words, words_of, relations_sent_after, IsOfChange, FitsChange, FitChanges, FitsItem, FitItems}
 use Rattle.client.specs.declared.fault.ClientFault.{ClientFault}
-use Rattle.client.specs.Subscriber.{Subscriber, HalfTransaction, judged, begun, told, changed, with_change, after_message, after_word, after_words}
+use Rattle.client.specs.Subscriber.{Subscriber, HalfTransaction, judged, begun, told, changed, with_change, heard, after_message, after_word, after_words}
 use Rattle.client.specs.Law.{position_after, gained, relations_sent_with}
 use Rattle.client.proofs.Reaching.{after_append}
 use Rattle.client.proofs.Blocks.{at, Told, item_goes}
 
--- ---- words that move nothing: all but keepalives and Commits
+-- ---- words that move nothing: all but keepalives, Commits and notes
 
 abbrev IsQuietMessage : Logical → Type 0
 IsQuietMessage (logical.Commit m) = ⊥
+IsQuietMessage (logical.Message m) = m.is_transactional ≡ true
 IsQuietMessage _ = Unit {0}
 
 abbrev IsQuiet : Word → Type 0
@@ -58,18 +59,20 @@ changed_still (Some half) s position m = by_judged (judged s.tables m)
     by_judged (Ok u) = record { position = refl; applied = refl }
     by_judged (Err e) = tt
 
-message_still : (s : Subscriber) (position : ℕ) (m : Logical) → IsQuietMessage m → KeepsStill s (after_message s position m)
-message_still s position (logical.Begin m) quiet = begun_still s.half s m
-message_still s position (logical.Relation m) quiet = told_still s.half s m
-message_still s position (logical.Commit m) quiet = absurd quiet
-message_still s position (logical.Insert m) quiet = changed_still s.half s position (logical.Insert m)
-message_still s position (logical.Update m) quiet = changed_still s.half s position (logical.Update m)
-message_still s position (logical.Delete m) quiet = changed_still s.half s position (logical.Delete m)
-message_still s position (logical.Truncate m) quiet = changed_still s.half s position (logical.Truncate m)
+message_still : (s : Subscriber) (position end : ℕ) (m : Logical) → IsQuietMessage m → KeepsStill s (after_message s position end m)
+message_still s position end (logical.Begin m) quiet = begun_still s.half s m
+message_still s position end (logical.Relation m) quiet = told_still s.half s m
+message_still s position end (logical.Commit m) quiet = absurd quiet
+message_still s position end (logical.Insert m) quiet = changed_still s.half s position (logical.Insert m)
+message_still s position end (logical.Update m) quiet = changed_still s.half s position (logical.Update m)
+message_still s position end (logical.Delete m) quiet = changed_still s.half s position (logical.Delete m)
+message_still s position end (logical.Truncate m) quiet = changed_still s.half s position (logical.Truncate m)
+message_still s position end (logical.Message m) quiet =
+    subst (λ (b : Bool). KeepsStill s (heard b s position end m)) (sym quiet) (changed_still s.half s position (logical.Message m))
 
 word_still : (s : Subscriber) (w : Word) → IsQuiet w → KeepsStill s (after_word s w)
 word_still s (words.Keepalive k) quiet = absurd quiet
-word_still s (words.XLogData x) quiet = message_still s x.start x.message quiet
+word_still s (words.XLogData x) quiet = message_still s x.start x.end x.message quiet
 
 words_still : (s : Subscriber) (ws : List Word) → AllByRecursion IsQuiet ws → KeepsStill s (after_words s ws)
 words_still s [] quiet = still s
@@ -100,6 +103,7 @@ change_quiet relation (logical.Insert m) of = tt
 change_quiet relation (logical.Update m) of = tt
 change_quiet relation (logical.Delete m) of = tt
 change_quiet relation (logical.Truncate m) of = tt
+change_quiet relation (logical.Message m) of = of
 change_quiet relation (logical.Begin m) of = tt
 change_quiet relation (logical.Commit m) of = absurd of
 change_quiet relation (logical.Relation m) of = tt
@@ -112,14 +116,23 @@ changes_quiet relation relations_sent clock (c ∷ cs) fit =
     (all_of_both IsQuiet (relation_words relation c.position clock due) (xlogdata_word c.position clock c.message ∷ []) (relations_quiet relation c.position clock due) (change_quiet relation c.message fit.0.of_change, tt))
     (changes_quiet relation (relations_sent_by relations_sent c) clock cs fit.1)
 
-item_ending : (relation : ℕ → Relation) (relations_sent : List ℕ) (item : Item) → FitsItem relation item → Ending (item_words relation relations_sent item)
-item_ending relation relations_sent (KeepaliveItem k) fit = record { front = []; last = words.Keepalive k; is = refl; quiet = tt }
-item_ending relation relations_sent (Block clock t) fit = record {
+block_ending : (relation : ℕ → Relation) (relations_sent : List ℕ) (clock : ℤ) (t : Published) (is_note : Bool) → FitChanges is_note relation t → Ending (words_by is_note relation relations_sent clock t)
+block_ending relation relations_sent clock t true fit = record {
+  front = [];
+  last = xlogdata_word t.end clock (logical.Message fit.message);
+  is = ap (λ (cs : List PublishedChange). map (λ c. xlogdata_word t.end clock c.message) cs) fit.is;
+  quiet = tt;
+}
+block_ending relation relations_sent clock t false fit = record {
   front = xlogdata_word t.start clock (begin_message t) ∷ changes_words relation relations_sent clock t.changes;
   last = xlogdata_word t.end clock (commit_message t);
   is = refl;
-  quiet = (tt, changes_quiet relation relations_sent clock t.changes fit.1.changes);
+  quiet = (tt, changes_quiet relation relations_sent clock t.changes fit);
 }
+
+item_ending : (relation : ℕ → Relation) (relations_sent : List ℕ) (item : Item) → FitsItem relation item → Ending (item_words relation relations_sent item)
+item_ending relation relations_sent (KeepaliveItem k) fit = record { front = []; last = words.Keepalive k; is = refl; quiet = tt }
+item_ending relation relations_sent (Block clock t) fit = block_ending relation relations_sent clock t t.is_note fit.1.changes
 
 part_quiet : (ws : List Word) (v : Word) (more front : List Word) (last : Word) → ws ++ v ∷ more ≡ front ++ last ∷ [] → AllByRecursion IsQuiet front → AllByRecursion IsQuiet ws
 part_quiet [] v more front last e quiet = tt

@@ -1,5 +1,5 @@
 -- Worked streams by which the definitions were checked: one transaction with one insert, and what is out of order.
-use Rattle.std.specs.Prelude.{◌≡◌, ℕ, pos, negsuc, codes, true, false, List, [], ◌∷◌, None, Result, Ok, Err, refl}
+use Rattle.std.specs.Prelude.{◌≡◌, ℕ, pos, negsuc, codes, Bool, true, false, List, [], ◌∷◌, None, Result, Ok, Err, refl}
 use Rattle.pgoutput.specs.declared.logical.Logical.{Logical}
 use Rattle.pgoutput.specs.declared.logical.Logical.TheVariants as logical
 use Rattle.pgoutput.specs.declared.relation.Relation.{Relation}
@@ -29,7 +29,7 @@ abbrev insert : Logical
 insert = logical.Insert (record { oid = 16384; new = cells.Text (codes "1") ∷ cells.Text (codes "ab") ∷ cells.Text (codes "7") ∷ [] })
 
 abbrev transaction : Published
-transaction = record { start = 0x1000030; end = 0x1000050; time = pos 5; xid = 700; changes = record { position = 0x1000000; message = insert } ∷ [] }
+transaction = record { is_note = false; start = 0x1000030; end = 0x1000050; time = pos 5; xid = 700; changes = record { position = 0x1000000; message = insert } ∷ [] }
 
 abbrev block : Item
 block = Block (pos 9) transaction
@@ -40,11 +40,11 @@ keepalive position = KeepaliveItem (record { position = position; clock = pos 9;
 abbrev sent : List Item → List Word
 sent items = words_of item [] items
 
-abbrev heard : Subscriber → List Word → Result Subscriber ClientFault
-heard = after_words
+abbrev applied : Subscriber → List Word → Result Subscriber ClientFault
+applied = after_words
 
 -- applied once, and once more it is not
-once : heard (resting 0 []) (sent (block ∷ block ∷ [])) ≡ Ok (record { position = 0x1000050; applied = transaction ∷ []; tables = (16384, 3) ∷ []; half = None })
+once : applied (resting 0 []) (sent (block ∷ block ∷ [])) ≡ Ok (record { position = 0x1000050; applied = transaction ∷ []; tables = (16384, 3) ∷ []; half = None })
 once = refl
 
 once_by_law : gained 0 (block ∷ block ∷ []) ≡ transaction ∷ []
@@ -61,26 +61,67 @@ never_back : position_after 0 (keepalive 0x1000100 ∷ block ∷ keepalive 0x100
 never_back = refl
 
 -- a keepalive inside a transaction moves nothing
-inside : heard (resting 0 []) (xlogdata_word 0x1000030 (pos 9) (begin_message transaction) ∷ keepalive_word 0x1000100 (pos 9) false ∷ xlogdata_word 0x1000050 (pos 9) (commit_message transaction) ∷ [])
+inside : applied (resting 0 []) (xlogdata_word 0x1000030 (pos 9) (begin_message transaction) ∷ keepalive_word 0x1000100 (pos 9) false ∷ xlogdata_word 0x1000050 (pos 9) (commit_message transaction) ∷ [])
     ≡ Ok (record { position = 0x1000050; applied = record transaction { changes = [] } ∷ []; tables = []; half = None })
 inside = refl
 
+-- ---- notes
+
+abbrev note : Published
+note = record {
+  is_note = true;
+  start = 0x1000050;
+  end = 0x1000070;
+  time = pos 0;
+  xid = 0;
+  changes = record { position = 0x1000050; message = logical.Message (record { is_transactional = false; position = 0x1000050; prefix = codes "q"; content = codes "c" }) } ∷ [];
+}
+
+abbrev note_block : Item
+note_block = Block (pos 9) note
+
+-- applied once, by the position at which it starts
+note_once : applied (resting 0 []) (sent (block ∷ note_block ∷ note_block ∷ [])) ≡ Ok (record { position = 0x1000070; applied = transaction ∷ note ∷ []; tables = (16384, 3) ∷ []; half = None })
+note_once = refl
+
+note_at_its_position : gained 0x1000050 (note_block ∷ []) ≡ note ∷ []
+note_at_its_position = refl
+
+note_below_the_position : gained 0x1000051 (note_block ∷ []) ≡ []
+note_below_the_position = refl
+
+abbrev message : Bool → Logical
+message is_transactional = logical.Message (record { is_transactional = is_transactional; position = 0x1000000; prefix = codes "p"; content = codes "ab" })
+
+abbrev begun_with : Logical → List Word
+begun_with m = xlogdata_word 0x1000030 (pos 9) (begin_message transaction) ∷ xlogdata_word 0x1000000 (pos 9) m ∷ xlogdata_word 0x1000050 (pos 9) (commit_message transaction) ∷ []
+
+message_within : applied (resting 0 []) (begun_with (message true))
+    ≡ Ok (record { position = 0x1000050; applied = record transaction { changes = record { position = 0x1000000; message = message true } ∷ [] } ∷ []; tables = []; half = None })
+message_within = refl
+
+note_within : applied (resting 0 []) (begun_with (message false)) ≡ Err Order
+note_within = refl
+
+message_alone : applied (resting 0 []) (xlogdata_word 0x1000050 (pos 9) (message true) ∷ []) ≡ Err Order
+message_alone = refl
+
 -- ---- out of order
 
-begin_twice : heard (resting 0 []) (xlogdata_word 0 (pos 9) (begin_message transaction) ∷ xlogdata_word 0 (pos 9) (begin_message transaction) ∷ []) ≡ Err Order
+begin_twice : applied (resting 0 []) (xlogdata_word 0 (pos 9) (begin_message transaction) ∷ xlogdata_word 0 (pos 9) (begin_message transaction) ∷ []) ≡ Err Order
 begin_twice = refl
 
-commit_alone : heard (resting 0 []) (xlogdata_word 0 (pos 9) (commit_message transaction) ∷ []) ≡ Err Order
+commit_alone : applied (resting 0 []) (xlogdata_word 0 (pos 9) (commit_message transaction) ∷ []) ≡ Err Order
 commit_alone = refl
 
-insert_alone : heard (resting 0 []) (xlogdata_word 0 (pos 9) insert ∷ []) ≡ Err Order
+insert_alone : applied (resting 0 []) (xlogdata_word 0 (pos 9) insert ∷ []) ≡ Err Order
 insert_alone = refl
 
-never_told : heard (resting 0 []) (xlogdata_word 0 (pos 9) (begin_message transaction) ∷ xlogdata_word 0 (pos 9) insert ∷ []) ≡ Err UnknownRelation
+never_told : applied (resting 0 []) (xlogdata_word 0 (pos 9) (begin_message transaction) ∷ xlogdata_word 0 (pos 9) insert ∷ []) ≡ Err UnknownRelation
 never_told = refl
 
-too_short : heard (resting 0 []) (xlogdata_word 0 (pos 9) (begin_message transaction) ∷ xlogdata_word 0 (pos 9) (logical.Relation (item 16384)) ∷ xlogdata_word 0 (pos 9) (logical.Insert (record { oid = 16384; new = [] })) ∷ []) ≡ Err Order
+too_short : applied (resting 0 []) (xlogdata_word 0 (pos 9) (begin_message transaction) ∷ xlogdata_word 0 (pos 9) (logical.Relation (item 16384)) ∷ xlogdata_word 0 (pos 9) (logical.Insert (record { oid = 16384; new = [] })) ∷ []) ≡ Err Order
 too_short = refl
 
-another_commit : heard (resting 0 []) (xlogdata_word 0 (pos 9) (begin_message transaction) ∷ xlogdata_word 0 (pos 9) (logical.Commit (record { position = 0x1000031; end = 0x1000050; time = pos 5 })) ∷ []) ≡ Err Order
+another_commit : applied (resting 0 []) (xlogdata_word 0 (pos 9) (begin_message transaction) ∷ xlogdata_word 0 (pos 9) (logical.Commit (record { position = 0x1000031; end = 0x1000050; time = pos 5 })) ∷ []) ≡ Err Order
 another_commit = refl

@@ -15,7 +15,7 @@ position_after p [] = p
 position_after p (KeepaliveItem k ∷ items) = position_after (max p k.position) items
 position_after p (Block clock t ∷ items) = position_after (max p t.end) items
 
--- the transactions of these items whose commit record doesn't start below the position that stood before the block
+-- the transactions and notes of these items whose record doesn't start below the position that stood before the block
 abbrev pub gained : ℕ → List Item → List Published
 gained p [] = []
 gained p (KeepaliveItem k ∷ items) = gained (max p k.position) items

@@ -1,5 +1,5 @@
 -- A subscriber, and what each word of the stream makes of it.
-use Rattle.std.specs.Prelude.{◌≡◌, ℕ, ◌==◌, List, [], ◌∷◌, ◌++◌, length, max, nat_eq, nat_le, Option, Some, None, Result, Ok, Err, if◌then◌else◌}
+use Rattle.std.specs.Prelude.{◌≡◌, ℕ, ◌==◌, Bool, true, false, pos, List, [], ◌∷◌, ◌++◌, length, max, nat_eq, nat_le, Option, Some, None, Result, Ok, Err, if◌then◌else◌}
 use Rattle.std.specs.Option.{ok_or}
 use Rattle.std.specs.Map.{lookup}
 use Rattle.indexmap.specs.IndexMap.{insert_entry}
@@ -7,6 +7,7 @@ use Rattle.pqformat.specs.Steps.{◌>>=◌}
 use Rattle.pgoutput.specs.declared.begin.Begin.{Begin}
 use Rattle.pgoutput.specs.declared.commit.Commit.{Commit}
 use Rattle.pgoutput.specs.declared.relation.Relation.{Relation}
+use Rattle.pgoutput.specs.declared.message.Message.{Message}
 use Rattle.pgoutput.specs.declared.tuple.Cell.{Cell}
 use Rattle.pgoutput.specs.declared.old_tuple.OldTuple.{OldTuple}
 use Rattle.pgoutput.specs.OldTuple.{cells_of}
@@ -65,7 +66,7 @@ judged tables (logical.Delete m) = columns_of tables m.oid >>= λ n. fits n (cel
 judged tables (logical.Truncate m) = are_told tables m.oids
 judged tables _ = Ok tt
 
--- ---- words. Outside a transaction only Begin and keepalives come in order, inside one all but Begin.
+-- ---- words. Outside a transaction only Begin, keepalives and notes come in order, inside one all but Begin and notes.
 
 abbrev pub begun : Option HalfTransaction → Subscriber → Begin → Result Subscriber ClientFault
 begun None s m = Ok (record s { half = Some (record { begin = m; changes = [] }) })
@@ -84,7 +85,7 @@ changed None s position message = Err Order
 changed (Some half) s position message = judged s.tables message >>= λ _. Ok (record s { half = Some (with_change half position message) })
 
 abbrev pub transaction_of : HalfTransaction → Commit → Published
-transaction_of half m = record { start = half.begin.position; end = m.end; time = half.begin.time; xid = half.begin.xid; changes = half.changes }
+transaction_of half m = record { is_note = false; start = half.begin.position; end = m.end; time = half.begin.time; xid = half.begin.xid; changes = half.changes }
 
 -- A transaction that is whole is applied, unless its commit record starts below the position: then it was applied before.
 abbrev pub finished : Subscriber → HalfTransaction → Commit → Subscriber
@@ -98,11 +99,29 @@ abbrev pub committed : Option HalfTransaction → Subscriber → Commit → Resu
 committed None s m = Err Order
 committed (Some half) s m = if m.position == half.begin.position then Ok (finished s half m) else Err Order
 
-abbrev pub after_message : Subscriber → ℕ → Logical → Result Subscriber ClientFault
-after_message s position (logical.Begin m) = begun s.half s m
-after_message s position (logical.Relation m) = told s.half s m
-after_message s position (logical.Commit m) = committed s.half s m
-after_message s position message = changed s.half s position message
+-- a note, a message outside of transactions, as it is applied
+abbrev pub note_of : ℕ → Message → Published
+note_of end m = record { is_note = true; start = m.position; end = end; time = pos 0; xid = 0; changes = record { position = m.position; message = logical.Message m } ∷ [] }
+
+-- It is whole by itself, and is applied unless it starts below the position.
+abbrev pub noted : Option HalfTransaction → Subscriber → ℕ → Message → Result Subscriber ClientFault
+noted None s end m = Ok (record s {
+  position = max s.position end;
+  applied = s.applied ++ (if nat_le s.position m.position then note_of end m ∷ [] else []);
+})
+noted (Some half) s end m = Err Order
+
+abbrev pub heard : (is_transactional : Bool) → Subscriber → (start end : ℕ) → Message → Result Subscriber ClientFault
+heard true s start end m = changed s.half s start (logical.Message m)
+heard false s start end m = noted s.half s end m
+
+-- the message of an XLogData, with its two positions
+abbrev pub after_message : Subscriber → (start end : ℕ) → Logical → Result Subscriber ClientFault
+after_message s start end (logical.Begin m) = begun s.half s m
+after_message s start end (logical.Relation m) = told s.half s m
+after_message s start end (logical.Commit m) = committed s.half s m
+after_message s start end (logical.Message m) = heard m.is_transactional s start end m
+after_message s start end message = changed s.half s start message
 
 -- A keepalive inside a transaction is passed over: what it tells may lie behind what is still to come of the transaction.
 abbrev pub kept_alive : Option HalfTransaction → Subscriber → Keepalive → Subscriber
@@ -111,7 +130,7 @@ kept_alive (Some half) s k = s
 
 abbrev pub after_word : Subscriber → Word → Result Subscriber ClientFault
 after_word s (words.Keepalive k) = Ok (kept_alive s.half s k)
-after_word s (words.XLogData x) = after_message s x.start x.message
+after_word s (words.XLogData x) = after_message s x.start x.end x.message
 
 -- one word after the other
 abbrev pub after_words : Subscriber → List Word → Result Subscriber ClientFault

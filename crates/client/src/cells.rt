@@ -1,4 +1,4 @@
-//! The names and the cells in a line of text.
+//! The names, the cells and the bytes in a line of text.
 
 use pgoutput::{Cell, OldTuple};
 use std::fmt;
@@ -7,6 +7,14 @@ use std::fmt::{Display, Formatter, Write};
 /// A name, with its control characters and backslashes escaped.
 #[derive(Clone, Copy)]
 pub(crate) struct Name<'a>(pub(crate) &'a str);
+
+/// A text in single quotes, each quote in it doubled, and escaped as a name is.
+#[derive(Clone, Copy)]
+pub(crate) struct Quoted<'a>(pub(crate) &'a str);
+
+/// Bytes in hexadecimal, two digits each.
+#[derive(Clone, Copy)]
+pub(crate) struct Hex<'a>(pub(crate) &'a [u8]);
 
 /// Cells between commas.
 #[derive(Clone, Copy)]
@@ -37,6 +45,28 @@ impl Display for Name<'_> {
     }
 }
 
+impl Display for Quoted<'_> {
+    fn fmt<W: Write>(&self, f: &mut Formatter<W>) -> fmt::Result {
+        write!(f, "'")?;
+        for c in self.0.chars() {
+            match c {
+                '\'' => write!(f, "''")?,
+                c => write_escaped(f, c)?,
+            }
+        }
+        write!(f, "'")
+    }
+}
+
+impl Display for Hex<'_> {
+    fn fmt<W: Write>(&self, f: &mut Formatter<W>) -> fmt::Result {
+        for byte in self.0 {
+            write!(f, "{byte:02x}")?;
+        }
+        Ok(())
+    }
+}
+
 impl Display for Cells<'_> {
     fn fmt<W: Write>(&self, f: &mut Formatter<W>) -> fmt::Result {
         let mut comma = "";
@@ -53,19 +83,8 @@ fn write_cell<W: Write>(f: &mut Formatter<W>, cell: &Cell) -> fmt::Result {
     match cell {
         Cell::Null => write!(f, "null"),
         Cell::Unchanged => write!(f, "unchanged"),
-        Cell::Text(text) => write_quoted(f, text.as_str()),
+        Cell::Text(text) => Quoted(text.as_str()).fmt(f),
     }
-}
-
-fn write_quoted<W: Write>(f: &mut Formatter<W>, text: &str) -> fmt::Result {
-    write!(f, "'")?;
-    for c in text.chars() {
-        match c {
-            '\'' => write!(f, "''")?,
-            c => write_escaped(f, c)?,
-        }
-    }
-    write!(f, "'")
 }
 
 fn write_escaped<W: Write>(f: &mut Formatter<W>, c: char) -> fmt::Result {

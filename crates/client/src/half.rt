@@ -54,6 +54,7 @@ impl Half {
     {
         let Half { begin, changes } = self;
         Published {
+            is_note: false,
             start: begin.position,
             end: commit.end,
             time: begin.time,

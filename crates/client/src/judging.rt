@@ -30,7 +30,9 @@ pub(crate) fn judge(tables: &Tables, message: &Logical) -> Result<(), ClientFaul
             judge_cells(columns, cells_in(&message.old))
         }
         Logical::Truncate(message) => judge_tables(tables, message.oids.as_slice()),
-        Logical::Begin(_) | Logical::Commit(_) | Logical::Relation(_) => Ok(()),
+        Logical::Begin(_) | Logical::Commit(_) | Logical::Relation(_) | Logical::Message(_) => {
+            Ok(())
+        }
     }
 }
 

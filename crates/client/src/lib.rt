@@ -6,6 +6,7 @@ mod cells;
 mod fault;
 mod half;
 mod judging;
+mod note;
 mod progress;
 mod reading;
 mod rendering;

@@ -1,16 +1,17 @@
 //! How far a subscriber is, and what each word makes of it.
 
 ghost use Rattle.std.specs.Prelude.{◌≡◌, [], None};
-ghost use Rattle.client.specs.Subscriber.{after_word, after_message, begun, changed, committed, kept_alive, told, resting, Makes};
+ghost use Rattle.client.specs.Subscriber.{after_word, after_message, begun, changed, committed, heard, kept_alive, noted, told, resting, Makes};
 
 use crate::fault::ClientFault;
 use crate::half::Half;
 use crate::judging::{Tables, judge};
+use crate::note::note_of;
 use indexmap::IndexMap;
-use pgoutput::{Begin, Commit, Logical, Relation};
+use pgoutput::{Begin, Commit, Logical, Message, Relation};
 use std::alloc::Global;
 use std::marker::Model;
-use stream::{Keepalive, Published, Word};
+use stream::{Keepalive, Published, Word, XLogData};
 
 /// A subscriber: what it has applied, and what it knows since it connected.
 #[derive(Drop)]
@@ -83,18 +84,25 @@ impl Progress {
                 self.keep_alive(&keepalive);
                 Ok(())
             }
-            Word::XLogData(data) => self.hear(data.start, data.message),
+            Word::XLogData(data) => self.hear(data),
         }
     }
 
-    fn hear(&mut self, position: u64, message: Logical) -> Result<(), ClientFault>
-        ensures { Makes result self.old self.new (after_message self.old position message) }
+    fn hear(&mut self, data: XLogData) -> Result<(), ClientFault>
+        ensures { Makes result self.old self.new (after_message self.old data.start data.end data.message) }
     {
+        let XLogData {
+            start,
+            end,
+            message,
+            ..
+        } = data;
         match message {
             Logical::Begin(begin) => self.begin(begin),
             Logical::Relation(relation) => self.tell(&relation),
             Logical::Commit(commit) => self.commit(&commit),
-            change => self.change(position, change),
+            Logical::Message(message) => self.message(start, end, message),
+            change => self.change(start, change),
         }
     }
 
@@ -134,6 +142,29 @@ impl Progress {
         };
         judge(&self.tables, &message)?;
         half.push(position, message)?;
+        Ok(())
+    }
+
+    fn message(&mut self, start: u64, end: u64, message: Message) -> Result<(), ClientFault>
+        ensures { Makes result self.old self.new (heard message.is_transactional self.old start end message) }
+    {
+        if message.is_transactional {
+            self.change(start, Logical::Message(message))
+        } else {
+            self.note(end, message)
+        }
+    }
+
+    fn note(&mut self, end: u64, message: Message) -> Result<(), ClientFault>
+        ensures { Makes result self.old self.new (noted self.old.half self.old end message) }
+    {
+        if self.half.is_some() {
+            return Err(ClientFault::Order);
+        }
+        if self.position <= message.position {
+            self.applied.push(note_of(self.alloc, end, message)?)?;
+        }
+        self.position = self.position.max(end);
         Ok(())
     }
 

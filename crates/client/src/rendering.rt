@@ -1,9 +1,9 @@
 //! Messages as lines of text, for people to read.
 
-use crate::cells::{Cells, Name, old_letter};
+use crate::cells::{Cells, Hex, Name, Quoted, old_letter};
 use pgoutput::{
-    Begin, Column, Commit, Delete, Identity, Insert, Logical, Relation, Truncate, TruncateOptions,
-    Update,
+    Begin, Column, Commit, Delete, Identity, Insert, Logical, Message, NOT_TRANSACTIONAL, Relation,
+    TRANSACTIONAL, Truncate, TruncateOptions, Update,
 };
 use replcmd::write_position;
 use std::alloc::{AllocError, Global};
@@ -18,11 +18,13 @@ use std::alloc::{AllocError, Global};
 /// UPDATE oid N(cells)    before the N also K(cells) or O(cells), and a space
 /// DELETE oid K(cells)    or O(cells)
 /// TRUNCATE options oid ..
+/// MESSAGE flags position prefix content
 /// ```
 ///
 /// Cells stand between commas: null, unchanged, or a text in single quotes with each quote in it doubled. In texts and names a
 /// backslash is doubled, and a control character (below 32, and 127) is `\x` and two hexadecimal digits. Positions are as
-/// `16/B374D848`, the identity is `d`, `n`, `f` or `i`, and the options are the sum of 1 for CASCADE and 2 for RESTART IDENTITY.
+/// `16/B374D848`, the identity is `d`, `n`, `f` or `i`, and the options are the sum of 1 for CASCADE and 2 for RESTART IDENTITY. The flags of a Message are 1 in a
+/// transaction, else 0; its prefix is a text in single quotes, its content in hexadecimal.
 pub fn render(alloc: Global, message: &Logical) -> Result<String, AllocError> {
     match message {
         Logical::Begin(message) => render_begin(alloc, message),
@@ -32,6 +34,7 @@ pub fn render(alloc: Global, message: &Logical) -> Result<String, AllocError> {
         Logical::Update(message) => render_update(alloc, message),
         Logical::Delete(message) => render_delete(alloc, message),
         Logical::Truncate(message) => render_truncate(alloc, message),
+        Logical::Message(message) => render_message(alloc, message),
     }
 }
 
@@ -117,4 +120,16 @@ fn options_number(options: TruncateOptions) -> u8 {
         (false, true) => 2,
         (true, true) => 3,
     }
+}
+
+fn render_message(alloc: Global, message: &Message) -> Result<String, AllocError> {
+    let flags = if message.is_transactional {
+        TRANSACTIONAL
+    } else {
+        NOT_TRANSACTIONAL
+    };
+    let position = write_position(alloc, message.position)?;
+    let prefix = Quoted(message.prefix.as_str());
+    let content = Hex(message.content.as_slice());
+    format!(in alloc; "MESSAGE {flags} {position} {prefix} {content}")
 }

@@ -7,6 +7,7 @@ use Rattle.pqformat.specs.Steps.{◌>>=◌}
 use Rattle.pqformat.proofs.Codec.{ok_is}
 use Rattle.pgoutput.specs.declared.begin.Begin.{Begin}
 use Rattle.pgoutput.specs.declared.commit.Commit.{Commit}
+use Rattle.pgoutput.specs.declared.message.Message.{Message}
 use Rattle.pgoutput.specs.declared.relation.Relation.{Relation}
 use Rattle.pgoutput.specs.declared.logical.Logical.{Logical}
 use Rattle.pgoutput.specs.declared.logical.Logical.TheVariants as logical
@@ -16,7 +17,7 @@ use Rattle.stream.specs.declared.word.Keepalive.{Keepalive}
 use Rattle.stream.specs.declared.published.Published.{Published}
 use Rattle.client.specs.declared.fault.ClientFault.{ClientFault}
 use Rattle.client.specs.declared.fault.ClientFault.TheVariants as faults
-use Rattle.client.specs.Subscriber.{Subscriber, HalfTransaction, judged, begun, tell, told, changed, committed, finished, kept_alive, with_change, transaction_of, after_message, after_word, after_words}
+use Rattle.client.specs.Subscriber.{Subscriber, HalfTransaction, judged, begun, tell, told, changed, committed, finished, kept_alive, with_change, note_of, noted, heard, transaction_of, after_message, after_word, after_words}
 use Rattle.client.specs.Taking.{ApplierState, Reached, Takes, TakesFrom}
 use Rattle.follower.specs.Once.{EachOnce, Gains}
 
@@ -93,18 +94,37 @@ gains_commit (Some half) s t m is = by_test (eqb m.position half.begin.position)
     by_test true is = subst (λ (v : Subscriber). Gains s v) (ok_is ClientFault (finished s half m) t is) (gains_finished s half m)
     by_test false is = absurd cc
 
-gains_message : (s t : Subscriber) (position : ℕ) (m : Logical) → after_message s position m ≡ Ok t → Gains s t
-gains_message s t position (logical.Begin m) is = gains_begin s.half s t m is
-gains_message s t position (logical.Relation m) is = gains_relation s.half s t m is
-gains_message s t position (logical.Commit m) is = gains_commit s.half s t m is
-gains_message s t position (logical.Insert m) is = gains_change s.half s t position (logical.Insert m) is
-gains_message s t position (logical.Update m) is = gains_change s.half s t position (logical.Update m) is
-gains_message s t position (logical.Delete m) is = gains_change s.half s t position (logical.Delete m) is
-gains_message s t position (logical.Truncate m) is = gains_change s.half s t position (logical.Truncate m) is
+gains_note : (half : Option HalfTransaction) (s t : Subscriber) (end : ℕ) (m : Message) → noted half s end m ≡ Ok t → Gains s t
+gains_note None s t end m is = subst (λ (v : Subscriber). Gains s v) (ok_is ClientFault (with (nat_le s.position m.position)) t is) (by_test (nat_le s.position m.position) refl)
+  where
+    one : List Published
+    one = note_of end m ∷ []
+
+    with : Bool → Subscriber
+    with b = record s { position = max s.position end; applied = s.applied ++ cond b one [] }
+
+    by_test : (b : Bool) → nat_le s.position m.position ≡ b → Gains s (with b)
+    by_test true is = record { fresh = one; applied = refl; once = (leb-true s.position m.position is, omega arith) }
+    by_test false is = record { fresh = []; applied = refl; once = omega arith }
+gains_note (Some half) s t end m is = absurd cc
+
+gains_heard : (is_transactional : Bool) (s t : Subscriber) (start end : ℕ) (m : Message) → heard is_transactional s start end m ≡ Ok t → Gains s t
+gains_heard true s t start end m is = gains_change s.half s t start (logical.Message m) is
+gains_heard false s t start end m is = gains_note s.half s t end m is
+
+gains_message : (s t : Subscriber) (position end : ℕ) (m : Logical) → after_message s position end m ≡ Ok t → Gains s t
+gains_message s t position end (logical.Begin m) is = gains_begin s.half s t m is
+gains_message s t position end (logical.Relation m) is = gains_relation s.half s t m is
+gains_message s t position end (logical.Commit m) is = gains_commit s.half s t m is
+gains_message s t position end (logical.Insert m) is = gains_change s.half s t position (logical.Insert m) is
+gains_message s t position end (logical.Update m) is = gains_change s.half s t position (logical.Update m) is
+gains_message s t position end (logical.Delete m) is = gains_change s.half s t position (logical.Delete m) is
+gains_message s t position end (logical.Truncate m) is = gains_change s.half s t position (logical.Truncate m) is
+gains_message s t position end (logical.Message m) is = gains_heard m.is_transactional s t position end m is
 
 gains_word : (s t : Subscriber) (w : Word) → after_word s w ≡ Ok t → Gains s t
 gains_word s t (words.Keepalive k) is = subst (λ (v : Subscriber). Gains s v) (ok_is ClientFault (kept_alive s.half s k) t is) (gains_keepalive s.half s k)
-gains_word s t (words.XLogData x) is = gains_message s t x.start x.message is
+gains_word s t (words.XLogData x) is = gains_message s t x.start x.end x.message is
 
 -- ---- By words, and by bytes.
 

@@ -4,6 +4,7 @@ use Rattle.std.specs.Prelude.{max, nat_le}
 use Rattle.pqformat.specs.Steps.{◌>>=◌}
 use Rattle.pgoutput.specs.declared.begin.Begin.{Begin}
 use Rattle.pgoutput.specs.declared.commit.Commit.{Commit}
+use Rattle.pgoutput.specs.declared.message.Message.{Message}
 use Rattle.pgoutput.specs.declared.relation.Relation.{Relation}
 use Rattle.pgoutput.specs.declared.logical.Logical.{Logical}
 use Rattle.pgoutput.specs.declared.logical.Logical.TheVariants as logical
@@ -13,7 +14,7 @@ use Rattle.stream.specs.declared.word.Keepalive.{Keepalive}
 use Rattle.stream.specs.declared.published.Published.{Published}
 use Rattle.client.specs.declared.fault.ClientFault.{ClientFault}
 use Rattle.client.specs.declared.fault.ClientFault.TheVariants as faults
-use Rattle.client.specs.Subscriber.{Subscriber, HalfTransaction, judged, begun, told, changed, committed, finished, kept_alive, with_change, transaction_of, after_message, after_word, after_words}
+use Rattle.client.specs.Subscriber.{Subscriber, HalfTransaction, judged, begun, told, changed, committed, finished, kept_alive, with_change, note_of, noted, heard, transaction_of, after_message, after_word, after_words}
 use Rattle.client.specs.Taking.{ApplierState, Reached, Stops, Takes, TakesFrom}
 use Rattle.client.specs.Law.{Follows}
 use Rattle.client.proofs.Laws.{follows_ok, follows_err}
@@ -59,18 +60,28 @@ commit_before printed (Some half) s m = by_test (eqb m.position half.begin.posit
     by_test true = ap (λ (l : List Published). Ok (record s { half = None; position = max s.position m.end; applied = l })) (append_assoc printed s.applied gained_now)
     by_test false = refl
 
-message_before : (printed : List Published) (s : Subscriber) (position : ℕ) (m : Logical) → after_message (before printed s) position m ≡ after printed (after_message s position m)
-message_before printed s position (logical.Begin m) = begin_before printed s.half s m
-message_before printed s position (logical.Relation m) = relation_before printed s.half s m
-message_before printed s position (logical.Commit m) = commit_before printed s.half s m
-message_before printed s position (logical.Insert m) = change_before printed s.half s position (logical.Insert m)
-message_before printed s position (logical.Update m) = change_before printed s.half s position (logical.Update m)
-message_before printed s position (logical.Delete m) = change_before printed s.half s position (logical.Delete m)
-message_before printed s position (logical.Truncate m) = change_before printed s.half s position (logical.Truncate m)
+note_before : (printed : List Published) (half : Option HalfTransaction) (s : Subscriber) (end : ℕ) (m : Message) → noted half (before printed s) end m ≡ after printed (noted half s end m)
+note_before printed None s end m =
+    ap (λ (l : List Published). Ok (record s { position = max s.position end; applied = l })) (append_assoc printed s.applied (cond (nat_le s.position m.position) (note_of end m ∷ []) []))
+note_before printed (Some half) s end m = refl
+
+heard_before : (printed : List Published) (is_transactional : Bool) (s : Subscriber) (start end : ℕ) (m : Message) → heard is_transactional (before printed s) start end m ≡ after printed (heard is_transactional s start end m)
+heard_before printed true s start end m = change_before printed s.half s start (logical.Message m)
+heard_before printed false s start end m = note_before printed s.half s end m
+
+message_before : (printed : List Published) (s : Subscriber) (position end : ℕ) (m : Logical) → after_message (before printed s) position end m ≡ after printed (after_message s position end m)
+message_before printed s position end (logical.Begin m) = begin_before printed s.half s m
+message_before printed s position end (logical.Relation m) = relation_before printed s.half s m
+message_before printed s position end (logical.Commit m) = commit_before printed s.half s m
+message_before printed s position end (logical.Insert m) = change_before printed s.half s position (logical.Insert m)
+message_before printed s position end (logical.Update m) = change_before printed s.half s position (logical.Update m)
+message_before printed s position end (logical.Delete m) = change_before printed s.half s position (logical.Delete m)
+message_before printed s position end (logical.Truncate m) = change_before printed s.half s position (logical.Truncate m)
+message_before printed s position end (logical.Message m) = heard_before printed m.is_transactional s position end m
 
 word_before : (printed : List Published) (s : Subscriber) (w : Word) → after_word (before printed s) w ≡ after printed (after_word s w)
 word_before printed s (words.Keepalive k) = ap (λ (t : Subscriber). Ok t) (keepalive_before printed s.half s k)
-word_before printed s (words.XLogData x) = message_before printed s x.start x.message
+word_before printed s (words.XLogData x) = message_before printed s x.start x.end x.message
 
 -- ---- By words.
 

@@ -2,3 +2,4 @@ pub mod Kept
 pub mod Once
 pub mod Promise
 pub mod Retrying
+pub mod Told

@@ -113,6 +113,9 @@ fn starting(alloc: Global, options: &Options<'_>, position: u64) -> Result<Strin
     text.push_str(write_position(alloc, position)?.as_str())?;
     text.push_str(" (proto_version '1', publication_names ")?;
     push_quoted(&mut text, options.publications, '\'')?;
+    if options.messages {
+        text.push_str(", messages 'true'")?;
+    }
     text.push_str(")")?;
     Ok(text)
 }

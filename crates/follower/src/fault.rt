@@ -2,6 +2,7 @@
 
 use client::ClientFault;
 use frames::{ErrorResponse, FrameFault};
+use json_lines::LineFault;
 use pqformat::Text;
 use std::alloc::AllocError;
 use std::{fmt, io};
@@ -83,6 +84,16 @@ impl From<FrameFault> for FollowFault {
         match fault {
             FrameFault::Memory => FollowFault::Client(ClientFault::Memory),
             _ => FollowFault::Client(ClientFault::Frame),
+        }
+    }
+}
+
+/// K2 is a row of another count of values than its table has columns.
+impl From<LineFault> for FollowFault {
+    fn from(fault: LineFault) -> FollowFault {
+        match fault {
+            LineFault::Shape => FollowFault::Client(ClientFault::Order),
+            LineFault::Memory => FollowFault::Client(ClientFault::Memory),
         }
     }
 }

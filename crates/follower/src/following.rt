@@ -1,19 +1,23 @@
-//! Following a stream: each message printed, each transaction acknowledged.
+//! Following a stream: each message printed, each transaction and each note acknowledged.
 
 use crate::asking::{ask_for_stream, send};
 use crate::fault::{FollowFault, told};
+use crate::form::Form;
 use crate::incoming::Incoming;
+use crate::json_transcript::JsonTranscript;
+use crate::kept::Kept;
 use crate::options::Options;
 use client::{Applier, ClientFault, render};
 use copyboth::{ServerBody, read_server};
 use frames::{Back, Front};
 use pgoutput::{Logical, OutFault, read_logical};
-use std::alloc::Global;
+use std::alloc::{AllocError, Global};
 use std::io::{Read, Write};
 use std::sync::Wait;
 
-/// Asks a server for a stream of the slot, and prints each message on a line, as `client::render` has it. Behind each Commit it
-/// tells the server its position, and once it has as many Commits as it should it ends the stream, and reads no more.
+/// Asks a server for a stream of the slot, and prints each message on a line, in the form of the options. Behind each Commit, and
+/// behind each message outside of a transaction, it tells the server its position, and once it has as many of these as it should it
+/// ends the stream, and reads no more. Then it prints the last line of the form, if it has one.
 ///
 /// K4 is what the server refused. K1 to K3 and K5 are those of an applier. K6 comes where the connection or the output failed,
 /// where the connection ended early, or where a command with these names is too long to be sent.
@@ -30,17 +34,28 @@ pub fn follow<R: Wait, S: Read + Write, W: Write>(
         alloc,
         applier: Applier::new(alloc),
         left: options.count,
+        transcript: transcript_in(alloc, options.form),
     };
     following.take_frames(rt, &mut incoming, socket, output)?;
+    following.print_last(output)?;
     send(alloc, socket, &Front::CopyDone)
 }
 
-/// A subscriber, and how many Commits it still waits for.
+/// A subscriber, and how many transactions and notes it still waits for.
 #[derive(Drop)]
 struct Following {
     alloc: Global,
     applier: Applier,
     left: u32,
+    /// In the form of JSON.
+    transcript: Option<JsonTranscript>,
+}
+
+fn transcript_in(alloc: Global, form: Form) -> Option<JsonTranscript> {
+    match form {
+        Form::Text => None,
+        Form::Json => Some(JsonTranscript::new(alloc, &Kept::new())),
+    }
 }
 
 impl Following {
@@ -79,7 +94,7 @@ impl Following {
     ) -> Result<(), FollowFault> {
         match read_server(body) {
             Ok(ServerBody::XLogData(data)) => {
-                if self.print(data.payload, output)? {
+                if self.print(data.start, data.payload, output)? {
                     self.left = self.left.saturating_sub(1);
                     self.acknowledge(socket)?;
                 }
@@ -91,32 +106,92 @@ impl Following {
         }
     }
 
-    /// Prints a message, and answers whether it is a Commit. Behind a Commit nothing of the output waits.
-    fn print<W: Write>(&self, payload: &[u8], output: &mut W) -> Result<bool, FollowFault> {
+    /// Prints a message, and answers whether a transaction ends with it. Then nothing of the output waits.
+    fn print<W: Write>(
+        &mut self,
+        position: u64,
+        payload: &[u8],
+        output: &mut W,
+    ) -> Result<bool, FollowFault> {
         match read_logical(self.alloc, payload) {
-            Ok(message) => self.print_message(&message, output),
+            Ok(message) => self.print_message(position, message, output),
             Err(OutFault::Memory) => Err(FollowFault::Client(ClientFault::Memory)),
             Err(_) => Err(FollowFault::Client(ClientFault::Frame)),
         }
     }
 
     fn print_message<W: Write>(
-        &self,
-        message: &Logical,
+        &mut self,
+        position: u64,
+        message: Logical,
         output: &mut W,
     ) -> Result<bool, FollowFault> {
-        let line = render(self.alloc, message)?;
-        writeln!(output, "{line}").map_err(FollowFault::Output)?;
-        let is_commit = matches!(message, Logical::Commit(_));
-        if is_commit {
+        let is_end = ends_a_transaction(&message);
+        let lines = self.lines(position, message)?;
+        output
+            .write_all(lines.as_slice())
+            .map_err(FollowFault::Output)?;
+        if is_end {
             output.flush().map_err(FollowFault::Output)?;
         }
-        Ok(is_commit)
+        Ok(is_end)
+    }
+
+    /// The lines of a message, with their ends.
+    fn lines(&mut self, position: u64, message: Logical) -> Result<Vec<u8>, FollowFault> {
+        let alloc = self.alloc;
+        match &mut self.transcript {
+            None => Ok(text_of(alloc, &message)?),
+            Some(transcript) => json_of(alloc, transcript, position, message),
+        }
+    }
+
+    /// Prints what stands behind all.
+    fn print_last<W: Write>(&self, output: &mut W) -> Result<(), FollowFault> {
+        if let Some(transcript) = &self.transcript {
+            let last = transcript.summary()?;
+            output
+                .write_all(last.as_slice())
+                .map_err(FollowFault::Output)?;
+            output.flush().map_err(FollowFault::Output)?;
+        }
+        Ok(())
     }
 
     /// Tells the server the position, by the clock 0.
     fn acknowledge<S: Write>(&self, socket: &mut S) -> Result<(), FollowFault> {
         let status = self.applier.status(0, false);
         socket.write_all(&status).map_err(FollowFault::Connection)
+    }
+}
+
+/// The line of text, with its end.
+fn text_of(alloc: Global, message: &Logical) -> Result<Vec<u8>, AllocError> {
+    let mut line = render(alloc, message)?;
+    line.push('\n')?;
+    Ok(line.into_bytes())
+}
+
+/// The lines of JSON. A Relation has none, and is kept for the changes of its table.
+fn json_of(
+    alloc: Global,
+    transcript: &mut JsonTranscript,
+    position: u64,
+    message: Logical,
+) -> Result<Vec<u8>, FollowFault> {
+    let mut lines = Vec::new(alloc);
+    match message {
+        Logical::Relation(relation) => transcript.tell(relation)?,
+        message => transcript.add_message(position, &message, &mut lines)?,
+    }
+    Ok(lines)
+}
+
+/// A message outside of a transaction is one by itself.
+fn ends_a_transaction(message: &Logical) -> bool {
+    match message {
+        Logical::Commit(_) => true,
+        Logical::Message(said) => !said.is_transactional,
+        _ => false,
     }
 }

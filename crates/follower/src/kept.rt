@@ -1,90 +1,88 @@
 //! What an output holds of earlier runs, told line by line: where the next one goes on.
 
 ghost use Rattle.std.specs.Prelude.{◌≡◌, None, false};
-ghost use Rattle.follower.specs.Kept.{with_line};
+ghost use Rattle.follower.specs.Kept.{more_by, with_line};
 
-use replcmd::parse_position;
-use std::str;
+use crate::form::Form;
+use crate::line::Line;
+use std::alloc::{AllocError, Global};
 
-/// What the first line of a transaction begins with.
-const BEGIN: &[u8] = b"BEGIN ";
-
-/// Of the lines that were read, those up to the last whole Commit: how long they are, how many transactions, and where the last of
-/// them ends in the log.
+/// Of the lines that were read, those up to the last whole Commit or note: how long they are, how many transactions and notes, how
+/// many changes of tables, and a position of the log behind the last of them.
 #[derive(Clone, Copy)]
 pub struct Kept {
     pub length: u64,
     pub transactions: u32,
+    pub changes: u64,
     pub position: u64,
     /// How long the lines are that were read behind those.
     pub rest: u64,
+    /// How many changes they tell.
+    pub rest_changes: u64,
     /// Whether some line can't be what a run wrote there.
     pub is_foreign: bool,
-}
-
-/// A line, as far as it tells where a run goes on.
-#[derive(Clone, Copy)]
-struct Line {
-    length: u64,
-    /// Whether it is the first one of a transaction, or the beginning of one.
-    begins: bool,
-    /// Where the transaction ends in the log, of its Commit.
-    end: Option<u64>,
 }
 
 impl Kept {
     /// Of no line.
     pub fn new() -> Self
-        ensures { result ≡ record { length = 0; transactions = 0; position = 0; rest = 0; is_foreign = false } }
+        ensures { result ≡ record { length = 0; transactions = 0; changes = 0; position = 0; rest = 0; rest_changes = 0; is_foreign = false } }
     {
         Kept {
             length: 0,
             transactions: 0,
+            changes: 0,
             position: 0,
             rest: 0,
+            rest_changes: 0,
             is_foreign: false,
         }
     }
 
-    /// Takes the next line, with its end if it has one.
-    pub fn take(&mut self, text: &[u8]) {
-        self.count(&Line::of(text));
+    /// Takes the next line of this form, with its end if it has one.
+    pub fn take(&mut self, alloc: Global, form: Form, text: &[u8]) -> Result<(), AllocError> {
+        let line = Line::of(alloc, form, text)?;
+        self.count(&line);
+        Ok(())
     }
 
-    fn count(&mut self, line: &Line)
+    /// What it comes to once what stands behind the last whole Commit or note is cut off.
+    pub(crate) fn cut(&self) -> Self
+        ensures { result ≡ record self.now { rest = 0; rest_changes = 0 } }
+    {
+        Kept {
+            rest: 0,
+            rest_changes: 0,
+            ..*self
+        }
+    }
+
+    pub(crate) fn count(&mut self, line: &Line)
         ensures { self.new ≡ with_line self.old line.now }
     {
-        self.is_foreign = self.is_foreign || (self.rest == 0 && !line.begins);
+        let is_first = self.rest == 0;
+        self.is_foreign = self.is_foreign
+            || (is_first && !line.begins)
+            || (!is_first && line.is_note);
         self.rest = self.rest.saturating_add(line.length);
+        self.rest_changes = more_by(self.rest_changes, line.is_change);
         if let Some(position) = line.end {
             self.length = self.length.saturating_add(self.rest);
             self.transactions = self.transactions.saturating_add(1);
+            self.changes = self.changes.saturating_add(self.rest_changes);
             self.position = position;
             self.rest = 0;
+            self.rest_changes = 0;
         }
     }
 }
 
-impl Line {
-    fn of(text: &[u8]) -> Self {
-        Line {
-            length: text.len() as u64,
-            begins: text.starts_with(BEGIN) || BEGIN.starts_with(text),
-            end: end_of_commit(text),
-        }
+fn more_by(count: u64, is_one: bool) -> u64
+    ensures { result ≡ more_by count is_one }
+{
+    if is_one {
+        count.saturating_add(1)
+    } else {
+        count
     }
-}
-
-/// Where the transaction ends in the log whose Commit the line is, whole.
-fn end_of_commit(line: &[u8]) -> Option<u64> {
-    let (last, line) = line.split_last()?;
-    if *last != b'\n' {
-        return None;
-    }
-    let numbers = str::from_utf8(line).ok()?.strip_prefix("COMMIT ")?;
-    let (start, end_and_time) = numbers.split_once(' ')?;
-    let (end, time) = end_and_time.split_once(' ')?;
-    parse_position(start).ok()?;
-    time.parse::<i64>().ok()?;
-    parse_position(end).ok()
 }

@@ -5,17 +5,26 @@
 mod asking;
 mod fault;
 mod following;
+mod form;
 mod incoming;
 mod intake;
+mod json_form;
+mod json_transcript;
 mod kept;
+mod line;
 mod options;
+mod printer;
 mod promise;
 mod resuming;
 mod retrying;
+mod text_form;
+mod told;
 mod transcript;
+mod whole;
 
 pub use fault::{FollowFault, ServerError};
 pub use following::follow;
+pub use form::Form;
 pub use kept::Kept;
 pub use options::Options;
 pub use promise::{each_transaction_is_printed_once, no_transaction_is_lost};

@@ -1,5 +1,7 @@
 //! What is followed.
 
+use crate::form::Form;
+
 /// Which slot is followed, from where on, and for how long.
 #[derive(Clone, Copy)]
 pub struct Options<'a> {
@@ -10,6 +12,11 @@ pub struct Options<'a> {
     pub position: u64,
     /// Names of publications, joined by commas, as `publication_names` takes them.
     pub publications: &'a str,
-    /// After so many transactions the stream is ended.
+    /// Whether the messages that sessions put into the log are asked for too, by the option `messages` of
+    /// START_REPLICATION (PostgreSQL 15, 55.5).
+    pub messages: bool,
+    /// After so many transactions the stream is ended. A message outside of one counts as one.
     pub count: u32,
+    /// How it is printed.
+    pub form: Form,
 }

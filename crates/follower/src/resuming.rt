@@ -6,13 +6,14 @@ use crate::asking::{create_if_absent, greet, send, start_stream};
 use crate::fault::{FollowFault, told};
 use crate::incoming::Incoming;
 use crate::intake::Intake;
+use crate::kept::Kept;
 use crate::options::Options;
-use crate::transcript::Transcript;
+use crate::printer::Printer;
 use client::ClientFault;
 use copyboth::{ServerBody, read_server};
 use frames::{Back, Front};
-use pgoutput::{OutFault, RELATION, read_logical};
-use std::alloc::{AllocError, Global};
+use pgoutput::{Logical, OutFault, RELATION, Relation, read_logical};
+use std::alloc::Global;
 use std::io::{Read, Write};
 use std::sync::Wait;
 
@@ -21,7 +22,7 @@ use std::sync::Wait;
 pub struct Subscription {
     alloc: Global,
     intake: Intake,
-    transcript: Transcript,
+    printer: Printer,
     is_created: bool,
     /// Whether the server was asked for a sign of life, and nothing has come since.
     is_asked: bool,
@@ -30,10 +31,17 @@ pub struct Subscription {
 impl Subscription {
     /// Of one who has all that commits below the position of the options.
     pub fn new(alloc: Global, options: &Options<'_>) -> Self {
+        Subscription::behind(alloc, options, &Kept::new())
+    }
+
+    /// Of one whose output holds so much already, up to its last whole transaction, and counts.
+    pub fn behind(alloc: Global, options: &Options<'_>, kept: &Kept) -> Self {
+        let position = options.position.max(kept.position);
+        let count = options.count.saturating_sub(kept.transactions);
         Subscription {
             alloc,
-            intake: Intake::new(alloc, options.position, options.count),
-            transcript: Transcript::new(alloc),
+            intake: Intake::new(alloc, position, count),
+            printer: Printer::new(alloc, options.form, &kept.cut()),
             is_created: false,
             is_asked: false,
         }
@@ -48,7 +56,8 @@ impl Subscription {
 /// Follows the slot over one connection, as `follow` does, from where the subscription is. What `options.create` asks for is that the
 /// slot is there. Each transaction is printed when it is whole, and once, whatever came of it on connections before; the Relation
 /// of a table stands in front of its first change. What was printed is acknowledged before more is read, and where the server asks.
-/// Where a read of the socket gives up, the server is asked for a keepalive; where the next one does too, it is silent.
+/// Where a read of the socket gives up, the server is asked for a keepalive; where the next one does too, it is silent. Behind all
+/// of them stands the last line of the form, if it has one.
 ///
 /// Where the fault is a passing one (`FollowFault::is_passing`), the subscription goes on over another connection. Once all is
 /// printed, a connection that is lost is no fault.
@@ -65,6 +74,7 @@ pub fn resume<R: Wait, S: Read + Write, W: Write>(
     let ended = subscription.take_frames(rt, &mut incoming, socket, output);
     subscription.print(output)?;
     ended?;
+    subscription.print_last(output)?;
     let _ = subscription.end_stream(socket);
     Ok(())
 }
@@ -160,7 +170,7 @@ impl Subscription {
         output: &mut W,
     ) -> Result<(), FollowFault> {
         match read_server(body) {
-            Ok(ServerBody::XLogData(data)) => self.take_message(data.payload),
+            Ok(ServerBody::XLogData(data)) => self.take_message(data.payload, output),
             Ok(ServerBody::Keepalive(keepalive)) if keepalive.ask => {
                 self.acknowledge(false, socket, output)
             }
@@ -169,15 +179,29 @@ impl Subscription {
         }
     }
 
-    fn take_message(&mut self, payload: &[u8]) -> Result<(), FollowFault> {
+    fn take_message<W: Write>(
+        &mut self,
+        payload: &[u8],
+        output: &mut W,
+    ) -> Result<(), FollowFault> {
         if payload.first() != Some(&RELATION) {
             return Ok(());
         }
         match read_logical(self.alloc, payload) {
-            Ok(message) => Ok(self.transcript.tell(&message)?),
+            Ok(Logical::Relation(relation)) => self.tell(relation, output),
+            Ok(_) => Ok(()),
             Err(OutFault::Memory) => Err(FollowFault::Client(ClientFault::Memory)),
             Err(_) => Err(FollowFault::Client(ClientFault::Frame)),
         }
+    }
+
+    /// Keeps what is told of a table. What is there is printed by what was told of it before.
+    fn tell<W: Write>(&mut self, relation: Relation, output: &mut W) -> Result<(), FollowFault> {
+        match self.printer.has_told_else(&relation) {
+            true => self.print(output)?,
+            false => {}
+        }
+        Ok(self.printer.tell(relation)?)
     }
 
     /// Acknowledges what is there, where something is.
@@ -210,7 +234,7 @@ impl Subscription {
     {
         let lines = self.lines()?;
         output
-            .write_all(lines.as_bytes())
+            .write_all(lines.as_slice())
             .map_err(FollowFault::Output)?;
         output.flush().map_err(FollowFault::Output)?;
         self.intake.printed();
@@ -218,12 +242,21 @@ impl Subscription {
     }
 
     /// The lines of what is there. They are made before the first is printed, so that want of memory prints no half transaction.
-    fn lines(&mut self) -> Result<String, AllocError> {
-        let mut lines = String::new(self.alloc);
+    fn lines(&mut self) -> Result<Vec<u8>, FollowFault> {
+        let mut lines = Vec::new(self.alloc);
         for transaction in self.intake.unprinted() {
-            self.transcript.add(transaction, &mut lines)?;
+            self.printer.add(transaction, &mut lines)?;
         }
         Ok(lines)
+    }
+
+    /// Prints what stands behind all, once all is printed.
+    fn print_last<W: Write>(&self, output: &mut W) -> Result<(), FollowFault> {
+        let last = self.printer.last(self.alloc)?;
+        output
+            .write_all(last.as_slice())
+            .map_err(FollowFault::Output)?;
+        output.flush().map_err(FollowFault::Output)
     }
 
     /// The last status, and the end of the stream.

@@ -52,22 +52,22 @@ impl Transcript {
         }
     }
 
-    /// Adds the lines of a transaction.
+    /// Adds the lines of a transaction, or the one line of a note.
     pub(crate) fn add(
         &mut self,
         transaction: &Applied,
-        lines: &mut String,
+        lines: &mut Vec<u8>,
     ) -> Result<(), AllocError> {
+        if transaction.is_note {
+            return self.add_changes(transaction, lines);
+        }
         let begin = Logical::Begin(Begin {
             position: transaction.start,
             time: transaction.time,
             xid: transaction.xid,
         });
         add_line(lines, render(self.alloc, &begin)?.as_str())?;
-        for change in transaction.changes.as_slice() {
-            self.add_tables(&change.message, lines)?;
-            add_line(lines, render(self.alloc, &change.message)?.as_str())?;
-        }
+        self.add_changes(transaction, lines)?;
         let commit = Logical::Commit(Commit {
             position: transaction.start,
             end: transaction.end,
@@ -76,25 +76,38 @@ impl Transcript {
         add_line(lines, render(self.alloc, &commit)?.as_str())
     }
 
+    fn add_changes(
+        &mut self,
+        transaction: &Applied,
+        lines: &mut Vec<u8>,
+    ) -> Result<(), AllocError> {
+        for change in transaction.changes.as_slice() {
+            self.add_tables(&change.message, lines)?;
+            add_line(lines, render(self.alloc, &change.message)?.as_str())?;
+        }
+        Ok(())
+    }
+
     /// The tables that a change names, where they aren't printed yet.
-    fn add_tables(&mut self, change: &Logical, lines: &mut String) -> Result<(), AllocError> {
+    fn add_tables(&mut self, change: &Logical, lines: &mut Vec<u8>) -> Result<(), AllocError> {
         match change {
             Logical::Insert(message) => self.add_table(message.oid, lines),
             Logical::Update(message) => self.add_table(message.oid, lines),
             Logical::Delete(message) => self.add_table(message.oid, lines),
             Logical::Truncate(message) => self.add_all(message.oids.as_slice(), lines),
-            Logical::Begin(_) | Logical::Commit(_) | Logical::Relation(_) => Ok(()),
+            Logical::Begin(_) | Logical::Commit(_) | Logical::Relation(_) | Logical::Message(_) =>
+                Ok(()),
         }
     }
 
-    fn add_all(&mut self, oids: &[u32], lines: &mut String) -> Result<(), AllocError> {
+    fn add_all(&mut self, oids: &[u32], lines: &mut Vec<u8>) -> Result<(), AllocError> {
         for oid in oids {
             self.add_table(*oid, lines)?;
         }
         Ok(())
     }
 
-    fn add_table(&mut self, oid: u32, lines: &mut String) -> Result<(), AllocError> {
+    fn add_table(&mut self, oid: u32, lines: &mut Vec<u8>) -> Result<(), AllocError> {
         if let Some(table) = self.tables.get_mut(&oid) {
             if !table.is_printed {
                 add_line(lines, table.line.as_str())?;
@@ -105,7 +118,8 @@ impl Transcript {
     }
 }
 
-fn add_line(lines: &mut String, line: &str) -> Result<(), AllocError> {
-    lines.push_str(line)?;
-    lines.push('\n')
+fn add_line(lines: &mut Vec<u8>, line: &str) -> Result<(), AllocError> {
+    lines.extend_from_slice(line.as_bytes())?;
+    lines.push(b'\n')?;
+    Ok(())
 }

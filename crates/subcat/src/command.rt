@@ -21,6 +21,9 @@ creates the slot mine, waits for one transaction of the publication p, and print
 A position is where the stream should begin; a slot that has confirmed more begins there. With
 a COUNT of 0 the stream is ended at once.
 
+With --messages the messages are asked for that sessions put into the log, in a transaction or
+outside of one. One outside is counted as a transaction.
+
 With --follow a connection that is lost, refused or silent for a minute, a slot that is still
 active and a server that is not there are tried again, after 0.1 s and then twice as long each
 time, up to 5 s, until something comes again; each try is told on the standard error. A
@@ -32,6 +35,17 @@ FILE also says where to go on: a run that is killed and started again with the s
 what it half wrote, begins behind the last transaction of FILE, and prints none twice. POSITION is
 where it begins if FILE is empty, and COUNT counts the transactions of FILE.
 
+With --json each message is an object of JSON, as in wal2json's format-version 2:
+
+  {\"action\":\"B\",\"xid\":700,\"lsn\":\"0/1000030\",\"timestamp\":5}
+  {\"action\":\"I\",\"lsn\":\"0/1000000\",\"schema\":\"public\",\"table\":\"item\",
+   \"columns\":[{\"name\":\"id\",\"type\":\"integer\",\"value\":1},..]}
+  {\"action\":\"C\",\"lsn\":\"0/1000030\",\"nextlsn\":\"0/1000050\",\"timestamp\":5}
+  {\"summary\":{\"transactions\":1,\"changes\":1,\"lsn\":\"0/1000050\"}}
+
+each on one line. The last one stands where the stream ends, and the next run on FILE cuts it off.
+What FILE holds has to be in the same form.
+
 It ends with 0 behind COUNT transactions, with 2 where the arguments are refused, and with 1
 where the connection, the server, the output or memory fails. What the server refused is printed
 as server: CODE text.";
@@ -41,6 +55,8 @@ as server: CODE text.";
 pub struct Words<'a> {
     pub create: bool,
     pub follow: bool,
+    pub json: bool,
+    pub messages: bool,
     pub output: Option<&'a str>,
     pub address: &'a str,
     pub slot: &'a str,
@@ -50,6 +66,10 @@ pub struct Words<'a> {
 }
 
 const FOLLOW_HELP: &str = "Go on over lost connections, and print each transaction once";
+
+const JSON_HELP: &str = "Print an object of JSON on a line, as users of wal2json know them";
+
+const MESSAGES_HELP: &str = "Ask for the messages in the log too";
 
 /// The words that have to be there, and what is said of each.
 const REQUIRED: [(&str, &str); 5] = [
@@ -73,6 +93,8 @@ fn command_of<'a>(alloc: Global) -> Result<Command<'a>, AllocError> {
     let mut command = bare(alloc)?
         .arg(flag(alloc, "create", "Create the slot first"))?
         .arg(flag(alloc, "follow", FOLLOW_HELP))?
+        .arg(flag(alloc, "json", JSON_HELP))?
+        .arg(flag(alloc, "messages", MESSAGES_HELP))?
         .arg(output(alloc)?)?;
     for (name, help) in &REQUIRED {
         command = command.arg(required(alloc, *name, *help))?;
@@ -116,6 +138,8 @@ fn words_in<'a>(matches: &ArgMatches<'a>) -> Words<'a> {
     Words {
         create: matches.get_flag("create"),
         follow: matches.get_flag("follow"),
+        json: matches.get_flag("json"),
+        messages: matches.get_flag("messages"),
         output: matches.get_str("output"),
         address: matches.get_str("ADDR").unwrap_or(""),
         slot: matches.get_str("SLOT").unwrap_or(""),

@@ -1,7 +1,7 @@
 //! A file that keeps what is printed: where it ends the next run goes on.
 
 use crate::fault::Fault;
-use follower::Kept;
+use follower::{Form, Kept};
 use std::alloc::Global;
 use std::fs::{File, OpenOptions, TryLockError};
 use std::io;
@@ -17,13 +17,19 @@ pub struct Journal {
 }
 
 impl Journal {
-    /// Opens the file, or makes one, and answers what it holds of earlier runs. It is refused where it holds something else.
-    pub fn open(rt: &HostRuntime, alloc: Global, path: &str) -> Result<(Self, Kept), Fault> {
+    /// Opens the file, or makes one, and answers what it holds of earlier runs that printed in this form. It is refused where it
+    /// holds something else.
+    pub fn open(
+        rt: &HostRuntime,
+        alloc: Global,
+        path: &str,
+        form: Form,
+    ) -> Result<(Self, Kept), Fault> {
         let mut options = OpenOptions::new();
         options.read(true).append(true).create(true);
         let file: File = options.open(rt, path).map_err(Fault::Journal)?;
         file.try_lock().map_err(not_locked)?;
-        let kept = read(alloc, &file)?;
+        let kept = read(alloc, &file, form)?;
         if kept.is_foreign {
             return Err(Fault::ForeignJournal);
         }
@@ -40,7 +46,7 @@ fn not_locked(fault: TryLockError) -> Fault {
 }
 
 /// Reads it from its front to its end.
-fn read(alloc: Global, file: &File) -> Result<Kept, Fault> {
+fn read(alloc: Global, file: &File, form: Form) -> Result<Kept, Fault> {
     let mut lines = BufReader::new(alloc, file).map_err(Fault::Journal)?;
     let mut kept = Kept::new();
     let mut line = Vec::new(alloc);
@@ -50,7 +56,7 @@ fn read(alloc: Global, file: &File) -> Result<Kept, Fault> {
         if length.map_err(Fault::Journal)? == 0 {
             break;
         }
-        kept.take(line.as_slice());
+        kept.take(alloc, form, line.as_slice())?;
     }
     Ok(kept)
 }

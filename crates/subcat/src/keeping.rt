@@ -2,7 +2,7 @@
 
 use crate::fault::Fault;
 use crate::journal::Journal;
-use follower::{FollowFault, Options, Pauses, Subscription, resume};
+use follower::{FollowFault, Kept, Options, Pauses, Subscription, resume};
 use std::alloc::Global;
 use std::io::Write;
 use std::net::{Net, SocketAddr, TcpListener, TcpStream};
@@ -21,7 +21,7 @@ pub fn keep_printing<N: Net<Listener = TcpListener, Stream = TcpStream> + Wait>(
     address: SocketAddr,
     options: &Options,
 ) -> Result<(), Fault> {
-    keep_following(rt, net, address, options, &mut io::writer(rt))
+    keep_following(rt, net, address, options, &Kept::new(), &mut io::writer(rt))
 }
 
 /// Follows into a file, from where it ends. What it holds counts.
@@ -32,24 +32,20 @@ pub fn keep_in<N: Net<Listener = TcpListener, Stream = TcpStream> + Wait>(
     options: &Options,
     path: &str,
 ) -> Result<(), Fault> {
-    let (mut journal, kept) = Journal::open(rt, rt.alloc(), path)?;
-    let options = Options {
-        position: options.position.max(kept.position),
-        count: options.count.saturating_sub(kept.transactions),
-        ..*options
-    };
-    keep_following(rt, net, address, &options, &mut journal)
+    let (mut journal, kept) = Journal::open(rt, rt.alloc(), path, options.form)?;
+    keep_following(rt, net, address, options, &kept, &mut journal)
 }
 
-/// Goes on over one connection after the other until all is printed. Each that was lost is told, with the pause behind it.
+/// Goes on behind what the output holds, over one connection after the other, until all is printed. Each that was lost is told, with the pause behind it.
 fn keep_following<N: Net<Listener = TcpListener, Stream = TcpStream> + Wait, W: Write>(
     rt: &HostRuntime,
     net: &N,
     address: SocketAddr,
     options: &Options,
+    kept: &Kept,
     output: &mut W,
 ) -> Result<(), Fault> {
-    let mut subscription = Subscription::new(rt.alloc(), options);
+    let mut subscription = Subscription::behind(rt.alloc(), options, kept);
     let mut pauses = Pauses::new();
     for _ in net.forever() {
         let stood = subscription.position();

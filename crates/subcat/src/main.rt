@@ -1,5 +1,5 @@
-//! `subcat [--create] [--follow [--output FILE]] ADDR SLOT POSITION PUBLICATIONS COUNT` follows a slot of a publisher, and prints each
-//! message of its stream, or, over lost connections, each transaction once.
+//! `subcat [--create] [--json] [--messages] [--follow [--output FILE]] ADDR SLOT POSITION PUBLICATIONS COUNT` follows a slot of a
+//! publisher, and prints each message of its stream, or, over lost connections, each transaction once.
 #![tactic(auto)]
 
 mod command;
@@ -9,7 +9,7 @@ mod keeping;
 
 use command::{Words, words_of};
 use fault::Fault;
-use follower::{Options, follow};
+use follower::{Form, Options, follow};
 use keeping::{keep_in, keep_printing};
 use replcmd::parse_position;
 use std::io::BufWriter;
@@ -64,7 +64,9 @@ fn options_of<'a>(words: &Words<'a>) -> Result<Options<'a>, Fault> {
         slot: words.slot,
         position: parse_position(words.position).map_err(|_| Fault::Position)?,
         publications: words.publications,
+        messages: words.messages,
         count: count_of(words.count)?,
+        form: if words.json { Form::Json } else { Form::Text },
     })
 }
 

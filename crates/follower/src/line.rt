@@ -1,0 +1,30 @@
+//! A line of an output, as far as it tells where a run goes on.
+
+use crate::form::Form;
+use crate::json_form::json_line;
+use crate::text_form::text_line;
+use std::alloc::{AllocError, Global};
+
+/// A line, as far as it tells where a run goes on.
+#[derive(Clone, Copy)]
+pub(crate) struct Line {
+    pub(crate) length: u64,
+    /// Whether it is the first one of a transaction, or the one of a note, or the beginning of such a line; or what is only cut off.
+    pub(crate) begins: bool,
+    /// Whether it is the one of a note.
+    pub(crate) is_note: bool,
+    /// Whether it tells a change of a table.
+    pub(crate) is_change: bool,
+    /// A position of the log behind what it ends: of a Commit where its transaction ends, of a note one in its record.
+    pub(crate) end: Option<u64>,
+}
+
+impl Line {
+    /// What a line of this form tells.
+    pub(crate) fn of(alloc: Global, form: Form, text: &[u8]) -> Result<Self, AllocError> {
+        match form {
+            Form::Text => Ok(text_line(text)),
+            Form::Json => json_line(alloc, text),
+        }
+    }
+}

@@ -1,0 +1,66 @@
+//! What makes lines of transactions, in either form.
+
+use crate::fault::FollowFault;
+use crate::form::Form;
+use crate::json_transcript::JsonTranscript;
+use crate::kept::Kept;
+use crate::transcript::Transcript;
+use client::Applied;
+use pgoutput::{Logical, Relation};
+use std::alloc::{AllocError, Global};
+
+/// What makes lines of transactions.
+#[derive(Drop)]
+pub(crate) enum Printer {
+    Text(Transcript),
+    Json(JsonTranscript),
+}
+
+impl Printer {
+    /// For an output that holds so much already.
+    pub(crate) fn new(alloc: Global, form: Form, kept: &Kept) -> Self {
+        match form {
+            Form::Text => Printer::Text(Transcript::new(alloc)),
+            Form::Json => Printer::Json(JsonTranscript::new(alloc, kept)),
+        }
+    }
+
+    /// Whether what was told of this table before was something else, which what isn't printed yet is told by.
+    pub(crate) fn has_told_else(&self, relation: &Relation) -> bool {
+        match self {
+            Printer::Text(_) => false,
+            Printer::Json(transcript) => transcript.has_told_else(relation),
+        }
+    }
+
+    /// Keeps what is told of a table.
+    pub(crate) fn tell(&mut self, relation: Relation) -> Result<(), AllocError> {
+        match self {
+            Printer::Text(transcript) => {
+                let message = Logical::Relation(relation);
+                transcript.tell(&message)
+            }
+            Printer::Json(transcript) => transcript.tell(relation),
+        }
+    }
+
+    /// Adds the lines of a transaction, or the one line of a note.
+    pub(crate) fn add(
+        &mut self,
+        transaction: &Applied,
+        lines: &mut Vec<u8>,
+    ) -> Result<(), FollowFault> {
+        match self {
+            Printer::Text(transcript) => Ok(transcript.add(transaction, lines)?),
+            Printer::Json(transcript) => transcript.add(transaction, lines),
+        }
+    }
+
+    /// What is printed behind all transactions.
+    pub(crate) fn last(&self, alloc: Global) -> Result<Vec<u8>, AllocError> {
+        match self {
+            Printer::Text(_) => Ok(Vec::new(alloc)),
+            Printer::Json(transcript) => transcript.summary(),
+        }
+    }
+}
