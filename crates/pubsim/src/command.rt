@@ -52,13 +52,17 @@ lines that begin with # are passed over. T is a transaction's name and C a conne
                            the row of this key becomes this one, as in (1) (2,'ab',7)
   delete T TABLE (KEY)     it deletes the row of this key
   truncate T TABLE ..      it empties tables
+  message T 'PREFIX' 'CONTENT'
+                           it puts a message into the log
   savepoint T              it sets a savepoint
   rollback T N             it rolls back to its Nth savepoint, counted from the outermost
   release T N              it releases its Nth savepoint and those inside it
   commit T TIME            it commits, at TIME microseconds since 2000-01-01
   abort T                  it aborts
+  note 'PREFIX' 'CONTENT'  a message of no transaction goes into the log
   slot NAME                a slot is created at the end of the log
   start C SLOT POSITION P,..
+  start C SLOT POSITION P,.. messages
                            a sender of publications starts, as in start c - 0/0 p, where - is
                            no slot
   read C MAX CLOCK         the sender reads up to MAX records of the log

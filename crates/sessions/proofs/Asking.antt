@@ -62,6 +62,7 @@ within_ask name (steps.Insert table row) p ts e = refl
 within_ask name (steps.Update table key row) p ts e = refl
 within_ask name (steps.Delete table key) p ts e = refl
 within_ask name (steps.Truncate names) p ts e = refl
+within_ask name (steps.Message prefix content) p ts e = refl
 within_ask name steps.Savepoint p ts e = refl
 within_ask name (steps.Rollback depth) p ts e = refl
 within_ask name (steps.Release depth) p ts e = refl

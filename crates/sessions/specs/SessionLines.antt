@@ -6,7 +6,7 @@ use Rattle.tables.specs.Tables.{table_named}
 use Rattle.store.specs.Rows.{Key}
 use Rattle.txlog.specs.declared.fault.SessionFault.{SessionFault}
 use Rattle.txlog.specs.declared.fault.SessionFault.TheVariants as faults
-use Rattle.txlog.specs.Publishing.{PublisherState, IsRefusalOrMemory, begun, changed, updated, deleted, saved, rolled_back, released, after_commit, after_abort, begin_refusal, insert_refusal, update_refusal, delete_refusal, truncate_refusal, receipt_of, savepoint_refusal, rollback_refusal, release_refusal, end_refusal}
+use Rattle.txlog.specs.Publishing.{PublisherState, IsRefusalOrMemory, begun, changed, updated, deleted, message_with, noted, saved, rolled_back, released, after_commit, after_abort, begin_refusal, insert_refusal, update_refusal, delete_refusal, truncate_refusal, message_refusal, note_refusal, receipt_of, savepoint_refusal, rollback_refusal, release_refusal, end_refusal}
 use Rattle.txlog.specs.Receipts.{Committed}
 use Rattle.schedule.specs.declared.event.Event.{Event}
 use Rattle.schedule.specs.declared.event.Event.TheVariants as events
@@ -88,6 +88,7 @@ step_refusal (steps.Insert table row) xid p = insert_refused (table_named table 
 step_refusal (steps.Update table key row) xid p = update_refused (table_named table p.tables) xid key row p
 step_refusal (steps.Delete table key) xid p = delete_refused (table_named table p.tables) xid key p
 step_refusal (steps.Truncate names) xid p = truncate_refused (oids_named p.tables names) xid p
+step_refusal (steps.Message prefix content) xid p = message_refusal xid prefix content p
 step_refusal steps.Savepoint xid p = savepoint_refusal xid p
 step_refusal (steps.Rollback depth) xid p = rollback_refusal xid depth p
 step_refusal (steps.Release depth) xid p = release_refusal xid depth p
@@ -100,6 +101,7 @@ after_step (steps.Insert table row) xid p = inserted_in (table_named table p.tab
 after_step (steps.Update table key row) xid p = updated_in (table_named table p.tables) xid key row p
 after_step (steps.Delete table key) xid p = deleted_in (table_named table p.tables) xid key p
 after_step (steps.Truncate names) xid p = truncated_in (oids_named p.tables names) xid p
+after_step (steps.Message prefix content) xid p = changed xid (message_with prefix content) p
 after_step steps.Savepoint xid p = saved xid p
 after_step (steps.Rollback depth) xid p = rolled_back xid depth p
 after_step (steps.Release depth) xid p = released xid depth p
@@ -121,9 +123,14 @@ abbrev pub step_ask : List ℕ → SessionStep → PublisherState → List Named
 step_ask t steps.Begin p ts = if_new (xid_of t ts) (asks t steps.Begin p ts p.next_xid)
 step_ask t step p ts = if_known (xid_of t ts) (asks t step p ts)
 
+-- the call of a note, which is of no transaction
+abbrev pub note_ask : List ℕ → List ℕ → PublisherState → List NamedTx → Ask
+note_ask prefix content p ts = record { refusal = note_refusal prefix content p; done = noted prefix content p; transactions = ts }
+
 -- The call of a line: none for lines that aren't a session's.
 abbrev pub ask_of : Event → PublisherState → List NamedTx → Option Ask
 ask_of (events.Session t step) p ts = step_ask t step p ts
+ask_of (events.Note prefix content) p ts = Some (note_ask prefix content p ts)
 ask_of event p ts = None
 
 -- a step that keeps its name, or a row, a key or OIDs: it may be refused for memory of its own, unless its table is not known

@@ -4,7 +4,8 @@ ghost use Rattle.std.specs.Prelude.{◌≡◌, ◌<◌, IfOk, OnErr, is_some, le
 ghost use Rattle.schedule.specs.declared.event.Event.TheVariants.{Session as OfSession};
 ghost use Rattle.sessions.specs.Transactions.{xid_of};
 ghost use Rattle.sessions.specs.SessionLines.{receipt_due, step_ask, takes_memory};
-ghost use Rattle.sessions.specs.Sessions.{Grows, IsNamedAt, IsStepOf, is_within, named_tx, sessions_state};
+ghost use Rattle.txlog.specs.Publishing.{note_refusal, noted};
+ghost use Rattle.sessions.specs.Sessions.{Called, Grows, IsNamedAt, IsStepOf, is_within, named_tx, sessions_state};
 
 use crate::session::{Session, place_of};
 use pqformat::Text;
@@ -36,6 +37,7 @@ pub(crate) fn call<L: LogName, R: Wait>(
         | SessionStep::Update(_, _, _)
         | SessionStep::Delete(_, _)
         | SessionStep::Truncate(_)
+        | SessionStep::Message(_, _)
         | SessionStep::Savepoint
         | SessionStep::Rollback(_)
         | SessionStep::Release(_) => act(rt, publisher, sessions, alloc, name, step)?,
@@ -152,5 +154,21 @@ fn abort<L: LogName, R: Wait>(
                 Err(_) => unreachable!(),
             }
         }
+    }
+}
+
+/// Puts a message of no transaction into the log.
+pub(crate) fn note<L: LogName, R: Wait>(
+    rt: &R,
+    publisher: &mut Publisher<L>,
+    prefix: &Text,
+    content: &Text,
+) -> Answer
+    ensures called { Called (note_refusal prefix.now content.now publisher.old) (noted prefix.now content.now publisher.old) publisher.old result publisher.new }
+    ensures grows { Grows publisher.old.log publisher.new.log }
+{
+    match publisher.note(rt, prefix.as_str(), content.as_str().as_bytes()) {
+        Ok(_) => return Answer::Done,
+        Err(fault) => return Answer::Session(fault),
     }
 }

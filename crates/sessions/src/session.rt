@@ -2,7 +2,7 @@
 
 ghost use Rattle.std.specs.Prelude.{◌≡◌, ◌<◌, map, length, None, IfErr, IfOk, IfSome, OnErr, OnOk, is_some, true};
 ghost use Rattle.tables.specs.Tables.{table_named};
-ghost use Rattle.txlog.specs.Publishing.{IsRefusalOrMemory, receipt_of, saved, rolled_back, released, after_commit, after_abort, savepoint_refusal, rollback_refusal, release_refusal, end_refusal};
+ghost use Rattle.txlog.specs.Publishing.{IsRefusalOrMemory, changed, message_with, receipt_of, saved, rolled_back, released, after_commit, after_abort, message_refusal, savepoint_refusal, rollback_refusal, release_refusal, end_refusal};
 ghost use Rattle.sessions.specs.SessionLines.{after_step, delete_refused, deleted_in, insert_refused, inserted_in, oids_named, step_refusal, takes_memory, truncate_refused, truncated_in, update_refused, updated_in};
 ghost use Rattle.sessions.specs.Sessions.{Called, Grows, is_within, named_tx, place_from};
 
@@ -48,6 +48,9 @@ impl Session {
                 self.delete(rt, publisher, alloc, table, key.as_slice())
             }
             SessionStep::Truncate(names) => self.truncate(rt, publisher, alloc, names.as_slice()),
+            SessionStep::Message(prefix, content) => {
+                Ok(self.message(rt, publisher, prefix, content))
+            }
             SessionStep::Savepoint => Ok(self.savepoint(rt, publisher)),
             SessionStep::Rollback(depth) => Ok(self.rollback_to(rt, publisher, *depth)),
             SessionStep::Release(depth) => Ok(self.release(publisher, *depth)),
@@ -152,6 +155,24 @@ impl Session {
         match publisher.truncate(rt, &mut self.tx, oids.as_slice()) {
             Ok(()) => return Ok(Answer::Done),
             Err(fault) => return Ok(Answer::Session(fault)),
+        }
+    }
+
+    fn message<L: LogName, R: Wait>(
+        &mut self,
+        rt: &R,
+        publisher: &mut Publisher<L>,
+        prefix: &Text,
+        content: &Text,
+    ) -> Answer
+        ensures called { Called (message_refusal self.old.tx prefix.now content.now publisher.old) (changed self.old.tx (message_with prefix.now content.now) publisher.old) publisher.old result publisher.new }
+        ensures same { self.new ≡ self.old }
+        ensures grows { Grows publisher.old.log publisher.new.log }
+    {
+        let content = content.as_str().as_bytes();
+        match publisher.message(rt, &mut self.tx, prefix.as_str(), content) {
+            Ok(()) => return Answer::Done,
+            Err(fault) => return Answer::Session(fault),
         }
     }
 

@@ -6,7 +6,7 @@ ghost use Rattle.sessions.specs.Transactions.{xid_of};
 ghost use Rattle.sessions.specs.SessionLines.{IsCalled, IsLine, ask_of, line_takes_memory, receipt_due, state_of, step_ask, takes_memory};
 ghost use Rattle.sessions.specs.Sessions.{Grows};
 
-use crate::calls::{call, is_known};
+use crate::calls::{call, is_known, note};
 use crate::session::{Session, leave_all};
 use pqformat::Text;
 use schedule::{Answer, Event, SessionStep, WorldFault};
@@ -60,6 +60,7 @@ impl Sessions {
             | SessionStep::Update(_, _, _)
             | SessionStep::Delete(_, _)
             | SessionStep::Truncate(_)
+            | SessionStep::Message(_, _)
             | SessionStep::Savepoint
             | SessionStep::Rollback(_)
             | SessionStep::Release(_)
@@ -68,8 +69,9 @@ impl Sessions {
         }
     }
 
-    /// Does a session's line, and answers what a commit tells too. V1 exactly where the line is of another kind, its name is
-    /// unknown, or it begins a second time; else V2 where memory is refused for what the line keeps. Either changes nothing.
+    /// Does a session's line, and answers what a commit tells too; a note tells nothing so. V1 exactly where the line is of
+    /// another kind, its name is unknown, or it begins a second time; else V2 where memory is refused for what the line keeps.
+    /// Either changes nothing.
     pub fn line<L: LogName, R: Wait>(
         &mut self,
         rt: &R,
@@ -86,6 +88,7 @@ impl Sessions {
     {
         match event {
             Event::Session(name, step) => self.step(rt, publisher, name, step),
+            Event::Note(prefix, content) => Ok((note(rt, publisher, prefix, content), None)),
             Event::Connection(_, _) | Event::Slot(_) => Err(WorldFault::BadEvent),
         }
     }

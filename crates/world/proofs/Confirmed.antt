@@ -8,6 +8,7 @@ use Rattle.slots.specs.declared.fault.SlotFault.TheVariants as slot_faults
 use Rattle.named_slots.specs.State.{NamedSlot, SlotsState, confirming, create_refusal, created, holding, if_named, refused, slot_of}
 use Rattle.txlog.specs.Publishing.{log_end}
 use Rattle.publication_config.specs.declared.fault.PubFault.TheVariants as pubs
+use Rattle.schedule.specs.declared.start_options.StartOptions.{StartOptions}
 use Rattle.schedule.specs.declared.event.Event.{Event}
 use Rattle.schedule.specs.declared.event.Event.TheVariants as events
 use Rattle.schedule.specs.declared.event.ConnectionStep.{ConnectionStep}
@@ -146,22 +147,22 @@ created_step name created old new answers.NoReader step = absurd step
 created_step name created old new (answers.Sender fault) step = absurd step
 created_step name created old new (answers.Subscriber fault) step = absurd step
 
-started_step : (name c : List ℕ) (slot : Option (List ℕ)) (position : ℕ) (names : List (List ℕ)) (old new : WorldState) (a : Answer) → IsStart c slot position names old a new → confirmed_at name new.slots ≡ confirmed_at name old.slots
-started_step name c slot position names old new answers.Done step = ap (λ (w : WorldState). confirmed_at name w.slots) step.1 ∙ taken_same name slot old.slots
-started_step name c slot position names old new (answers.Publication pubs.Memory) step = ap (λ (w : WorldState). confirmed_at name w.slots) step.1
-started_step name c slot position names old new (answers.Publication pubs.Unknown) step = ap (λ (w : WorldState). confirmed_at name w.slots) step.1
-started_step name c slot position names old new (answers.Publication pubs.ListConflict) step = ap (λ (w : WorldState). confirmed_at name w.slots) step.1
-started_step name c slot position names old new (answers.Publication (pubs.FilterOutsideIdentity place)) step = ap (λ (w : WorldState). confirmed_at name w.slots) step.1
-started_step name c slot position names old new (answers.Publication (pubs.ListWithoutIdentity place)) step = ap (λ (w : WorldState). confirmed_at name w.slots) step.1
-started_step name c slot position names old new (answers.Publication (pubs.NoIdentity place)) step = ap (λ (w : WorldState). confirmed_at name w.slots) step.1
-started_step name c slot position names old new (answers.Publication (pubs.NotToml n)) step = ap (λ (w : WorldState). confirmed_at name w.slots) step.1
-started_step name c slot position names old new (answers.Publication (pubs.BadToml misfit)) step = ap (λ (w : WorldState). confirmed_at name w.slots) step.1
-started_step name c slot position names old new (answers.Publication (pubs.BadFilter place fault)) step = ap (λ (w : WorldState). confirmed_at name w.slots) step.1
-started_step name c slot position names old new (answers.Session fault) step = ap (λ (w : WorldState). confirmed_at name w.slots) step.1
-started_step name c slot position names old new (answers.Slot fault) step = ap (λ (w : WorldState). confirmed_at name w.slots) step.1
-started_step name c slot position names old new answers.NoReader step = ap (λ (w : WorldState). confirmed_at name w.slots) step.1
-started_step name c slot position names old new (answers.Sender fault) step = ap (λ (w : WorldState). confirmed_at name w.slots) step.1
-started_step name c slot position names old new (answers.Subscriber fault) step = ap (λ (w : WorldState). confirmed_at name w.slots) step.1
+started_step : (name c : List ℕ) (slot : Option (List ℕ)) (position : ℕ) (wanted : StartOptions) (old new : WorldState) (a : Answer) → IsStart c slot position wanted old a new → confirmed_at name new.slots ≡ confirmed_at name old.slots
+started_step name c slot position wanted old new answers.Done step = ap (λ (w : WorldState). confirmed_at name w.slots) step.1 ∙ taken_same name slot old.slots
+started_step name c slot position wanted old new (answers.Publication pubs.Memory) step = ap (λ (w : WorldState). confirmed_at name w.slots) step.1
+started_step name c slot position wanted old new (answers.Publication pubs.Unknown) step = ap (λ (w : WorldState). confirmed_at name w.slots) step.1
+started_step name c slot position wanted old new (answers.Publication pubs.ListConflict) step = ap (λ (w : WorldState). confirmed_at name w.slots) step.1
+started_step name c slot position wanted old new (answers.Publication (pubs.FilterOutsideIdentity place)) step = ap (λ (w : WorldState). confirmed_at name w.slots) step.1
+started_step name c slot position wanted old new (answers.Publication (pubs.ListWithoutIdentity place)) step = ap (λ (w : WorldState). confirmed_at name w.slots) step.1
+started_step name c slot position wanted old new (answers.Publication (pubs.NoIdentity place)) step = ap (λ (w : WorldState). confirmed_at name w.slots) step.1
+started_step name c slot position wanted old new (answers.Publication (pubs.NotToml n)) step = ap (λ (w : WorldState). confirmed_at name w.slots) step.1
+started_step name c slot position wanted old new (answers.Publication (pubs.BadToml misfit)) step = ap (λ (w : WorldState). confirmed_at name w.slots) step.1
+started_step name c slot position wanted old new (answers.Publication (pubs.BadFilter place fault)) step = ap (λ (w : WorldState). confirmed_at name w.slots) step.1
+started_step name c slot position wanted old new (answers.Session fault) step = ap (λ (w : WorldState). confirmed_at name w.slots) step.1
+started_step name c slot position wanted old new (answers.Slot fault) step = ap (λ (w : WorldState). confirmed_at name w.slots) step.1
+started_step name c slot position wanted old new answers.NoReader step = ap (λ (w : WorldState). confirmed_at name w.slots) step.1
+started_step name c slot position wanted old new (answers.Sender fault) step = ap (λ (w : WorldState). confirmed_at name w.slots) step.1
+started_step name c slot position wanted old new (answers.Subscriber fault) step = ap (λ (w : WorldState). confirmed_at name w.slots) step.1
 
 pub confirmed_once : (name : List ℕ) (slot : Option (List ℕ)) (by : ℕ) (s : SlotsState) → confirmed_at name (confirmed_by slot by s) ≡ option_map (raised_by (told_if name slot (Some by))) (confirmed_at name s)
 confirmed_once name None by s = same (confirmed_at name s)
@@ -179,7 +180,7 @@ acknowledged_step name c old new a step =
     ∙ ap (λ (o : Option SubscriberState). told_to name (Some step.start) o) (sym step.known) ∙ ap (λ (o : Option StartState). told_to name o (subscriber_of c old.subscribers)) (sym step.there))
 
 pub connection_confirms : (name c : List ℕ) (step : ConnectionStep) (old : WorldState) (a : Answer) (new : WorldState) → IsStepAt c step old a new → confirmed_at name new.slots ≡ confirmed_after name old (events.Connection c step) a (confirmed_at name old.slots)
-connection_confirms name c (steps.Start slot position names) old a new step = started_step name c (slot_named slot) position names old new a step.1
+connection_confirms name c (steps.Start slot position options) old a new step = started_step name c (slot_named slot) position options old new a step.1
 connection_confirms name c (steps.Read max clock) old a new step = ap (λ (w : WorldState). confirmed_at name w.slots) step.is
 connection_confirms name c (steps.Keepalive clock) old a new step = ap (λ (w : WorldState). confirmed_at name w.slots) step.is
 connection_confirms name c (steps.Drain n) old a new step = ap (λ (w : WorldState). confirmed_at name w.slots) step.is
@@ -191,6 +192,7 @@ connection_confirms name c steps.Cut old a new step = ap (λ (w : WorldState). c
 
 pub step_confirms : (name : List ℕ) (old : WorldState) (e : Event) (a : Answer) (new : WorldState) → IsStep old e a new → confirmed_at name new.slots ≡ confirmed_after name old e a (confirmed_at name old.slots)
 step_confirms name old (events.Session t s) a new step = ap (λ (w : WorldState). confirmed_at name w.slots) step.is
+step_confirms name old (events.Note prefix content) a new step = ap (λ (w : WorldState). confirmed_at name w.slots) step.is
 step_confirms name old (events.Connection c s) a new step = connection_confirms name c s old a new step
 step_confirms name old (events.Slot created) a new step = created_step name created old new a step
 

@@ -9,8 +9,8 @@ use Rattle.sender.specs.declared.fault.SendFault.TheVariants as sends
 use Rattle.schedule.specs.declared.answer.Answer.{Answer}
 use Rattle.schedule.specs.declared.answer.Answer.TheVariants as answers
 use Rattle.schedule.specs.declared.fault.WorldFault.{WorldFault}
+use Rattle.schedule.specs.declared.event.Event.{Event}
 use Rattle.schedule.specs.declared.event.Event.TheVariants as events
-use Rattle.schedule.specs.declared.event.SessionStep.{SessionStep}
 use Rattle.starts.specs.declared.action.Action.{Action}
 use Rattle.starts.specs.declared.action.Action.TheVariants as actions
 use Rattle.starts.specs.declared.start.Start.{Start}
@@ -42,10 +42,13 @@ all_grown old new cs grows all = let P : List Record → Type 0 = λ l. AllByRec
 -- ---- a session's line
 
 -- a line's call is its event, where nothing else has changed
-pub called_step : (t : List ℕ) (s : SessionStep) (old new : WorldState) (r : Result Answer WorldFault) → IfOk r (λ a. IsLine (events.Session t s) (session_state old) a (session_state new))
-    → new ≡ record old { publisher = new.publisher; transactions = new.transactions } → IfOk r (λ a. IsStep old (events.Session t s) a new)
-called_step t s old new (Ok a) calls is = record { called = calls; is = is }
-called_step t s old new (Err fault) calls is = tt
+pub called_step : (e : Event) (old new : WorldState) (r : Result Answer WorldFault) → IfOk r (λ a. IsLine e (session_state old) a (session_state new))
+    → new ≡ record old { publisher = new.publisher; transactions = new.transactions } → IfOk r (λ a. IsStep old e a new)
+called_step e old new (Err fault) calls is = tt
+called_step (events.Session t s) old new (Ok a) calls is = record { called = calls; is = is }
+called_step (events.Note prefix content) old new (Ok a) calls is = record { called = calls; is = is }
+called_step (events.Connection c s) old new (Ok a) calls is = absurd calls
+called_step (events.Slot name) old new (Ok a) calls is = absurd calls
 
 -- ---- a connection's line
 

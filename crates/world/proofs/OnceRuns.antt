@@ -8,10 +8,11 @@ use Rattle.wal.specs.declared.record.Record.{Record}
 use Rattle.wal.specs.declared.record.TheConstants.{FIRST_POSITION}
 use Rattle.wal.specs.Log.{IsWellFormedLog, end_of}
 use Rattle.tables.specs.declared.table.Table.{Table}
-use Rattle.publication.specs.Publications.{PublicationSet, selected}
+use Rattle.publication.specs.Publications.{PublicationSet}
 use Rattle.tables.specs.declared.value.Value.{Value}
 use Rattle.txlog.specs.Publishing.{PublisherState, begun, log_end, with_old}
 use Rattle.tables.specs.Tables.{table_named}
+use Rattle.schedule.specs.declared.start_options.StartOptions.{StartOptions}
 use Rattle.schedule.specs.declared.answer.Answer.{Answer}
 use Rattle.schedule.specs.declared.answer.Answer.TheVariants as answers
 use Rattle.schedule.specs.declared.event.Event.{Event}
@@ -22,13 +23,14 @@ use Rattle.schedule.specs.declared.event.ConnectionStep.{ConnectionStep}
 use Rattle.schedule.specs.declared.event.ConnectionStep.TheVariants as connection_steps
 use Rattle.schedule.specs.declared.event.Literal.{Literal}
 use Rattle.sessions.specs.Transactions.{NamedTx, xid_of}
-use Rattle.sessions.specs.SessionLines.{Ask, IsCalled, SessionState, after_step, ask_of, asks, deleted_in, if_known, if_new, inserted_in, oids_named, step_ask, truncated_in, updated_in}
+use Rattle.sessions.specs.SessionLines.{Ask, IsCalled, SessionState, after_step, asks, deleted_in, if_known, if_new, inserted_in, note_ask, oids_named, step_ask, truncated_in, updated_in}
 use Rattle.named_slots.specs.State.{SlotsState, slot_of}
 use Rattle.starts.specs.State.{StartState}
 use Rattle.configuration.specs.Setting.{Setting}
 use Rattle.world.specs.State.{SubscriberState, WorldState, new_world, open_start, subscriber_of}
 use Rattle.world.specs.Law.{Headline, IsExact}
 use Rattle.world.specs.Slots.{Creates}
+use Rattle.world.specs.ConnectionLines.{wanted_of}
 use Rattle.world.specs.Steps.{Calls, IsRun, IsStep, session_state}
 use Rattle.world.specs.Confirming.{confirmed_at}
 use Rattle.world.specs.Once.{AppliesOnce, GainsSince, IsFair, IsFairRun, RunsOnce, applied_by, applied_in, begun_after, begun_through, created_after, created_through, position_in, position_of}
@@ -85,6 +87,7 @@ grew_by (session_steps.Insert table row) xid p = grew_inserted (table_named tabl
 grew_by (session_steps.Update table key row) xid p = grew_updated (table_named table p.tables) xid key row p
 grew_by (session_steps.Delete table key) xid p = grew_deleted (table_named table p.tables) xid key p
 grew_by (session_steps.Truncate names) xid p = grew_truncated (oids_named p.tables names) xid p
+grew_by (session_steps.Message prefix content) xid p = (_, refl)
 grew_by session_steps.Savepoint xid p = (_, refl)
 grew_by (session_steps.Rollback depth) xid p = (_, refl)
 grew_by (session_steps.Release depth) xid p = grew_not p
@@ -123,11 +126,15 @@ asked_grows t step p ts x is = by_step step is
     by_step (session_steps.Update table key row) is = known (xid_of t ts) (session_steps.Update table key row) is
     by_step (session_steps.Delete table key) is = known (xid_of t ts) (session_steps.Delete table key) is
     by_step (session_steps.Truncate names) is = known (xid_of t ts) (session_steps.Truncate names) is
+    by_step (session_steps.Message prefix content) is = known (xid_of t ts) (session_steps.Message prefix content) is
     by_step session_steps.Savepoint is = known (xid_of t ts) session_steps.Savepoint is
     by_step (session_steps.Rollback depth) is = known (xid_of t ts) (session_steps.Rollback depth) is
     by_step (session_steps.Release depth) is = known (xid_of t ts) (session_steps.Release depth) is
     by_step (session_steps.Commit time) is = known (xid_of t ts) (session_steps.Commit time) is
     by_step session_steps.Abort is = known (xid_of t ts) session_steps.Abort is
+
+noted_grows : (prefix content : List ℕ) (p : PublisherState) (ts : List NamedTx) (x : Ask) → Option.Some (note_ask prefix content p ts) ≡ Option.Some x → Grew p x.done
+noted_grows prefix content p ts x is = subst (λ (y : Ask). Grew p y.done) (same_inside (note_ask prefix content p ts) x is) (_, refl)
 
 mine_grown : (log more : List Record) (from : ℕ) (selection : PublicationSet) (s : List ℕ) (begun : Option (ℕ × List Published)) (o : Option StartState) (p : Option SubscriberState) → IsWellFormedLog (log ++ more) → IsMine log from selection s begun o p → IsMine (log ++ more) from selection s begun o p
 mine_grown log more from selection s begun None None good mine = tt
@@ -135,13 +142,13 @@ mine_grown log more from selection s begun (Some l) None good mine = mine
 mine_grown log more from selection s begun None (Some sub) good mine = (settled_grown log more from selection sub.applier.subscriber good mine.0, mine.1)
 mine_grown log more from selection s begun (Some l) (Some sub) good mine = (settled_grown log more from selection sub.applier.subscriber good mine.0, fed_grown log more from selection s begun l sub good mine.1)
 
-once_called : (c s : List ℕ) (names : List (List ℕ)) (from : ℕ) (begun : Option (ℕ × List Published)) (t : List ℕ) (step : SessionStep) (old : WorldState) (a : Answer) (new : WorldState) → IsWellFormedLog new.publisher.log → IsOnce c s names from begun old
-    → Calls (ask_of (events.Session t step) old.publisher old.transactions) old a new → IsOnce c s names from begun new
-once_called c s names from begun t step old a new good once calls =
-    let grew = called_grows (step_ask t step old.publisher old.transactions) (session_state old) a (session_state new) (asked_grows t step old.publisher old.transactions) calls.called in
-    let selection = selected old.publications names in
+once_called : (c s : List ℕ) (wanted : StartOptions) (from : ℕ) (begun : Option (ℕ × List Published)) (ask : Option Ask) (old : WorldState) (a : Answer) (new : WorldState) → IsWellFormedLog new.publisher.log → IsOnce c s wanted from begun old
+    → ((x : Ask) → ask ≡ Some x → Grew old.publisher x.done) → Calls ask old a new → IsOnce c s wanted from begun new
+once_called c s wanted from begun ask old a new good once grows calls =
+    let grew = called_grows ask (session_state old) a (session_state new) grows calls.called in
+    let selection = wanted_of wanted old.publications in
     let mine = mine_grown old.publisher.log grew.0 from selection s begun (open_start c old.starts) (subscriber_of c old.subscribers) (subst IsWellFormedLog grew.1 good) once.mine in
-    let P : WorldState → Type 0 = λ w. IsOnce c s names from begun w in
+    let P : WorldState → Type 0 = λ w. IsOnce c s wanted from begun w in
     subst P (sym calls.is) (record {
       confirmed = once.confirmed;
       slot = once.slot;
@@ -152,8 +159,8 @@ once_called c s names from begun t step old a new good once calls =
       mine = (let Log : List Record → Type 0 = λ l. IsMine l from selection s begun (open_start c old.starts) (subscriber_of c old.subscribers) in subst Log (sym grew.1) mine);
     })
 
-before_called : (c s : List ℕ) (t : List ℕ) (step : SessionStep) (old : WorldState) (a : Answer) (new : WorldState) → IsBefore c s old → Calls (ask_of (events.Session t step) old.publisher old.transactions) old a new → IsBefore c s new
-before_called c s t step old a new before calls =
+before_called : (c s : List ℕ) (ask : Option Ask) (old : WorldState) (a : Answer) (new : WorldState) → IsBefore c s old → Calls ask old a new → IsBefore c s new
+before_called c s ask old a new before calls =
     let P : WorldState → Type 0 = λ w. IsBefore c s w in
     subst P (sym calls.is) (record { slot = before.slot; others = before.others; started = before.started; known = before.known })
 
@@ -179,12 +186,12 @@ slots_left c s old new only others confirmed =
 
 -- ---- Each event.
 
-abbrev pub Stands : List ℕ → List ℕ → List (List ℕ) → Option ℕ → Option (ℕ × List Published) → WorldState → Type 0
-Stands c s names None begun w = IsBefore c s w
-Stands c s names (Some from) begun w = IsOnce c s names from begun w
+abbrev pub Stands : List ℕ → List ℕ → StartOptions → Option ℕ → Option (ℕ × List Published) → WorldState → Type 0
+Stands c s wanted None begun w = IsBefore c s w
+Stands c s wanted (Some from) begun w = IsOnce c s wanted from begun w
 
-created_stands : (c s : List ℕ) (names : List (List ℕ)) (known : Option ℕ) (begun : Option (ℕ × List Published)) (name : List ℕ) (old : WorldState) (a : Answer) (new : WorldState) → Stands c s names known begun old → Creates name old a new → Stands c s names (created_after s old (events.Slot name) a known) begun new
-created_stands c s names known begun name old answers.Done new stands step = by_name (bytes_eq name s) refl known stands
+created_stands : (c s : List ℕ) (wanted : StartOptions) (known : Option ℕ) (begun : Option (ℕ × List Published)) (name : List ℕ) (old : WorldState) (a : Answer) (new : WorldState) → Stands c s wanted known begun old → Creates name old a new → Stands c s wanted (created_after s old (events.Slot name) a known) begun new
+created_stands c s wanted known begun name old answers.Done new stands step = by_name (bytes_eq name s) refl known stands
   where
     only : OnlySlots old new
     only = created_only name old answers.Done new step
@@ -192,16 +199,16 @@ created_stands c s names known begun name old answers.Done new stands step = by_
     told : confirmed_at s new.slots ≡ cond (bytes_eq name s) (Some (log_end old.publisher)) (confirmed_at s old.slots)
     told = created_step s name old new answers.Done step
 
-    by_name : (b : Bool) → bytes_eq name s ≡ b → (known : Option ℕ) → Stands c s names known begun old → Stands c s names (cond b (Some (log_end old.publisher)) known) begun new
+    by_name : (b : Bool) → bytes_eq name s ≡ b → (known : Option ℕ) → Stands c s wanted known begun old → Stands c s wanted (cond b (Some (log_end old.publisher)) known) begun new
     by_name false is None before = before_left c s old new before (slots_left c s old new only before.others (told ∙ ap (λ (b : Bool). cond b (Some (log_end old.publisher)) (confirmed_at s old.slots)) is))
-    by_name false is (Some from) once = once_left c s names from begun old new once (slots_left c s old new only once.others (told ∙ ap (λ (b : Bool). cond b (Some (log_end old.publisher)) (confirmed_at s old.slots)) is))
+    by_name false is (Some from) once = once_left c s wanted from begun old new once (slots_left c s old new only once.others (told ∙ ap (λ (b : Bool). cond b (Some (log_end old.publisher)) (confirmed_at s old.slots)) is))
     by_name true is (Some from) once =
         let none : slot_of s old.slots.slots ≡ None = ap (λ (n : List ℕ). slot_of n old.slots.slots) (sym (look.same_name name s is)) ∙ not_named name old.slots step.0 in
         let never : Option.None ≡ Option.Some once.confirmed = ap (option_map (λ t. t.confirmed)) (sym none) ∙ once.slot in
         absurd cc
     by_name true is None before =
         let now : confirmed_at s new.slots ≡ Some (log_end old.publisher) = told ∙ ap (λ (b : Bool). cond b (Some (log_end old.publisher)) (confirmed_at s old.slots)) is in
-        let P : WorldState → Type 0 = λ w. confirmed_at s w.slots ≡ Some (log_end old.publisher) → IsOnce c s names (log_end old.publisher) begun w in
+        let P : WorldState → Type 0 = λ w. confirmed_at s w.slots ≡ Some (log_end old.publisher) → IsOnce c s wanted (log_end old.publisher) begun w in
         (subst P (sym only.1) (λ slot. record {
           confirmed = log_end old.publisher;
           slot = slot;
@@ -211,23 +218,23 @@ created_stands c s names known begun name old answers.Done new stands step = by_
           alone = look.none_alone c old.starts before.started;
           mine = rw (before.started, before.known) tt;
         })) now
-created_stands c s names None begun name old (answers.Slot fault) new stands step = before_left c s old new stands (slots_left c s old new (created_only name old (answers.Slot fault) new step) stands.others (created_step s name old new (answers.Slot fault) step))
-created_stands c s names (Some from) begun name old (answers.Slot fault) new stands step = once_left c s names from begun old new stands (slots_left c s old new (created_only name old (answers.Slot fault) new step) stands.others (created_step s name old new (answers.Slot fault) step))
-created_stands c s names known begun name old (answers.Session fault) new stands step = absurd step
-created_stands c s names known begun name old (answers.Publication fault) new stands step = absurd step
-created_stands c s names known begun name old answers.NoReader new stands step = absurd step
-created_stands c s names known begun name old (answers.Sender fault) new stands step = absurd step
-created_stands c s names known begun name old (answers.Subscriber fault) new stands step = absurd step
+created_stands c s wanted None begun name old (answers.Slot fault) new stands step = before_left c s old new stands (slots_left c s old new (created_only name old (answers.Slot fault) new step) stands.others (created_step s name old new (answers.Slot fault) step))
+created_stands c s wanted (Some from) begun name old (answers.Slot fault) new stands step = once_left c s wanted from begun old new stands (slots_left c s old new (created_only name old (answers.Slot fault) new step) stands.others (created_step s name old new (answers.Slot fault) step))
+created_stands c s wanted known begun name old (answers.Session fault) new stands step = absurd step
+created_stands c s wanted known begun name old (answers.Publication fault) new stands step = absurd step
+created_stands c s wanted known begun name old answers.NoReader new stands step = absurd step
+created_stands c s wanted known begun name old (answers.Sender fault) new stands step = absurd step
+created_stands c s wanted known begun name old (answers.Subscriber fault) new stands step = absurd step
 
 -- another's line doesn't begin a start of c
 begun_other : (c d : List ℕ) (w : WorldState) (step : ConnectionStep) (a : Answer) (begun : Option (ℕ × List Published)) → bytes_eq d c ≡ false → begun_after c w (events.Connection d step) a begun ≡ begun
-begun_other c d w (connection_steps.Start slot position names) answers.Done begun other = rw other refl
-begun_other c d w (connection_steps.Start slot position names) (answers.Session fault) begun other = refl
-begun_other c d w (connection_steps.Start slot position names) (answers.Slot fault) begun other = refl
-begun_other c d w (connection_steps.Start slot position names) (answers.Publication fault) begun other = refl
-begun_other c d w (connection_steps.Start slot position names) answers.NoReader begun other = refl
-begun_other c d w (connection_steps.Start slot position names) (answers.Sender fault) begun other = refl
-begun_other c d w (connection_steps.Start slot position names) (answers.Subscriber fault) begun other = refl
+begun_other c d w (connection_steps.Start slot position options) answers.Done begun other = rw other refl
+begun_other c d w (connection_steps.Start slot position options) (answers.Session fault) begun other = refl
+begun_other c d w (connection_steps.Start slot position options) (answers.Slot fault) begun other = refl
+begun_other c d w (connection_steps.Start slot position options) (answers.Publication fault) begun other = refl
+begun_other c d w (connection_steps.Start slot position options) answers.NoReader begun other = refl
+begun_other c d w (connection_steps.Start slot position options) (answers.Sender fault) begun other = refl
+begun_other c d w (connection_steps.Start slot position options) (answers.Subscriber fault) begun other = refl
 begun_other c d w (connection_steps.Read max clock) a begun other = refl
 begun_other c d w (connection_steps.Keepalive clock) a begun other = refl
 begun_other c d w (connection_steps.Drain n) a begun other = refl
@@ -238,13 +245,13 @@ begun_other c d w connection_steps.Ack a begun other = refl
 begun_other c d w connection_steps.Cut a begun other = refl
 
 begun_own : (c : List ℕ) (w : WorldState) (step : ConnectionStep) (a : Answer) (begun : Option (ℕ × List Published)) → begun_after c w (events.Connection c step) a begun ≡ begun_by c step w a begun
-begun_own c w (connection_steps.Start slot position names) answers.Done begun = rw (look.named_so c c refl) refl
-begun_own c w (connection_steps.Start slot position names) (answers.Session fault) begun = refl
-begun_own c w (connection_steps.Start slot position names) (answers.Slot fault) begun = refl
-begun_own c w (connection_steps.Start slot position names) (answers.Publication fault) begun = refl
-begun_own c w (connection_steps.Start slot position names) answers.NoReader begun = refl
-begun_own c w (connection_steps.Start slot position names) (answers.Sender fault) begun = refl
-begun_own c w (connection_steps.Start slot position names) (answers.Subscriber fault) begun = refl
+begun_own c w (connection_steps.Start slot position options) answers.Done begun = rw (look.named_so c c refl) refl
+begun_own c w (connection_steps.Start slot position options) (answers.Session fault) begun = refl
+begun_own c w (connection_steps.Start slot position options) (answers.Slot fault) begun = refl
+begun_own c w (connection_steps.Start slot position options) (answers.Publication fault) begun = refl
+begun_own c w (connection_steps.Start slot position options) answers.NoReader begun = refl
+begun_own c w (connection_steps.Start slot position options) (answers.Sender fault) begun = refl
+begun_own c w (connection_steps.Start slot position options) (answers.Subscriber fault) begun = refl
 begun_own c w (connection_steps.Read max clock) a begun = refl
 begun_own c w (connection_steps.Keepalive clock) a begun = refl
 begun_own c w (connection_steps.Drain n) a begun = refl
@@ -254,44 +261,48 @@ begun_own c w (connection_steps.Flushed number) a begun = refl
 begun_own c w connection_steps.Ack a begun = refl
 begun_own c w connection_steps.Cut a begun = refl
 
-connection_stands : (c s : List ℕ) (names : List (List ℕ)) (known : Option ℕ) (begun : Option (ℕ × List Published)) (d : List ℕ) (step : ConnectionStep) (old : WorldState) (a : Answer) (new : WorldState) → IsWellFormedLog old.publisher.log → Headline old
-    → Stands c s names known begun old → IsFair c s names old (events.Connection d step) → IsStep old (events.Connection d step) a new → Stands c s names known (begun_after c old (events.Connection d step) a begun) new
-connection_stands c s names known begun d step old a new good headline stands fair is = by_name (bytes_eq d c) refl known stands
+connection_stands : (c s : List ℕ) (wanted : StartOptions) (known : Option ℕ) (begun : Option (ℕ × List Published)) (d : List ℕ) (step : ConnectionStep) (old : WorldState) (a : Answer) (new : WorldState) → IsWellFormedLog old.publisher.log → Headline old
+    → Stands c s wanted known begun old → IsFair c s wanted old (events.Connection d step) → IsStep old (events.Connection d step) a new → Stands c s wanted known (begun_after c old (events.Connection d step) a begun) new
+connection_stands c s wanted known begun d step old a new good headline stands fair is = by_name (bytes_eq d c) refl known stands
   where
-    by_name : (b : Bool) → bytes_eq d c ≡ b → (known : Option ℕ) → Stands c s names known begun old → Stands c s names known (begun_after c old (events.Connection d step) a begun) new
-    by_name false other None before = before_left c s old new before (other_step c s names d step old a new other before.others fair is)
+    by_name : (b : Bool) → bytes_eq d c ≡ b → (known : Option ℕ) → Stands c s wanted known begun old → Stands c s wanted known (begun_after c old (events.Connection d step) a begun) new
+    by_name false other None before = before_left c s old new before (other_step c s wanted d step old a new other before.others fair is)
     by_name false other (Some from) once =
-        let P : Option (ℕ × List Published) → Type 0 = λ b. IsOnce c s names from b new in
-        subst P (sym (begun_other c d old step a begun other)) (once_left c s names from begun old new once (other_step c s names d step old a new other once.others fair is))
+        let P : Option (ℕ × List Published) → Type 0 = λ b. IsOnce c s wanted from b new in
+        subst P (sym (begun_other c d old step a begun other)) (once_left c s wanted from begun old new once (other_step c s wanted d step old a new other once.others fair is))
     by_name true own None before =
-        let P : List ℕ → Type 0 = λ n. IsFair c s names old (events.Connection n step) → IsStep old (events.Connection n step) a new → IsBefore c s new in
-        (subst P (sym (look.same_name d c own)) (λ fair is. own_before c s names step old a new before fair is)) fair is
+        let P : List ℕ → Type 0 = λ n. IsFair c s wanted old (events.Connection n step) → IsStep old (events.Connection n step) a new → IsBefore c s new in
+        (subst P (sym (look.same_name d c own)) (λ fair is. own_before c s wanted step old a new before fair is)) fair is
     by_name true own (Some from) once =
-        let Q : Option (ℕ × List Published) → Type 0 = λ b. IsOnce c s names from b new in
-        let P : List ℕ → Type 0 = λ n. IsFair c s names old (events.Connection n step) → IsStep old (events.Connection n step) a new → IsOnce c s names from (begun_after c old (events.Connection n step) a begun) new in
-        (subst P (sym (look.same_name d c own)) (λ fair is. subst Q (sym (begun_own c old step a begun)) (own_step c s names from begun step old a new good headline once fair is))) fair is
+        let Q : Option (ℕ × List Published) → Type 0 = λ b. IsOnce c s wanted from b new in
+        let P : List ℕ → Type 0 = λ n. IsFair c s wanted old (events.Connection n step) → IsStep old (events.Connection n step) a new → IsOnce c s wanted from (begun_after c old (events.Connection n step) a begun) new in
+        (subst P (sym (look.same_name d c own)) (λ fair is. subst Q (sym (begun_own c old step a begun)) (own_step c s wanted from begun step old a new good headline once fair is))) fair is
 
-stands_on : (c s : List ℕ) (names : List (List ℕ)) (known : Option ℕ) (begun : Option (ℕ × List Published)) (old : WorldState) (e : Event) (a : Answer) (new : WorldState) → IsWellFormedLog old.publisher.log → Headline old → IsWellFormedLog new.publisher.log
-    → Stands c s names known begun old → IsFair c s names old e → IsStep old e a new → Stands c s names (created_after s old e a known) (begun_after c old e a begun) new
-stands_on c s names None begun old (events.Session t step) a new good headline later stands fair is = before_called c s t step old a new stands is
-stands_on c s names (Some from) begun old (events.Session t step) a new good headline later stands fair is = once_called c s names from begun t step old a new later stands is
-stands_on c s names known begun old (events.Connection d step) a new good headline later stands fair is = connection_stands c s names known begun d step old a new good headline stands fair is
-stands_on c s names known begun old (events.Slot name) a new good headline later stands fair is = created_stands c s names known begun name old a new stands is
+stands_on : (c s : List ℕ) (wanted : StartOptions) (known : Option ℕ) (begun : Option (ℕ × List Published)) (old : WorldState) (e : Event) (a : Answer) (new : WorldState) → IsWellFormedLog old.publisher.log → Headline old → IsWellFormedLog new.publisher.log
+    → Stands c s wanted known begun old → IsFair c s wanted old e → IsStep old e a new → Stands c s wanted (created_after s old e a known) (begun_after c old e a begun) new
+stands_on c s wanted None begun old (events.Session t step) a new good headline later stands fair is = before_called c s (step_ask t step old.publisher old.transactions) old a new stands is
+stands_on c s wanted (Some from) begun old (events.Session t step) a new good headline later stands fair is =
+    once_called c s wanted from begun (step_ask t step old.publisher old.transactions) old a new later stands (asked_grows t step old.publisher old.transactions) is
+stands_on c s wanted None begun old (events.Note prefix content) a new good headline later stands fair is = before_called c s (Option.Some (note_ask prefix content old.publisher old.transactions)) old a new stands is
+stands_on c s wanted (Some from) begun old (events.Note prefix content) a new good headline later stands fair is =
+    once_called c s wanted from begun (Option.Some (note_ask prefix content old.publisher old.transactions)) old a new later stands (noted_grows prefix content old.publisher old.transactions) is
+stands_on c s wanted known begun old (events.Connection d step) a new good headline later stands fair is = connection_stands c s wanted known begun d step old a new good headline stands fair is
+stands_on c s wanted known begun old (events.Slot name) a new good headline later stands fair is = created_stands c s wanted known begun name old a new stands is
 
 -- ---- A run.
 
 -- so far
 abbrev pub StandsOnce : WorldState → List Event → List Answer → WorldState → Type 0
 StandsOnce start es given w =
-    (run : IsRun start es given w) × ((c s : List ℕ) (names : List (List ℕ)) → IsFairRun c s names start es given w run → Stands c s names (created_through s start es given w run None) (begun_through c start es given w run None) w)
+    (run : IsRun start es given w) × ((c s : List ℕ) (wanted : StartOptions) → IsFairRun c s wanted start es given w run → Stands c s wanted (created_through s start es given w run None) (begun_through c start es given w run None) w)
 
-fair_joined : (c s : List ℕ) (names : List (List ℕ)) (start mid new : WorldState) (es : List Event) (given : List Answer) (e : Event) (a : Answer) (run : IsRun start es given mid) (step : IsStep mid e a new)
-    → IsFairRun c s names start (es ++ e ∷ []) (given ++ a ∷ []) new (joined start mid new es given e a run step) → IsFairRun c s names start es given mid run × IsFair c s names mid e
-fair_joined c s names start mid new [] [] e a run step fair = (tt, subst (λ (w : WorldState). IsFair c s names w e) (sym run) fair.0)
-fair_joined c s names start mid new [] (b ∷ given) e a run step fair = absurd run
-fair_joined c s names start mid new (d ∷ es) [] e a run step fair = absurd run
-fair_joined c s names start mid new (d ∷ es) (b ∷ given) e a run step fair =
-    let rest = fair_joined c s names run.0 mid new es given e a run.2 step fair.1 in
+fair_joined : (c s : List ℕ) (wanted : StartOptions) (start mid new : WorldState) (es : List Event) (given : List Answer) (e : Event) (a : Answer) (run : IsRun start es given mid) (step : IsStep mid e a new)
+    → IsFairRun c s wanted start (es ++ e ∷ []) (given ++ a ∷ []) new (joined start mid new es given e a run step) → IsFairRun c s wanted start es given mid run × IsFair c s wanted mid e
+fair_joined c s wanted start mid new [] [] e a run step fair = (tt, subst (λ (w : WorldState). IsFair c s wanted w e) (sym run) fair.0)
+fair_joined c s wanted start mid new [] (b ∷ given) e a run step fair = absurd run
+fair_joined c s wanted start mid new (d ∷ es) [] e a run step fair = absurd run
+fair_joined c s wanted start mid new (d ∷ es) (b ∷ given) e a run step fair =
+    let rest = fair_joined c s wanted run.0 mid new es given e a run.2 step fair.1 in
     ((fair.0, rest.0), rest.1)
 
 created_joined : (s : List ℕ) (start mid new : WorldState) (es : List Event) (given : List Answer) (e : Event) (a : Answer) (run : IsRun start es given mid) (step : IsStep mid e a new) (known : Option ℕ)
@@ -312,14 +323,14 @@ one_more : (start mid new : WorldState) (es : List Event) (given : List Answer) 
     → StandsOnce start (es ++ e ∷ []) (given ++ a ∷ []) new
 one_more start mid new es given e a good headline later so_far step = (
   joined start mid new es given e a so_far.0 step,
-  λ c s names fair.
-      let both = fair_joined c s names start mid new es given e a so_far.0 step fair in
+  λ c s wanted fair.
+      let both = fair_joined c s wanted start mid new es given e a so_far.0 step fair in
       let known = created_through s start es given mid so_far.0 None in
       let begun = begun_through c start es given mid so_far.0 None in
-      let P : Option ℕ → Type 0 = λ o. Stands c s names o (begun_after c mid e a begun) new in
-      let Q : Option (ℕ × List Published) → Type 0 = λ b. Stands c s names (created_through s start (es ++ e ∷ []) (given ++ a ∷ []) new (joined start mid new es given e a so_far.0 step) None) b new in
+      let P : Option ℕ → Type 0 = λ o. Stands c s wanted o (begun_after c mid e a begun) new in
+      let Q : Option (ℕ × List Published) → Type 0 = λ b. Stands c s wanted (created_through s start (es ++ e ∷ []) (given ++ a ∷ []) new (joined start mid new es given e a so_far.0 step) None) b new in
       subst Q (sym (begun_joined c start mid new es given e a so_far.0 step None))
-      (subst P (sym (created_joined s start mid new es given e a so_far.0 step None)) (stands_on c s names known begun mid e a new good headline later (so_far.1 c s names both.0) both.1 step)),
+      (subst P (sym (created_joined s start mid new es given e a so_far.0 step None)) (stands_on c s wanted known begun mid e a new good headline later (so_far.1 c s wanted both.0) both.1 step)),
 )
 
 pub stands_once_on : (start mid new : WorldState) (es : List Event) (k : ℕ) (given : List Answer) (e : Event) (a : Answer) → k < length es → e ≡ slice_index_or es k e → IsWellFormedLog mid.publisher.log → Headline mid → IsWellFormedLog new.publisher.log
@@ -329,7 +340,7 @@ stands_once_on start mid new es k given e a lt here good headline later so_far s
     subst P (ap (λ d. take k es ++ d ∷ []) here ∙ sym (take_more es k e lt)) (one_more start mid new (take k es) given e a good headline later so_far step)
 
 pub stands_at_first : (setting : Setting) → StandsOnce (new_world setting) [] [] (new_world setting)
-stands_at_first setting = (refl, λ c s names fair. record { slot = refl; others = tt; started = refl; known = refl })
+stands_at_first setting = (refl, λ c s wanted fair. record { slot = refl; others = tt; started = refl; known = refl })
 
 -- ---- What it says.
 
@@ -348,29 +359,29 @@ gained_since log from selection s begun l sub exact opened fed sound =
     let Gains : Subscriber → Type 0 = λ b. GainedAll (relation l.selection) b bytes stream.items sub.applier.subscriber in
     ((base.position, base.applied), fed.stood, record { items = stream.items; encodes = stream.spells; gains = subst Gains fed.rests ends.1 })
 
-said : (c s : List ℕ) (names : List (List ℕ)) (from : ℕ) (begun : Option (ℕ × List Published)) (w : WorldState) → IsWellFormedLog w.publisher.log → Headline w → IsOnce c s names from begun w → AppliesOnce c s names from begun w
-said c s names from begun w good headline once = record {
+said : (c s : List ℕ) (wanted : StartOptions) (from : ℕ) (begun : Option (ℕ × List Published)) (w : WorldState) → IsWellFormedLog w.publisher.log → Headline w → IsOnce c s wanted from begun w → AppliesOnce c s wanted from begun w
+said c s wanted from begun w good headline once = record {
   later = late (position_of c w) (published_there);
-  begins = parted (position_of c w) FIRST_POSITION (end_of FIRST_POSITION w.publisher.log) published_there (in_order (selected w.publications names) from FIRST_POSITION [] w.publisher.log good.follows good.sizes) ∙ ap (λ l. l ++ late (position_of c w) published_there) (sym applied);
+  begins = parted (position_of c w) FIRST_POSITION (end_of FIRST_POSITION w.publisher.log) published_there (in_order (wanted_of wanted w.publications) from FIRST_POSITION [] w.publisher.log good.follows good.sizes) ∙ ap (λ l. l ++ late (position_of c w) published_there) (sym applied);
   all = late_all (position_of c w) published_there;
   confirmed = λ n is. let same = same_inside once.confirmed n (sym once.slot ∙ is) in omega (arith, once.within, same);
-  since = λ l sub started known sound. gained_since w.publisher.log from (selected w.publications names) s begun l sub (look.open_of_all (IsExact w.publisher.log) c w.starts l headline started) (look.start_open c w.starts l started) (mine_at c s names from begun w (Some l) (Some sub) once started known).1 sound;
+  since = λ l sub started known sound. gained_since w.publisher.log from (wanted_of wanted w.publications) s begun l sub (look.open_of_all (IsExact w.publisher.log) c w.starts l headline started) (look.start_open c w.starts l started) (mine_at c s wanted from begun w (Some l) (Some sub) once started known).1 sound;
 } where
   published_there : List Published
-  published_there = published (selected w.publications names) w.publisher.log from
+  published_there = published (wanted_of wanted w.publications) w.publisher.log from
 
   applied : applied_by c w ≡ below (position_of c w) published_there
   applied = by_known (subscriber_of c w.subscribers) (open_start c w.starts) once.mine
     where
-      by_known : (p : Option SubscriberState) (o : Option StartState) → IsMine w.publisher.log from (selected w.publications names) s begun o p → applied_in p ≡ below (position_in p) published_there
+      by_known : (p : Option SubscriberState) (o : Option StartState) → IsMine w.publisher.log from (wanted_of wanted w.publications) s begun o p → applied_in p ≡ below (position_in p) published_there
       by_known (Some sub) o mine = mine.0.applied
       by_known None o mine = sym (none_below 0 published_there (all_from_zero published_there))
 
 pub runs_once : (start : WorldState) (es : List Event) (given : List Answer) (w : WorldState) → IsWellFormedLog w.publisher.log → Headline w → StandsOnce start es given w → RunsOnce start es given w
 runs_once start es given w good headline so_far = (
   so_far.0,
-  λ c s names from fair created.
+  λ c s wanted from fair created.
       let begun = begun_through c start es given w so_far.0 None in
-      let Holds : Option ℕ → Type 0 = λ o. Stands c s names o begun w in
-      said c s names from begun w good headline (subst Holds created (so_far.1 c s names fair)),
+      let Holds : Option ℕ → Type 0 = λ o. Stands c s wanted o begun w in
+      said c s wanted from begun w good headline (subst Holds created (so_far.1 c s wanted fair)),
 )

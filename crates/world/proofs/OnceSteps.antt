@@ -5,11 +5,12 @@ use Rattle.std.proofs.lemmas.List.{append-nil}
 use Rattle.std.specs.Str.{bytes_eq}
 use Rattle.wal.specs.declared.record.Record.{Record}
 use Rattle.wal.specs.Restart.{restart}
-use Rattle.publication.specs.Publications.{PublicationSet, selected}
+use Rattle.publication.specs.Publications.{PublicationSet}
 use Rattle.publication_config.specs.declared.fault.PubFault.TheVariants as pubs
 use Rattle.stream.specs.declared.published.Published.{Published}
 use Rattle.stream.proofs.Lists.{all_of_both}
 use Rattle.sender.specs.declared.fault.SendFault.TheVariants as sends
+use Rattle.schedule.specs.declared.start_options.StartOptions.{StartOptions}
 use Rattle.schedule.specs.declared.answer.Answer.{Answer}
 use Rattle.schedule.specs.declared.answer.Answer.TheVariants as answers
 use Rattle.schedule.specs.declared.event.ConnectionStep.{ConnectionStep}
@@ -21,7 +22,7 @@ use Rattle.starts.specs.Acting.{Acts, new_start}
 use Rattle.starts.specs.declared.action.Action.{Action}
 use Rattle.starts.specs.declared.action.Action.TheVariants as actions
 use Rattle.world.specs.State.{SubscriberState, WorldState, again, if_known_again, if_there, new_subscriber, open_start, reconnected, slot_of_connection, subscriber_of, with_one_for, with_subscriber}
-use Rattle.world.specs.ConnectionLines.{ActsAt, IsStart, slots_after, start_refusal, started, subscribers_after}
+use Rattle.world.specs.ConnectionLines.{wanted_of, ActsAt, IsStart, slots_after, start_refusal, started, subscribers_after}
 use Rattle.world.specs.Steps.{IsStepAt}
 use Rattle.world.specs.Confirming.{confirmed_at, raised_by, told_if}
 use Rattle.world.specs.Once.{IsFairAt, position_in, position_of}
@@ -46,14 +47,14 @@ IsMine log from selection s begun o (Some sub) = IsSettled log from selection su
 IsMine log from selection s begun None None = Unit {0}
 IsMine log from selection s begun (Some l) None = ⊥
 
-pub record IsOnce (c s : List ℕ) (names : List (List ℕ)) (from : ℕ) (begun : Option (ℕ × List Published)) (w : WorldState) : Type 0 where
+pub record IsOnce (c s : List ℕ) (wanted : StartOptions) (from : ℕ) (begun : Option (ℕ × List Published)) (w : WorldState) : Type 0 where
   pub confirmed : ℕ
   pub slot : confirmed_at s w.slots ≡ Some confirmed
   pub reaches : from ≤ confirmed
   pub within : confirmed ≤ max from (position_of c w)
   pub others : AllByRecursion (IsNotOn c s) w.subscribers
   pub alone : IsAlone c w.starts
-  pub mine : IsMine w.publisher.log from (selected w.publications names) s begun (open_start c w.starts) (subscriber_of c w.subscribers)
+  pub mine : IsMine w.publisher.log from (wanted_of wanted w.publications) s begun (open_start c w.starts) (subscriber_of c w.subscribers)
 
 -- as long as there is no such slot, c has no start and no subscriber
 pub record IsBefore (c s : List ℕ) (w : WorldState) : Type 0 where
@@ -74,8 +75,8 @@ pub record LeavesAlone (c s : List ℕ) (old new : WorldState) : Type 0 where
   pub started : open_start c new.starts ≡ open_start c old.starts
   pub known : subscriber_of c new.subscribers ≡ subscriber_of c old.subscribers
 
-pub once_left : (c s : List ℕ) (names : List (List ℕ)) (from : ℕ) (begun : Option (ℕ × List Published)) (old new : WorldState) → IsOnce c s names from begun old → LeavesAlone c s old new → IsOnce c s names from begun new
-once_left c s names from begun old new once left = record {
+pub once_left : (c s : List ℕ) (wanted : StartOptions) (from : ℕ) (begun : Option (ℕ × List Published)) (old new : WorldState) → IsOnce c s wanted from begun old → LeavesAlone c s old new → IsOnce c s wanted from begun new
+once_left c s wanted from begun old new once left = record {
   confirmed = once.confirmed;
   slot = left.confirmed ∙ once.slot;
   reaches = once.reaches;
@@ -146,23 +147,23 @@ where_done answers.Done done other = done
 where_done answer done other = other
 
 -- a start is refused and leaves everything, or begins
-pub started_or : {A : Type 0} (P : A → WorldState → Type 0) (done other : A) (c : List ℕ) (slot : Option (List ℕ)) (position : ℕ) (names : List (List ℕ)) (old : WorldState) (a : Answer) (new : WorldState) → P other old
-    → (start_refusal slot names old ≡ None → P done (started c slot position names old)) → IsStart c slot position names old a new → P (where_done a done other) new
-started_or P done other c slot position names old answers.Done new same begins step = subst (P done) (sym step.1) (begins step.0)
-started_or P done other c slot position names old (answers.Publication pubs.Memory) new same begins step = subst (P other) (sym step.1) same
-started_or P done other c slot position names old (answers.Publication pubs.Unknown) new same begins step = subst (P other) (sym step.1) same
-started_or P done other c slot position names old (answers.Publication pubs.ListConflict) new same begins step = subst (P other) (sym step.1) same
-started_or P done other c slot position names old (answers.Publication (pubs.FilterOutsideIdentity place)) new same begins step = subst (P other) (sym step.1) same
-started_or P done other c slot position names old (answers.Publication (pubs.ListWithoutIdentity place)) new same begins step = subst (P other) (sym step.1) same
-started_or P done other c slot position names old (answers.Publication (pubs.NoIdentity place)) new same begins step = subst (P other) (sym step.1) same
-started_or P done other c slot position names old (answers.Publication (pubs.NotToml n)) new same begins step = subst (P other) (sym step.1) same
-started_or P done other c slot position names old (answers.Publication (pubs.BadToml misfit)) new same begins step = subst (P other) (sym step.1) same
-started_or P done other c slot position names old (answers.Publication (pubs.BadFilter place fault)) new same begins step = subst (P other) (sym step.1) same
-started_or P done other c slot position names old (answers.Session fault) new same begins step = subst (P other) (sym step.1) same
-started_or P done other c slot position names old (answers.Slot fault) new same begins step = subst (P other) (sym step.1) same
-started_or P done other c slot position names old answers.NoReader new same begins step = subst (P other) (sym step.1) same
-started_or P done other c slot position names old (answers.Sender fault) new same begins step = subst (P other) (sym step.1) same
-started_or P done other c slot position names old (answers.Subscriber fault) new same begins step = subst (P other) (sym step.1) same
+pub started_or : {A : Type 0} (P : A → WorldState → Type 0) (done other : A) (c : List ℕ) (slot : Option (List ℕ)) (position : ℕ) (wanted : StartOptions) (old : WorldState) (a : Answer) (new : WorldState) → P other old
+    → (start_refusal slot wanted.publications old ≡ None → P done (started c slot position wanted old)) → IsStart c slot position wanted old a new → P (where_done a done other) new
+started_or P done other c slot position wanted old answers.Done new same begins step = subst (P done) (sym step.1) (begins step.0)
+started_or P done other c slot position wanted old (answers.Publication pubs.Memory) new same begins step = subst (P other) (sym step.1) same
+started_or P done other c slot position wanted old (answers.Publication pubs.Unknown) new same begins step = subst (P other) (sym step.1) same
+started_or P done other c slot position wanted old (answers.Publication pubs.ListConflict) new same begins step = subst (P other) (sym step.1) same
+started_or P done other c slot position wanted old (answers.Publication (pubs.FilterOutsideIdentity place)) new same begins step = subst (P other) (sym step.1) same
+started_or P done other c slot position wanted old (answers.Publication (pubs.ListWithoutIdentity place)) new same begins step = subst (P other) (sym step.1) same
+started_or P done other c slot position wanted old (answers.Publication (pubs.NoIdentity place)) new same begins step = subst (P other) (sym step.1) same
+started_or P done other c slot position wanted old (answers.Publication (pubs.NotToml n)) new same begins step = subst (P other) (sym step.1) same
+started_or P done other c slot position wanted old (answers.Publication (pubs.BadToml misfit)) new same begins step = subst (P other) (sym step.1) same
+started_or P done other c slot position wanted old (answers.Publication (pubs.BadFilter place fault)) new same begins step = subst (P other) (sym step.1) same
+started_or P done other c slot position wanted old (answers.Session fault) new same begins step = subst (P other) (sym step.1) same
+started_or P done other c slot position wanted old (answers.Slot fault) new same begins step = subst (P other) (sym step.1) same
+started_or P done other c slot position wanted old answers.NoReader new same begins step = subst (P other) (sym step.1) same
+started_or P done other c slot position wanted old (answers.Sender fault) new same begins step = subst (P other) (sym step.1) same
+started_or P done other c slot position wanted old (answers.Subscriber fault) new same begins step = subst (P other) (sym step.1) same
 
 left_as_it_was : (c s : List ℕ) (w : WorldState) → AllByRecursion (IsNotOn c s) w.subscribers → LeavesAlone c s w w
 left_as_it_was c s w others = record { publications = refl; publisher = refl; confirmed = refl; others = others; alone = λ alone. alone; started = refl; known = refl }
@@ -177,10 +178,10 @@ joined_other c s d slot ss other apart all = by_known (subscriber_of d ss) refl
         let of : t.connection ≡ d = look.known_by_name d ss t is in
         (look.all_with (IsNotOn c s) d ss (record t { slot = slot }) all (λ else on. apart on), look.with_other c d ss (record t { slot = slot }) other of)
 
-other_started : (c s d : List ℕ) (slot : Option (List ℕ)) (position : ℕ) (names : List (List ℕ)) (old : WorldState) → bytes_eq d c ≡ false → (slot ≡ Some s → ⊥) → AllByRecursion (IsNotOn c s) old.subscribers → LeavesAlone c s old (started d slot position names old)
-other_started c s d slot position names old other apart all =
+other_started : (c s d : List ℕ) (slot : Option (List ℕ)) (position : ℕ) (wanted : StartOptions) (old : WorldState) → bytes_eq d c ≡ false → (slot ≡ Some s → ⊥) → AllByRecursion (IsNotOn c s) old.subscribers → LeavesAlone c s old (started d slot position wanted old)
+other_started c s d slot position wanted old other apart all =
     let joined = joined_other c s d slot old.subscribers other apart all in
-    let start = new_start d (selected old.publications names) (start_from slot position old.slots) (restart (start_from slot position old.slots) old.publisher.log) in
+    let start = new_start d (wanted_of wanted old.publications) (start_from slot position old.slots) (restart (start_from slot position old.slots) old.publisher.log) in
     let not_open = look.not_open_for c d start other refl in
     record {
       publications = refl;
@@ -252,22 +253,22 @@ not_confirmed s slot by slots apart = confirmed_once s slot by slots ∙ ap (λ 
     same None = refl
     same (Some n) = refl
 
-pub other_step : (c s : List ℕ) (names : List (List ℕ)) (d : List ℕ) (step : ConnectionStep) (old : WorldState) (a : Answer) (new : WorldState) → bytes_eq d c ≡ false → AllByRecursion (IsNotOn c s) old.subscribers → IsFairAt c s names old d step
+pub other_step : (c s : List ℕ) (wanted : StartOptions) (d : List ℕ) (step : ConnectionStep) (old : WorldState) (a : Answer) (new : WorldState) → bytes_eq d c ≡ false → AllByRecursion (IsNotOn c s) old.subscribers → IsFairAt c s wanted old d step
     → IsStepAt d step old a new → LeavesAlone c s old new
-other_step c s names d (steps.Start slot position given) old a new other all fair step =
+other_step c s wanted d (steps.Start slot position options) old a new other all fair step =
     let apart = fair.1 (other_name d c other) in
-    started_or {A = Unit {0}} (λ _ w. LeavesAlone c s old w) tt tt d (slot_named slot) position given old a new (left_as_it_was c s old all) (λ none. other_started c s d (slot_named slot) position given old other apart all) step.1
-other_step c s names d (steps.Read max clock) old a new other all fair step = other_acts c s d (actions.Read max clock) old a new other all step
-other_step c s names d (steps.Keepalive clock) old a new other all fair step = other_acts c s d (actions.Keepalive clock) old a new other all step
-other_step c s names d (steps.Drain n) old a new other all fair step = other_acts c s d (actions.Drain n) old a new other all step
-other_step c s names d steps.Cut old a new other all fair step = other_acts c s d actions.Cut old a new other all step
-other_step c s names d (steps.Deliver n) old a new other all fair step =
+    started_or {A = Unit {0}} (λ _ w. LeavesAlone c s old w) tt tt d (slot_named slot) position options old a new (left_as_it_was c s old all) (λ none. other_started c s d (slot_named slot) position options old other apart all) step.1
+other_step c s wanted d (steps.Read max clock) old a new other all fair step = other_acts c s d (actions.Read max clock) old a new other all step
+other_step c s wanted d (steps.Keepalive clock) old a new other all fair step = other_acts c s d (actions.Keepalive clock) old a new other all step
+other_step c s wanted d (steps.Drain n) old a new other all fair step = other_acts c s d (actions.Drain n) old a new other all step
+other_step c s wanted d steps.Cut old a new other all fair step = other_acts c s d actions.Cut old a new other all step
+other_step c s wanted d (steps.Deliver n) old a new other all fair step =
     let P : WorldState → Type 0 = λ w. LeavesAlone c s old w in
     let is = step.gets.is in
     subst P (sym step.is) (other_changes c s d old.slots old step.before step.after other all step.known (ap (λ (x : SubscriberState). x.connection) is) (ap (λ (x : SubscriberState). x.slot) is) refl)
-other_step c s names d (steps.Status clock) old a new other all fair step = let P : WorldState → Type 0 = λ w. LeavesAlone c s old w in subst P (sym step.is) (other_changes c s d old.slots old step.before _ other all step.known refl refl refl)
-other_step c s names d (steps.Flushed number) old a new other all fair step = let P : WorldState → Type 0 = λ w. LeavesAlone c s old w in subst P (sym step.is) (other_changes c s d old.slots old step.before _ other all step.known refl refl refl)
-other_step c s names d steps.Ack old a new other all fair step =
+other_step c s wanted d (steps.Status clock) old a new other all fair step = let P : WorldState → Type 0 = λ w. LeavesAlone c s old w in subst P (sym step.is) (other_changes c s d old.slots old step.before _ other all step.known refl refl refl)
+other_step c s wanted d (steps.Flushed number) old a new other all fair step = let P : WorldState → Type 0 = λ w. LeavesAlone c s old w in subst P (sym step.is) (other_changes c s d old.slots old step.before _ other all step.known refl refl refl)
+other_step c s wanted d steps.Ack old a new other all fair step =
     let P : WorldState → Type 0 = λ w. LeavesAlone c s old w in
     let apart = (look.one_of_all (IsNotOn c s) d old.subscribers step.before all step.known) (ap (λ (n : List ℕ). bytes_eq n c) (look.known_by_name d old.subscribers step.before step.known) ∙ other) in
     subst P (sym step.is) (other_changes c s d _ old step.before (record step.before { back = step.rest }) other all step.known refl refl (not_confirmed s step.before.slot (min step.status.flushed step.start.position) old.slots apart))

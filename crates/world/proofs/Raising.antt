@@ -1,10 +1,12 @@
 -- A subscriber's position never goes back, whatever it takes.
 use Rattle.std.proofs.Common.{◌≡◌, ◌≤◌, ℕ, max, Bool, true, false, cond, eqb, List, [], ◌∷◌, ◌++◌, Option, Some, None, Result, Ok, Err, refl, ap, subst, arith}
+use Rattle.std.specs.Prelude.{nat_le}
 use Rattle.pqformat.specs.Steps.{◌>>=◌}
 use Rattle.pqformat.proofs.Codec.{ok_is}
 use Rattle.pgoutput.specs.declared.begin.Begin.{Begin}
 use Rattle.pgoutput.specs.declared.commit.Commit.{Commit}
 use Rattle.pgoutput.specs.declared.relation.Relation.{Relation}
+use Rattle.pgoutput.specs.declared.message.Message.{Message}
 use Rattle.pgoutput.specs.declared.logical.Logical.{Logical}
 use Rattle.pgoutput.specs.declared.logical.Logical.TheVariants as logical
 use Rattle.stream.specs.declared.word.Word.{Word}
@@ -12,7 +14,7 @@ use Rattle.stream.specs.declared.word.Word.TheVariants as words
 use Rattle.stream.specs.declared.word.Keepalive.{Keepalive}
 use Rattle.client.specs.declared.fault.ClientFault.{ClientFault}
 use Rattle.client.specs.declared.fault.ClientFault.TheVariants.{Order}
-use Rattle.client.specs.Subscriber.{HalfTransaction, Subscriber, after_message, after_word, after_words, begun, changed, committed, finished, judged, kept_alive, tell, told, with_change}
+use Rattle.client.specs.Subscriber.{HalfTransaction, Subscriber, after_message, after_word, after_words, begun, changed, committed, finished, heard, judged, kept_alive, note_of, noted, tell, told, with_change}
 use Rattle.client.specs.Taking.{ApplierState, Reached, Takes, TakesFrom}
 use Rattle.client.specs.Law.{Follows}
 use Rattle.client.proofs.Laws.{follows_err, follows_ok}
@@ -52,18 +54,27 @@ changed_on (Some half) s t position m is = by_judged (judged s.tables m) is
     by_judged (Ok u) e = higher s (record s { half = Some (with_change half position m) }) t (omega arith) e
     by_judged (Err fault) e = absurd cc
 
-message_on : (s t : Subscriber) (position : ℕ) (m : Logical) → after_message s position m ≡ Ok t → s.position ≤ t.position
-message_on s t position (logical.Begin m) is = begun_on s.half s t m is
-message_on s t position (logical.Relation m) is = told_on s.half s t m is
-message_on s t position (logical.Commit m) is = committed_on s.half s t m is
-message_on s t position (logical.Insert m) is = changed_on s.half s t position (logical.Insert m) is
-message_on s t position (logical.Update m) is = changed_on s.half s t position (logical.Update m) is
-message_on s t position (logical.Delete m) is = changed_on s.half s t position (logical.Delete m) is
-message_on s t position (logical.Truncate m) is = changed_on s.half s t position (logical.Truncate m) is
+noted_on : (half : Option HalfTransaction) (s t : Subscriber) (end : ℕ) (m : Message) → noted half s end m ≡ Ok t → s.position ≤ t.position
+noted_on None s t end m is = higher s (record s { position = max s.position end; applied = s.applied ++ cond (nat_le s.position m.position) (note_of end m ∷ []) [] }) t (omega arith) is
+noted_on (Some half) s t end m is = absurd cc
+
+heard_on : (is_transactional : Bool) (s t : Subscriber) (start end : ℕ) (m : Message) → heard is_transactional s start end m ≡ Ok t → s.position ≤ t.position
+heard_on true s t start end m is = changed_on s.half s t start (logical.Message m) is
+heard_on false s t start end m is = noted_on s.half s t end m is
+
+message_on : (s t : Subscriber) (start end : ℕ) (m : Logical) → after_message s start end m ≡ Ok t → s.position ≤ t.position
+message_on s t start end (logical.Begin m) is = begun_on s.half s t m is
+message_on s t start end (logical.Relation m) is = told_on s.half s t m is
+message_on s t start end (logical.Commit m) is = committed_on s.half s t m is
+message_on s t start end (logical.Message m) is = heard_on m.is_transactional s t start end m is
+message_on s t start end (logical.Insert m) is = changed_on s.half s t start (logical.Insert m) is
+message_on s t start end (logical.Update m) is = changed_on s.half s t start (logical.Update m) is
+message_on s t start end (logical.Delete m) is = changed_on s.half s t start (logical.Delete m) is
+message_on s t start end (logical.Truncate m) is = changed_on s.half s t start (logical.Truncate m) is
 
 word_on : (s t : Subscriber) (w : Word) → after_word s w ≡ Ok t → s.position ≤ t.position
 word_on s t (words.Keepalive k) is = kept_alive_on s.half s t k is
-word_on s t (words.XLogData x) is = message_on s t x.start x.message is
+word_on s t (words.XLogData x) is = message_on s t x.start x.end x.message is
 
 words_on : (s t : Subscriber) (ws : List Word) → after_words s ws ≡ Ok t → s.position ≤ t.position
 words_on s t [] is = higher s s t (omega arith) is

@@ -1,8 +1,9 @@
 -- What a connection's line does to its sender.
 use Rattle.std.specs.Prelude.{◌≡◌, ◌==◌, ℕ, List, [], ◌∷◌, ◌++◌, Option, Some, None, if◌then◌else◌}
 use Rattle.publication_config.specs.declared.fault.PubFault.TheVariants as pubs
-use Rattle.publication.specs.Publications.{conflicts, selected, is_unknown}
+use Rattle.publication.specs.Publications.{PublicationSet, conflicts, selected, is_unknown}
 use Rattle.schedule.specs.declared.answer.Answer.{Answer}
+use Rattle.schedule.specs.declared.start_options.StartOptions.{StartOptions}
 use Rattle.schedule.specs.declared.answer.Answer.TheVariants as answers
 use Rattle.starts.specs.declared.action.Action.{Action}
 use Rattle.starts.specs.declared.action.Action.TheVariants as actions
@@ -49,16 +50,20 @@ start_refusal slot names w =
     else if is_held slot w.slots then Some (answers.Slot slot_faults.InUse)
     else None
 
+-- what is selected for a start with these options
+abbrev pub wanted_of : StartOptions → PublicationSet → PublicationSet
+wanted_of options publications = record (selected publications options.publications) { messages = options.messages }
+
 -- what a start leaves that isn't refused: its sender reads the log from its restart position on
-abbrev pub started : List ℕ → Option (List ℕ) → ℕ → List (List ℕ) → WorldState → WorldState
-started connection slot position names w = record w {
+abbrev pub started : List ℕ → Option (List ℕ) → ℕ → StartOptions → WorldState → WorldState
+started connection slot position options w = record w {
   slots = taken slot w.slots;
-  starts = w.starts ++ new_start connection (selected w.publications names) (start_from slot position w.slots) (restart (start_from slot position w.slots) w.publisher.log) ∷ [];
+  starts = w.starts ++ new_start connection (wanted_of options w.publications) (start_from slot position w.slots) (restart (start_from slot position w.slots) w.publisher.log) ∷ [];
   subscribers = with_one_for connection slot w.subscribers;
 }
 
 -- P7 where memory was refused for what the publications select, and nothing else refuses the start
-abbrev pub IsStart : List ℕ → Option (List ℕ) → ℕ → List (List ℕ) → WorldState → Answer → WorldState → Type 0
-IsStart connection slot position names old answers.Done new = (start_refusal slot names old ≡ None) × (new ≡ started connection slot position names old)
-IsStart connection slot position names old (answers.Publication pubs.Memory) new = (start_refusal slot names old ≡ None) × (new ≡ old)
-IsStart connection slot position names old answer new = (start_refusal slot names old ≡ Some answer) × (new ≡ old)
+abbrev pub IsStart : List ℕ → Option (List ℕ) → ℕ → StartOptions → WorldState → Answer → WorldState → Type 0
+IsStart connection slot position options old answers.Done new = (start_refusal slot options.publications old ≡ None) × (new ≡ started connection slot position options old)
+IsStart connection slot position options old (answers.Publication pubs.Memory) new = (start_refusal slot options.publications old ≡ None) × (new ≡ old)
+IsStart connection slot position options old answer new = (start_refusal slot options.publications old ≡ Some answer) × (new ≡ old)

@@ -1,5 +1,5 @@
 -- The headline, of every start of a sender. While the sender is there: what it has produced, with what it still holds, is a
--- stream encoding of exactly the published transactions among the records that it has read, with safe keepalives. Once it
+-- stream encoding of exactly the published transactions and notes among the records that it has read, with safe keepalives. Once it
 -- is cut: what it had produced is a beginning of such an encoding.
 use Rattle.std.specs.Prelude.{◌≡◌, ℕ, ◌++◌, true, List}
 use Rattle.std.specs.List.{AllByRecursion}

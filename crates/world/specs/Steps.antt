@@ -26,7 +26,7 @@ pub record Calls (ask : Option Ask) (old : WorldState) (answer : Answer) (new : 
 
 -- A connection's line answers this and leaves that.
 abbrev pub IsStepAt : List ℕ → ConnectionStep → WorldState → Answer → WorldState → Type 0
-IsStepAt c (steps.Start slot position names) old answer new = IsNone (open_start c old.starts) × IsStart c (slot_named slot) position names old answer new
+IsStepAt c (steps.Start slot position options) old answer new = IsNone (open_start c old.starts) × IsStart c (slot_named slot) position options old answer new
 IsStepAt c (steps.Read max clock) old answer new = ActsAt c (actions.Read max clock) old answer new
 IsStepAt c (steps.Keepalive clock) old answer new = ActsAt c (actions.Keepalive clock) old answer new
 IsStepAt c (steps.Drain n) old answer new = ActsAt c (actions.Drain n) old answer new
@@ -39,24 +39,26 @@ IsStepAt c steps.Cut old answer new = ActsAt c actions.Cut old answer new
 -- The event answers this and leaves that.
 abbrev pub IsStep : WorldState → Event → Answer → WorldState → Type 0
 IsStep old (events.Session t step) answer new = Calls (ask_of (events.Session t step) old.publisher old.transactions) old answer new
+IsStep old (events.Note prefix content) answer new = Calls (ask_of (events.Note prefix content) old.publisher old.transactions) old answer new
 IsStep old (events.Connection c step) answer new = IsStepAt c step old answer new
 IsStep old (events.Slot name) answer new = Creates name old answer new
 
 -- A line that can't happen now: a start where the connection has a sender already, an acknowledgement where no status waits, any
 -- other where the connection has no sender.
 abbrev pub is_bad_at : List ℕ → ConnectionStep → WorldState → Bool
-is_bad_at c (steps.Start slot position names) w = is_some (open_start c w.starts)
+is_bad_at c (steps.Start slot position options) w = is_some (open_start c w.starts)
 is_bad_at c steps.Ack w = not (is_some (open_start c w.starts) && has_status (subscriber_of c w.subscribers))
 is_bad_at c step w = not (is_some (open_start c w.starts))
 
 -- an event that can't happen now, since a name is unknown, wrongly repeated or none, or no status waits: V1
 abbrev pub is_bad : Event → WorldState → Bool
 is_bad (events.Session t step) w = not (is_some (ask_of (events.Session t step) w.publisher w.transactions))
+is_bad (events.Note prefix content) w = false
 is_bad (events.Connection c step) w = is_bad_at c step w
 is_bad (events.Slot name) w = not (is_slot_name name)
 
 abbrev pub is_read_at : ConnectionStep → Bool
-is_read_at (steps.Start slot position names) = true
+is_read_at (steps.Start slot position options) = true
 is_read_at (steps.Read max clock) = true
 is_read_at step = false
 
@@ -66,7 +68,7 @@ is_read (events.Connection c step) = is_read_at step
 is_read event = false
 
 abbrev pub takes_memory_at : ConnectionStep → WorldState → Bool
-takes_memory_at (steps.Start slot position names) w = not (is_some (start_refusal (slot_named slot) names w))
+takes_memory_at (steps.Start slot position options) w = not (is_some (start_refusal (slot_named slot) options.publications w))
 takes_memory_at (steps.Read max clock) w = true
 takes_memory_at (steps.Drain n) w = true
 takes_memory_at (steps.Status clock) w = true
@@ -78,7 +80,7 @@ takes_memory_at step w = false
 abbrev pub takes_memory : Event → WorldState → Bool
 takes_memory (events.Session t step) w = line_takes_memory (events.Session t step) w.publisher
 takes_memory (events.Connection c step) w = takes_memory_at step w
-takes_memory (events.Slot name) w = false
+takes_memory event w = false
 
 -- a run: the answers to the events in order, and where they lead
 abbrev pub IsRun : WorldState → List Event → List Answer → WorldState → Type 0

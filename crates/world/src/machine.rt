@@ -115,6 +115,7 @@ impl<L: LogName + SlotName> Machine<L> {
     {
         match event {
             Event::Session(name, step) => self.sessions.refuses(name, step),
+            Event::Note(_, _) => false,
             Event::Connection(name, step) => self.is_bad_at(name, step),
             Event::Slot(name) => !is_slot_name(name.as_str()),
         }
@@ -148,7 +149,7 @@ impl<L: LogName + SlotName> Machine<L> {
         ensures machine { IsMachine self.new }
     {
         match event {
-            Event::Session(_, _) => self.call(rt, event),
+            Event::Session(_, _) | Event::Note(_, _) => self.call(rt, event),
             Event::Connection(name, step) => self.step_at(name, step),
             Event::Slot(name) => Ok(self.create(name)),
         }
@@ -166,8 +167,8 @@ impl<L: LogName + SlotName> Machine<L> {
     {
         let alloc = *self.starts.allocator();
         match step {
-            ConnectionStep::Start(slot, position, names) => {
-                self.start(alloc, name, slot, *position, names.as_slice())
+            ConnectionStep::Start(slot, position, options) => {
+                self.start(alloc, name, slot, *position, options)
             }
             ConnectionStep::Read(max, clock) => self.act(alloc, name, Action::Read(*max, *clock)),
             ConnectionStep::Keepalive(clock) => self.act(alloc, name, Action::Keepalive(*clock)),

@@ -15,7 +15,7 @@ use chgarena::Arena;
 use named_slots::{HeldSlots, is_held, is_missing, slot_named, start_from, take};
 use pqformat::Text;
 use publication::{PubFault, Publications, Selection};
-use schedule::{Answer, WorldFault};
+use schedule::{Answer, StartOptions, WorldFault};
 use shared_log::LogName;
 use slots::{SlotFault, SlotName};
 use starts::{Start, resume};
@@ -31,23 +31,27 @@ impl<L: LogName + SlotName> Machine<L> {
         name: &Text,
         slot: &Text,
         position: u64,
-        names: &[Text],
+        options: &StartOptions,
     ) -> Result<Answer, WorldFault>
         requires machine { IsMachine self.old }
-        ensures start { IfOk result (λ a. IsNone (open_start name.now (shown self.old).starts) × IsStart name.now (slot_named slot.now) position names.now (shown self.old) a (shown self.new)) }
+        ensures start { IfOk result (λ a. IsNone (open_start name.now (shown self.old).starts) × IsStart name.now (slot_named slot.now) position options.now (shown self.old) a (shown self.new)) }
         ensures bad { result ≡ Err WorldFault.BadEvent → IsSome (open_start name.now (shown self.old).starts) }
-        ensures memory { result ≡ Err WorldFault.Memory → start_refusal (slot_named slot.now) names.now (shown self.old) ≡ None }
+        ensures memory { result ≡ Err WorldFault.Memory → start_refusal (slot_named slot.now) options.now.publications (shown self.old) ≡ None }
         ensures err { OnErr result (shown self.new ≡ shown self.old) }
         ensures machine { IsMachine self.new }
     {
         if self.is_connected(name) {
             return Err(WorldFault::BadEvent);
         }
+        let names = options.publications.as_slice();
         if let Some(refusal) = self.start_refusal(slot, names) {
             return Ok(refusal);
         }
         match self.publications.select(names) {
-            Ok(selection) => self.start_with(alloc, name, slot, position, selection),
+            Ok(selection) => {
+                let selection = selection.with_messages(options.messages);
+                self.start_with(alloc, name, slot, position, selection)
+            }
             Err(fault) => Ok(Answer::Publication(fault)),
         }
     }
