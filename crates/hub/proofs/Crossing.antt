@@ -37,6 +37,10 @@ use Rattle.hub.specs.contracts.hub.Hub as hub
 use Rattle.hub.specs.contracts.inbox.Inbox as inbox
 use Rattle.hub.specs.contracts.latch.Latch as latch
 use Rattle.hub.specs.contracts.line.Line as line
+use Rattle.hub.specs.contracts.slot_post.KnownSlot as known
+use Rattle.hub.specs.contracts.slot_post.SlotPost as post
+use Rattle.hub.specs.contracts.sockets.ServedSocket as served
+use Rattle.hub.specs.contracts.sockets.Sockets as sockets
 use Rattle.hub.specs.contracts.system.SystemName as system
 use Rattle.hub.proofs.names.Names.TheSendSync as names
 use Rattle.hub.proofs.commit_notice.CommitNotice.TheSendSync as notice
@@ -94,6 +98,24 @@ arrival_sync = declared_sync arrival.the_type (search (arriving_send, heap.cross
 latch_sync : IsSync latch.the_row
 latch_sync = declared_sync latch.the_type (search (heap.crosses, sendable) depth 20, (search (heap.crosses, sendable) depth 10, tt))
 
+known_send : IsSend known.the_row
+known_send = declared_send known.the_type (
+  search sendable,
+  (
+    search (text.the_send, sendable) depth 10,
+    (search sendable, (search sendable depth 10, (search sendable, (search sendable, (search sendable, (search sendable, (search sendable depth 20, (search sendable depth 10, (search sendable depth 20, (search sendable, tt)))))))))),
+  ),
+)
+
+pub post_sync : IsSync post.the_row
+post_sync = declared_sync post.the_type (search (known_send, heap.crosses, sendable) depth 20, (search (heap.crosses, sendable) depth 10, tt))
+
+served_send : IsSend served.the_row
+served_send = declared_send served.the_type (search sendable, (socket.the_send, tt))
+
+sockets_sync : IsSync sockets.the_row
+sockets_sync = declared_sync sockets.the_type (search (served_send, heap.crosses, sendable) depth 20, (search (heap.crosses, sendable) depth 10, tt))
+
 system_sync : IsSync system.the_row
 system_sync = declared_sync system.the_type (text.the_sync, tt)
 
@@ -145,7 +167,19 @@ module _ (L : RattleType) (s : slot_name.Ghosts L.Denot) (l : log_name.Ghosts L.
                             search (heap.crosses, sendable) depth 10,
                             (
                               search (heap.crosses, sendable) depth 10,
-                              (search (heap.crosses, sendable) depth 10, (search (heap.crosses, sendable) depth 10, (search (heap.crosses, sendable) depth 10, tt))),
+                              (
+                                search (heap.crosses, sendable) depth 10,
+                                (
+                                  search (heap.crosses, sendable) depth 10,
+                                  (
+                                    search (heap.crosses, sendable) depth 10,
+                                    (
+                                      search (post_sync, heap.crosses, sendable) depth 10,
+                                      (sockets_sync, (search (reader.the_send L l, heap.crosses, sendable) depth 10, (search sendable depth 10, tt))),
+                                    ),
+                                  ),
+                                ),
+                              ),
                             ),
                           ),
                         ),

@@ -1,24 +1,30 @@
 //! The desk of a connection over the hub.
 
+use crate::gate::Gate;
 use crate::hub::Hub;
 use crate::line::Line;
-use replcmd::Name;
+use crate::refused_command::RefusedCommand;
+use replcmd::{CmdFault, StreamOptions};
 use server::{Desk, DeskFault};
 use shared_log::LogName;
 use slots::SlotName;
 use std::sync::Wait;
 
-/// What a connection asks of its hub. A stream that begins, and statuses, go to the connection's line.
+/// What a connection asks of its hub. A stream that begins, and statuses, go to the connection's line; what is refused is told to the
+/// gate.
 #[derive(Drop)]
-pub(crate) struct HubDesk<'h, L: LogName + SlotName, R: Wait> {
+pub(crate) struct HubDesk<'h, L: LogName + SlotName, R: Wait, G: Gate> {
     pub rt: &'h R,
     pub hub: &'h Hub<L>,
     pub line: &'h Line<L>,
+    pub gate: &'h G,
+    /// The connection's number.
+    pub number: u32,
     /// The latch of the stream that runs.
     pub latch: Option<usize>,
 }
 
-impl<'h, L: LogName + SlotName, R: Wait> Desk for HubDesk<'h, L, R> {
+impl<'h, L: LogName + SlotName, R: Wait, G: Gate> Desk for HubDesk<'h, L, R, G> {
     // Other connections ask the same hub in between, so of a call nothing is told.
     ghost told = { λ old call new. Unit {0} };
 
@@ -31,20 +37,49 @@ impl<'h, L: LogName + SlotName, R: Wait> Desk for HubDesk<'h, L, R> {
     }
 
     fn create(&mut self, slot: &str) -> Result<u64, DeskFault> {
-        self.hub.create_slot(self.rt, slot)
+        let created = self.hub.create_slot(self.rt, slot);
+        if let Err(fault) = &created {
+            let what = RefusedCommand::OfSlot("CREATE_REPLICATION_SLOT", slot, *fault);
+            self.gate.refused(self.number, &what);
+        }
+        created
     }
 
     fn drop_slot(&mut self, slot: &str) -> Result<(), DeskFault> {
-        self.hub.drop_slot(self.rt, slot)
+        let dropped = self.hub.drop_slot(self.rt, slot);
+        if let Err(fault) = &dropped {
+            let what = RefusedCommand::OfSlot("DROP_REPLICATION_SLOT", slot, *fault);
+            self.gate.refused(self.number, &what);
+        }
+        dropped
     }
 
-    fn start(&mut self, slot: &str, position: u64, publications: &[Name]) -> Result<(), DeskFault> {
-        let grant = self.hub.begin(self.rt, slot, position, publications)?;
-        self.latch = Some(grant.latch);
-        if let Some(unwritten) = self.line.grant(self.rt, grant) {
-            self.hub.end_grant(self.rt, unwritten);
+    fn start(
+        &mut self,
+        slot: &str,
+        position: u64,
+        options: &StreamOptions,
+    ) -> Result<(), DeskFault> {
+        match self.hub.begin(self.rt, slot, position, options) {
+            Ok(grant) => {
+                self.latch = Some(grant.latch);
+                if let Some(unwritten) = self.line.grant(self.rt, grant) {
+                    self.hub.end_grant(self.rt, unwritten);
+                }
+                Ok(())
+            }
+            Err(fault) => {
+                let names = options.publications.as_slice();
+                let what = RefusedCommand::Start(slot, names, fault);
+                self.gate.refused(self.number, &what);
+                Err(fault)
+            }
         }
-        Ok(())
+    }
+
+    fn refused(&self, text: &str, fault: CmdFault) {
+        self.gate
+            .refused(self.number, &RefusedCommand::Text(text, fault));
     }
 
     fn flushed(&mut self, position: u64, ask: bool) {

@@ -51,6 +51,14 @@ pub enum Untaken {
     Crowd,
 }
 
+/// Why a stream could not be steered.
+#[derive(Clone, Copy, Debug, PartialEq, Eq, Error)]
+pub enum SteerFault {
+    /// No slot has this name, or it was dropped, or the server ends.
+    #[error("L1: there is no such slot")]
+    Missing,
+}
+
 /// Why a connection ended that was served.
 #[derive(Clone, Copy, Debug, PartialEq, Eq, Error)]
 pub enum ConnectionEnd {
@@ -70,6 +78,10 @@ pub enum ConnectionEnd {
     FullArena,
     #[error("closed: the log lets no reader in")]
     NoEntry,
+    #[error("cut on purpose")]
+    Cut,
+    #[error("closed: the server ends")]
+    ServerEnd,
 }
 
 impl ConnectionEnd {
@@ -77,7 +89,10 @@ impl ConnectionEnd {
     pub(crate) fn is_of_stream(self) -> bool {
         matches!(
             self,
-            ConnectionEnd::Memory | ConnectionEnd::FullArena | ConnectionEnd::NoEntry
+            ConnectionEnd::Memory
+                | ConnectionEnd::FullArena
+                | ConnectionEnd::NoEntry
+                | ConnectionEnd::Cut
         )
     }
 }

@@ -1,6 +1,7 @@
 //! What a server asks and tells whoever runs it.
 
 use crate::fault::{ConnectionEnd, Untaken};
+use crate::refused_command::RefusedCommand;
 
 /// What each command of a connection passes, in the connection's reading thread, before it is answered. Connections and the
 /// commands of each are counted from 1; the greatest number stays.
@@ -9,6 +10,9 @@ pub trait Gate {
 
     /// A connection could not be taken, and the next is.
     fn untaken(&self, _why: &Untaken) {}
+
+    /// A command of a connection was refused.
+    fn refused(&self, _connection: u32, _what: &RefusedCommand<'_>) {}
 
     /// A connection that was served has ended.
     fn ended(&self, _connection: u32, _why: ConnectionEnd) {}

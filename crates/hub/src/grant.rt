@@ -1,10 +1,10 @@
 //! What a START was granted, before its stream.
 
 ghost use Rattle.std.specs.Prelude.{◌≡◌, ℕ, ◌<◌, IfOk, max, take};
-ghost use Rattle.publication.specs.Publications.{selected};
 ghost use Rattle.shared_log.specs.Readers.{seen_of};
 ghost use Rattle.wal.specs.Restart.{restart, restart_place};
 ghost use Rattle.hub.specs.declared.grant.TheConstants.{LIMIT};
+ghost use Rattle.hub.specs.Streams.{asked_for};
 ghost use Rattle.slots.specs.Rule.{slot_step, with_step};
 ghost use Rattle.slots.specs.Standings.{held_by};
 ghost use Rattle.slots.specs.declared.step.SlotKind.TheVariants.{Claim, Read, Release};
@@ -22,23 +22,25 @@ use walsender::ClaimFault;
 /// How many records of the log count for where a stream begins: all that its reader sees.
 const LIMIT: usize = usize::MAX;
 
-/// What a stream is made of beside its slot and its reader: what these names select, and an arena of so many chunks.
+/// What a stream is made of beside its slot and its reader: what these names select, with the messages of the log or without them,
+/// and an arena of so many chunks.
 #[derive(Drop)]
 pub(crate) struct Means<'a> {
     pub alloc: Global,
     pub publications: &'a Publications,
     pub names: &'a [Text],
+    pub messages: bool,
     pub chunks: u32,
 }
 
 impl<'a> Means<'a> {
     /// Only memory refuses it, once the publications are judged.
     fn make(&self) -> Result<(Selection, Arena), PubFault>
-        ensures { IfOk result (λ made. made.0 ≡ selected self.now.publications.now self.now.names.now) }
+        ensures { IfOk result (λ made. made.0 ≡ asked_for self.now.publications.now self.now.names.now self.now.messages) }
     {
         let selection = self.publications.select(self.names)?;
         let arena = Arena::new(self.alloc, self.chunks as usize)?;
-        Ok((selection, arena))
+        Ok((selection.with_messages(self.messages), arena))
     }
 }
 
@@ -74,7 +76,7 @@ impl<L: LogName + SlotName> StreamGrant<L> {
             × (b.hold.seat ≡ with_step (with_step pair.seat (slot_step Claim place 1 (held_by pair.seat.number))) (slot_step Read place confirmed confirmed))
             × (b.start ≡ max position confirmed)) }
         ensures place { IfOk result (λ b. b.hold.lease.place ≡ place) }
-        ensures selection { IfOk result (λ b. b.selection ≡ selected means.now.publications.now means.now.names.now) }
+        ensures selection { IfOk result (λ b. b.selection ≡ asked_for means.now.publications.now means.now.names.now means.now.messages) }
     {
         let Pair {
             mut reader,

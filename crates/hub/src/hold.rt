@@ -33,6 +33,13 @@ impl<L: SlotName> Hold<L> {
         }
     }
 
+    /// The slot's place.
+    pub fn place(&self) -> usize
+        ensures { result ≡ self.now.lease.place }
+    {
+        self.lease.place
+    }
+
     /// Raises the slot's confirmed position, and answers it: the greater of the old and the new.
     pub fn confirm(&mut self, slots: &SlotTable<L>, position: u64) -> u64
         ensures raised { (found : ℕ) × (result ≡ max found position) × DidAt Raise self.old.lease.place found result self.old.seat self.new.seat }

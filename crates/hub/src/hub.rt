@@ -1,33 +1,29 @@
 //! What the connections of a publisher share.
 
-ghost use Rattle.std.specs.Prelude.{◌≡◌, ◌<◌, IfOk, IfSome};
+ghost use Rattle.std.specs.Prelude.{◌≡◌};
 ghost use Rattle.hub.specs.Streams.{HasLearnt};
 
 use crate::commit_notice::CommitNotice;
 use crate::fault::HubFault;
-use crate::grant::StreamGrant;
 use crate::latch::Latch;
+use crate::line::Line;
 use crate::names::Names;
 use crate::opened::{MOST_STREAMS, OpenedHub};
-use crate::pool::{Pair, Pool};
-use crate::refusals::{of_slot, of_start};
-use crate::starting::HubStart;
+use crate::pool::Pool;
+use crate::slot_post::SlotPost;
+use crate::sockets::Sockets;
 use crate::streaming::Stream;
 use crate::system::SystemName;
-use pqformat::Text;
 use publication::Publications;
-use replcmd::Name;
-use server::DeskFault;
-use shared_log::LogName;
-use slots::{SlotName, SlotSeat, SlotTable};
+use shared_log::{LogName, LogReader};
+use slots::{PLACES, SlotName, SlotSeat, SlotTable};
 use std::alloc::{AllocError, Global};
 use std::sync::atomic::{AtomicBool, AtomicU32, AtomicU64, Ordering};
-use std::sync::{Condvar, Mutex, MutexGuard, Wait};
+use std::sync::{Condvar, Mutex, Wait};
 use std::time::{Clock, Duration};
 use txlog::{Opened, Publisher, Receipt};
-use walsender::begin;
 
-/// What the connections of a publisher share: its log and rows, its slots, its publications, and what commits tell.
+/// What the connections of a publisher share: its log and rows, its slots, its publications, and what commits and notes tell.
 ///
 /// `OpenedHub::new` and `Hub::open` make one, and `serve` serves connections from it. It isn't `Drop`: `close` ends it.
 pub struct Hub<L: LogName + SlotName> {
@@ -36,8 +32,8 @@ pub struct Hub<L: LogName + SlotName> {
     pub(crate) system: SystemName,
     pub(crate) publisher: Mutex<Publisher<L>>,
     pub(crate) slots: SlotTable<L>,
-    pool: Mutex<Pool<L>>,
-    names: Mutex<Names<L>>,
+    pub(crate) pool: Mutex<Pool<L>>,
+    pub(crate) names: Mutex<Names<L>>,
     notice: Mutex<CommitNotice<L>>,
     /// One for each stream that may run.
     latches: Vec<Latch>,
@@ -46,11 +42,18 @@ pub struct Hub<L: LogName + SlotName> {
     max_connections: u32,
     pub(crate) chunks: u32,
     /// How many connections are served.
-    served: AtomicU32,
-    streams_begun: AtomicU64,
+    pub(crate) served: AtomicU32,
+    pub(crate) streams_begun: AtomicU64,
     no_more_streams: AtomicBool,
     /// A stream has begun, or none will.
     changed: Condvar,
+    /// One for each place of a slot.
+    pub(crate) posts: Vec<SlotPost>,
+    pub(crate) sockets: Sockets,
+    /// A reader that reads nothing: the log tells it how many records there are.
+    pub(crate) counter: Mutex<LogReader<L>>,
+    /// How many records the log has room for.
+    pub(crate) capacity: usize,
 }
 
 impl<L: LogName + SlotName> Hub<L> {
@@ -69,13 +72,15 @@ impl<L: LogName + SlotName> Hub<L> {
             authentication_timeout,
             max_connections,
             chunks,
+            records,
         } = opened;
         let (table, mut seats) = slots.open::<L>(MOST_STREAMS + 1)?;
         let Some(seat) = seats.pop() else {
             return Err(HubFault::Memory);
         };
         let latches = latches_of(alloc)?;
-        let (publisher, pool) = published(rt, alloc, log, seats)?;
+        let posts = posts_of(alloc)?;
+        let (publisher, pool, counter) = published(rt, alloc, log, seats)?;
         Ok(Hub {
             alloc,
             publications,
@@ -94,6 +99,10 @@ impl<L: LogName + SlotName> Hub<L> {
             streams_begun: AtomicU64::new(0),
             no_more_streams: AtomicBool::new(false),
             changed: Condvar::new(),
+            posts,
+            sockets: Sockets::new(alloc),
+            counter: Mutex::new(counter),
+            capacity: records,
         })
     }
 
@@ -117,6 +126,10 @@ impl<L: LogName + SlotName> Hub<L> {
             streams_begun: _,
             no_more_streams: _,
             changed: _,
+            posts: _,
+            sockets: _,
+            counter: _,
+            capacity: _,
         } = self;
         publisher.into_inner().close(rt);
     }
@@ -126,7 +139,8 @@ impl<L: LogName + SlotName> Hub<L> {
         self.alloc
     }
 
-    /// What sessions call, one thread at a time. Each receipt of a commit goes to `tell`.
+    /// What sessions call, one thread at a time. Each receipt of a commit goes to `tell`, and where the log ends behind a note to
+    /// `tell_note`.
     pub fn publisher(&self) -> &Mutex<Publisher<L>> {
         &self.publisher
     }
@@ -164,91 +178,30 @@ impl<L: LogName + SlotName> Hub<L> {
         self.served.fetch_sub(1, Ordering::SeqCst);
     }
 
-    // ---- what commands ask
-
-    /// Where the log ends.
-    pub(crate) fn end_of_log<R: Wait>(&self, rt: &R) -> u64 {
-        let publisher = self.publisher.lock(rt);
-        let end = publisher.end();
-        let _ = MutexGuard::unlock(publisher);
-        end
-    }
-
-    /// Makes a slot at the log's end, and answers that position.
-    pub(crate) fn create_slot<R: Wait>(&self, rt: &R, name: &str) -> Result<u64, DeskFault> {
-        let end = self.end_of_log(rt);
-        let mut names = self.names.lock(rt);
-        match names.create(&self.slots, name, end) {
-            Ok(()) => Ok(end),
-            Err(fault) => Err(of_slot(fault)),
-        }
-    }
-
-    pub(crate) fn drop_slot<R: Wait>(&self, rt: &R, name: &str) -> Result<(), DeskFault> {
-        let mut names = self.names.lock(rt);
-        names.drop_slot(&self.slots, name).map_err(of_slot)
-    }
-
-    /// Begins a stream, or answers the first of the refusals in the order of `walsender::begin`.
-    pub(crate) fn begin<R: Wait>(
-        &self,
-        rt: &R,
-        slot: &str,
-        position: u64,
-        publications: &[Name],
-    ) -> Result<StreamGrant<L>, DeskFault> {
-        let Ok(names) = texts_of(self.alloc, publications) else {
-            return Err(DeskFault::Memory);
-        };
-        let mut start = HubStart {
-            rt,
-            hub: self,
-            slot,
-            names: names.as_slice(),
-            position,
-        };
-        let grant = begin(&mut start).map_err(of_start)?;
-        self.streams_begun.fetch_add(1, Ordering::SeqCst);
-        self.signal(rt);
-        Ok(grant)
-    }
-
-    /// Ends a stream: its slot is free, and its reader and seat go back to the pool.
-    pub(crate) fn end<R: Wait>(&self, rt: &R, stream: Stream<L>) {
-        let pair = stream.end(&self.slots);
-        self.give_back(rt, pair);
-    }
-
-    /// Ends what was granted, and never was written, in the same way.
-    pub(crate) fn end_grant<R: Wait>(&self, rt: &R, grant: StreamGrant<L>) {
-        let pair = grant.end(&self.slots);
-        self.give_back(rt, pair);
-    }
-
-    pub(crate) fn place_of<R: Wait>(&self, rt: &R, slot: &str) -> Option<usize>
-        ensures { IfSome result (λ place. place < 16) }
-    {
-        self.names.lock(rt).place_of(slot)
-    }
-
-    pub(crate) fn take_pair<R: Wait>(&self, rt: &R) -> Option<Pair<L>> {
-        self.pool.lock(rt).take()
-    }
-
-    pub(crate) fn give_back<R: Wait>(&self, rt: &R, pair: Pair<L>) {
-        let _ = self.pool.lock(rt).give_back(pair);
-    }
-
     // ---- what threads wait for
 
     /// A commit leaves its receipt: streams read on up to it, at least.
     pub fn tell<R: Wait>(&self, rt: &R, receipt: Receipt<L>) {
-        let end = receipt.end();
         let mut notice = self.notice.lock(rt);
         notice.publish(receipt);
+        let end = notice.end();
         drop(notice);
+        self.wake(rt, end);
+    }
+
+    /// A note leaves where the log ended right behind it, and no receipt: streams read on up to there, at least.
+    pub fn tell_note<R: Wait>(&self, rt: &R, end: u64) {
+        let mut notice = self.notice.lock(rt);
+        notice.note(end);
+        let end = notice.end();
+        drop(notice);
+        self.wake(rt, end);
+    }
+
+    /// Wakes each stream that hasn't read up to this position.
+    fn wake<R: Wait>(&self, rt: &R, end: u64) {
         for latch in &self.latches {
-            latch.tell_commit(rt, end);
+            latch.tell_end(rt, end);
         }
     }
 
@@ -259,19 +212,45 @@ impl<L: LogName + SlotName> Hub<L> {
         }
     }
 
-    /// Waits until a stream or its connection has something to do, and tells the stream of the latest commit.
-    pub(crate) fn await_stream<R: Wait>(&self, rt: &R, stream: &mut Stream<L>)
+    /// Waits until a stream or its connection has something to do and it isn't held, and tells the stream of the latest commit.
+    pub(crate) fn await_stream<R: Wait>(
+        &self,
+        rt: &R,
+        line: &Line<L>,
+        post: &SlotPost,
+        stream: &mut Stream<L>,
+    )
         ensures learnt { HasLearnt stream.old.walsender stream.new.walsender }
         ensures hold { stream.new.hold ≡ stream.old.hold }
     {
         if let Some(latch) = self.latches.get(stream.latch()) {
             latch.wait(rt, stream.position());
         }
+        self.await_release(rt, line, post, stream.latch());
         self.inform(rt, stream);
     }
 
+    /// Waits while the stream with this latch is held on purpose, unless its connection is over.
+    pub(crate) fn await_release<R: Wait>(
+        &self,
+        rt: &R,
+        line: &Line<L>,
+        post: &SlotPost,
+        latch: usize,
+    ) {
+        let Some(latch) = self.latches.get(latch) else {
+            return;
+        };
+        for _ in rt.forever() {
+            if !post.is_held(rt) || line.is_closed(rt) {
+                break;
+            }
+            latch.wait_for_work(rt);
+        }
+    }
+
     /// Wakes those that wait for streams to begin. Whoever looked before waits by now, since it looks under the lock.
-    fn signal<R: Wait>(&self, rt: &R) {
+    pub(crate) fn signal<R: Wait>(&self, rt: &R) {
         drop(self.notice.lock(rt));
         self.changed.notify_all();
     }
@@ -310,19 +289,27 @@ fn latches_of(alloc: Global) -> Result<Vec<Latch>, AllocError> {
     Ok(latches)
 }
 
-/// The publisher, and its readers with a seat each.
+fn posts_of(alloc: Global) -> Result<Vec<SlotPost>, AllocError> {
+    let mut posts = Vec::with_capacity(alloc, PLACES)?;
+    for _ in 0..PLACES {
+        posts.push(SlotPost::new())?;
+    }
+    Ok(posts)
+}
+
+/// The publisher, its readers with a seat each, and one reader without.
 fn published<L: LogName + SlotName, R: Wait>(
     rt: &R,
     alloc: Global,
     log: Opened,
     seats: Vec<SlotSeat<L>>,
-) -> Result<(Publisher<L>, Pool<L>), HubFault>
+) -> Result<(Publisher<L>, Pool<L>, LogReader<L>), HubFault>
     requires { log.history.seen.book ≡ L.book }
 {
     match Publisher::<L>::open(rt, log) {
-        Ok((publisher, readers)) => match Pool::of(alloc, readers, seats) {
-            Ok(pool) => Ok((publisher, pool)),
-            Err(_) => {
+        Ok((publisher, readers)) => match parted(alloc, readers, seats) {
+            Some((pool, counter)) => Ok((publisher, pool, counter)),
+            None => {
                 publisher.close(rt);
                 Err(HubFault::Memory)
             }
@@ -331,10 +318,14 @@ fn published<L: LogName + SlotName, R: Wait>(
     }
 }
 
-fn texts_of(alloc: Global, names: &[Name]) -> Result<Vec<Text>, AllocError> {
-    let mut texts = Vec::with_capacity(alloc, names.len())?;
-    for name in names {
-        texts.push(Text::copy_of(alloc, name.as_str())?)?;
+fn parted<L: LogName + SlotName>(
+    alloc: Global,
+    mut readers: Vec<LogReader<L>>,
+    seats: Vec<SlotSeat<L>>,
+) -> Option<(Pool<L>, LogReader<L>)> {
+    let counter = readers.pop()?;
+    match Pool::of(alloc, readers, seats) {
+        Ok(pool) => Some((pool, counter)),
+        Err(_) => None,
     }
-    Ok(texts)
 }

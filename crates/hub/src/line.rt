@@ -105,6 +105,11 @@ impl<L: LogName + SlotName> Line<L> {
         );
     }
 
+    /// Whether nothing more comes from the client.
+    pub fn is_closed<R: Wait>(&self, rt: &R) -> bool {
+        self.inbox.lock(rt).is_closed()
+    }
+
     /// Takes all that is there to do.
     pub fn take<R: Wait>(&self, rt: &R) -> Work {
         let mut inbox = self.inbox.lock(rt);

@@ -34,6 +34,7 @@ pub struct OpenedHub {
     pub(crate) alloc: Global,
     pub(crate) publications: Publications,
     pub(crate) system: SystemName,
+    pub(crate) records: usize,
     pub log: Opened,
     pub slots: OpenedSlots,
     /// For how long the client of a stream may be silent: 60 seconds, unless it is set. Zero is for ever.
@@ -66,6 +67,7 @@ impl OpenedHub {
             alloc,
             publications,
             system,
+            records,
             log,
             slots,
             wal_sender_timeout: Duration::from_secs(WAL_SENDER_TIMEOUT),
@@ -80,7 +82,7 @@ fn log_of(alloc: Global, catalog: Catalog, records: usize) -> Result<Opened, Hub
     requires some { 1 ≤ records }
     requires few { records ≤ MAX_RECORDS }
 {
-    match Opened::new(alloc, catalog, records, MOST_STREAMS) {
+    match Opened::new(alloc, catalog, records, MOST_STREAMS + 1) {
         Ok(log) => Ok(log),
         Err(_) => Err(HubFault::Memory),
     }

@@ -80,6 +80,9 @@ pub(crate) fn read_line<L: LogName + SlotName, R: Wait + Clock, G: Gate>(
     }
     read.line.pass(read.rt, Phase::Closed);
     tell_work(read, state.latch);
+    if end == ConnectionEnd::Client && read.hub.is_ending() {
+        return ConnectionEnd::ServerEnd;
+    }
     end
 }
 
@@ -188,6 +191,8 @@ fn answer<L: LogName + SlotName, R: Wait, G: Gate>(
         rt: read.rt,
         hub: read.hub,
         line: read.line,
+        gate: read.gate,
+        number: read.number,
         latch: state.latch,
     };
     let mut said = BytesMut::new(read.hub.alloc);

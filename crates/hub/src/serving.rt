@@ -23,7 +23,8 @@ use std::time::Clock;
 /// A connection counts once both of its threads run. One that can't have them, or comes where `max_connections` are served, is
 /// told so (53300) and closed, and the gate is told why; so it is where the listener can't give one for now. Then the next is
 /// taken. A failed read or write ends its connection alone, and the gate is told how each has ended. An error means that the
-/// listener gives no more; it is answered once the connections that were taken have ended.
+/// listener gives no more; it is answered once the connections that were taken have ended. Behind `Hub::shut_down` none is taken,
+/// and the next that comes is closed without a word.
 pub fn serve<L, G, R>(
     rt: &R,
     listener: &TcpListener,
@@ -41,7 +42,7 @@ where
     thread::scope(thread::scope_env(), rt, |scope| {
         let mut taken = 0;
         for _ in rt.forever() {
-            if connections <= taken {
+            if connections <= taken || hub.is_ending() {
                 break;
             }
             let number = taken + 1;
@@ -79,6 +80,9 @@ where
 {
     match next_socket(listener, hub.silence()) {
         Ok(socket) => {
+            if hub.is_ending() {
+                return Ok(false);
+            }
             if !hub.admit() {
                 refuse(hub, gate, &Untaken::Crowd, &socket);
                 return Ok(false);
@@ -118,8 +122,13 @@ where
     let Some(socket) = arrival.take(rt) else {
         return;
     };
+    if !hub.sockets.enter(rt, number, &socket) {
+        arrival.give_back(rt, socket);
+        return;
+    }
     let line = Line::new(hub.alloc);
     let read = both(rt, hub, gate, number, arrival, &line, &socket);
+    hub.sockets.leave(rt, number);
     let (unwritten, early) = line.end();
     if let Some(unwritten) = unwritten {
         hub.end_grant(rt, unwritten);
@@ -191,12 +200,17 @@ fn read<L: LogName + SlotName, G: Gate, R: Wait + Clock>(
     end
 }
 
-fn write<L: LogName + SlotName, R: Wait>(rt: &R, hub: &Hub<L>, line: &Line<L>, socket: &TcpStream) {
-    let mut write = WriteLoop {
+fn write<L: LogName + SlotName, R: Wait + Clock>(
+    rt: &R,
+    hub: &Hub<L>,
+    line: &Line<L>,
+    socket: &TcpStream,
+) {
+    let write = WriteLoop {
         rt,
         hub,
         line,
         socket,
     };
-    write_line(&mut write);
+    write_line(&write);
 }

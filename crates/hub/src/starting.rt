@@ -19,6 +19,7 @@ pub(crate) struct HubStart<'h, L: LogName + SlotName, R: Wait> {
     pub hub: &'h Hub<L>,
     pub slot: &'h str,
     pub names: &'h [Text],
+    pub messages: bool,
     pub position: u64,
 }
 
@@ -60,6 +61,7 @@ impl<'h, L: LogName + SlotName, R: Wait> StartDesk for HubStart<'h, L, R> {
             alloc: hub.alloc,
             publications: &hub.publications,
             names: self.names,
+            messages: self.messages,
             chunks: hub.chunks,
         };
         match StreamGrant::claim(&hub.slots, pair, slot.place, &means, self.position) {

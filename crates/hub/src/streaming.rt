@@ -43,6 +43,8 @@ pub(crate) struct Stream<L: LogName + SlotName> {
     latch: usize,
     /// The greatest position that its client has flushed.
     flushed: u64,
+    /// Up to where its slot was confirmed by it.
+    confirmed: u64,
     /// The position of the last keepalive, or its start.
     told: u64,
 }
@@ -69,6 +71,7 @@ impl<L: LogName + SlotName> Stream<L> {
             hold,
             latch,
             flushed: start,
+            confirmed: 0,
             told: start,
         }
     }
@@ -83,6 +86,16 @@ impl<L: LogName + SlotName> Stream<L> {
         ensures { result ≡ self.now.walsender.sender.position }
     {
         self.walsender.position()
+    }
+
+    /// Up to where its slot was confirmed by it; 0 before that.
+    pub fn confirmed(&self) -> u64 {
+        self.confirmed
+    }
+
+    /// How many chunks are free for the changes of transactions in progress.
+    pub fn free_chunks(&self) -> usize {
+        self.walsender.free_chunks()
     }
 
     /// Which latch wakes it.
@@ -157,7 +170,7 @@ impl<L: LogName + SlotName> Stream<L> {
     {
         if let Some(flushed) = flushed {
             self.flushed = self.flushed.max(flushed);
-            self.confirm(slots, flushed);
+            self.confirmed = self.confirm(slots, flushed);
         }
     }
 
@@ -223,6 +236,7 @@ impl<L: LogName + SlotName> Stream<L> {
             hold,
             latch,
             flushed: _,
+            confirmed: _,
             told: _,
         } = self;
         let (_, reader) = walsender.end();

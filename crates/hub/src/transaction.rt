@@ -68,6 +68,12 @@ impl<'h, L: LogName + SlotName, R: Wait> Transaction<'h, L, R> {
         self.publisher.truncate(self.rt, &mut self.tx, tables)
     }
 
+    /// Writes a message, which streams that ask for messages send with this transaction.
+    pub fn message(&mut self, prefix: &str, content: &[u8]) -> Result<(), SessionFault> {
+        self.publisher
+            .message(self.rt, &mut self.tx, prefix, content)
+    }
+
     pub fn savepoint(&mut self) -> Result<Savepoint, SessionFault> {
         let depth = self.publisher.savepoint(self.rt, &mut self.tx)?;
         Ok(Savepoint { depth })

@@ -1,17 +1,21 @@
 //! The writing thread of a connection: all that goes to the client.
 
 use crate::fault::ConnectionEnd;
+use crate::grant::StreamGrant;
 use crate::hub::Hub;
 use crate::inbox::Work;
 use crate::line::Line;
+use crate::slot_post::SlotPost;
+use crate::stream_desk::{StreamDesk, report};
 use crate::stream_loop::{say, write_stream};
 use crate::streaming::Stream;
-use crate::work_desk::WorkDesk;
+use crate::tap::Tap;
 use server::Phase;
 use shared_log::LogName;
 use slots::SlotName;
 use std::net::{Shutdown, TcpStream};
 use std::sync::Wait;
+use std::time::Clock;
 
 /// What a writing thread is passed.
 #[derive(Drop)]
@@ -22,25 +26,9 @@ pub(crate) struct WriteLoop<'h, L: LogName + SlotName, R: Wait> {
     pub socket: &'h TcpStream,
 }
 
-impl<'h, L: LogName + SlotName, R: Wait> WorkDesk<L> for WriteLoop<'h, L, R> {
-    // The reading thread fills the line in between, so of a call nothing is told.
-    ghost told = { λ old work new. Unit {0} };
-
-    fn next(&mut self, stream: &mut Stream<L>) -> Work {
-        self.hub.await_stream(self.rt, stream);
-        self.line.take(self.rt)
-    }
-
-    fn last(&mut self) -> Work {
-        break_off(self);
-        self.line.await_close(self.rt);
-        self.line.take(self.rt)
-    }
-}
-
 /// Writes what is said, and the streams that begin, until the connection is over; then closes it both ways, so that the
 /// reading thread doesn't wait for more.
-pub(crate) fn write_line<L: LogName + SlotName, R: Wait>(write: &mut WriteLoop<'_, L, R>) {
+pub(crate) fn write_line<L: LogName + SlotName, R: Wait + Clock>(write: &WriteLoop<'_, L, R>) {
     for _ in write.rt.forever() {
         write.line.await_words(write.rt);
         if write_step(write).is_err() {
@@ -51,8 +39,8 @@ pub(crate) fn write_line<L: LogName + SlotName, R: Wait>(write: &mut WriteLoop<'
 }
 
 /// Writes what is said, and, if that began a stream, all of the stream.
-fn write_step<L: LogName + SlotName, R: Wait>(
-    write: &mut WriteLoop<'_, L, R>,
+fn write_step<L: LogName + SlotName, R: Wait + Clock>(
+    write: &WriteLoop<'_, L, R>,
 ) -> Result<(), ConnectionEnd> {
     let mut to = write.socket;
     let mut work = write.line.take(write.rt);
@@ -64,20 +52,58 @@ fn write_step<L: LogName + SlotName, R: Wait>(
     let Some(grant) = write.line.take_grant(write.rt) else {
         return Ok(());
     };
-    let (rt, hub) = (write.rt, write.hub);
+    let ended = match write.hub.post_at(Some(grant.hold.place())) {
+        Some(post) => write_granted(write, post, grant, work),
+        None => {
+            write.hub.end_grant(write.rt, grant);
+            Err(ConnectionEnd::Lost)
+        }
+    };
+    match ended {
+        Ok(()) => write.line.end_stream(write.rt),
+        Err(end) => write.line.end_early(write.rt, end),
+    }
+    ended
+}
+
+/// Writes the stream of a grant, and answers why it could not be written to its end.
+fn write_granted<L: LogName + SlotName, R: Wait + Clock>(
+    write: &WriteLoop<'_, L, R>,
+    post: &SlotPost,
+    grant: StreamGrant<L>,
+    work: Work,
+) -> Result<(), ConnectionEnd> {
+    let WriteLoop {
+        rt,
+        hub,
+        line,
+        socket,
+    } = *write;
+    post.begin(rt, grant.latch);
+    hub.await_release(rt, line, post, grant.latch);
     let mut stream = Stream::open(hub.alloc, grant);
     hub.inform(rt, &mut stream);
-    let ended = write_stream(rt, write, &hub.slots, &mut stream, work, &mut to);
+    let mut desk = StreamDesk {
+        write: WriteLoop {
+            rt,
+            hub,
+            line,
+            socket,
+        },
+        post,
+    };
+    let mut tap = Tap { rt, post, socket };
+    let ended = write_stream(rt, &mut desk, &hub.slots, &mut stream, work, &mut tap);
+    report(rt, post, &stream);
     hub.end(rt, stream);
-    match ended {
-        Ok(()) => write.line.end_stream(rt),
-        Err(end) => write.line.end_early(rt, end),
+    if post.end(rt) {
+        return Err(ConnectionEnd::Cut);
     }
     ended
 }
 
 /// Nothing is written any more, and nothing more comes.
-fn break_off<L: LogName + SlotName, R: Wait>(write: &WriteLoop<'_, L, R>) {
+pub(crate) fn break_off<L: LogName + SlotName, R: Wait>(write: &WriteLoop<'_, L, R>) {
     write.line.break_off(write.rt);
     let _ = write.socket.shutdown(Shutdown::Both);
 }

@@ -40,7 +40,7 @@ A configuration names the server, the tables and their publications, as in
 The log has room for that number of records. Each stream keeps the changes of transactions in
 progress in that number of chunks, each of 16,384 bytes; where they are full it ends (53400).
 
-A script has one line for each step of a session. T is a name for a transaction.
+A script has one line for each step. T is a name for a transaction.
 
   begin T                  a transaction begins
   insert T TABLE (ROW)     it inserts a row, as in (1,'ab',7)
@@ -48,11 +48,24 @@ A script has one line for each step of a session. T is a name for a transaction.
                            the row of this key becomes this one, as in (1) (2,'ab',7)
   delete T TABLE (KEY)     it deletes the row of this key
   truncate T TABLE ..      it empties tables
+  message T 'PREFIX' 'CONTENT'
+                           it puts a message into the log
   savepoint T              it sets a savepoint
   rollback T N             it rolls back to its Nth savepoint, counted from the outermost
   release T N              it releases its Nth savepoint and those inside it
   commit T TIME            it commits, at TIME microseconds since 2000-01-01
   abort T                  it aborts
+  note 'PREFIX' 'CONTENT'  a message of no transaction goes into the log
+
+These steer the stream of the slot S, or its next one, for tests of clients:
+
+  await S POSITION         the lines behind wait until S is confirmed at POSITION, as in 0/1000050
+  hold S                   nothing of the stream is written any more
+  resume S                 it goes on
+  ask S                    a keepalive asks the client for an answer
+  cut S                    its connection is cut between two frames
+  cut S N                  its connection is cut behind N more bytes
+  end                      the server ends: streams send what is left and CopyDone
 
 For example
 
@@ -63,7 +76,8 @@ once that connection's stream has begun, and ends once both have ended. Without 
 scripts begin at once, and a slot that is created later begins behind what they have committed
 by then. A client connects to it as to a walsender of PostgreSQL, with
 replication=database. A line of a script that is refused is printed on the standard error: the
-script's name, the line's number and a code, as in load.script 7 S4. The script then goes on.
+script's name, the line's number and a code, as in load.script 7 S4. The script then goes on. So
+is a line that steers, once it is done, with ok in the place of the code.
 
 A script that is named - is the standard input. Its lines are done as they come, beside the
 connections, and each is answered on the standard output: by ok, behind a commit with the position
@@ -72,7 +86,7 @@ the server through a pipe:
 
   pubd pubd.toml 127.0.0.1:5433 forever -
 
-serves until it is ended by a signal, and writes what it is told.
+serves until it is told end, or ended by a signal, and writes what it is told.
 
 It ends with 0 where that is done, with 2 where the arguments, the configuration or a script are
 refused, and with 1 where a file, the socket or memory fails.";
@@ -88,15 +102,17 @@ pub struct Words<'a> {
     startup: Option<&'a str>,
     at_once: Option<&'a str>,
     messages: Option<&'a str>,
+    status: Option<&'a str>,
     pub scripts: Vec<&'a str>,
 }
 
-/// Where it listens, how many connections it serves, how many streams the scripts await, how much it tells, and its limits where
+/// Where it listens, for connections and for who asks what runs, how many connections it serves, how many streams the scripts await, how much it tells, and its limits where
 /// they are told: for how long a stream's client may be silent, how long a startup may take, and how many connections are served
 /// at once.
 #[derive(Clone, Copy)]
 pub struct Numbers {
     pub address: SocketAddr,
+    pub status: Option<SocketAddr>,
     pub connections: u32,
     pub awaited: u64,
     pub level: Level,
@@ -111,6 +127,7 @@ impl<'a> Words<'a> {
         let address = self.address.parse::<SocketAddr>();
         Ok(Numbers {
             address: address.map_err(|_| Fault::Address)?,
+            status: self.status()?,
             connections: self.connections()?,
             awaited: self.awaited()?,
             level: self.level()?,
@@ -118,6 +135,16 @@ impl<'a> Words<'a> {
             authentication_timeout: self.authentication_timeout()?,
             max_connections: self.max_connections()?,
         })
+    }
+
+    fn status(&self) -> Result<Option<SocketAddr>, Fault> {
+        let Some(text) = self.status else {
+            return Ok(None);
+        };
+        match text.parse::<SocketAddr>() {
+            Ok(address) => Ok(Some(address)),
+            Err(_) => Err(Fault::StatusAddress),
+        }
     }
 
     fn connections(&self) -> Result<u32, Fault> {
@@ -189,7 +216,7 @@ const REQUIRED: [(&str, &str); 3] = [
 ];
 
 /// The words that may be left out, what stands behind each, and what is said of it.
-const OPTIONAL: [(&str, &str, &str); 5] = [
+const OPTIONAL: [(&str, &str, &str); 6] = [
     (
         "await-streams",
         "N",
@@ -213,7 +240,12 @@ const OPTIONAL: [(&str, &str, &str); 5] = [
     (
         "log-min-messages",
         "LEVEL",
-        "Say on the standard error which connections can't be taken (error), which end otherwise than by their clients (warning, unless it is given), or how each ends (info)",
+        "Say on the standard error which connections can't be taken (error), which end otherwise than by their clients and what is refused (warning, unless it is given), or how each ends (info)",
+    ),
+    (
+        "status",
+        "ADDR",
+        "Tell at this address and port what runs, over HTTP, as Prometheus reads it: GET /metrics",
     ),
 ];
 
@@ -257,7 +289,7 @@ fn scripts(alloc: Global) -> Arg<'static> {
     Arg::new(alloc, "SCRIPT")
         .num_args(0..)
         .action(ArgAction::Append)
-        .help("Text files with one session line each line, or - for the standard input")
+        .help("Text files of such lines, or - for the standard input")
 }
 
 fn scripts_in<'a>(alloc: Global, matches: &ArgMatches<'a>) -> Result<Vec<&'a str>, AllocError> {
@@ -281,6 +313,7 @@ fn words_in<'a>(matches: &ArgMatches<'a>, scripts: Vec<&'a str>) -> Words<'a> {
         startup: matches.get_str("authentication-timeout"),
         at_once: matches.get_str("max-connections"),
         messages: matches.get_str("log-min-messages"),
+        status: matches.get_str("status"),
         scripts,
     }
 }

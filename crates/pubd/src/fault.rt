@@ -2,7 +2,7 @@
 
 use clap::error::ErrorKind;
 use configuration::ConfigFault;
-use hub::{HubFault, ServeFault};
+use hub::HubFault;
 use std::alloc::{AllocError, AllocFailed};
 use std::io;
 use thiserror::Error;
@@ -15,6 +15,8 @@ pub enum Fault {
     Usage(clap::Error),
     #[error("ADDR is an address and a port, as in 127.0.0.1:5433")]
     Address,
+    #[error("ADDR of --status is an address and a port, as in 127.0.0.1:9187")]
+    StatusAddress,
     #[error("CONNECTIONS is a number from 0 to 1000, or forever")]
     Connections,
     #[error("N of --await-streams is a number from 0 to 4294967295")]
@@ -35,15 +37,13 @@ pub enum Fault {
     Hub(HubFault),
     #[error("{0} cannot be read: {1}")]
     ReadScript(String, io::Error),
-    #[error("{0}: line {1} is no line of a session")]
+    #[error("{0}: line {1} is no line of a script")]
     Script(String, usize),
     #[error("the address cannot be listened at: {0}")]
     Listen(io::Error),
     #[error("standard output cannot be used: {0}")]
     Output(io::Error),
-    #[error("{0}")]
-    Serve(ServeFault),
-    #[error("a script ended before its last line")]
+    #[error("not all was done")]
     EndedEarly,
     #[error("out of memory")]
     Memory,
@@ -64,6 +64,7 @@ impl Fault {
                 _ => 2,
             },
             Fault::Address
+            | Fault::StatusAddress
             | Fault::Connections
             | Fault::Awaited
             | Fault::Silence
@@ -82,7 +83,6 @@ impl Fault {
             | Fault::Hub(HubFault::Memory)
             | Fault::Listen(_)
             | Fault::Output(_)
-            | Fault::Serve(_)
             | Fault::EndedEarly
             | Fault::Memory => 1,
         }

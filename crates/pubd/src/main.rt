@@ -1,23 +1,28 @@
-//! `pubd CONFIG ADDR CONNECTIONS [SCRIPT]...` serves replication connections, and runs scripts of session lines beside them.
+//! `pubd CONFIG ADDR CONNECTIONS [SCRIPT]...` serves replication connections, and runs scripts beside them.
 #![tactic(auto)]
 
 mod command;
+mod ending;
 mod fault;
 mod numbers;
 mod reports;
 mod scripts;
+mod status_page;
+mod status_text;
 
 ghost use Rattle.std.specs.Prelude.{◌≡◌};
 
 use command::{Numbers, Words, words_of};
 use configuration::{Config, explained};
+use ending::{Door, Doors, end_server};
 use fault::Fault;
 use hub::{Hub, OpenedHub, serve};
 use reports::{Level, Reports};
-use scripting::run_spoken;
-use scripts::{SPOKEN, Script, run_all, scripts_of};
+use scripting::{ScriptEnd, run_input};
+use scripts::{STANDARD_INPUT, Script, run_all, scripts_of};
 use shared_log::LogName;
 use slots::SlotName;
+use status_page::serve_status;
 use std::io::{Print, Stdin};
 use std::marker::Brand;
 use std::net::{Net, SocketAddr, TcpListener, TcpStream};
@@ -56,8 +61,15 @@ where
 {
     let numbers = words.numbers()?;
     let scripts = scripts_of(rt, words.scripts.as_slice())?;
-    let spoken = words.scripts.as_slice().contains(&SPOKEN);
-    listen(rt, host, words.config, &numbers, scripts.as_slice(), spoken)
+    let has_input = words.scripts.as_slice().contains(&STANDARD_INPUT);
+    listen(
+        rt,
+        host,
+        words.config,
+        &numbers,
+        scripts.as_slice(),
+        has_input,
+    )
 }
 
 fn listen<R>(
@@ -66,20 +78,23 @@ fn listen<R>(
     config: &str,
     numbers: &Numbers,
     scripts: &[Script],
-    spoken: bool,
+    has_input: bool,
 ) -> Result<(), Fault>
 where
     R: Net<Listener = TcpListener, Stream = TcpStream> + Threads + Wait + Clock + Sync,
 {
     let listener = TcpListener::bind(host, numbers.address).map_err(Fault::Listen)?;
+    let page = page_at(host, numbers.status)?;
+    let doors = doors_of(&listener, page.as_ref())?;
     let service = Service {
-        address: listener.local_addr().map_err(Fault::Listen)?,
         listener: &listener,
+        page: page.as_ref(),
+        doors: &doors,
         connections: numbers.connections,
         awaited: numbers.awaited,
         level: numbers.level,
         scripts,
-        spoken,
+        has_input,
     };
     let opened = opened(rt, config, numbers)?;
     let streams = Streams {
@@ -88,6 +103,32 @@ where
         errors: &rt.stderr(),
     };
     served::<Brand, R, _, _>(host, opened, &service, &streams)
+}
+
+/// The listener of the page that tells what runs, if there is to be one.
+fn page_at<R>(host: &R, address: Option<SocketAddr>) -> Result<Option<TcpListener>, Fault>
+where
+    R: Net<Listener = TcpListener, Stream = TcpStream>,
+{
+    match address {
+        Some(address) => match TcpListener::bind(host, address) {
+            Ok(listener) => Ok(Some(listener)),
+            Err(fault) => Err(Fault::Listen(fault)),
+        },
+        None => Ok(None),
+    }
+}
+
+fn doors_of(listener: &TcpListener, page: Option<&TcpListener>) -> Result<Doors, Fault> {
+    let status = match page {
+        Some(page) => Some(Door::of(page).map_err(Fault::Listen)?),
+        None => None,
+    };
+    Ok(Doors {
+        connections: Door::of(listener).map_err(Fault::Listen)?,
+        status,
+        is_status_over: AtomicBool::new(false),
+    })
 }
 
 /// A hub for the configuration at this path, with those limits that are told.
@@ -128,17 +169,19 @@ fn limit(opened: &mut OpenedHub, numbers: &Numbers) {
 /// What is served, and what runs beside it.
 #[derive(Clone, Copy)]
 struct Service<'a> {
-    address: SocketAddr,
     listener: &'a TcpListener,
+    /// Where it is told what runs.
+    page: Option<&'a TcpListener>,
+    doors: &'a Doors,
     connections: u32,
     awaited: u64,
     level: Level,
     scripts: &'a [Script],
-    /// Whether session lines come from the standard input.
-    spoken: bool,
+    /// Whether lines come from the standard input.
+    has_input: bool,
 }
 
-/// Where session lines come from, where they are answered, and where faults are told.
+/// Where lines come from, where they are answered, and where faults are told.
 #[derive(Clone, Copy)]
 struct Streams<'a, O: Print, E: Print> {
     input: &'a Stdin,
@@ -162,45 +205,14 @@ where
     requires slots { opened.slots.first.table_id ≡ L.table }
 {
     let hub = Hub::<L>::open(rt, opened).map_err(Fault::Hub)?;
-    let done = match service.spoken {
-        true => serve_spoken(rt, &hub, service, streams),
-        false => serve_beside_scripts(rt, &hub, service, streams.output, streams.errors),
-    };
+    let done = serve_beside_all(rt, &hub, service, streams);
     hub.close(rt);
     done
 }
 
-fn serve_beside_scripts<L, R, O, E>(
-    rt: &R,
-    hub: &Hub<L>,
-    service: &Service,
-    output: &O,
-    errors: &E,
-) -> Result<(), Fault>
-where
-    L: LogName + SlotName + Send + Sync,
-    R: Threads + Wait + Clock + Sync,
-    O: Print,
-    E: Print + Sync,
-{
-    println!(output; "listening {}", service.address).map_err(Fault::Output)?;
-    let ended_early = AtomicBool::new(false);
-    let early = &ended_early;
-    thread::scope(thread::scope_env(), rt, |scope| {
-        let scripted = scope.spawn(move || run_awaited(rt, hub, service, errors, early));
-        if scripted.is_err() {
-            return Err(Fault::Memory);
-        }
-        serve_all(rt, hub, service, errors)
-    })?;
-    if ended_early.load(Ordering::SeqCst) {
-        return Err(Fault::EndedEarly);
-    }
-    Ok(())
-}
-
-/// The same beside lines of the standard input, which are done on this thread.
-fn serve_spoken<L, R, O, E>(
+/// Serves, with its scripts and its page beside that on threads of their own. Where lines come from the standard input, they are
+/// done on this thread, and connections are taken on one more.
+fn serve_beside_all<L, R, O, E>(
     rt: &R,
     hub: &Hub<L>,
     service: &Service,
@@ -212,17 +224,34 @@ where
     O: Print,
     E: Print + Sync,
 {
-    println!(streams.output; "listening {}", service.address).map_err(Fault::Output)?;
+    let doors = service.doors;
+    println!(streams.output; "listening {}", doors.connections.address).map_err(Fault::Output)?;
+    if let Some(door) = &doors.status {
+        println!(streams.output; "status {}", door.address).map_err(Fault::Output)?;
+    }
     let ended_early = AtomicBool::new(false);
     let early = &ended_early;
     let errors = streams.errors;
     thread::scope(thread::scope_env(), rt, |scope| {
         let scripted = scope.spawn(move || run_awaited(rt, hub, service, errors, early));
-        let served = scope.spawn(move || serve_apart(rt, hub, service, errors, early));
-        if scripted.is_err() || served.is_err() {
-            return Err(Fault::Memory);
+        if scripted.is_err() {
+            return give_up(rt, hub, service);
         }
-        run_heard(rt, hub, streams, early);
+        if service.page.is_some() {
+            let shown = scope.spawn(move || show(rt, hub, service));
+            if shown.is_err() {
+                return give_up(rt, hub, service);
+            }
+        }
+        if !service.has_input {
+            serve_all(rt, hub, service, errors, early);
+            return Ok(());
+        }
+        let served = scope.spawn(move || serve_all(rt, hub, service, errors, early));
+        if served.is_err() {
+            return give_up(rt, hub, service);
+        }
+        run_lines(rt, hub, service, streams, early);
         Ok(())
     })?;
     if ended_early.load(Ordering::SeqCst) {
@@ -231,47 +260,56 @@ where
     Ok(())
 }
 
-/// The lines of the standard input are done as they come, and answered on the standard output.
-fn run_heard<L, R, O, E>(rt: &R, hub: &Hub<L>, streams: &Streams<O, E>, early: &AtomicBool)
+/// A thread can't be had: those that run are ended.
+fn give_up<L, R>(rt: &R, hub: &Hub<L>, service: &Service) -> Result<(), Fault>
 where
     L: LogName + SlotName,
-    R: Wait,
+    R: Wait + Clock,
+{
+    service.doors.close_status();
+    end_server(rt, hub, service.doors);
+    Err(Fault::Memory)
+}
+
+/// The lines of the standard input are done as they come, and answered on the standard output.
+fn run_lines<L, R, O, E>(
+    rt: &R,
+    hub: &Hub<L>,
+    service: &Service,
+    streams: &Streams<O, E>,
+    early: &AtomicBool,
+)
+where
+    L: LogName + SlotName,
+    R: Wait + Clock,
     O: Print,
     E: Print,
 {
     let mut answers = io::writer(streams.output);
-    if let Err(fault) = run_spoken(rt, hub, streams.input, &mut answers) {
-        let errors = streams.errors;
-        let _ = errors.println(format_args!("pubd: {SPOKEN}: {fault}"));
-        early.store(true, Ordering::SeqCst);
+    match run_input(rt, hub, streams.input, &mut answers) {
+        Ok(ScriptEnd::LastLine) => {}
+        Ok(ScriptEnd::EndLine) => end_server(rt, hub, service.doors),
+        Err(fault) => {
+            let errors = streams.errors;
+            let _ = errors.println(format_args!("pubd: {STANDARD_INPUT}: {fault}"));
+            early.store(true, Ordering::SeqCst);
+        }
     }
 }
 
-/// Serves beside the thread that reads the standard input. Why it ended early is told at once, and by `early`.
-fn serve_apart<L, R, E>(rt: &R, hub: &Hub<L>, service: &Service, errors: &E, early: &AtomicBool)
+/// Tells whoever asks what runs, if there is a place for that.
+fn show<L, R>(rt: &R, hub: &Hub<L>, service: &Service)
 where
-    L: LogName + SlotName + Send + Sync,
-    R: Threads + Wait + Clock + Sync,
-    E: Print + Sync,
+    L: LogName + SlotName,
+    R: Wait + Clock,
 {
-    if let Err(fault) = serve_all(rt, hub, service, errors) {
-        let _ = errors.println(format_args!("pubd: {fault}"));
-        early.store(true, Ordering::SeqCst);
+    if let Some(page) = service.page {
+        serve_status(rt, hub, page, service.doors);
     }
 }
 
-/// The scripts begin once the streams that they await have begun.
-fn run_awaited<L, R, E>(rt: &R, hub: &Hub<L>, service: &Service, errors: &E, early: &AtomicBool)
-where
-    L: LogName + SlotName + Send + Sync,
-    R: Threads + Wait + Clock + Sync,
-    E: Print + Sync,
-{
-    hub.await_streams(rt, service.awaited);
-    run_all(rt, hub, service.scripts, errors, early);
-}
-
-fn serve_all<L, R, E>(rt: &R, hub: &Hub<L>, service: &Service, errors: &E) -> Result<(), Fault>
+/// Serves until the last connection has ended. Why it ended early is told at once, and by `early`.
+fn serve_all<L, R, E>(rt: &R, hub: &Hub<L>, service: &Service, errors: &E, early: &AtomicBool)
 where
     L: LogName + SlotName + Send + Sync,
     R: Threads + Wait + Clock + Sync,
@@ -283,5 +321,23 @@ where
     };
     let served = serve(rt, service.listener, hub, service.connections, &reports);
     hub.end_awaiting(rt);
-    served.map_err(Fault::Serve)
+    service.doors.close_status();
+    match served {
+        Err(fault) if !hub.is_ending() => {
+            let _ = errors.println(format_args!("pubd: {fault}"));
+            early.store(true, Ordering::SeqCst);
+        }
+        _ => {}
+    }
+}
+
+/// The scripts begin once the streams that they await have begun.
+fn run_awaited<L, R, E>(rt: &R, hub: &Hub<L>, service: &Service, errors: &E, early: &AtomicBool)
+where
+    L: LogName + SlotName + Send + Sync,
+    R: Threads + Wait + Clock + Sync,
+    E: Print + Sync,
+{
+    hub.await_streams(rt, service.awaited);
+    run_all(rt, hub, service.scripts, service.doors, errors, early);
 }

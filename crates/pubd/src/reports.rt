@@ -1,14 +1,14 @@
 //! What the server tells beside its clients.
 
-use hub::{ConnectionEnd, Gate, Untaken};
+use hub::{ConnectionEnd, Gate, RefusedCommand, Untaken};
 use std::io::Print;
 
 /// How much is told, by the names of PostgreSQL's `log_min_messages`.
 #[derive(Clone, Copy, PartialEq, Eq)]
 pub enum Level {
-    /// How each connection has ended.
+    /// How each connection has ended, and all words of what was refused.
     Info,
-    /// How those have ended that their clients didn't close, and which could not be taken.
+    /// How those have ended that their clients didn't close, which commands were refused, and which could not be taken.
     Warning,
     /// Which connections could not be taken.
     Error,
@@ -34,7 +34,7 @@ impl Level {
     }
 }
 
-/// Holds no command, and says on `errors` which connections could not be taken, and how others have ended.
+/// Holds no command, and says on `errors` which connections could not be taken, what was refused, and how others have ended.
 #[derive(Drop)]
 pub struct Reports<'e, E: Print> {
     pub errors: &'e E,
@@ -46,6 +46,22 @@ impl<'e, E: Print> Gate for Reports<'e, E> {
 
     fn untaken(&self, why: &Untaken) {
         let _ = self.errors.println(format_args!("pubd: {why}"));
+    }
+
+    fn refused(&self, connection: u32, what: &RefusedCommand<'_>) {
+        let errors = self.errors;
+        let _ = match (self.level, what) {
+            (Level::Error, _) => Ok(()),
+            (Level::Info, _) | (Level::Warning, RefusedCommand::OfSlot(_, _, _)) => {
+                errors.println(format_args!("pubd: connection {connection}: {what}"))
+            }
+            (Level::Warning, RefusedCommand::Start(slot, _, fault)) => errors.println(format_args!(
+                "pubd: connection {connection}: START_REPLICATION of slot {slot}: {fault}"
+            )),
+            (Level::Warning, RefusedCommand::Text(_, fault)) => {
+                errors.println(format_args!("pubd: connection {connection}: {fault}"))
+            }
+        };
     }
 
     fn ended(&self, connection: u32, why: ConnectionEnd) {

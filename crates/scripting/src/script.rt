@@ -2,7 +2,7 @@
 
 use crate::fault::ScriptFault;
 use hub::Hub;
-use schedule::{Event, Schedule, WorldFault};
+use schedule::{Answer, Event, Schedule, WorldFault};
 use sessions::Sessions;
 use shared_log::LogName;
 use slots::SlotName;
@@ -12,7 +12,7 @@ use std::sync::{MutexGuard, Wait};
 /// The code of a line whose transaction's name is unknown, or in use already.
 pub(crate) const BAD_LINE: &str = "V1";
 
-/// Does the lines of a script in order, each under the publisher's lock, and tells streams of each commit.
+/// Does the lines of a script in order, each under the publisher's lock, and tells streams of each commit and each note.
 ///
 /// For a line that is refused, the script's name, the line's number and the code go to `refusals`, as in `load 7 S4`, and the
 /// script goes on. Transactions that are in progress at its end are left as they are, so that nothing of them commits.
@@ -59,17 +59,31 @@ fn do_line<L: LogName + SlotName, R: Wait>(
     sessions: &mut Sessions,
     event: &Event,
 ) -> Result<Option<&'static str>, ScriptFault> {
-    let mut publisher = hub.publisher().lock(rt);
-    let done = sessions.line(rt, &mut publisher, event);
-    MutexGuard::unlock(publisher);
-    match done {
-        Ok((answer, receipt)) => {
-            if let Some(receipt) = receipt {
-                hub.tell(rt, receipt);
-            }
-            Ok(answer.code())
-        }
+    match do_told(rt, hub, sessions, event) {
+        Ok((answer, _)) => Ok(answer.code()),
         Err(WorldFault::BadEvent) => Ok(Some(BAD_LINE)),
         Err(WorldFault::Memory | WorldFault::NoEntry) => Err(ScriptFault::Memory),
     }
+}
+
+/// Does a line under the publisher's lock, and tells streams of its commit or its note; what it answered, and where a commit
+/// ends.
+pub(crate) fn do_told<L: LogName + SlotName, R: Wait>(
+    rt: &R,
+    hub: &Hub<L>,
+    sessions: &mut Sessions,
+    event: &Event,
+) -> Result<(Answer, Option<u64>), WorldFault> {
+    let mut publisher = hub.publisher().lock(rt);
+    let done = sessions.line(rt, &mut publisher, event);
+    let log_end = publisher.end();
+    MutexGuard::unlock(publisher);
+    let (answer, receipt) = done?;
+    let commit_end = receipt.as_ref().map(|receipt| receipt.end());
+    match (receipt, event, answer) {
+        (Some(receipt), _, _) => hub.tell(rt, receipt),
+        (None, Event::Note(_, _), Answer::Done) => hub.tell_note(rt, log_end),
+        _ => {}
+    }
+    Ok((answer, commit_end))
 }

@@ -1,0 +1,120 @@
+//! What commands ask of a hub: the end of its log, slots, and streams.
+
+ghost use Rattle.std.specs.Prelude.{◌<◌, IfSome};
+
+use crate::grant::StreamGrant;
+use crate::hub::Hub;
+use crate::pool::Pair;
+use crate::refusals::{of_slot, of_start};
+use crate::slot_post::SlotPost;
+use crate::starting::HubStart;
+use crate::streaming::Stream;
+use pqformat::Text;
+use replcmd::{Name, StreamOptions};
+use server::DeskFault;
+use shared_log::LogName;
+use slots::SlotName;
+use std::alloc::{AllocError, Global};
+use std::sync::atomic::Ordering;
+use std::sync::{MutexGuard, Wait};
+use walsender::begin;
+
+impl<L: LogName + SlotName> Hub<L> {
+    /// Where the log ends.
+    pub(crate) fn end_of_log<R: Wait>(&self, rt: &R) -> u64 {
+        let publisher = self.publisher.lock(rt);
+        let end = publisher.end();
+        let _ = MutexGuard::unlock(publisher);
+        end
+    }
+
+    /// Makes a slot at the log's end, and answers that position.
+    pub(crate) fn create_slot<R: Wait>(&self, rt: &R, name: &str) -> Result<u64, DeskFault> {
+        let end = self.end_of_log(rt);
+        let mut names = self.names.lock(rt);
+        names.create(&self.slots, name, end).map_err(of_slot)?;
+        if let Some(post) = self.post_at(names.place_of(name)) {
+            post.open(rt, Text::copy_of(self.alloc, name).ok(), end);
+        }
+        drop(names);
+        Ok(end)
+    }
+
+    pub(crate) fn drop_slot<R: Wait>(&self, rt: &R, name: &str) -> Result<(), DeskFault> {
+        let mut names = self.names.lock(rt);
+        let place = names.place_of(name);
+        names.drop_slot(&self.slots, name).map_err(of_slot)?;
+        if let Some(post) = self.post_at(place) {
+            post.close(rt);
+        }
+        drop(names);
+        Ok(())
+    }
+
+    /// What is known of the slot at a place, and how its stream is steered.
+    pub(crate) fn post_at(&self, place: Option<usize>) -> Option<&SlotPost> {
+        match place {
+            Some(place) => self.posts.get(place),
+            None => None,
+        }
+    }
+
+    /// Begins a stream, or answers the first of the refusals in the order of `walsender::begin`.
+    pub(crate) fn begin<R: Wait>(
+        &self,
+        rt: &R,
+        slot: &str,
+        position: u64,
+        options: &StreamOptions,
+    ) -> Result<StreamGrant<L>, DeskFault> {
+        let Ok(names) = texts_of(self.alloc, options.publications.as_slice()) else {
+            return Err(DeskFault::Memory);
+        };
+        let mut start = HubStart {
+            rt,
+            hub: self,
+            slot,
+            names: names.as_slice(),
+            messages: options.messages,
+            position,
+        };
+        let grant = begin(&mut start).map_err(of_start)?;
+        self.streams_begun.fetch_add(1, Ordering::SeqCst);
+        self.signal(rt);
+        Ok(grant)
+    }
+
+    /// Ends a stream: its slot is free, and its reader and seat go back to the pool.
+    pub(crate) fn end<R: Wait>(&self, rt: &R, stream: Stream<L>) {
+        let pair = stream.end(&self.slots);
+        self.give_back(rt, pair);
+    }
+
+    /// Ends what was granted, and never was written, in the same way.
+    pub(crate) fn end_grant<R: Wait>(&self, rt: &R, grant: StreamGrant<L>) {
+        let pair = grant.end(&self.slots);
+        self.give_back(rt, pair);
+    }
+
+    pub(crate) fn place_of<R: Wait>(&self, rt: &R, slot: &str) -> Option<usize>
+        ensures { IfSome result (λ place. place < 16) }
+    {
+        self.names.lock(rt).place_of(slot)
+    }
+
+    pub(crate) fn take_pair<R: Wait>(&self, rt: &R) -> Option<Pair<L>> {
+        self.pool.lock(rt).take()
+    }
+
+    pub(crate) fn give_back<R: Wait>(&self, rt: &R, pair: Pair<L>) {
+        let _ = self.pool.lock(rt).give_back(pair);
+    }
+}
+
+fn texts_of(alloc: Global, names: &[Name]) -> Result<Vec<Text>, AllocError> {
+    let mut texts = Vec::with_capacity(alloc, names.len())?;
+    for name in names {
+        texts.push(Text::copy_of(alloc, name.as_str())?)?;
+    }
+    Ok(texts)
+}

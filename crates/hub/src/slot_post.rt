@@ -1,0 +1,229 @@
+//! Where the stream of a slot meets those that look at it or steer it.
+
+ghost use Rattle.std.specs.Prelude.{◌≤◌};
+
+use crate::frame_walk::FrameWalk;
+use crate::reins::{Rein, Reins};
+use pqformat::Text;
+use std::alloc::{AllocError, Global};
+use std::sync::{Condvar, Mutex, Wait};
+use std::time::Duration;
+
+/// What is known of the slot at one place, and how its stream is steered. What it knows is told to it: the slot itself is asked only
+/// by whoever holds it.
+#[derive(Drop)]
+pub(crate) struct SlotPost {
+    known: Mutex<KnownSlot>,
+    /// The slot was confirmed further, or dropped.
+    moved: Condvar,
+}
+
+/// What is known of a slot.
+#[derive(Drop)]
+pub(crate) struct KnownSlot {
+    /// A slot is at this place.
+    is_open: bool,
+    /// Its name, unless there was no memory for it.
+    pub name: Option<Text>,
+    pub confirmed: u64,
+    /// Which latch wakes its stream, while one runs.
+    pub latch: Option<usize>,
+    /// Up to where its last stream has read the log.
+    pub read: u64,
+    /// How many bytes its streams have sent, and how many transactions.
+    pub sent: u64,
+    pub transactions: u64,
+    /// How many chunks of its last stream are free.
+    pub free_chunks: usize,
+    /// The frame that is being sent.
+    walk: FrameWalk,
+    /// When its client's last status came, on the clock.
+    pub heard: Option<Duration>,
+    pub reins: Reins,
+    /// The connection of its stream was cut on purpose.
+    was_cut: bool,
+}
+
+impl KnownSlot {
+    fn nothing() -> Self {
+        KnownSlot {
+            is_open: false,
+            name: None,
+            confirmed: 0,
+            latch: None,
+            read: 0,
+            sent: 0,
+            transactions: 0,
+            free_chunks: 0,
+            walk: FrameWalk::new(),
+            heard: None,
+            reins: Reins::loose(),
+            was_cut: false,
+        }
+    }
+
+    /// A copy, for whoever looks. None: no slot is there.
+    fn copy(&self, alloc: Global) -> Result<Option<Self>, AllocError> {
+        if !self.is_open {
+            return Ok(None);
+        }
+        let name = match &self.name {
+            Some(name) => Some(Text::copy_of(alloc, name.as_str())?),
+            None => None,
+        };
+        Ok(Some(KnownSlot {
+            is_open: true,
+            name,
+            confirmed: self.confirmed,
+            latch: self.latch,
+            read: self.read,
+            sent: self.sent,
+            transactions: self.transactions,
+            free_chunks: self.free_chunks,
+            walk: self.walk,
+            heard: self.heard,
+            reins: self.reins,
+            was_cut: self.was_cut,
+        }))
+    }
+}
+
+impl SlotPost {
+    pub fn new() -> Self {
+        SlotPost {
+            known: Mutex::new(KnownSlot::nothing()),
+            moved: Condvar::new(),
+        }
+    }
+
+    // ---- whoever makes and drops slots
+
+    /// A slot was made here, confirmed at this position.
+    pub fn open<R: Wait>(&self, rt: &R, name: Option<Text>, confirmed: u64) {
+        let mut known = self.known.lock(rt);
+        known.is_open = true;
+        known.name = name;
+        known.confirmed = confirmed;
+        drop(known);
+    }
+
+    /// The slot was dropped, or the server ends: nobody waits for it any more.
+    pub fn close<R: Wait>(&self, rt: &R) {
+        let mut known = self.known.lock(rt);
+        known.is_open = false;
+        drop(known);
+        self.moved.notify_all();
+    }
+
+    // ---- the writing thread of a stream
+
+    /// The stream with this latch begins.
+    pub fn begin<R: Wait>(&self, rt: &R, latch: usize) {
+        let mut known = self.known.lock(rt);
+        known.latch = Some(latch);
+        known.walk = FrameWalk::new();
+        known.was_cut = false;
+        drop(known);
+    }
+
+    /// Up to where the stream has read and was confirmed, and how many of its chunks are free.
+    pub fn report<R: Wait>(&self, rt: &R, read: u64, confirmed: u64, free_chunks: usize) {
+        let mut known = self.known.lock(rt);
+        known.read = read;
+        known.free_chunks = free_chunks;
+        let before = known.confirmed;
+        known.confirmed = before.max(confirmed);
+        drop(known);
+        if before < confirmed {
+            self.moved.notify_all();
+        }
+    }
+
+    /// A status of the client came.
+    pub fn hear<R: Wait>(&self, rt: &R, at: Option<Duration>) {
+        let mut known = self.known.lock(rt);
+        known.heard = at;
+        drop(known);
+    }
+
+    /// The stream has ended. It answers whether that was a cut on purpose.
+    pub fn end<R: Wait>(&self, rt: &R) -> bool {
+        let mut known = self.known.lock(rt);
+        known.latch = None;
+        let was_cut = known.was_cut;
+        drop(known);
+        was_cut
+    }
+
+    /// How many of so many bytes may be sent.
+    pub fn passing<R: Wait>(&self, rt: &R, count: usize) -> usize
+        ensures { result ≤ count }
+    {
+        let known = self.known.lock(rt);
+        let passing = known.reins.passing(count);
+        drop(known);
+        passing
+    }
+
+    /// These bytes were sent.
+    pub fn pass<R: Wait>(&self, rt: &R, bytes: &[u8]) {
+        let mut known = self.known.lock(rt);
+        let commits = known.walk.pass(bytes);
+        known.transactions = known.transactions.saturating_add(commits);
+        known.sent = known.sent.saturating_add(bytes.len() as u64);
+        known.reins.pass(bytes.len());
+        drop(known);
+    }
+
+    pub fn is_held<R: Wait>(&self, rt: &R) -> bool {
+        self.known.lock(rt).reins.is_held()
+    }
+
+    pub fn is_cut<R: Wait>(&self, rt: &R) -> bool {
+        self.known.lock(rt).reins.is_cut()
+    }
+
+    /// Whether the connection is to be cut before the next byte. It then is, so that a line that comes from now on cuts the next one.
+    pub fn take_cut<R: Wait>(&self, rt: &R) -> bool {
+        let mut known = self.known.lock(rt);
+        let is_cut = known.reins.take_cut();
+        if is_cut {
+            known.was_cut = true;
+        }
+        drop(known);
+        is_cut
+    }
+
+    pub fn take_ask<R: Wait>(&self, rt: &R) -> bool {
+        let mut known = self.known.lock(rt);
+        let asks = known.reins.take_ask();
+        drop(known);
+        asks
+    }
+
+    // ---- whoever looks or steers
+
+    /// Changes how the stream is steered, and answers the latch that wakes it, if it runs.
+    pub fn steer<R: Wait>(&self, rt: &R, rein: Rein) -> Option<usize> {
+        let mut known = self.known.lock(rt);
+        known.reins.steer(rein);
+        let latch = known.latch;
+        drop(known);
+        latch
+    }
+
+    /// Waits until the slot is confirmed at this position or further, and answers true; false: it was dropped, or the server ends.
+    pub fn await_confirmed<R: Wait>(&self, rt: &R, position: u64) -> bool {
+        let known = self.moved.wait_while(rt, self.known.lock(rt), |known| {
+            known.is_open && known.confirmed < position
+        });
+        let is_open = known.is_open;
+        drop(known);
+        is_open
+    }
+
+    /// What is known of the slot here. None: there is none.
+    pub fn look<R: Wait>(&self, rt: &R, alloc: Global) -> Result<Option<KnownSlot>, AllocError> {
+        self.known.lock(rt).copy(alloc)
+    }
+}

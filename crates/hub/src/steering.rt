@@ -1,0 +1,60 @@
+//! How streams are steered on purpose, as tests of their clients need it.
+
+use crate::fault::SteerFault;
+use crate::hub::Hub;
+use crate::reins::Rein;
+use crate::slot_post::SlotPost;
+use shared_log::LogName;
+use slots::SlotName;
+use std::sync::Wait;
+
+impl<L: LogName + SlotName> Hub<L> {
+    /// Waits until the slot of this name is confirmed at this position or further. L1 where there is none, or it is dropped, or the
+    /// server ends meanwhile.
+    pub fn await_confirmed<R: Wait>(
+        &self,
+        rt: &R,
+        slot: &str,
+        position: u64,
+    ) -> Result<(), SteerFault> {
+        if self.post_of(rt, slot)?.await_confirmed(rt, position) {
+            Ok(())
+        } else {
+            Err(SteerFault::Missing)
+        }
+    }
+
+    /// Nothing of the slot's stream is written any more, nor of those that come, until it is let go; statuses are read all the same.
+    /// L1.
+    pub fn hold_stream<R: Wait>(&self, rt: &R, slot: &str) -> Result<(), SteerFault> {
+        self.steer(rt, slot, Rein::Hold)
+    }
+
+    /// The slot's stream goes on. L1.
+    pub fn resume_stream<R: Wait>(&self, rt: &R, slot: &str) -> Result<(), SteerFault> {
+        self.steer(rt, slot, Rein::LetGo)
+    }
+
+    /// A keepalive asks the client of the slot's stream for an answer: at once, or as its next stream begins. L1.
+    pub fn ask_stream<R: Wait>(&self, rt: &R, slot: &str) -> Result<(), SteerFault> {
+        self.steer(rt, slot, Rein::Ask)
+    }
+
+    /// Cuts the connection of the slot's stream, or of its next one, behind so many more bytes: in the middle of a frame, where they
+    /// end in one. Behind none it is cut at once, between two frames. The stream after that isn't cut. L1.
+    pub fn cut_stream<R: Wait>(&self, rt: &R, slot: &str, bytes: u64) -> Result<(), SteerFault> {
+        self.steer(rt, slot, Rein::Cut(bytes))
+    }
+
+    fn steer<R: Wait>(&self, rt: &R, slot: &str, rein: Rein) -> Result<(), SteerFault> {
+        if let Some(latch) = self.post_of(rt, slot)?.steer(rt, rein) {
+            self.tell_work(rt, latch);
+        }
+        Ok(())
+    }
+
+    fn post_of<R: Wait>(&self, rt: &R, slot: &str) -> Result<&SlotPost, SteerFault> {
+        let place = self.place_of(rt, slot);
+        self.post_at(place).ok_or(SteerFault::Missing)
+    }
+}

@@ -1,0 +1,82 @@
+//! Where the work of a stream comes from while it is written: from its client, from those that steer it, and from the server's end.
+
+use crate::inbox::Work;
+use crate::slot_post::SlotPost;
+use crate::streaming::Stream;
+use crate::work_desk::WorkDesk;
+use crate::write_loop::{WriteLoop, break_off};
+use bytes::BytesMut;
+use frames::{Back, write_back};
+use server::Phase;
+use shared_log::LogName;
+use slots::SlotName;
+use std::sync::Wait;
+use std::time::Clock;
+
+/// The connection of a stream, and the post of its slot.
+#[derive(Drop)]
+pub(crate) struct StreamDesk<'h, L: LogName + SlotName, R: Wait> {
+    pub write: WriteLoop<'h, L, R>,
+    pub post: &'h SlotPost,
+}
+
+impl<'h, L: LogName + SlotName, R: Wait + Clock> WorkDesk<L> for StreamDesk<'h, L, R> {
+    // The reading thread fills the line in between, so of a call nothing is told.
+    ghost told = { λ old work new. Unit {0} };
+
+    fn next(&mut self, stream: &mut Stream<L>) -> Work {
+        let (write, post) = (&self.write, self.post);
+        report(write.rt, post, stream);
+        if post.is_cut(write.rt) {
+            write.hub.inform(write.rt, stream);
+        } else {
+            write.hub.await_stream(write.rt, write.line, post, stream);
+        }
+        let mut work = write.line.take(write.rt);
+        steer(write, post, &mut work);
+        work
+    }
+
+    fn last(&mut self) -> Work {
+        let write = &self.write;
+        break_off(write);
+        write.line.await_close(write.rt);
+        write.line.take(write.rt)
+    }
+}
+
+/// Tells the post of a stream how far it is.
+pub(crate) fn report<L: LogName + SlotName, R: Wait>(rt: &R, post: &SlotPost, stream: &Stream<L>) {
+    post.report(
+        rt,
+        stream.position(),
+        stream.confirmed(),
+        stream.free_chunks(),
+    );
+}
+
+/// Adds to the work of a stream what it is told beside it. Where the server ends, what is left is sent, and CopyDone behind it.
+fn steer<L: LogName + SlotName, R: Wait + Clock>(
+    write: &WriteLoop<'_, L, R>,
+    post: &SlotPost,
+    work: &mut Work,
+) {
+    let rt = write.rt;
+    if work.flushed.is_some() {
+        post.hear(rt, rt.monotonic().ok());
+    }
+    if post.take_ask(rt) {
+        work.is_silent = true;
+    }
+    if post.take_cut(rt) {
+        work.said.clear();
+        work.phase = Phase::Closed;
+    } else if write.hub.is_ending() && work.said.is_empty() {
+        let is_said = write_back(&Back::CopyDone, &mut work.said).is_ok();
+        work.phase = if is_said {
+            Phase::Streaming
+        } else {
+            Phase::Closed
+        };
+    }
+}

@@ -1,0 +1,32 @@
+//! The way from the writing thread of a stream to its socket.
+
+use crate::slot_post::SlotPost;
+use std::io;
+use std::io::{ErrorKind, Write};
+use std::net::TcpStream;
+use std::sync::Wait;
+
+/// Counts what is sent, and lets nothing through behind the byte at which the connection is to be cut.
+#[derive(Drop)]
+pub(crate) struct Tap<'h, R: Wait> {
+    pub rt: &'h R,
+    pub post: &'h SlotPost,
+    pub socket: &'h TcpStream,
+}
+
+impl<'h, R: Wait> Write for Tap<'h, R> {
+    fn write(&mut self, buf: &[u8]) -> io::Result<usize> {
+        let passing = self.post.passing(self.rt, buf.len());
+        if passing == 0 && !buf.is_empty() && self.post.take_cut(self.rt) {
+            return Err(io::Error::from(ErrorKind::ConnectionAborted));
+        }
+        let mut to = self.socket;
+        let count = to.write(&buf[..passing])?;
+        self.post.pass(self.rt, &buf[..count]);
+        Ok(count)
+    }
+
+    fn flush(&mut self) -> io::Result<()> {
+        Ok(())
+    }
+}

@@ -1,0 +1,130 @@
+//! What runs, in Prometheus' text exposition format.
+
+use hub::{HubStatus, SlotStatus};
+use std::io;
+use std::io::Write;
+
+/// A line for each value, and two before each family.
+pub fn write_status<W: Write>(status: &HubStatus, to: &mut W) -> io::Result<()> {
+    family(
+        to,
+        "pubd_connections",
+        "gauge",
+        "Connections that are served",
+    )?;
+    writeln!(to, "pubd_connections {}", status.connections)?;
+    family(
+        to,
+        "pubd_streams_begun_total",
+        "counter",
+        "Streams that have begun",
+    )?;
+    writeln!(to, "pubd_streams_begun_total {}", status.streams_begun)?;
+    family(
+        to,
+        "pubd_log_end_position",
+        "gauge",
+        "The position where the log ends",
+    )?;
+    writeln!(to, "pubd_log_end_position {}", status.log_end)?;
+    family(to, "pubd_log_records", "gauge", "Records of the log")?;
+    writeln!(to, "pubd_log_records {}", status.records)?;
+    let free = status.capacity.saturating_sub(status.records);
+    family(
+        to,
+        "pubd_log_records_free",
+        "gauge",
+        "Records that the log has room for yet",
+    )?;
+    writeln!(to, "pubd_log_records_free {free}")?;
+    write_slots(status, to)
+}
+
+/// What is told of each slot: the name of the family, its kind, and what it is.
+const SLOT_FAMILIES: [(&str, &str, &str); 9] = [
+    (
+        "pubd_slot_active",
+        "gauge",
+        "1 while a stream holds the slot",
+    ),
+    (
+        "pubd_slot_held",
+        "gauge",
+        "1 while its stream is held on purpose",
+    ),
+    (
+        "pubd_slot_confirmed_position",
+        "gauge",
+        "Up to where its client has confirmed",
+    ),
+    (
+        "pubd_slot_behind_bytes",
+        "gauge",
+        "How far that is behind the end of the log",
+    ),
+    (
+        "pubd_slot_read_position",
+        "gauge",
+        "Up to where its last stream has read the log",
+    ),
+    (
+        "pubd_slot_sent_bytes_total",
+        "counter",
+        "Bytes that its streams have sent",
+    ),
+    (
+        "pubd_slot_sent_transactions_total",
+        "counter",
+        "Transactions that its streams have sent",
+    ),
+    (
+        "pubd_slot_chunks_free",
+        "gauge",
+        "Chunks of its last stream that are free",
+    ),
+    (
+        "pubd_slot_status_age_seconds",
+        "gauge",
+        "How long ago its client's last status came",
+    ),
+];
+
+fn write_slots<W: Write>(status: &HubStatus, to: &mut W) -> io::Result<()> {
+    for (name, kind, help) in &SLOT_FAMILIES {
+        family(to, name, kind, help)?;
+        for slot in &status.slots {
+            if let Some(value) = value_of(name, slot, status.log_end) {
+                let label = label_of(slot);
+                writeln!(to, "{name}{{slot=\"{label}\"}} {value}")?;
+            }
+        }
+    }
+    Ok(())
+}
+
+fn label_of(slot: &SlotStatus) -> &str {
+    match &slot.name {
+        Some(name) => name.as_str(),
+        None => "",
+    }
+}
+
+/// The value of a family for a slot, if it has one.
+fn value_of(family: &str, slot: &SlotStatus, log_end: u64) -> Option<u64> {
+    match family {
+        "pubd_slot_active" => Some(u64::from(slot.is_active)),
+        "pubd_slot_held" => Some(u64::from(slot.is_held)),
+        "pubd_slot_confirmed_position" => Some(slot.confirmed),
+        "pubd_slot_behind_bytes" => Some(log_end.saturating_sub(slot.confirmed)),
+        "pubd_slot_read_position" => Some(slot.read),
+        "pubd_slot_sent_bytes_total" => Some(slot.sent),
+        "pubd_slot_sent_transactions_total" => Some(slot.transactions),
+        "pubd_slot_chunks_free" => Some(slot.free_chunks as u64),
+        _ => slot.silent_for.map(|time| time.as_secs()),
+    }
+}
+
+fn family<W: Write>(to: &mut W, name: &str, kind: &str, help: &str) -> io::Result<()> {
+    writeln!(to, "# HELP {name} {help}.")?;
+    writeln!(to, "# TYPE {name} {kind}")
+}

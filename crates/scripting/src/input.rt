@@ -1,0 +1,81 @@
+//! Lines from outside: done as they come, and answered one by one.
+
+use crate::done::{Done, do_step};
+use crate::fault::ScriptFault;
+use crate::script::{BAD_LINE, leave_all};
+use crate::step::Step;
+use crate::steps::ScriptEnd;
+use hub::Hub;
+use replcmd::write_position;
+use schedule::WorldFault;
+use sessions::Sessions;
+use shared_log::LogName;
+use slots::SlotName;
+use std::alloc::Global;
+use std::io::{Input, Write};
+use std::sync::Wait;
+
+/// Does lines as they come, each session's under the publisher's lock, and tells streams of each commit and each note.
+///
+/// Each line is answered by one: `ok`; behind a commit with the position at which its record ends, as in `ok 0/1000050`; or the code
+/// of its refusal, V1 where it is no such line. Empty lines and those that begin with `#` are passed over. `end` is answered by `ok`,
+/// and no line is read behind it. Transactions that are in progress then, or where the input ends, are left as they are, so that
+/// nothing of them commits.
+pub fn run_input<L: LogName + SlotName, R: Wait, I: Input, W: Write>(
+    rt: &R,
+    hub: &Hub<L>,
+    input: &I,
+    answers: &mut W,
+) -> Result<ScriptEnd, ScriptFault> {
+    let mut sessions = Sessions::new(hub.alloc());
+    let ended = answer_lines(rt, hub, input, &mut sessions, answers);
+    leave_all(rt, hub, sessions);
+    ended
+}
+
+fn answer_lines<L: LogName + SlotName, R: Wait, I: Input, W: Write>(
+    rt: &R,
+    hub: &Hub<L>,
+    input: &I,
+    sessions: &mut Sessions,
+    answers: &mut W,
+) -> Result<ScriptEnd, ScriptFault> {
+    for line in input.lines(hub.alloc()) {
+        let line = line.map_err(ScriptFault::Lines)?;
+        if line.is_empty() || line.starts_with('#') {
+            continue;
+        }
+        let done = do_text(rt, hub, sessions, line.as_str())?;
+        answer(hub.alloc(), done, answers)?;
+        if matches!(done, Done::End) {
+            return Ok(ScriptEnd::EndLine);
+        }
+    }
+    Ok(ScriptEnd::LastLine)
+}
+
+fn do_text<L: LogName + SlotName, R: Wait>(
+    rt: &R,
+    hub: &Hub<L>,
+    sessions: &mut Sessions,
+    line: &str,
+) -> Result<Done, ScriptFault> {
+    match Step::parse(hub.alloc(), line) {
+        Ok(step) => do_step(rt, hub, sessions, &step),
+        Err(WorldFault::BadEvent) => Ok(Done::Refused(BAD_LINE)),
+        Err(WorldFault::Memory | WorldFault::NoEntry) => Err(ScriptFault::Memory),
+    }
+}
+
+fn answer<W: Write>(alloc: Global, done: Done, answers: &mut W) -> Result<(), ScriptFault> {
+    let told = match done {
+        Done::Line | Done::Steered | Done::End => writeln!(answers, "ok"),
+        Done::Commit(end) => {
+            let end = write_position(alloc, end)?;
+            writeln!(answers, "ok {end}")
+        }
+        Done::Refused(code) => writeln!(answers, "{code}"),
+    };
+    told.map_err(ScriptFault::Answers)?;
+    answers.flush().map_err(ScriptFault::Answers)
+}
