@@ -1,6 +1,6 @@
 //! The desk of a server without slots.
 
-use replcmd::Name;
+use replcmd::StreamOptions;
 use server::{Desk, DeskFault};
 
 /// What a connection asks of its server: where the log ends, and for slots, of which this one has none.
@@ -33,7 +33,7 @@ impl Desk for EmptyDesk {
         &mut self,
         _slot: &str,
         _position: u64,
-        _publications: &[Name],
+        _options: &StreamOptions,
     ) -> Result<(), DeskFault> {
         Err(DeskFault::SlotMissing)
     }

@@ -12,7 +12,10 @@ use copyboth::{
 };
 use pgoutput::{Logical, OutFault, read_logical, write_logical, written_and_read};
 use std::alloc::{AllocError, Global};
-use tables::{BodyFault, Change, MAX_TRUNCATED, body_len, read_body, write_body};
+use tables::{
+    BodyFault, Change, MAX_CONTENT_LENGTH, MAX_PREFIX_LENGTH, MAX_TRUNCATED, body_len, read_body,
+    write_body,
+};
 
 pub fn answer_logical(alloc: Global, bytes: &[u8], answer: &mut String) -> Result<()> {
     let came = read_logical(alloc, bytes);
@@ -132,5 +135,9 @@ fn is_short(change: &Change) -> bool
         Change::Update(_, old, row) => old.coded_len().is_some() && row.coded_len().is_some(),
         Change::Delete(_, old) => old.coded_len().is_some(),
         Change::Truncate(oids) => oids.len() <= MAX_TRUNCATED,
+        Change::Message(message) => {
+            message.prefix.as_str().len() <= MAX_PREFIX_LENGTH
+                && message.content.len() <= MAX_CONTENT_LENGTH
+        }
     }
 }

@@ -52,7 +52,7 @@ const FILTER_FAULTS: [FilterFault; 6] = [
     FilterFault::Memory,
 ];
 
-const SESSION_FAULTS: [SessionFault; 13] = [
+const SESSION_FAULTS: [SessionFault; 14] = [
     SessionFault::UnknownTable,
     SessionFault::RowShape,
     SessionFault::DuplicateKey,
@@ -65,6 +65,7 @@ const SESSION_FAULTS: [SessionFault; 13] = [
     SessionFault::TooManyLive,
     SessionFault::Memory,
     SessionFault::NoReader,
+    SessionFault::BadPrefix,
     SessionFault::NoTransaction,
 ];
 
@@ -91,7 +92,7 @@ const WORLD_FAULTS: [WorldFault; 3] = [
 
 const CONFIG_FAULTS: [ConfigFault; 1] = [ConfigFault::Memory];
 
-const ANSWERS: [Answer; 26] = [
+const ANSWERS: [Answer; 27] = [
     Answer::Done,
     Answer::NoReader,
     Answer::Session(SessionFault::UnknownTable),
@@ -106,6 +107,7 @@ const ANSWERS: [Answer; 26] = [
     Answer::Session(SessionFault::TooManyLive),
     Answer::Session(SessionFault::Memory),
     Answer::Session(SessionFault::NoReader),
+    Answer::Session(SessionFault::BadPrefix),
     Answer::Session(SessionFault::NoTransaction),
     Answer::Slot(SlotFault::Missing),
     Answer::Slot(SlotFault::InUse),

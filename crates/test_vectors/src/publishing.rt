@@ -9,6 +9,9 @@ use std::alloc::{AllocError, Global};
 use tables::{Catalog, Change, read_body, read_document};
 use toml::Value;
 
+/// Where the records of all changes start; no message of a row or a table tells of it.
+const POSITION: u64 = 0;
+
 /// `NAMES|BODIES|TABLES|PUBLICATIONS`: names and bodies of changes between commas, and two configurations. Adds the Relation of
 /// each table, and what is published of each change.
 pub fn answer_published(alloc: Global, given: &str, answer: &mut String) -> Result<()> {
@@ -97,14 +100,14 @@ fn add_message(
 
 /// The message that is made of a change.
 fn projected(alloc: Global, selection: &Selection, change: &Change) -> Result<String, AllocError> {
-    let message = selection.project(change)?;
+    let message = selection.project(POSITION, change)?;
     told(alloc, &message)
 }
 
 /// The message that is written straight from its body.
 fn put(alloc: Global, selection: &Selection, body: &[u8]) -> Result<String> {
     let mut out = [0; MAX_MESSAGE_LENGTH];
-    let Some(count) = selection.put(body, &mut out) else {
+    let Some(count) = selection.put(POSITION, body, &mut out) else {
         return Ok(told(alloc, &Projected::Nothing)?);
     };
     let (message, _) = out.split_at_checked(count).context("is put past its room")?;

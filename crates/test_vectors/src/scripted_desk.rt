@@ -1,6 +1,6 @@
 //! A desk that does as the names of slots say, and writes down what it is asked.
 
-use replcmd::Name;
+use replcmd::StreamOptions;
 use server::{Desk, DeskFault};
 use std::alloc::{AllocError, Global};
 
@@ -73,11 +73,13 @@ impl Desk for ScriptedDesk {
         answer_of(slot)
     }
 
-    fn start(&mut self, slot: &str, position: u64, publications: &[Name]) -> Result<(), DeskFault> {
-        let noted = write!(
-            self.asked,
-            "(start, {slot:?}, {position}, {publications:?}), "
-        );
+    fn start(
+        &mut self,
+        slot: &str,
+        position: u64,
+        options: &StreamOptions,
+    ) -> Result<(), DeskFault> {
+        let noted = write!(self.asked, "(start, {slot:?}, {position}, {options:?}), ");
         self.note(noted);
         answer_of(slot)
     }

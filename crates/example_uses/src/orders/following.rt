@@ -1,19 +1,21 @@
 //! Two followers, each with a slot of its own.
 
-use follower::{FollowFault, Options, follow};
+use follower::{FollowFault, Form, Options, follow};
 use std::alloc::Global;
 use std::net::{Net, SocketAddr, TcpListener, TcpStream};
 use std::sync::Wait;
 use std::thread;
 use std::thread::Threads;
 
-/// Follows all tables, through as many transactions as the service commits.
+/// Follows all tables and messages, through the four transactions and the note that the service commits.
 const ALL: Options<'static> = Options {
     create: true,
     slot: "warehouse",
     position: 0,
     publications: "all",
-    count: 4,
+    messages: true,
+    count: 5,
+    form: Form::Text,
 };
 
 /// Follows the large orders, of which there are two.
@@ -22,7 +24,9 @@ const LARGE: Options<'static> = Options {
     slot: "sales",
     position: 0,
     publications: "large",
+    messages: false,
     count: 2,
+    form: Form::Text,
 };
 
 /// What the followers got, a line each message.

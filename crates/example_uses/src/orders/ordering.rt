@@ -13,7 +13,8 @@ use slots::SlotName;
 use std::alloc::Global;
 use std::sync::Wait;
 
-/// Fills the stock and takes all orders, once both followers have their streams: what is committed before reaches nobody.
+/// Fills the stock and takes all orders, once both followers have their streams: what is committed before reaches nobody. Of an
+/// order that isn't placed nothing is left but a note.
 pub fn take_orders<L, R>(rt: &R, alloc: Global, hub: &Hub<L>) -> Result<(), OrderFault>
 where
     L: LogName + SlotName,
@@ -23,7 +24,10 @@ where
     fill_stock(rt, alloc, hub)?;
     for order in &ORDERS {
         match take_order(rt, alloc, hub, order) {
-            Ok(()) | Err(OrderFault::SoldOut) => {}
+            Ok(()) => {}
+            Err(OrderFault::SoldOut) => {
+                hub.note(rt, "sold out", order.customer.as_bytes())?;
+            }
             Err(fault) => return Err(fault),
         }
     }
@@ -61,12 +65,14 @@ fn insert_stock<L: LogName + SlotName, R: Wait>(
     Ok(())
 }
 
-/// Places an order of what is there. What was done for an article that is sold out reaches no follower.
+/// Places an order of what is there, with a message that tells this transaction from others. What was done for an article that is
+/// sold out reaches no follower.
 fn place<L: LogName + SlotName, R: Wait>(
     alloc: Global,
     tx: &mut Transaction<'_, L, R>,
     order: &Order,
 ) -> Result<(), OrderFault> {
+    tx.message("order", order.customer.as_bytes())?;
     let mut total: i64 = 0;
     for article in order.articles {
         let savepoint = tx.savepoint()?;

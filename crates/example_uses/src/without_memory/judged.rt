@@ -15,6 +15,9 @@ use tables::Catalog;
 /// The body of an insert of (20,'ab',7) into public.item, as a log keeps it.
 const BODY: &[u8] = b"\x01\0\0\x40\0\0\x03\x02\0\0\0\x14\x04\0\0\0\x02ab\x03\0\0\0\0\0\0\0\x07";
 
+/// Where its record starts; an Insert doesn't tell of it.
+const POSITION: u64 = 0;
+
 /// Its Insert (PostgreSQL 15, 55.9).
 const INSERT: &[u8] = b"I\0\0\x40\0N\0\x03t\0\0\0\x0220t\0\0\0\x02abt\0\0\0\x017";
 
@@ -38,7 +41,7 @@ pub fn put(alloc: Global, is_called: bool) -> Result<()> {
 fn is_put(selection: &Selection, out: &mut [u8]) -> bool
     requires { MAX_MESSAGE_LENGTH ≤ length out.old }
 {
-    match selection.put(BODY, out) {
+    match selection.put(POSITION, BODY, out) {
         Some(length) => out.get(..length) == Some(INSERT),
         None => false,
     }

@@ -50,6 +50,7 @@ short_of (logical.Insert m) fits = short_sent_tuple m.new fits.1
 short_of (logical.Update m) fits = (short_if_any m.old fits.1.0, short_tuple m.new fits.1.1)
 short_of (logical.Delete m) fits = short_tuple (cells_of m.old) fits.1
 short_of (logical.Truncate m) fits = fits.0
+short_of (logical.Message m) fits = fits.1.1
 
 was_read : (r : Result Logical OutFault) (bytes : List ℕ) → IfOk r (λ m. SpellsLogical bytes m) → IfOk r (λ m. FitsLogical m × IsShort m)
 was_read (Ok m) bytes is = (is.in_range, short_of m is.in_range)
