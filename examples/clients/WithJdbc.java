@@ -22,7 +22,8 @@ class WithJdbc {
                 + " " + slot.getSnapshotName() + " " + slot.getOutputPlugin());
             PGReplicationStream stream = session.getReplicationAPI().replicationStream()
                 .logical().withSlotName("s")
-                .withSlotOption("proto_version", 1).withSlotOption("publication_names", "p").start();
+                .withSlotOption("proto_version", 1).withSlotOption("publication_names", "p")
+                .withSlotOption("messages", true).start();
             System.out.println("started");
             follow(stream);
             stream.close();

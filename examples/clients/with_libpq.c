@@ -112,7 +112,7 @@ int main(int argc, char **argv)
         "started");
     while (take(connection) != 'C')
         continue;
-    send_status(connection, 0x1001838);
+    send_status(connection, 0x1001878);
     while (take(connection) != 'k')
         continue;
     end_stream(connection);

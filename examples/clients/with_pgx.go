@@ -15,7 +15,7 @@ import (
 	"github.com/jackc/pgx/v4"
 )
 
-const start = "START_REPLICATION SLOT s LOGICAL 0/0 (proto_version '1', publication_names 'p')"
+const start = "START_REPLICATION SLOT s LOGICAL 0/0 (proto_version '1', publication_names 'p', messages 'true')"
 
 var always = context.Background()
 
@@ -107,7 +107,7 @@ func main() {
 	fmt.Println("started")
 	for take(connection) != 'C' {
 	}
-	sendStatus(connection, 0x1001838)
+	sendStatus(connection, 0x1001878)
 	for take(connection) != 'k' {
 	}
 	endStream(connection)

@@ -51,7 +51,7 @@ if pgconn.exec_(START).status != ExecStatus.COPY_BOTH:
 print("started", flush=True)
 while take(pgconn) != b"C":
     pass
-pgconn.put_copy_data(struct.pack(">cQQQqB", b"r", 0x1001838, 0x1001838, 0x1001838, 0, 1))
+pgconn.put_copy_data(struct.pack(">cQQQqB", b"r", 0x1001878, 0x1001878, 0x1001878, 0, 1))
 pgconn.flush()
 while take(pgconn) != b"k":
     pass

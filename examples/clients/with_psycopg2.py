@@ -43,7 +43,7 @@ def when_free(call):
 
 
 def start(cursor):
-    cursor.start_replication("s", options={"proto_version": "1", "publication_names": "p"})
+    cursor.start_replication("s", options={"proto_version": "1", "publication_names": "p", "messages": "true"})
 
 
 with connect().cursor() as cursor:
