@@ -102,7 +102,7 @@ class Round:
         threads = 1 + THREADS * len(streams)
         self.wrong += [f"{server.threads()} threads are left, and not {threads}"] * (not server.comes_to(threads))
         sockets = sum(1 for _ in pathlib.Path(f"/proc/{server.process.pid}/fd").iterdir())
-        self.wrong += [f"{sockets} descriptors are left of {len(streams)} streams"] * (sockets > len(streams) + 8)
+        self.wrong += [f"{sockets} descriptors are left of {len(streams)} streams"] * (sockets > 2 * len(streams) + 8)
         for stream in streams:
             stream.break_off()
         again = [Connection(server.port) for _ in names]

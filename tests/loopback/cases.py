@@ -6,18 +6,28 @@ import subprocess
 import sys
 import time
 
-from connection import STARTUP, TERMINATE, Connection, Refused, keepalive, refusal_of_one_more, status
+from closing import an_acknowledgement_holds_over_a_blocked_write, an_acknowledgement_holds_over_a_close
+from connection import STARTUP, Connection, Refused, keepalive, refusal_of_one_more, status
 from crowds import sixteen_clients_at_sixteen_slots, sixteen_streams_tell_the_same_of_eight_scripts
 from driving import a_driven_server_ends_with_its_input_and_its_connections, each_line_is_answered_as_it_comes
 from followers import (
     a_refusal_without_a_reason_is_one_all_the_same,
     acknowledgements_follow_what_was_printed,
+    messages_are_asked_for_by_an_option,
     quotes_stand_in_names_and_end_none,
     restarts_lose_and_repeat_nothing,
     what_a_server_says_is_one_line,
 )
+from json_lines import (
+    an_output_of_the_other_form_is_left_alone,
+    cuts_and_kills_lose_and_repeat_no_line_of_json,
+    lines_of_json_tell_a_table_as_it_was,
+    lines_of_json_tell_what_a_script_did,
+    lines_of_json_tell_what_a_server_sends,
+)
 from limits import (
     a_place_is_never_used_again,
+    a_refusal_is_told_with_what_was_asked,
     a_startup_has_its_time,
     a_word_that_is_none_is_told,
     an_end_is_told_with_its_cause,
@@ -30,17 +40,25 @@ from resuming import (
     a_silent_server_is_asked_and_then_lost,
     an_output_of_others_is_left_alone,
     cuts_and_kills_lose_and_repeat_nothing,
+    cuts_and_kills_lose_and_repeat_no_message,
     cuts_do_not_show,
     pauses_grow_and_begin_again,
 )
 from server import FIRST, NOBODY, Server, inserts, printed_of_inserts
+from showing import what_runs_is_told
+from steering import (
+    a_client_is_asked_and_awaited,
+    a_connection_is_cut_behind_a_byte,
+    a_script_steers_too,
+    a_server_ends_in_order,
+    a_stream_is_held_and_let_go,
+)
+from telling import messages_go_where_they_are_asked_for
 
 HERE = pathlib.Path(__file__).resolve().parent
 CONVERSATION = HERE / "conversation.frames"
 STREAMS = 16
 CONNECTIONS = 1000
-# How often each way to close is tried.
-TIMES = 100
 # Of each connection.
 THREADS = 2
 # Threads or descriptors, for what is asked of pubd here.
@@ -282,75 +300,6 @@ def two_followers_print_what_a_script_commits(pubd, subcat):
         return wrong + server.end(refused=[f"{server.script} {3 * count + 1} V1"])
 
 
-def an_acknowledgement_holds_over_a_close(pubd, subcat):
-    """However its connection ends behind it: the next stream of the slot begins with the next transaction."""
-    ways = [in_one_write, in_two_writes, without_terminate, by_a_reset, with_unread_bytes]
-    return lost_over_closes(pubd, ways, TIMES * len(ways) + 1, "ab")
-
-
-def an_acknowledgement_holds_over_a_blocked_write(pubd, subcat):
-    """The same of a client that reads nothing more of a stream of 12 MB, so that the server's write waits."""
-    return lost_over_closes(pubd, [behind_a_blocked_write], 6000, "n" * 2000)
-
-
-def lost_over_closes(pubd, ways, rows, name):
-    """Each stream's first transaction is acknowledged, and then its connection is closed in one of the ways, in turn."""
-    lost = dict.fromkeys(ways, 0)
-    with Server(pubd, TIMES * len(ways) + 2, inserts(rows, name=name), awaited=1) as server:
-        client = Connection(server.port)
-        client.create("s")
-        client.start("s")
-        ends = client.commits(rows)
-        client.close()
-        at = 0
-        for way in TIMES * ways:
-            client = Connection(server.port)
-            client.start_when_free("s")
-            if ends[at] != client.commits(1)[0]:
-                lost[last] += 1
-                at -= 1
-            way(client, ends[at], rows - at - 1)
-            at, last = at + 1, way
-        server.process.kill()
-    return [f"{count} of {TIMES} are lost {way.__name__.replace('_', ' ')}" for way, count in lost.items() if count]
-
-
-def in_one_write(client, end, rest):
-    client.commits(rest)
-    client.socket.sendall(status(end) + TERMINATE)
-    client.close()
-
-
-def in_two_writes(client, end, rest):
-    client.commits(rest)
-    client.socket.sendall(status(end))
-    client.socket.sendall(TERMINATE)
-    client.close()
-
-
-def without_terminate(client, end, rest):
-    client.commits(rest)
-    client.socket.sendall(status(end))
-    client.close()
-
-
-def by_a_reset(client, end, rest):
-    client.commits(rest)
-    client.socket.sendall(status(end))
-    client.break_off()
-
-
-def with_unread_bytes(client, end, rest):
-    client.socket.sendall(status(end))
-    client.close()
-
-
-def behind_a_blocked_write(client, end, rest):
-    time.sleep(0.05)
-    client.socket.sendall(status(end))
-    client.close()
-
-
 def a_startup_of_many_parameters_is_answered(pubd, subcat):
     """As many as a startup has room for."""
     with Server(pubd, 1) as server:
@@ -364,7 +313,12 @@ def a_startup_of_many_parameters_is_answered(pubd, subcat):
 
 
 # What takes a minute of pauses: it runs beside all others.
-LONG = [cuts_and_kills_lose_and_repeat_nothing, a_silent_server_is_asked_and_then_lost]
+LONG = [
+    cuts_and_kills_lose_and_repeat_nothing,
+    cuts_and_kills_lose_and_repeat_no_message,
+    cuts_and_kills_lose_and_repeat_no_line_of_json,
+    a_silent_server_is_asked_and_then_lost,
+]
 ALL = [
     a_conversation_goes_frame_by_frame,
     nothing_is_lost_with_connections,
@@ -381,6 +335,13 @@ ALL = [
     sixteen_clients_at_sixteen_slots,
     each_line_is_answered_as_it_comes,
     a_driven_server_ends_with_its_input_and_its_connections,
+    a_stream_is_held_and_let_go,
+    a_connection_is_cut_behind_a_byte,
+    a_client_is_asked_and_awaited,
+    a_server_ends_in_order,
+    a_script_steers_too,
+    what_runs_is_told,
+    messages_go_where_they_are_asked_for,
     an_acknowledgement_holds_over_a_close,
     an_acknowledgement_holds_over_a_blocked_write,
     restarts_lose_and_repeat_nothing,
@@ -388,6 +349,10 @@ ALL = [
     pauses_grow_and_begin_again,
     a_refusal_for_good_ends_it,
     an_output_of_others_is_left_alone,
+    an_output_of_the_other_form_is_left_alone,
+    lines_of_json_tell_what_a_script_did,
+    lines_of_json_tell_what_a_server_sends,
+    lines_of_json_tell_a_table_as_it_was,
     a_refusal_without_a_reason_is_one_all_the_same,
     what_a_server_says_is_one_line,
     quotes_stand_in_names_and_end_none,
@@ -396,7 +361,9 @@ ALL = [
     as_many_are_served_as_may_be,
     an_end_is_told_with_its_cause,
     only_what_is_asked_for_is_told,
+    a_refusal_is_told_with_what_was_asked,
     a_place_is_never_used_again,
     a_word_that_is_none_is_told,
     acknowledgements_follow_what_was_printed,
+    messages_are_asked_for_by_an_option,
 ]

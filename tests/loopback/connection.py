@@ -89,8 +89,8 @@ class Connection:
     def create(self, slot):
         self.ask(f"CREATE_REPLICATION_SLOT {slot} LOGICAL pgoutput")
 
-    def start(self, slot):
-        self.ask(f"START_REPLICATION SLOT {slot} LOGICAL 0/0 (proto_version '1', publication_names 'p')", b"W")
+    def start(self, slot, more=""):
+        self.ask(f"START_REPLICATION SLOT {slot} LOGICAL 0/0 (proto_version '1', publication_names 'p'{more})", b"W")
 
     def start_when_free(self, slot):
         """A server takes a moment to see that another connection was broken off."""

@@ -68,20 +68,33 @@ def quotes_stand_in_names_and_end_none(pubd, subcat):
         return wrong_of(follower.returncode, follower.stderr, "server: 42602 ") + server.end()
 
 
+def messages_are_asked_for_by_an_option(pubd, subcat):
+    """The command that begins the stream has it with --messages alone."""
+    wrong = []
+    for words, option in ([], ""), (["--messages"], ", messages 'true'"):
+        with socket.create_server(("127.0.0.1", 0)) as listener:
+            words = [subcat, *words, f"127.0.0.1:{listener.getsockname()[1]}", "s", "0/0", "p", "1"]
+            follower = subprocess.Popen(words, stdout=subprocess.DEVNULL, stderr=subprocess.DEVNULL)
+            client = listener.accept()[0]
+            asked = asked_of(client, client.makefile("rb"), server_frames())
+            client.close()
+            follower.wait(60)
+            due = f"START_REPLICATION SLOT \"s\" LOGICAL 0/0 (proto_version '1', publication_names 'p'{option})"
+            wrong += [f"it asks {asked!r}"] * (asked != due.encode() + b"\0")
+    return wrong
+
+
 def acknowledgements_follow_what_was_printed(pubd, subcat):
     """A server that waits within a transaction: nothing is acknowledged until its Commit has come, and then it is printed already."""
-    said = [line[2:] for line in CONVERSATION.read_text().splitlines() if line.startswith("< ")]
+    said = server_frames()
     *changes, commit = [framed(digits) for digits in said if digits.startswith("6477")]
     printed, wrong = b"", []
     with socket.create_server(("127.0.0.1", 0)) as listener:
         words = [subcat, f"127.0.0.1:{listener.getsockname()[1]}", "s", "0/0", "p", "2"]
         follower = subprocess.Popen(words, stdout=subprocess.PIPE, stderr=subprocess.DEVNULL)
         client = listener.accept()[0]
-        client.settimeout(60)
         heard = client.makefile("rb")
-        heard.read(struct.unpack(">I", heard.read(4))[0] - 4)
-        client.sendall(b"".join(framed(digits) for digits in said[:5]))
-        heard.read(struct.unpack(">I", heard.read(5)[1:])[0] - 4)
+        asked_of(client, heard, said)
         client.sendall(framed("57000000"))
         for turn in range(1, 3):
             client.sendall(b"".join(changes))
@@ -93,6 +106,19 @@ def acknowledgements_follow_what_was_printed(pubd, subcat):
         wrong += ["the stream isn't ended"] * (heard.read(5) != framed("63"))
         client.close()
         return wrong + [f"it ended with {follower.wait(60)}"] * (follower.wait(60) != 0)
+
+
+def server_frames():
+    """What the server says in the conversation, in hexadecimal."""
+    return [line[2:] for line in CONVERSATION.read_text().splitlines() if line.startswith("< ")]
+
+
+def asked_of(client, heard, said):
+    """The text of the first query of a follower that has been greeted by these frames."""
+    client.settimeout(60)
+    heard.read(struct.unpack(">I", heard.read(4))[0] - 4)
+    client.sendall(b"".join(framed(digits) for digits in said[:5]))
+    return heard.read(struct.unpack(">I", heard.read(5)[1:])[0] - 4)
 
 
 def wrong_of(status, said, due):

@@ -6,6 +6,7 @@ import time
 from connection import STARTUP, TERMINATE, Connection, Refused, framed
 from server import CONFIGURATION, Server
 
+CLOSED = " closed by its client"
 CROWD = "pubd: a connection was closed, since max_connections are served"
 # For longer than a startup of a second may take here, and for how long one may last all the same on a busy machine.
 LATER, LATEST = 1.5, 10
@@ -121,6 +122,33 @@ def only_what_is_asked_for_is_told(pubd, subcat):
     return wrong
 
 
+def a_refusal_is_told_with_what_was_asked(pubd, subcat):
+    """By default with the slot alone, in a short line; at `info` with all words that the answer to the client has no place for, in
+    one line whatever is in them."""
+    text = "START_REPLICATION SLOT s LOGICAL 0/0 (proto_version \\'9\\',\\n origin \\'any\\'): "
+    short = [
+        "C5: bad option",
+        "CREATE_REPLICATION_SLOT of slot s: L3: the slot already exists",
+        "DROP_REPLICATION_SLOT of slot t: L1: the slot does not exist",
+        "START_REPLICATION of slot s: P1: the publication does not exist",
+    ]
+    whole = [text + short[0], *short[1:3], short[3].replace(": P1", ', publication "p\\nq", publication "p": P1')]
+    return wrong_reports(pubd, [], short) + wrong_reports(pubd, ["--log-min-messages", "info"], [*whole, CLOSED])
+
+
+def wrong_reports(pubd, more, due):
+    """What is wrong where four commands are refused, and the server says this of their connection."""
+    with Server(pubd, 1, more=more) as server:
+        client = Connection(server.port)
+        client.create("s")
+        options = "(proto_version '1', publication_names '\"p\nq\", \"p\"')"
+        asked = ["START_REPLICATION SLOT s LOGICAL 0/0 (proto_version '9',\n origin 'any')", "CREATE_REPLICATION_SLOT s LOGICAL pgoutput", "DROP_REPLICATION_SLOT t", f"START_REPLICATION SLOT s LOGICAL 0/0 {options}"]
+        wrong = [told for command, code in zip(asked, ("22023", "42710", "42704", "42704")) for told in refused(client.ask, command, code)]
+        client.close()
+        told = [f"pubd: connection 1{each if each == CLOSED else f': {each}'}" for each in due]
+        return wrong + server.end(ended=told)
+
+
 def a_place_is_never_used_again(pubd, subcat):
     """A slot that was dropped leaves no room for another, and is no slot any more."""
     with Server(pubd, 1) as server:
@@ -154,6 +182,7 @@ def a_word_that_is_none_is_told(pubd, subcat):
         (pubd, ["--max-connections", "0", *served, "0"], "pubd: N of --max-connections is a number from 1 to 4294967295"),
         (pubd, ["--authentication-timeout", "1y", *served, "0"], "pubd: TIME of --authentication-timeout is a number, and ms, s, min, h or d behind it, as in 60s"),
         (pubd, ["--wal-sender-timeout", "+1s", *served, "0"], "pubd: TIME of --wal-sender-timeout is a number, and ms, s, min, h or d behind it, as in 60s"),
+        (pubd, ["--status", "9187", *served, "0"], "pubd: ADDR of --status is an address and a port, as in 127.0.0.1:9187"),
         (pubd, ["--log-min-messages", "debug", *served, "0"], "pubd: LEVEL of --log-min-messages is info, warning or error"),
         (subcat, [*followed, "+5"], "subcat: COUNT is a number from 0 to 4294967295"),
     ]

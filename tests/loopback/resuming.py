@@ -11,7 +11,7 @@ import time
 
 from connection import Connection, Refused, framed, status
 from cutting import Cutting
-from server import Server, inserts, printed_of_inserts
+from server import Server, inserts, messages, printed_of_inserts, printed_of_messages
 
 CONNECTIONS = 1000
 TRANSACTIONS, CUTS, KILLS = 1000, 300, 50
@@ -39,23 +39,32 @@ def without_tables(text):
 
 
 def cuts_and_kills_lose_and_repeat_nothing(pubd, subcat):
-    """1,000 transactions are printed into a file over 300 cuts, and subcat is killed and started again 50 times. It finds a half
-    transaction at the end of the file then, as a kill within a write leaves one."""
-    draw, wrong = random.Random(11), []
-    due = printed_of_inserts(TRANSACTIONS)
+    """1,000 transactions are printed into a file over 300 cuts, and subcat is killed and started again 50 times."""
+    return over_cuts_and_kills(pubd, subcat, inserts(TRANSACTIONS), printed_of_inserts(TRANSACTIONS), CUTS, KILLS, STRIDE)
+
+
+def cuts_and_kills_lose_and_repeat_no_message(pubd, subcat):
+    """The same of messages, each second one in a transaction, and the others outside of all."""
+    return over_cuts_and_kills(pubd, subcat, messages(150), printed_of_messages(150), 80, 20, STRIDE // 3, "--messages")
+
+
+def over_cuts_and_kills(pubd, subcat, lines, due, cuts, kills, stride, *more, wholes=None):
+    """The file has to hold what is due. Each run finds a half transaction at its end, as a kill within a write leaves one. `wholes`
+    are the whole transactions of a text."""
+    draw, wrong, wholes = random.Random(11), [], wholes or transactions_of
     with (
         tempfile.TemporaryDirectory() as folder,
-        Server(pubd, CONNECTIONS, inserts(TRANSACTIONS), awaited=1) as server,
-        Cutting(server.port, CUTS, some_bytes, draw) as proxy,
+        Server(pubd, CONNECTIONS, lines, awaited=1) as server,
+        Cutting(server.port, cuts, some_bytes, draw) as proxy,
     ):
         output = pathlib.Path(folder) / "output"
-        words = words_of(subcat, proxy.port, "--output", output)
-        for kill in range(1, KILLS + 1):
+        words = words_of(subcat, proxy.port, *more, "--output", output, count=len(wholes(due)))
+        for kill in range(1, kills + 1):
             follower = subprocess.Popen(words, stderr=subprocess.DEVNULL)
-            proxy.strike(follower, draw.randrange(STRIDE))
+            proxy.strike(follower, draw.randrange(stride))
             ended = follower.wait(60)
             wrong += [f"kill {kill} finds it ended with {ended}"] * (ended != -9)
-            leave_a_half(output, due, draw)
+            leave_a_half(output, due, draw, wholes)
         wrong += ["no cut is left for the last run"] * (proxy.left == 0)
         ended = subprocess.run(words, stderr=subprocess.DEVNULL, timeout=120).returncode
         wrong += [f"the last run ends with {ended}"] * bool(ended)
@@ -63,25 +72,25 @@ def cuts_and_kills_lose_and_repeat_nothing(pubd, subcat):
         printed = output.read_text()
         server.process.kill()
     wrong += ["transactions are lost, half, or come twice"] * (without_tables(printed) != without_tables(due))
-    return wrong + ["a table is told more than once a run"] * (printed.count("RELATION ") > KILLS + 1)
+    return wrong + ["a table is told more than once a run"] * (printed.count("RELATION ") > kills + 1)
 
 
-def leave_a_half(output, due, draw):
+def leave_a_half(output, due, draw, wholes):
     """Adds a beginning of the transaction that is due next, and not all of it, unless the kill left one already."""
     have = output.read_text() if output.exists() else ""
-    following = transactions_of(due)[len(transactions_of(have))]
-    if have == "".join(transactions_of(have)):
+    following = wholes(due)[len(wholes(have))]
+    if have == "".join(wholes(have)):
         output.write_text(have + following[: draw.randrange(len(following))])
 
 
 def transactions_of(text):
-    """The whole ones, each with its lines."""
-    return re.findall(r"^BEGIN .*?^COMMIT .*?\n", text, re.DOTALL | re.MULTILINE)
+    """The whole ones, each with its lines, and the notes among them."""
+    return re.findall(r"^(?:BEGIN .*?^COMMIT |MESSAGE 0 ).*?\n", text, re.DOTALL | re.MULTILINE)
 
 
 def cuts_do_not_show(pubd, subcat):
     """What one run prints on its standard output is byte by byte what it prints without a cut."""
-    count, cuts = 100, 30
+    count, cuts = 200, 30
     draw = random.Random(5)
     with Server(pubd, CONNECTIONS, inserts(count), awaited=1) as server, Cutting(server.port, cuts, some_bytes, draw) as proxy:
         ran = subprocess.run(words_of(subcat, proxy.port, count=count), capture_output=True, text=True, timeout=120)

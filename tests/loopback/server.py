@@ -37,6 +37,26 @@ def printed_of_inserts(count):
     return "".join(f"{line}\n" for line in lines)
 
 
+def messages(count):
+    """The lines of so many transactions of one insert and one message, each with a note behind it."""
+    for k in range(1, count + 1):
+        yield from ("begin T", f"insert T public.item ({k},'ab',7)", f"message T 'p' '{k:03}'", f"commit T {k}", f"note 'q' '{k:03}'")
+
+
+def printed_of_messages(count):
+    """What subcat prints of them, which asks for messages: the insert takes 48 bytes of the log, and each of the others 32."""
+    lines = []
+    for k in range(1, count + 1):
+        first = FIRST + 144 * (k - 1)
+        message, commit, end = (f"{at >> 32:X}/{at & 0xFFFFFFFF:X}" for at in (first + 48, first + 80, first + 112))
+        content = f"{k:03}".encode().hex()
+        lines.append(f"BEGIN {699 + k} {commit} {k}")
+        lines += ["RELATION 16384 public.item d id:23* name:25 qty:20"] * (k == 1)
+        lines += [f"INSERT 16384 N('{k}','ab','7')", f"MESSAGE 1 {message} 'p' {content}", f"COMMIT {commit} {end} {k}"]
+        lines.append(f"MESSAGE 0 {end} 'q' {content}")
+    return "".join(f"{line}\n" for line in lines)
+
+
 class Server:
     """pubd, which serves so many connections, and runs the script once so many streams have begun, or several beside one another.
     What it says of connections, how they ended and which it couldn't take, is said apart."""

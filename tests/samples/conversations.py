@@ -55,8 +55,9 @@ def asked_of(call):
     """A call of the desk as its file tells it."""
     kind, *given = call
     if kind.word == "start":
-        slot, place, names = given
-        return " ".join(["start", slot, position(place), *(f"[{name}]" for name in names)])
+        slot, place, options = given
+        names = (f"[{name}]" for name in options.publications)
+        return " ".join(["start", slot, position(place), *names, *["messages"] * options.messages])
     if kind.word == "flushed":
         return f"flushed {position(given[0])}{' and asks' * given[1]}"
     return f"{kind.word} {given[0]}"

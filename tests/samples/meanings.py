@@ -97,6 +97,9 @@ def message(it):
         case "Truncate":
             options = "cascade" * inner.options.cascade, "restart-identity" * inner.options.restart_identity
             return words("Truncate", *options, *inner.oids)
+        case "Message":
+            flag = "transactional" if inner.is_transactional else "outside"
+            return words("Message", flag, position(inner.position), quoted(inner.prefix), bytes(inner.content).hex())
     raise ValueError(f"no message is {it.word}")
 
 
@@ -121,8 +124,11 @@ def value(it):
 
 
 def change(it):
-    """A change of a table."""
+    """A change of a table, or a message."""
     match it.word:
+        case "Message":
+            message = it.inside[0]
+            return words("Message", quoted(message.prefix), bytes(message.content).hex())
         case "Truncate":
             return words("Truncate", *it.inside[0])
         case "Update":
@@ -134,7 +140,8 @@ def change(it):
 
 def command(it):
     if it.word == "Start":
-        return f"Start {it.slot} {position(it.at)} " + "".join(f"[{name}]" for name in it.publications)
+        names = "".join(f"[{name}]" for name in it.options.publications)
+        return words("Start", it.slot, position(it.at), names, "messages" * it.options.messages)
     return words(it.word, it.named.get("slot", ""))
 
 
@@ -155,6 +162,8 @@ def event(it):
     """A line of a schedule."""
     if it.word == "Slot":
         return words("slot", *it.inside)
+    if it.word == "Note":
+        return words("note", *map(quoted, it.inside))
     name, step = it.inside
     return words(step.word.lower(), name, *asked(step))
 
@@ -168,8 +177,12 @@ def asked(step):
             return step.inside[0], literals(step.inside[1]), "to", literals(step.inside[2])
         case "Truncate":
             return step.inside[0]
+        case "Message":
+            return tuple(map(quoted, step.inside))
         case "Start":
-            return step.inside[0], position(step.inside[1]), *step.inside[2]
+            slot, place, options = step.inside
+            *before, last = options.publications
+            return slot, position(place), *before, last + ", messages" * options.messages
     return step.inside
 
 
