@@ -138,9 +138,14 @@ impl Progress {
         ensures { Makes result self.old self.new (changed self.old.half self.old position message) }
     {
         let Some(half) = &mut self.half else {
+            drop(message);
             return Err(ClientFault::Order);
         };
-        judge(&self.tables, &message)?;
+        let judged = judge(&self.tables, &message);
+        if judged.is_err() {
+            drop(message);
+            return judged;
+        }
         half.push(position, message)?;
         Ok(())
     }
@@ -159,10 +164,13 @@ impl Progress {
         ensures { Makes result self.old self.new (noted self.old.half self.old end message) }
     {
         if self.half.is_some() {
+            drop(message);
             return Err(ClientFault::Order);
         }
         if self.position <= message.position {
             self.applied.push(note_of(self.alloc, end, message)?)?;
+        } else {
+            drop(message);
         }
         self.position = self.position.max(end);
         Ok(())

@@ -20,8 +20,9 @@ pub(crate) fn read_word(alloc: Global, bytes: &[u8]) -> Result<Option<(Word, usi
     match read_back(alloc, bytes) {
         Ok(None) => Ok(None),
         Ok(Some((frame, size))) => {
-            let word = word_of(alloc, &frame)?;
-            Ok(Some((word, size)))
+            let word = word_of(alloc, &frame);
+            drop(frame);
+            Ok(Some((word?, size)))
         }
         Err(FrameFault::Memory) => Err(ClientFault::Memory),
         Err(_) => Err(ClientFault::Frame),

@@ -30,15 +30,8 @@ pub fn follow<R: Wait, S: Read + Write, W: Write>(
 ) -> Result<(), FollowFault> {
     let mut incoming = Incoming::new(alloc);
     ask_for_stream(rt, alloc, &mut incoming, socket, options)?;
-    let mut following = Following {
-        alloc,
-        applier: Applier::new(alloc),
-        left: options.count,
-        transcript: transcript_in(alloc, options.form),
-    };
-    following.take_frames(rt, &mut incoming, socket, output)?;
-    following.print_last(output)?;
-    send(alloc, socket, &Front::CopyDone)
+    let mut following = Following::new(alloc, options);
+    following.follow_stream(rt, &mut incoming, socket, output)
 }
 
 /// A subscriber, and how many transactions and notes it still waits for.
@@ -59,6 +52,28 @@ fn transcript_in(alloc: Global, form: Form) -> Option<JsonTranscript> {
 }
 
 impl Following {
+    fn new(alloc: Global, options: &Options<'_>) -> Self {
+        Following {
+            alloc,
+            applier: Applier::new(alloc),
+            left: options.count,
+            transcript: transcript_in(alloc, options.form),
+        }
+    }
+
+    /// From the stream's first frame to its end.
+    fn follow_stream<R: Wait, S: Read + Write, W: Write>(
+        &mut self,
+        rt: &R,
+        incoming: &mut Incoming,
+        socket: &mut S,
+        output: &mut W,
+    ) -> Result<(), FollowFault> {
+        self.take_frames(rt, incoming, socket, output)?;
+        self.print_last(output)?;
+        send(self.alloc, socket, &Front::CopyDone)
+    }
+
     fn take_frames<R: Wait, S: Read + Write, W: Write>(
         &mut self,
         rt: &R,
@@ -73,25 +88,38 @@ impl Following {
             let (frame, length) = incoming.next(rt, socket)?;
             let taken = self.applier.take(incoming.front(length));
             incoming.pass(length);
-            match frame {
-                Back::ErrorResponse(error) => return Err(told(error)),
-                Back::CopyData(data) => {
-                    taken?;
-                    self.take_body(data.bytes.as_slice(), socket, output)?;
-                }
-                Back::CopyDone => return Err(FollowFault::Ended),
-                _ => return Err(FollowFault::Client(ClientFault::Frame)),
-            }
+            self.take_frame(frame, taken, socket, output)?;
         }
         Ok(())
+    }
+
+    /// Takes a frame, and what the applier told of it.
+    fn take_frame<S: Write, W: Write>(
+        &mut self,
+        frame: Back,
+        taken: Result<(), ClientFault>,
+        socket: &mut S,
+        output: &mut W,
+    ) -> Result<(), FollowFault> {
+        match frame {
+            Back::ErrorResponse(error) => Err(told(error)),
+            Back::CopyData(data) => self.take_body(data.bytes.as_slice(), taken, socket, output),
+            Back::CopyDone => Err(FollowFault::Ended),
+            other => {
+                drop(other);
+                Err(FollowFault::Client(ClientFault::Frame))
+            }
+        }
     }
 
     fn take_body<S: Write, W: Write>(
         &mut self,
         body: &[u8],
+        taken: Result<(), ClientFault>,
         socket: &mut S,
         output: &mut W,
     ) -> Result<(), FollowFault> {
+        taken?;
         match read_server(body) {
             Ok(ServerBody::XLogData(data)) => {
                 if self.print(data.start, data.payload, output)? {
@@ -141,7 +169,11 @@ impl Following {
     fn lines(&mut self, position: u64, message: Logical) -> Result<Vec<u8>, FollowFault> {
         let alloc = self.alloc;
         match &mut self.transcript {
-            None => Ok(text_of(alloc, &message)?),
+            None => {
+                let line = text_of(alloc, &message);
+                drop(message);
+                Ok(line?)
+            }
             Some(transcript) => json_of(alloc, transcript, position, message),
         }
     }
@@ -182,7 +214,11 @@ fn json_of(
     let mut lines = Vec::new(alloc);
     match message {
         Logical::Relation(relation) => transcript.tell(relation)?,
-        message => transcript.add_message(position, &message, &mut lines)?,
+        message => {
+            let added = transcript.add_message(position, &message, &mut lines);
+            drop(message);
+            added?;
+        }
     }
     Ok(lines)
 }

@@ -103,27 +103,18 @@ impl JsonTranscript {
         lines: &mut Vec<u8>,
     ) -> Result<(), FollowFault> {
         let line = match change {
-            Logical::Insert(message) => insert_line(
-                self.alloc,
-                position,
-                self.table(message.oid)?,
-                message,
-            )?,
-            Logical::Update(message) => update_line(
-                self.alloc,
-                position,
-                self.table(message.oid)?,
-                message,
-            )?,
-            Logical::Delete(message) => delete_line(
-                self.alloc,
-                position,
-                self.table(message.oid)?,
-                message,
-            )?,
+            Logical::Insert(message) => {
+                insert_line(self.alloc, position, self.table(message.oid)?, message)
+            }
+            Logical::Update(message) => {
+                update_line(self.alloc, position, self.table(message.oid)?, message)
+            }
+            Logical::Delete(message) => {
+                delete_line(self.alloc, position, self.table(message.oid)?, message)
+            }
             _ => return Ok(()),
         };
-        Ok(self.push(line.as_slice(), Told::Change, lines)?)
+        Ok(self.push(line?.as_slice(), Told::Change, lines)?)
     }
 
     fn add_truncate(

@@ -38,7 +38,9 @@ impl Printer {
         match self {
             Printer::Text(transcript) => {
                 let message = Logical::Relation(relation);
-                transcript.tell(&message)
+                let told = transcript.tell(&message);
+                drop(message);
+                told
             }
             Printer::Json(transcript) => transcript.tell(relation),
         }

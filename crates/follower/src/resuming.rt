@@ -72,6 +72,7 @@ pub fn resume<R: Wait, S: Read + Write, W: Write>(
     let mut incoming = Incoming::new(alloc);
     subscription.ask_for_stream(rt, &mut incoming, socket, options)?;
     let ended = subscription.take_frames(rt, &mut incoming, socket, output);
+    drop(incoming);
     subscription.print(output)?;
     ended?;
     subscription.print_last(output)?;
@@ -110,18 +111,29 @@ impl Subscription {
             if self.intake.is_complete() {
                 break;
             }
-            match incoming.whole()? {
-                Some((frame, length)) => {
-                    self.take_frame(frame, incoming.front(length), socket, output)?;
-                    incoming.pass(length);
-                }
-                None => {
-                    self.settle(socket, output)?;
-                    self.wait(incoming, socket, output)?;
-                }
-            }
+            self.take_next(incoming, socket, output)?;
         }
         Ok(())
+    }
+
+    /// Takes the frame at the front, or waits for more of it.
+    fn take_next<S: Read + Write, W: Write>(
+        &mut self,
+        incoming: &mut Incoming,
+        socket: &mut S,
+        output: &mut W,
+    ) -> Result<(), FollowFault> {
+        match incoming.whole()? {
+            Some((frame, length)) => {
+                self.take_frame(frame, incoming.front(length), socket, output)?;
+                incoming.pass(length);
+                Ok(())
+            }
+            None => {
+                self.settle(socket, output)?;
+                self.wait(incoming, socket, output)
+            }
+        }
     }
 
     /// Waits for more.
@@ -153,12 +165,12 @@ impl Subscription {
         let taken = self.intake.take(bytes);
         match frame {
             Back::ErrorResponse(error) => Err(told(error)),
-            Back::CopyData(data) => {
-                taken?;
-                self.take_body(data.bytes.as_slice(), socket, output)
-            }
+            Back::CopyData(data) => self.take_body(data.bytes.as_slice(), taken, socket, output),
             Back::CopyDone => Err(FollowFault::Ended),
-            _ => Err(FollowFault::Client(ClientFault::Frame)),
+            other => {
+                drop(other);
+                Err(FollowFault::Client(ClientFault::Frame))
+            }
         }
     }
 
@@ -166,9 +178,11 @@ impl Subscription {
     fn take_body<S: Write, W: Write>(
         &mut self,
         body: &[u8],
+        taken: Result<(), ClientFault>,
         socket: &mut S,
         output: &mut W,
     ) -> Result<(), FollowFault> {
+        taken?;
         match read_server(body) {
             Ok(ServerBody::XLogData(data)) => self.take_message(data.payload, output),
             Ok(ServerBody::Keepalive(keepalive)) if keepalive.ask => {
@@ -189,7 +203,10 @@ impl Subscription {
         }
         match read_logical(self.alloc, payload) {
             Ok(Logical::Relation(relation)) => self.tell(relation, output),
-            Ok(_) => Ok(()),
+            Ok(other) => {
+                drop(other);
+                Ok(())
+            }
             Err(OutFault::Memory) => Err(FollowFault::Client(ClientFault::Memory)),
             Err(_) => Err(FollowFault::Client(ClientFault::Frame)),
         }

@@ -61,19 +61,25 @@ impl Transcript {
         if transaction.is_note {
             return self.add_changes(transaction, lines);
         }
-        let begin = Logical::Begin(Begin {
+        let begin = Begin {
             position: transaction.start,
             time: transaction.time,
             xid: transaction.xid,
-        });
-        add_line(lines, render(self.alloc, &begin)?.as_str())?;
+        };
+        self.add_message(Logical::Begin(begin), lines)?;
         self.add_changes(transaction, lines)?;
-        let commit = Logical::Commit(Commit {
+        let commit = Commit {
             position: transaction.start,
             end: transaction.end,
             time: transaction.time,
-        });
-        add_line(lines, render(self.alloc, &commit)?.as_str())
+        };
+        self.add_message(Logical::Commit(commit), lines)
+    }
+
+    fn add_message(&self, message: Logical, lines: &mut Vec<u8>) -> Result<(), AllocError> {
+        let line = render(self.alloc, &message);
+        drop(message);
+        add_line(lines, line?.as_str())
     }
 
     fn add_changes(

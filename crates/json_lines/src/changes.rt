@@ -77,7 +77,7 @@ pub fn truncate_line(alloc: Global, lsn: u64, relation: &Relation) -> Result<Vec
     ensures { IfOk result (λ line. line.items ≡ line_of (truncate_json lsn relation.now)) }
 {
     let out = change(alloc, "T", lsn, relation)?;
-    Ok(closed(out)?)
+    closed(out)
 }
 
 /// What the line of a change begins with.

@@ -1,9 +1,10 @@
 //! The lines of Begin, Commit and Message, and the last one.
 
-ghost use Rattle.std.specs.Prelude.{◌≡◌, [], ◌∷◌, ◌++◌, IfOk, OnOk, codes};
+ghost use Rattle.std.specs.Prelude.{◌≡◌, [], ◌∷◌, ◌++◌, IfOk, OnOk, codes, decimal};
 ghost use Rattle.std.specs.Str.{is_utf8};
-ghost use Rattle.json.specs.Token.{key, string};
+ghost use Rattle.json.specs.Token.{begin_object, end_object, key, number, string};
 ghost use Rattle.json_lines.specs.Line.{line_of};
+ghost use Rattle.replcmd.specs.Position.{printed};
 ghost use Rattle.json_lines.specs.Marks.{begin_json, commit_json, content_key, content_text, message_json, summary_json};
 
 use crate::members::{closed, opened, put_number, put_position, put_text, put_time, put_truth};
@@ -20,7 +21,7 @@ pub fn begin_line(alloc: Global, message: &Begin) -> Result<Vec<u8>, AllocError>
     put_number(&mut out, "xid", u64::from(message.xid))?;
     put_position(alloc, &mut out, "lsn", message.position)?;
     put_time(&mut out, "timestamp", message.time)?;
-    Ok(closed(out)?)
+    closed(out)
 }
 
 pub fn commit_line(alloc: Global, message: &Commit) -> Result<Vec<u8>, AllocError>
@@ -30,7 +31,7 @@ pub fn commit_line(alloc: Global, message: &Commit) -> Result<Vec<u8>, AllocErro
     put_position(alloc, &mut out, "lsn", message.position)?;
     put_position(alloc, &mut out, "nextlsn", message.end)?;
     put_time(&mut out, "timestamp", message.time)?;
-    Ok(closed(out)?)
+    closed(out)
 }
 
 /// The line of a Message. Where its content is no text, that stands there in hexadecimal.
@@ -42,7 +43,7 @@ pub fn message_line(alloc: Global, message: &Message) -> Result<Vec<u8>, AllocEr
     put_position(alloc, &mut out, "lsn", message.position)?;
     put_text(&mut out, "prefix", message.prefix.as_str())?;
     put_content(alloc, &mut out, message.content.as_slice())?;
-    Ok(closed(out)?)
+    closed(out)
 }
 
 #[tactic(auto, using(crate::proofs::Contents::content_is_text, crate::proofs::Contents::content_is_none))]
@@ -69,12 +70,26 @@ pub fn summary_line(
     ensures { IfOk result (λ line. line.items ≡ line_of (summary_json transactions changes position)) }
 {
     let mut out = Writer::new(Vec::new(alloc));
+    put_summary(alloc, &mut out, transactions, changes, position)?;
+    closed(out)
+}
+
+fn put_summary(
+    alloc: Global,
+    out: &mut Writer,
+    transactions: u32,
+    changes: u64,
+    position: u64,
+) -> Result<(), AllocError>
+    ensures tokens { OnOk result (out.new.tokens ≡ out.old.tokens ++ begin_object ∷ key (codes "summary") ∷ begin_object ∷ key (codes "transactions") ∷ number (decimal transactions) ∷ key (codes "changes") ∷ number (decimal changes) ∷ key (codes "lsn") ∷ string (printed position) ∷ end_object ∷ []) }
+    ensures before { out.new.before ≡ out.old.before }
+{
     out.begin_object()?;
     out.key("summary")?;
     out.begin_object()?;
-    put_number(&mut out, "transactions", u64::from(transactions))?;
-    put_number(&mut out, "changes", changes)?;
-    put_position(alloc, &mut out, "lsn", position)?;
+    put_number(out, "transactions", u64::from(transactions))?;
+    put_number(out, "changes", changes)?;
+    put_position(alloc, out, "lsn", position)?;
     out.end_object()?;
-    Ok(closed(out)?)
+    Ok(())
 }

@@ -4,7 +4,7 @@ ghost use Rattle.std.specs.Prelude.{◌≡◌, ◌≢◌, ◌⊎◌, ℕ, List, 
 ghost use Rattle.pqformat.specs.Putting.{Puts};
 ghost use Rattle.pgoutput.specs.Reading.{Gives, Answers};
 ghost use Rattle.pgoutput.specs.Layout.{StopsIn, fields_of, spell_fields};
-ghost use Rattle.pgoutput.specs.Logical.{SpellsLogical, FitsLogical, IsShort, Stands, spell_logical, kind_byte, logical_at, fields_at, needs_memory, whole_of};
+ghost use Rattle.pgoutput.specs.Logical.{SpellsLogical, FitsLogical, IsShort, Stands, spell_logical, form_of, kind_byte, logical_at, fields_at, needs_memory, whole_of};
 
 use crate::begin::{BEGIN, Begin, begin_of, put_begin};
 use crate::commit::{COMMIT, Commit, commit_of, put_commit};
@@ -74,6 +74,7 @@ fn whole(alloc: Global, bytes: &[u8]) -> Result<Logical, OutFault>
     if cursor.rest().is_empty() {
         return Ok(message);
     }
+    drop(message);
     Err(OutFault::Trailing)
 }
 
@@ -124,6 +125,14 @@ fn put_logical(out: &mut BytesMut, message: &Logical) -> Result<(), AllocError>
     ensures { Puts result out.old.items out.new.items (spell_logical message.now) }
 {
     put_byte(out, kind_of(message))?;
+    put_fields(out, message)
+}
+
+/// Adds the fields behind the kind byte.
+fn put_fields(out: &mut BytesMut, message: &Logical) -> Result<(), AllocError>
+    requires { IsShort message.now }
+    ensures { Puts result out.old.items out.new.items ((form_of message.now).fields) }
+{
     match message {
         Logical::Begin(message) => put_begin(out, message),
         Logical::Commit(message) => put_commit(out, message),
