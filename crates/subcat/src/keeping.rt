@@ -46,10 +46,23 @@ fn keep_following<N: Net<Listener = TcpListener, Stream = TcpStream> + Wait, W: 
     output: &mut W,
 ) -> Result<(), Fault> {
     let mut subscription = Subscription::behind(rt.alloc(), options, kept);
+    let followed = follow_on(rt, net, address, options, &mut subscription, output);
+    drop(subscription);
+    followed
+}
+
+fn follow_on<N: Net<Listener = TcpListener, Stream = TcpStream> + Wait, W: Write>(
+    rt: &HostRuntime,
+    net: &N,
+    address: SocketAddr,
+    options: &Options,
+    subscription: &mut Subscription,
+    output: &mut W,
+) -> Result<(), Fault> {
     let mut pauses = Pauses::new();
     for _ in net.forever() {
         let stood = subscription.position();
-        let followed = follow_once(net, rt.alloc(), address, options, &mut subscription, output);
+        let followed = follow_once(net, rt.alloc(), address, options, subscription, output);
         let Err(fault) = followed else {
             return Ok(());
         };

@@ -183,10 +183,13 @@ fn write<L: LogName, R: Wait>(
     ensures tables { store.new.tables ≡ store.old.tables }
 {
     if at.room == 0 {
+        drop(change);
         store.undo_to(at.xid, at.mark);
         return Err(SessionFault::LogFull);
     }
-    match push(log, rt, at, &change) {
+    let pushed = push(log, rt, at, &change);
+    drop(change);
+    match pushed {
         Ok(()) => Ok(()),
         Err(_) => {
             store.undo_to(at.xid, at.mark);

@@ -58,7 +58,9 @@ fn push<L: LogName, R: Wait>(
     ensures ok { OnOk result (log.new ≡ log.old ++ record_after log.old (Note (Change.Message message)) ∷ []) }
     ensures err { OnErr result (log.new ≡ log.old) }
 {
-    let logged = LoggedChange::of(alloc, &Change::Message(message))?;
-    let receipt = log.push_note(rt, logged)?;
+    let change = Change::Message(message);
+    let logged = LoggedChange::of(alloc, &change);
+    drop(change);
+    let receipt = log.push_note(rt, logged?)?;
     Ok(receipt.start)
 }

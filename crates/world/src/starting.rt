@@ -95,11 +95,25 @@ impl<L: LogName + SlotName> Machine<L> {
         ensures err { OnErr result (shown self.new ≡ shown self.old) }
         ensures machine { IsMachine self.new }
     {
-        let arena = Arena::new(alloc, self.chunks as usize)?;
-        let (subscriber, connection) = self.reserve(alloc, name, slot)?;
-        let key = name.copy(alloc)?;
+        let Ok(means) = self.reserve(alloc, name, slot) else {
+            drop(selection);
+            return Err(WorldFault::Memory);
+        };
         let start = self.start_from(slot, position);
-        let first = self.resume(start)?;
+        let first = match self.resume(start) {
+            Ok(first) => first,
+            Err(fault) => {
+                drop(means);
+                drop(selection);
+                return Err(fault);
+            }
+        };
+        let StartMeans {
+            arena,
+            key,
+            subscriber,
+            connection,
+        } = means;
         match take(&mut self.slots, slot, position) {
             Ok(position) => {
                 self.add(
@@ -141,24 +155,32 @@ impl<L: LogName + SlotName> Machine<L> {
         }
     }
 
-    /// Room for one more start, the connection's subscriber where it has none yet, and its name.
-    fn reserve(
-        &mut self,
-        alloc: Global,
-        name: &Text,
-        slot: &Text,
-    ) -> Result<(Subscriber, Text), AllocError>
+    /// Room for one more start, its arena, the connection's subscriber where it has none yet, and its name.
+    fn reserve(&mut self, alloc: Global, name: &Text, slot: &Text) -> Result<StartMeans, AllocError>
         ensures same { shown self.new ≡ shown self.old }
         ensures room { OnOk result (HasRoom self.new) }
         ensures readers { vec_len self.new.readers ≡ vec_len self.old.readers }
         ensures machine { IsMachine self.old → IsMachine self.new }
-        ensures subscriber { IfOk result (λ made. subscriber_state made.0 ≡ new_subscriber name.now (slot_named slot.now)) }
-        ensures slot { IfOk result (λ made. made.0.slot ≡ slot_named slot.now) }
-        ensures connection { IfOk result (λ made. made.1 ≡ name.now) }
+        ensures subscriber { IfOk result (λ means. subscriber_state means.subscriber ≡ new_subscriber name.now (slot_named slot.now)) }
+        ensures slot { IfOk result (λ means. means.subscriber.slot ≡ slot_named slot.now) }
+        ensures connection { IfOk result (λ means. (means.connection ≡ name.now) × (means.key ≡ name.now)) }
     {
         self.make_room()?;
-        let subscriber = Subscriber::new(alloc, name.copy(alloc)?, slot_named(alloc, slot)?);
-        Ok((subscriber, name.copy(alloc)?))
+        let key = name.copy(alloc)?;
+        let connection = name.copy(alloc)?;
+        let arena = Arena::new(alloc, self.chunks as usize)?;
+        match subscriber_of(alloc, name, slot) {
+            Ok(subscriber) => Ok(StartMeans {
+                arena,
+                key,
+                subscriber,
+                connection,
+            }),
+            Err(fault) => {
+                drop(arena);
+                Err(fault)
+            }
+        }
     }
 
     /// Room for one more start.
@@ -207,6 +229,25 @@ impl<L: LogName + SlotName> Machine<L> {
         self.starts.push_reserved(start);
         subscribe(&mut self.names, &mut self.subscribers, subscriber, key);
     }
+}
+
+/// What a start takes memory for, beside its selection.
+#[derive(Drop)]
+struct StartMeans {
+    arena: Arena,
+    /// The connection's name twice: for its start, and for the index of subscribers.
+    key: Text,
+    connection: Text,
+    subscriber: Subscriber,
+}
+
+/// A connection's subscriber that has applied nothing.
+fn subscriber_of(alloc: Global, name: &Text, slot: &Text) -> Result<Subscriber, AllocError>
+    ensures subscriber { IfOk result (λ made. subscriber_state made ≡ new_subscriber name.now (slot_named slot.now)) }
+    ensures slot { IfOk result (λ made. made.slot ≡ slot_named slot.now) }
+{
+    let slot = slot_named(alloc, slot)?;
+    Ok(Subscriber::new(alloc, name.copy(alloc)?, slot))
 }
 
 /// What a start is judged by before anything is taken: nothing else happens in a world meanwhile.
