@@ -10,3 +10,4 @@ pub mod Leasing
 pub mod Finding
 pub mod Leases
 pub mod Claims
+pub mod Opening

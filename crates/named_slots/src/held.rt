@@ -1,6 +1,7 @@
 //! Slots by name, with the leases of those that are held.
 
-ghost use Rattle.std.specs.Prelude.{◌≡◌, IfErr, IfOk, OnErr, OnOk, Some, false, is_some, map};
+ghost use Rattle.std.specs.Prelude.{◌≡◌, IfErr, IfOk, None, OnErr, OnOk, Some, false, is_some, map, option_map, vec_len};
+ghost use Rattle.std.specs.List.{AllByRecursion};
 ghost use Rattle.named_slots.specs.Words.{confirmed_in};
 ghost use Rattle.named_slots.specs.State.{IsHeldAs, IsOnlyAt, RefusedExactly, RefusedOrMemory, claim_refusal, claimed, confirmed_of, create_refusal, created, is_in_use, no_slots, place_of, raised_for, refused, released_for, slot_of};
 ghost use Rattle.named_slots.specs.Keeping.{confirmed_slot};
@@ -39,11 +40,13 @@ impl<L: SlotName> HeldSlots<L> {
         ensures { IfOk result (λ slots. slots ≡ no_slots) }
     {
         let slots = NamedSlots::open(alloc, opened)?;
-        let mut leases = Vec::with_capacity(alloc, PLACES)?;
-        for _ in 0..PLACES {
-            leases.push_reserved(None);
+        match no_leases(alloc) {
+            Ok(leases) => Ok(HeldSlots { slots, leases }),
+            Err(refused) => {
+                drop(slots);
+                Err(refused)
+            }
         }
-        Ok(HeldSlots { slots, leases })
     }
 
     /// Releases all slots.
@@ -142,6 +145,17 @@ impl<L: SlotName> HeldSlots<L> {
     {
         self.slots.slots()
     }
+}
+
+/// No lease of any place.
+fn no_leases<L: SlotName>(alloc: Global) -> Result<Vec<Option<Lease<L>>>, AllocError>
+    ensures { IfOk result (λ leases. (vec_len leases ≡ PLACES) × AllByRecursion (λ o. o ≡ None) (map (option_map (λ lease. lease.place)) leases.items)) }
+{
+    let mut leases = Vec::with_capacity(alloc, PLACES)?;
+    for _ in 0..PLACES {
+        leases.push_reserved(None);
+    }
+    Ok(leases)
 }
 
 /// Raises the confirmed position of a slot that nobody holds.

@@ -1,15 +1,14 @@
 -- Messages of the log fit a stream, and a slice that has room.
-use Rattle.std.proofs.Common.{◌≡◌, ℕ, ◌+◌, ◌<◌, ◌≤◌, ◌^◌, Bool, true, false, cond, leb, List, [], ◌∷◌, ◌++◌, Option, Some, None, length, refl, sym, ap, subst, arith}
-use Rattle.std.specs.Prelude.{◌&&◌, nat_le}
+use Rattle.std.proofs.Common.{◌≡◌, ℕ, ◌+◌, ◌<◌, ◌≤◌, ◌^◌, Bool, true, false, cond, leb, List, [], ◌∷◌, ◌++◌, Some, None, length, refl, subst, arith}
+use Rattle.std.specs.Prelude.{◌&&◌}
 use Rattle.std.specs.Str.{is_utf8}
 use Rattle.std.proofs.lemmas.Bool.{leb-true}
 use Rattle.std.proofs.lemmas.List.{length-append}
 use Rattle.pqformat.specs.Fields.{int32, int64, string}
 use Rattle.pqformat.proofs.Numbers.{length-int32, length-int64}
 use Rattle.pgoutput.specs.declared.logical.Logical.{Logical}
-use Rattle.pgoutput.specs.declared.logical.Logical.TheVariants as logical
 use Rattle.pgoutput.specs.Logical.{FitsLogical, spell_logical}
-use Rattle.pgoutput.specs.Message.{content, message_flags}
+use Rattle.pgoutput.specs.Message.{content}
 use Rattle.stream.specs.Items.{IsShortMessage}
 use Rattle.tables.specs.declared.message.TheConstants.{MAX_PREFIX_LENGTH, MAX_CONTENT_LENGTH}
 use Rattle.tables.specs.declared.message.Message.{Message}

@@ -28,7 +28,7 @@ use Rattle.tables.specs.Refs.{IsLarge}
 use Rattle.tables.specs.Spelling.{row_length}
 use Rattle.tables.specs.Tables.{IsValue, fits_table, table_of}
 use Rattle.publication_config.specs.Published.{PublicationSet}
-use Rattle.publication.specs.Projection.{delete_message, insert_message, only_if, stands, stands_in, update_message, AreValues, MessageFits}
+use Rattle.publication.specs.Projection.{delete_message, insert_message, only_if, stands, stands_in, update_message, updated, AreValues, MessageFits}
 use Rattle.publication.specs.Selection.{FitTables, FitsTable, chosen, narrowed}
 use Rattle.publication.specs.Spelling.{FitsRoom, HasRoom, IsShortRow, IsWritten}
 use Rattle.publication.specs.Tuples.{changes_key, key_tuple_of, old_by, replaced_by, tuple_behind, tuple_of}
@@ -180,6 +180,16 @@ module _ (flags : List Bool) (t : Table) (old : List Value) (fits : FitsTable t)
       let first : length told ≤ 9025 = if_any _ (replaced t.identity (chosen flags new)) in
       let last = tuple (tuple_behind row (chosen flags new)) in
       (omega (arith, bound, first, room.0, length-int32 t.oid, length-append (int32 t.oid) (told ++ ((78 ∷ []) ++ last)), length-append told ((78 ∷ []) ++ last)), room.1)
+
+  -- what an update has become, by whether the old row passed and the new one passes
+  pub update_room : (new : List Value) → fits_table t new ≡ true → IsShortRow new → (out : List ℕ) → HasRoom out → (before after : Bool) (m : Logical)
+      → updated before after (Some seen) row (chosen flags new) ≡ Some m → FitsRoom 0 out (spell_logical m)
+  update_room new is_new short_new out room true true m is =
+      subst (λ (n : Logical). FitsRoom 0 out (spell_logical n)) (some_is (update_message row (chosen flags new) seen) m is) (replacement_room new is_new short_new out room)
+  update_room new is_new short_new out room false true m is =
+      subst (λ (n : Logical). FitsRoom 0 out (spell_logical n)) (some_is (insert_message (chosen flags new) seen) m is) (insertion_room flags t new fits is_new short_new out room)
+  update_room new is_new short_new out room true false m is = gone_room out room m is
+  update_room new is_new short_new out room false false m is = absurd cc
 
 either_false : (a b : Bool) → (a ≡ false) ⊎ (b ≡ false) → (a && b) ≡ false
 either_false true b (inl e) = absurd cc

@@ -1,8 +1,8 @@
 //! The messages of changes in one table, and of tables that were emptied.
 
-ghost use Rattle.std.specs.Prelude.{◌≡◌, IfOk, length};
+ghost use Rattle.std.specs.Prelude.{◌≡◌, IfOk, Some, length};
 ghost use Rattle.publication.specs.Selection.{chosen, narrowed};
-ghost use Rattle.publication.specs.Projection.{delete_message, insert_message, truncate_message, update_message};
+ghost use Rattle.publication.specs.Projection.{delete_message, insert_message, truncate_message, update_message, updated};
 
 use crate::cells::{old_of, replaced_of, tuple_behind, tuple_of};
 use pgoutput::{Delete, Insert, Logical, Truncate, TruncateOptions, Update};
@@ -24,7 +24,29 @@ pub(crate) fn insertion(
     }))
 }
 
-pub(crate) fn replacement(
+/// Of an update, by whether the old row passed and the new one passes.
+pub(crate) fn update(
+    alloc: Global,
+    table: &Table,
+    listed: &[bool],
+    old_passes: bool,
+    new_passes: bool,
+    old: &Row,
+    new: &Row,
+) -> Result<Option<Logical>, AllocError>
+    requires columns { length table.now.columns ≡ length old.now }
+    requires rows { length old.now ≡ length new.now }
+    ensures { IfOk result (λ o. o ≡ updated old_passes new_passes (Some (narrowed listed.now table.now)) (chosen listed.now old.now) (chosen listed.now new.now)) }
+{
+    match (old_passes, new_passes) {
+        (true, true) => Ok(Some(replacement(alloc, table, listed, old, new)?)),
+        (false, true) => Ok(Some(insertion(alloc, table, listed, new)?)),
+        (true, false) => deletion(alloc, table, listed, old),
+        (false, false) => Ok(None),
+    }
+}
+
+fn replacement(
     alloc: Global,
     table: &Table,
     listed: &[bool],

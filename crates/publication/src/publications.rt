@@ -1,6 +1,6 @@
 //! The publications of a publisher.
 
-ghost use Rattle.std.specs.Prelude.{◌≡◌, ◌++◌, ◌∷◌, [], IfOk, IfErr, Err, false, true, not, filter, drop};
+ghost use Rattle.std.specs.Prelude.{◌≡◌, ◌++◌, ◌∷◌, [], IfOk, IfErr, OnOk, Err, false, true, not, filter, drop};
 ghost use Rattle.std.specs.List.{list_any, AllByRecursion};
 ghost use Rattle.std.specs.Str.{bytes_eq};
 ghost use Rattle.publication_config.specs.declared.fault.PubFault.{PubFault};
@@ -131,8 +131,20 @@ fn copies(alloc: Global, tables: &[Table]) -> Result<Items<Table>, AllocError>
     ensures { IfOk result (λ ts. ts ≡ tables.now) }
 {
     let mut copies = Vec::with_capacity(alloc, tables.len())?;
+    match copy_into(alloc, &mut copies, tables) {
+        Ok(()) => Ok(Items::new(copies)),
+        Err(refused) => {
+            drop(copies);
+            Err(refused)
+        }
+    }
+}
+
+fn copy_into(alloc: Global, copies: &mut Vec<Table>, tables: &[Table]) -> Result<(), AllocError>
+    ensures { OnOk result (copies.new.items ≡ copies.old.items ++ tables.now) }
+{
     for table in tables {
         copies.push(table.copy(alloc)?)?;
     }
-    Ok(Items::new(copies))
+    Ok(())
 }

@@ -8,7 +8,7 @@ ghost use Rattle.pgoutput.specs.declared.delete.TheConstants.{DELETE};
 ghost use Rattle.pqformat.specs.Fields.{int32};
 ghost use Rattle.pgoutput.specs.Update.{old_if_any};
 ghost use Rattle.publication.specs.Selection.{chosen, narrowed};
-ghost use Rattle.publication.specs.Projection.{delete_message, insert_message, update_message};
+ghost use Rattle.publication.specs.Projection.{delete_message, insert_message, update_message, updated};
 ghost use Rattle.publication.specs.Spelling.{FitsRoom, IsWritten, Writes};
 ghost use Rattle.publication.specs.Tuples.{replaced_by};
 
@@ -33,7 +33,31 @@ pub(crate) fn put_insertion(
     put_tuple(out, letter, listed, row)
 }
 
-pub(crate) fn put_replacement(
+/// Of an update, by whether the old row passed and the new one passes.
+pub(crate) fn put_update(
+    out: &mut [u8],
+    table: &Table,
+    listed: &[bool],
+    old_passes: bool,
+    new_passes: bool,
+    old: &RowRef<'_>,
+    new: &RowRef<'_>,
+) -> Option<usize>
+    requires room { (m : Logical) → updated old_passes new_passes (Some (narrowed listed.now table.now)) (chosen listed.now old.now) (chosen listed.now new.now) ≡ Some m → FitsRoom 0 out.old (spell_logical m) }
+    requires columns { length table.now.columns ≡ length old.now }
+    requires rows { length old.now ≡ length new.now }
+    requires few { length old.now < 2 ^ 15 }
+    ensures { IsWritten result out.old out.new (updated old_passes new_passes (Some (narrowed listed.now table.now)) (chosen listed.now old.now) (chosen listed.now new.now)) }
+{
+    match (old_passes, new_passes) {
+        (true, true) => Some(put_replacement(out, table, listed, old, new)),
+        (false, true) => Some(put_insertion(out, table, listed, new)),
+        (true, false) => put_deletion(out, table, listed, old),
+        (false, false) => None,
+    }
+}
+
+fn put_replacement(
     out: &mut [u8],
     table: &Table,
     listed: &[bool],

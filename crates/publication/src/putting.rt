@@ -9,7 +9,7 @@ ghost use Rattle.publication.specs.Logged.{change_message};
 ghost use Rattle.publication.specs.Projection.{MessageFits, message};
 ghost use Rattle.publication.specs.Spelling.{HasRoom, IsPut, IsReadWhole, IsShortRow, IsWritten};
 
-use crate::put_messages::{put_deletion, put_insertion, put_replacement};
+use crate::put_messages::{put_deletion, put_insertion, put_update};
 use crate::row_reading::{one_row, two_rows};
 use crate::selection::Selection;
 use publication_config::Operation;
@@ -109,15 +109,10 @@ impl Selection {
         if !table.takes_ref(old) || !table.takes_ref(new) {
             return None;
         }
-        let listed = self.listed(oid);
         let old_passes = self.passes(Operation::Update, oid, old);
         let new_passes = self.passes(Operation::Update, oid, new);
-        match (old_passes, new_passes) {
-            (true, true) => Some(put_replacement(out, table, listed, old, new)),
-            (false, true) => Some(put_insertion(out, table, listed, new)),
-            (true, false) => put_deletion(out, table, listed, old),
-            (false, false) => None,
-        }
+        let listed = self.listed(oid);
+        put_update(out, table, listed, old_passes, new_passes, old, new)
     }
 
     /// The message of a delete, of which these are the OID and the old row.

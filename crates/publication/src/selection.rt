@@ -14,7 +14,7 @@ ghost use Rattle.publication_config.specs.declared.operations.Operation.{Operati
 ghost use Rattle.publication.specs.Logged.{change_message};
 ghost use Rattle.publication.specs.Projection.{is_published, may_be_emptied, message, passes, projected, stands_in, AreValues, FitsProjected, MessageFits};
 
-use crate::messages::{deletion, insertion, replacement, truncation};
+use crate::messages::{deletion, insertion, truncation, update};
 use crate::passing::passes;
 use crate::projection::Projected;
 use crate::relation::relation_message;
@@ -171,15 +171,10 @@ impl Selection {
         if !stands(table, old) || !stands(table, new) {
             return Ok(None);
         }
-        let listed = self.listed(oid);
         let old_passes = self.passes(Operation::Update, oid, &RowRef::of(old));
         let new_passes = self.passes(Operation::Update, oid, &RowRef::of(new));
-        match (old_passes, new_passes) {
-            (true, true) => Ok(Some(replacement(self.alloc, table, listed, old, new)?)),
-            (false, true) => Ok(Some(insertion(self.alloc, table, listed, new)?)),
-            (true, false) => deletion(self.alloc, table, listed, old),
-            (false, false) => Ok(None),
-        }
+        let listed = self.listed(oid);
+        update(self.alloc, table, listed, old_passes, new_passes, old, new)
     }
 
     fn deleted(&self, oid: u32, old: &Row) -> Result<Option<Logical>, AllocError>

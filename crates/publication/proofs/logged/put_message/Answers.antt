@@ -1,4 +1,4 @@
-use Rattle.std.proofs.Common.{arith, length}
+use Rattle.std.proofs.Common.{arith}
 use Rattle.pqformat.proofs.Numbers.{length-int64}
 use Rattle.tables.specs.Refs.{message_of}
 use Rattle.publication.proofs.LoggedMessages.{told_length}

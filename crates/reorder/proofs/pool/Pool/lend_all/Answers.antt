@@ -1,5 +1,7 @@
-use Rattle.std.proofs.Common.{◌≡◌, None, refl, sym, ◌∙◌, arith}
+use Rattle.std.proofs.Common.{◌≡◌, ℕ, List, None, ap, cond, refl, sym, ◌∙◌, arith}
+use Rattle.std.proofs.lemmas.List.{take_all}
 use Rattle.reorder.specs.Pool.{strand_of}
+use Rattle.reorder.specs.Strands.{is_in}
 use Rattle.reorder.proofs.Lending.{left_more, lent_none, lent_some, stays_lent}
 use Rattle.reorder.proofs.pool.Pool.lend_all.Goals as goal
 use Rattle.reorder.proofs.pool.Pool.lend_all.Goals.{in-Some+in_ok-insert, in_default}
@@ -20,3 +22,13 @@ loop-xid-preserved c =
       arena = c.lend.ensures.arena ∙ i.arena;
       lent = stays_lent c.args.self.now c.loop-xid.self c.lend.new.self i.lent c.lend.ensures.lent;
     }
+
+pub returns-clause-strands : goal.returns-clause-strands
+returns-clause-strands c x =
+    let all = take_all c.loop-xid.xid-index c.args.xids.now c.loop-xid-test.false in
+    c.loop-xid.invariant.strands x ∙ ap (λ (xids : List ℕ). cond (is_in x xids) (strand_of c.args.self.now.strands x) None) all
+
+pub returns-clause-left : goal.returns-clause-left
+returns-clause-left c x =
+    let all = take_all c.loop-xid.xid-index c.args.xids.now c.loop-xid-test.false in
+    c.loop-xid.invariant.left x ∙ ap (λ (xids : List ℕ). cond (is_in x xids) None (strand_of c.args.self.now.strands x)) all
