@@ -1,0 +1,4 @@
+pub mod Quotes
+pub mod Lists
+pub mod Slots
+pub mod Once
