@@ -4,6 +4,7 @@ use Rattle.std.specs.Prelude.{◌≢◌, ◌⊎◌}
 use Rattle.std.specs.List.{flat_map, AllByRecursion}
 use Rattle.std.proofs.lemmas.Grind.{flat_map-append}
 use Rattle.std.proofs.lemmas.List.{append-nil, take_more}
+use Rattle.server.specs.declared.service.Service.{Service}
 use Rattle.server.specs.declared.connection.Connection.{Connection}
 use Rattle.server.specs.declared.connection.Phase.TheVariants as phases
 use Rattle.server.specs.declared.conversation.Event.{Event}
@@ -21,9 +22,9 @@ kind-append : (Kind : Turn → Type 0) (ts us : List Turn) → AllByRecursion Ki
 kind-append Kind [] us first then = then
 kind-append Kind (t ∷ ts) us first then = (first.0, kind-append Kind ts us first.1 then)
 
-turns-append : (number : ℕ) (a : Stage) (ts : List Turn) (b : Stage) (us : List Turn) (c : Stage) → AreTurns number a ts b → AreTurns number b us c → AreTurns number a (ts ++ us) c
-turns-append number a [] b us c first then = subst (λ (s : Stage). AreTurns number s us c) first then
-turns-append number a (t ∷ ts) b us c first then = (first.0, first.1, turns-append number first.0 ts b us c first.2 then)
+turns-append : (service : Service) (a : Stage) (ts : List Turn) (b : Stage) (us : List Turn) (c : Stage) → AreTurns service a ts b → AreTurns service b us c → AreTurns service a (ts ++ us) c
+turns-append service a [] b us c first then = subst (λ (s : Stage). AreTurns service s us c) first then
+turns-append service a (t ∷ ts) b us c first then = (first.0, first.1, turns-append service first.0 ts b us c first.2 then)
 
 asked-append : {D : Type 0} (told : D → Call → D → Type 0) (a : D) (xs : List Call) (b : D) (ys : List Call) (c : D) → AreAsked told a xs b → AreAsked told b ys c → AreAsked told a (xs ++ ys) c
 asked-append {D} told a [] b ys c first then = subst (λ (d : D). AreAsked told d ys c) first then
@@ -35,7 +36,7 @@ went-append told Kind x y a d out b e mid c f end first then = record {
   turns = first.turns ++ then.turns;
   kind = kind-append Kind first.turns then.turns first.kind then.kind;
   same = then.same ∙ first.same;
-  follow = turns-append a.number a.stage first.turns b.stage then.turns c.stage first.follow (subst (λ (n : ℕ). AreTurns n b.stage then.turns c.stage) first.same then.follow);
+  follow = turns-append a.service a.stage first.turns b.stage then.turns c.stage first.follow (subst (λ (s : Service). AreTurns s b.stage then.turns c.stage) first.same then.follow);
   spell =
       sym (append_assoc a.pending.items x y)
       ∙ ap (λ (l : List ℕ). l ++ y) first.spell
@@ -57,11 +58,11 @@ went-append told Kind x y a d out b e mid c f end first then = record {
 
 -- no turn: what came is left behind what was left
 pub went-none : {D : Type 0} (told : D → Call → D → Type 0) (Kind : Turn → Type 0) (x : List ℕ) (a : Connection) (d : D) (out : List ℕ) (b : Connection) (e : D) (end : List ℕ)
-    → b.number ≡ a.number → b.stage ≡ a.stage → b.pending.items ≡ a.pending.items ++ x → e ≡ d → end ≡ out → Went told Kind x a d out b e end
-went-none told Kind x a d out b e end number stage pending desk says = record {
+    → b.service ≡ a.service → b.stage ≡ a.stage → b.pending.items ≡ a.pending.items ++ x → e ≡ d → end ≡ out → Went told Kind x a d out b e end
+went-none told Kind x a d out b e end service stage pending desk says = record {
   turns = [];
   kind = tt;
-  same = number;
+  same = service;
   follow = stage;
   spell = sym pending;
   ask = desk;
@@ -70,11 +71,11 @@ went-none told Kind x a d out b e end number stage pending desk says = record {
 
 -- one turn, of the front of what was pending with what came
 pub went-one : {D : Type 0} (told : D → Call → D → Type 0) (Kind : Turn → Type 0) (x : List ℕ) (a : Connection) (d : D) (out : List ℕ) (b : Connection) (e : D) (end : List ℕ) (t : Turn)
-    → Kind t → b.number ≡ a.number → IsTurn a.number a.stage t b.stage → a.pending.items ++ x ≡ t.text ++ b.pending.items → AreAsked told d t.asked e → end ≡ out ++ t.said → Went told Kind x a d out b e end
-went-one {D} told Kind x a d out b e end t kind number turn text ask says = record {
+    → Kind t → b.service ≡ a.service → IsTurn a.service a.stage t b.stage → a.pending.items ++ x ≡ t.text ++ b.pending.items → AreAsked told d t.asked e → end ≡ out ++ t.said → Went told Kind x a d out b e end
+went-one {D} told Kind x a d out b e end t kind service turn text ask says = record {
   turns = t ∷ [];
   kind = (kind, tt);
-  same = number;
+  same = service;
   follow = (b.stage, turn, refl);
   spell = text ∙ ap (λ (l : List ℕ). l ++ b.pending.items) (sym (append-nil t.text));
   ask = subst (λ (l : List Call). AreAsked told d l e) (sym (append-nil t.asked)) ask;
@@ -86,20 +87,20 @@ pub went-on : {D : Type 0} (told : D → Call → D → Type 0) (Kind : Turn →
     → Went told Kind x a d out b e mid → Went told Kind [] b e mid c f end → Went told Kind x a d out c f end
 went-on {D} told Kind x a d out b e mid c f end first then = subst (λ (l : List ℕ). Went told Kind l a d out c f end) (append-nil x) (went-append told Kind x [] a d out b e mid c f end first then)
 
-passes : (number : ℕ) (stage : Stage) (text : List ℕ) → stage ≡ Closed → IsTurn number stage (record { text = text; asked = []; said = [] }) stage
-passes number stage text is = rw is (refl, refl, refl)
+passes : (service : Service) (stage : Stage) (text : List ℕ) → stage ≡ Closed → IsTurn service stage (record { text = text; asked = []; said = [] }) stage
+passes service stage text is = rw is (refl, refl, refl)
 
 -- what comes to a closed connection
 passed-over : {D : Type 0} (told : D → Call → D → Type 0) (x : List ℕ) (a : Connection) (d : D) (out : List ℕ) (b : Connection) (all : List ℕ) → all ≡ a.pending.items ++ x
-    → b.number ≡ a.number → b.stage ≡ a.stage → b.pending.items ≡ [] → a.stage ≡ Closed → Went told HasText x a d out b d out
-passed-over told x a d out b [] all number stage pending is = went-none told HasText x a d out b d out number stage (pending ∙ all) refl refl
-passed-over told x a d out b (n ∷ ns) all number stage pending is =
+    → b.service ≡ a.service → b.stage ≡ a.stage → b.pending.items ≡ [] → a.stage ≡ Closed → Went told HasText x a d out b d out
+passed-over told x a d out b [] all service stage pending is = went-none told HasText x a d out b d out service stage (pending ∙ all) refl refl
+passed-over told x a d out b (n ∷ ns) all service stage pending is =
     let text : List ℕ = n ∷ ns in
-    went-one told HasText x a d out b d out (record { text = text; asked = []; said = [] }) (omega arith) number (rw stage (passes a.number a.stage text is)) (sym all ∙ sym (append-nil text) ∙ ap (λ (l : List ℕ). text ++ l) (sym pending)) refl (sym (append-nil out))
+    went-one told HasText x a d out b d out (record { text = text; asked = []; said = [] }) (omega arith) service (rw stage (passes a.service a.stage text is)) (sym all ∙ sym (append-nil text) ∙ ap (λ (l : List ℕ). text ++ l) (sym pending)) refl (sym (append-nil out))
 
 pub went-closed : {D : Type 0} (told : D → Call → D → Type 0) (x : List ℕ) (a : Connection) (d : D) (out : List ℕ) (b : Connection)
-    → b.number ≡ a.number → b.stage ≡ a.stage → b.pending.items ≡ [] → a.stage ≡ Closed → Went told HasText x a d out b d out
-went-closed told x a d out b number stage pending is = passed-over told x a d out b (a.pending.items ++ x) refl number stage pending is
+    → b.service ≡ a.service → b.stage ≡ a.stage → b.pending.items ≡ [] → a.stage ≡ Closed → Went told HasText x a d out b d out
+went-closed told x a d out b service stage pending is = passed-over told x a d out b (a.pending.items ++ x) refl service stage pending is
 
 -- a stream's end
 went-ended : {D : Type 0} (told : D → Call → D → Type 0) (a : Connection) (d : D) (out : List ℕ) (b : Connection) (end : List ℕ) → Ended a out b end → Went told IsAny [] a d out b d end
@@ -114,16 +115,16 @@ went-any told x a d out b e end went = record { turns = went.turns; kind = are-a
 
 -- ---- from a new connection on
 
-pub record Began {D : Type 0} (told : D → Call → D → Type 0) (number : ℕ) (input : List ℕ) (desk : D) (out : List ℕ) (new : Connection) (desk' : D) (out' : List ℕ) : Type 0 where
+pub record Began {D : Type 0} (told : D → Call → D → Type 0) (service : Service) (input : List ℕ) (desk : D) (out : List ℕ) (new : Connection) (desk' : D) (out' : List ℕ) : Type 0 where
   pub old : Connection
-  pub numbered : old.number ≡ number
+  pub numbered : old.service ≡ service
   pub fresh : old.stage ≡ Fresh
   pub empty : old.pending.items ≡ []
   pub went : Went told IsAny input old desk out new desk' out'
   pub waits : HaveEnded went.turns ⊎ Waits new.stage new.pending.items
 
-pub began : {D : Type 0} (told : D → Call → D → Type 0) (number : ℕ) (c : Connection) (desk : D) (out : List ℕ) → c.number ≡ number → c.stage ≡ Fresh → c.pending.items ≡ [] → Began told number [] desk out c desk out
-began told number c desk out numbered fresh empty = record {
+pub began : {D : Type 0} (told : D → Call → D → Type 0) (service : Service) (c : Connection) (desk : D) (out : List ℕ) → c.service ≡ service → c.stage ≡ Fresh → c.pending.items ≡ [] → Began told service [] desk out c desk out
+began told service c desk out numbered fresh empty = record {
   old = c;
   numbered = numbered;
   fresh = fresh;
@@ -132,9 +133,9 @@ began told number c desk out numbered fresh empty = record {
   waits = inr (rw (fresh, empty) refl);
 }
 
-began-took : {D : Type 0} (told : D → Call → D → Type 0) (number : ℕ) (x y : List ℕ) (d : D) (out : List ℕ) (b : Connection) (e : D) (mid : List ℕ) (c : Connection) (f : D) (end : List ℕ)
-    → Began told number x d out b e mid → Went told HasText y b e mid c f end → Waits c.stage c.pending.items → Began told number (x ++ y) d out c f end
-began-took told number x y d out b e mid c f end first then waits = record {
+began-took : {D : Type 0} (told : D → Call → D → Type 0) (service : Service) (x y : List ℕ) (d : D) (out : List ℕ) (b : Connection) (e : D) (mid : List ℕ) (c : Connection) (f : D) (end : List ℕ)
+    → Began told service x d out b e mid → Went told HasText y b e mid c f end → Waits c.stage c.pending.items → Began told service (x ++ y) d out c f end
+began-took told service x y d out b e mid c f end first then waits = record {
   old = first.old;
   numbered = first.numbered;
   fresh = first.fresh;
@@ -143,10 +144,10 @@ began-took told number x y d out b e mid c f end first then waits = record {
   waits = inr waits;
 }
 
-began-ended : {D : Type 0} (told : D → Call → D → Type 0) (number : ℕ) (x : List ℕ) (d : D) (out : List ℕ) (b : Connection) (e : D) (mid : List ℕ) (c : Connection) (end : List ℕ)
-    → Began told number x d out b e mid → Ended b mid c end → Began told number (x ++ []) d out c e end
+began-ended : {D : Type 0} (told : D → Call → D → Type 0) (service : Service) (x : List ℕ) (d : D) (out : List ℕ) (b : Connection) (e : D) (mid : List ℕ) (c : Connection) (end : List ℕ)
+    → Began told service x d out b e mid → Ended b mid c end → Began told service (x ++ []) d out c e end
 unfolding went-append went-ended went-one
-began-ended told number x d out b e mid c end first then = record {
+began-ended told service x d out b e mid c end first then = record {
   old = first.old;
   numbered = first.numbered;
   fresh = first.fresh;
@@ -162,16 +163,16 @@ either (Idle database) A B is = inr is
 either (Streaming database) A B is = inr is
 either Closed A B is = inr is
 
-all-sent : {D : Type 0} (told : D → Call → D → Type 0) (number : ℕ) (x : List ℕ) (d : D) (out : List ℕ) (b : Connection) (e : D) (mid : List ℕ) (c : Connection) (f : D) (end : List ℕ)
-    → Began told number x d out b e mid → f ≡ e → Ended b mid c end ⊎ ((c ≡ b) × (end ≡ mid)) → Began told number (x ++ []) d out c f end
-all-sent told number x d out b e mid c f end first desk (inl then) = rw desk (began-ended told number x d out b e mid c end first then)
-all-sent told number x d out b e mid c f end first desk (inr (same, says)) = rw (desk, same, says, append-nil x) first
+all-sent : {D : Type 0} (told : D → Call → D → Type 0) (service : Service) (x : List ℕ) (d : D) (out : List ℕ) (b : Connection) (e : D) (mid : List ℕ) (c : Connection) (f : D) (end : List ℕ)
+    → Began told service x d out b e mid → f ≡ e → Ended b mid c end ⊎ ((c ≡ b) × (end ≡ mid)) → Began told service (x ++ []) d out c f end
+all-sent told service x d out b e mid c f end first desk (inl then) = rw desk (began-ended told service x d out b e mid c end first then)
+all-sent told service x d out b e mid c f end first desk (inr (same, says)) = rw (desk, same, says, append-nil x) first
 
 -- one more event
-pub began-on : {D : Type 0} (told : D → Call → D → Type 0) (number : ℕ) (x : List ℕ) (d : D) (out : List ℕ) (b : Connection) (e : D) (mid : List ℕ) (event : Event) (c : Connection) (f : D) (end : List ℕ)
-    → Began told number x d out b e mid → Happened told event b e mid c f end → Began told number (x ++ heard event) d out c f end
-began-on told number x d out b e mid (Came bytes) c f end first then = began-took told number x bytes.items d out b e mid c f end first then.0 then.1
-began-on told number x d out b e mid AllSent c f end first (desk, then) = all-sent told number x d out b e mid c f end first desk (either b.stage (Ended b mid c end) ((c ≡ b) × (end ≡ mid)) then)
+pub began-on : {D : Type 0} (told : D → Call → D → Type 0) (service : Service) (x : List ℕ) (d : D) (out : List ℕ) (b : Connection) (e : D) (mid : List ℕ) (event : Event) (c : Connection) (f : D) (end : List ℕ)
+    → Began told service x d out b e mid → Happened told event b e mid c f end → Began told service (x ++ heard event) d out c f end
+began-on told service x d out b e mid (Came bytes) c f end first then = began-took told service x bytes.items d out b e mid c f end first then.0 then.1
+began-on told service x d out b e mid AllSent c f end first (desk, then) = all-sent told service x d out b e mid c f end first desk (either b.stage (Ended b mid c end) ((c ≡ b) × (end ≡ mid)) then)
 
 -- ---- whether a stream stops
 
@@ -189,9 +190,9 @@ unless_stopping (Idle database) A B other b = b
 unless_stopping (Streaming database) A B other b = b
 unless_stopping Closed A B other b = b
 
-pub conversed : {D : Type 0} (told : D → Call → D → Type 0) (number : ℕ) (input : List ℕ) (desk : D) (out : List ℕ) (new : Connection) (desk' : D) (out' : List ℕ)
-    → Began told number input desk out new desk' out' → Gave told (λ asked said. IsConversation number input asked said) desk out desk' out'
-conversed told number input desk out new desk' out' b = record {
+pub conversed : {D : Type 0} (told : D → Call → D → Type 0) (service : Service) (input : List ℕ) (desk : D) (out : List ℕ) (new : Connection) (desk' : D) (out' : List ℕ)
+    → Began told service input desk out new desk' out' → Gave told (λ asked said. IsConversation service input asked said) desk out desk' out'
+conversed told service input desk out new desk' out' b = record {
   asked = flat_map (λ t. t.asked) b.went.turns;
   text = flat_map (λ t. t.said) b.went.turns;
   fact = record {

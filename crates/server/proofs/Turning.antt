@@ -17,6 +17,8 @@ use Rattle.frames.specs.Frame.{Gives}
 use Rattle.frames.specs.Front.{SpellsFront, IsShortFront, framed_front}
 use Rattle.frames.specs.Startup.{SpellsStartup, framed_startup, startup_number, startup_body}
 use Rattle.pqformat.proofs.Numbers.{length-int32}
+use Rattle.server.specs.declared.service.Dialect.{Dialect}
+use Rattle.server.specs.declared.service.Service.{Service}
 use Rattle.server.specs.declared.connection.Connection.{Connection}
 use Rattle.server.specs.declared.refusal.Refusal.TheVariants.{Violation}
 use Rattle.server.specs.declared.stage.Stage.{Stage}
@@ -46,8 +48,8 @@ front_has text f spells = rw spells.text (omega arith)
 
 startup_has : (text : List ℕ) (f : Startup) → SpellsStartup text f → 0 < length text
 startup_has text f spells =
-    let number : List ℕ = int32 (startup_number f) ++ startup_body f in
-    rw spells.text (omega (arith, length-append (int32 (8 + length (startup_body f))) number, length-int32 (8 + length (startup_body f))))
+    let coded : List ℕ = int32 (startup_number f) ++ startup_body f in
+    rw spells.text (omega (arith, length-append (int32 (8 + length (startup_body f))) coded, length-int32 (8 + length (startup_body f))))
 
 faulty_front : (bytes : List ℕ) (fault : FrameFault) → framed_front bytes ≡ Err fault → 0 < length bytes
 faulty_front [] fault is = absurd cc
@@ -62,12 +64,12 @@ front_of_some n bytes le some = rw (length-take-le n bytes le) at some
 
 -- ---- turns
 
-pub front_turned : {D : Type 0} (told : D → Call → D → Type 0) (number : ℕ) (stage : Stage) (Answers : Front → List Call → List ℕ → Stage → Type 0) (pending : List ℕ) (count : ℕ) (front : Front) (next : Stage) (Same : Type 0) (desk : D) (out : List ℕ) (desk' : D) (out' : List ℕ)
-    → ((t : Turn) (n : Stage) → IsFrameTurn Answers t n → IsTurn number stage t n)
+pub front_turned : {D : Type 0} (told : D → Call → D → Type 0) (service : Service) (stage : Stage) (Answers : Front → List Call → List ℕ → Stage → Type 0) (pending : List ℕ) (count : ℕ) (front : Front) (next : Stage) (Same : Type 0) (desk : D) (out : List ℕ) (desk' : D) (out' : List ℕ)
+    → ((t : Turn) (n : Stage) → IsFrameTurn Answers t n → IsTurn service stage t n)
     → count ≤ length pending → SpellsFront (take count pending) front → IsShortFront front
     → Gave told (λ asked said. Answers front asked said next) desk out desk' out'
-    → IsTurned number stage pending (record { stage = next; count = count }) Same (λ fact. Gave told fact desk out desk' out')
-front_turned told number stage Answers pending count front next Same desk out desk' out' turn le spells short gave = inr (
+    → IsTurned service stage pending (record { stage = next; count = count }) Same (λ fact. Gave told fact desk out desk' out')
+front_turned told service stage Answers pending count front next Same desk out desk' out' turn le spells short gave = inr (
   front_of_some count pending le (front_has (take count pending) front spells),
   le,
   record {
@@ -79,11 +81,11 @@ front_turned told number stage Answers pending count front next Same desk out de
   },
 )
 
-pub front_refused : {D : Type 0} (told : D → Call → D → Type 0) (number : ℕ) (stage : Stage) (Answers : Front → List Call → List ℕ → Stage → Type 0) (pending : List ℕ) (fault : FrameFault) (Same : Type 0) (desk : D) (out out' : List ℕ)
-    → ((t : Turn) (n : Stage) → IsFrameTurn Answers t n → IsTurn number stage t n)
+pub front_refused : {D : Type 0} (told : D → Call → D → Type 0) (service : Service) (stage : Stage) (Answers : Front → List Call → List ℕ → Stage → Type 0) (pending : List ℕ) (fault : FrameFault) (Same : Type 0) (desk : D) (out out' : List ℕ)
+    → ((t : Turn) (n : Stage) → IsFrameTurn Answers t n → IsTurn service stage t n)
     → fault ≢ Memory → Gives (Err fault) (framed_front pending) → out' ≡ out ++ refused (refusal_of fault)
-    → IsTurned number stage pending (record { stage = Closed; count = length pending }) Same (λ fact. Gave told fact desk out desk out')
-front_refused told number stage Answers pending fault Same desk out out' turn other gives says =
+    → IsTurned service stage pending (record { stage = Closed; count = length pending }) Same (λ fact. Gave told fact desk out desk out')
+front_refused told service stage Answers pending fault Same desk out out' turn other gives says =
     let is : framed_front pending ≡ Err fault = read_fault fault (framed_front pending) other gives in
     let whole : take (length pending) pending ≡ pending = take_all (length pending) pending (omega arith) in
     inr (
@@ -98,19 +100,19 @@ front_refused told number stage Answers pending fault Same desk out out' turn ot
       },
     )
 
-pub startup_turned : (number : ℕ) (pending : List ℕ) (count : ℕ) (startup : Startup) (next : Stage) (Same : Type 0) (out out' : List ℕ)
-    → count ≤ length pending → SpellsStartup (take count pending) startup → Said (λ asked said. Opens number startup asked said next) out out'
-    → IsTurned number Fresh pending (record { stage = next; count = count }) Same (λ fact. Said fact out out')
-startup_turned number pending count startup next Same out out' le spells said = inr (
+pub startup_turned : (service : Service) (pending : List ℕ) (count : ℕ) (startup : Startup) (next : Stage) (Same : Type 0) (out out' : List ℕ)
+    → count ≤ length pending → SpellsStartup (take count pending) startup → Said (λ asked said. Opens service startup asked said next) out out'
+    → IsTurned service Fresh pending (record { stage = next; count = count }) Same (λ fact. Said fact out out')
+startup_turned service pending count startup next Same out out' le spells said = inr (
   front_of_some count pending le (startup_has (take count pending) startup spells),
   le,
   record { text = said.text; fact = inl (startup, spells, said.fact); says = said.says },
 )
 
-pub startup_refused : (number : ℕ) (pending : List ℕ) (fault : FrameFault) (Same : Type 0) (out out' : List ℕ)
+pub startup_refused : (service : Service) (pending : List ℕ) (fault : FrameFault) (Same : Type 0) (out out' : List ℕ)
     → fault ≢ Memory → Gives (Err fault) (framed_startup pending) → out' ≡ out ++ refused (refusal_of fault)
-    → IsTurned number Fresh pending (record { stage = Closed; count = length pending }) Same (λ fact. Said fact out out')
-startup_refused number pending fault Same out out' other gives says =
+    → IsTurned service Fresh pending (record { stage = Closed; count = length pending }) Same (λ fact. Said fact out out')
+startup_refused service pending fault Same out out' other gives says =
     let is : framed_startup pending ≡ Err fault = read_fault fault (framed_startup pending) other gives in
     let whole : take (length pending) pending ≡ pending = take_all (length pending) pending (omega arith) in
     inr (
@@ -119,19 +121,19 @@ startup_refused number pending fault Same out out' other gives says =
       record { text = refused (refusal_of fault); fact = inr (fault, rw whole is, (refl, refl, refl)); says = says },
     )
 
-pub quiet_turned : {D : Type 0} (told : D → Call → D → Type 0) (number : ℕ) (stage : Stage) (pending : List ℕ) (desk : D) (out out' : List ℕ) (r : Result Turned AllocError)
-    → IfOk r (λ t. IsTurned number stage pending t (out' ≡ out) (λ fact. Said fact out out')) → OnErr r (Extends out out') → TakesTurn told number stage pending r desk out desk out'
-quiet_turned told number stage pending desk out out' (Ok t) (inl (none, same, waits, kept)) keeps = inl (none, same, waits, (refl, kept))
-quiet_turned told number stage pending desk out out' (Ok t) (inr (some, le, said)) keeps = inr (some, le, record { asked = []; text = said.text; fact = said.fact; asks = refl; says = said.says })
-quiet_turned told number stage pending desk out out' (Err e) is keeps = (nothing_tried told (Asks number stage pending) desk, keeps)
+pub quiet_turned : {D : Type 0} (told : D → Call → D → Type 0) (service : Service) (stage : Stage) (pending : List ℕ) (desk : D) (out out' : List ℕ) (r : Result Turned AllocError)
+    → IfOk r (λ t. IsTurned service stage pending t (out' ≡ out) (λ fact. Said fact out out')) → OnErr r (Extends out out') → TakesTurn told service stage pending r desk out desk out'
+quiet_turned told service stage pending desk out out' (Ok t) (inl (none, same, waits, kept)) keeps = inl (none, same, waits, (refl, kept))
+quiet_turned told service stage pending desk out out' (Ok t) (inr (some, le, said)) keeps = inr (some, le, record { asked = []; text = said.text; fact = said.fact; asks = refl; says = said.says })
+quiet_turned told service stage pending desk out out' (Err e) is keeps = (nothing_tried told (Asks service stage pending) desk, keeps)
 
 -- what the answer of a frame tried, its turn tried
-pub front_tried : {D : Type 0} (told : D → Call → D → Type 0) (number : ℕ) (stage : Stage) (Answers : Front → List Call → List ℕ → Stage → Type 0) (pending : List ℕ) (count : ℕ) (front : Front) (desk desk' : D)
-    → ((t : Turn) (n : Stage) → IsFrameTurn Answers t n → IsTurn number stage t n)
+pub front_tried : {D : Type 0} (told : D → Call → D → Type 0) (service : Service) (stage : Stage) (Answers : Front → List Call → List ℕ → Stage → Type 0) (pending : List ℕ) (count : ℕ) (front : Front) (desk desk' : D)
+    → ((t : Turn) (n : Stage) → IsFrameTurn Answers t n → IsTurn service stage t n)
     → SpellsFront (take count pending) front → IsShortFront front
-    → Tried told (λ asked. (next : Stage) × (text : List ℕ) × Answers front asked text next) desk desk' → Tried told (Asks number stage pending) desk desk'
-front_tried told number stage Answers pending count front desk desk' turn spells short tried =
-    tried_as told (λ asked. (next : Stage) × (text : List ℕ) × Answers front asked text next) (Asks number stage pending) desk desk'
+    → Tried told (λ asked. (next : Stage) × (text : List ℕ) × Answers front asked text next) desk desk' → Tried told (Asks service stage pending) desk desk'
+front_tried told service stage Answers pending count front desk desk' turn spells short tried =
+    tried_as told (λ asked. (next : Stage) × (text : List ℕ) × Answers front asked text next) (Asks service stage pending) desk desk'
     (λ asked part. (
       record { text = take count pending; asked = asked; said = part.1 },
       part.0,
@@ -141,30 +143,30 @@ front_tried told number stage Answers pending count front desk desk' turn spells
       sym (take-append-drop count pending),
     )) tried
 
-pub closed_turned : {D : Type 0} (told : D → Call → D → Type 0) (number : ℕ) (pending : List ℕ) (desk : D) (out : List ℕ)
-    → IsTurned number Closed pending (record { stage = Closed; count = length pending }) ((desk ≡ desk) × (out ≡ out)) (λ fact. Gave told fact desk out desk out)
-closed_turned told number [] desk out = inl (refl, refl, refl, (refl, refl))
-closed_turned told number (b ∷ bytes) desk out = inr (omega arith, omega arith, record { asked = []; text = []; fact = (refl, refl, refl); asks = refl; says = sym (append-nil out) })
+pub closed_turned : {D : Type 0} (told : D → Call → D → Type 0) (service : Service) (pending : List ℕ) (desk : D) (out : List ℕ)
+    → IsTurned service Closed pending (record { stage = Closed; count = length pending }) ((desk ≡ desk) × (out ≡ out)) (λ fact. Gave told fact desk out desk out)
+closed_turned told service [] desk out = inl (refl, refl, refl, (refl, refl))
+closed_turned told service (b ∷ bytes) desk out = inr (omega arith, omega arith, record { asked = []; text = []; fact = (refl, refl, refl); asks = refl; says = sym (append-nil out) })
 
 -- ---- the connection after a turn
 
 pub turned_went : {D : Type 0} (told : D → Call → D → Type 0) (old : Connection) (desk : D) (out : List ℕ) (t : Turned) (new : Connection) (desk' : D) (out' : List ℕ)
-    → new.number ≡ old.number → new.stage ≡ t.stage → new.pending.items ≡ drop t.count old.pending.items
-    → IsTurned old.number old.stage old.pending.items t ((desk' ≡ desk) × (out' ≡ out)) (λ fact. Gave told fact desk out desk' out')
+    → new.service ≡ old.service → new.stage ≡ t.stage → new.pending.items ≡ drop t.count old.pending.items
+    → IsTurned old.service old.stage old.pending.items t ((desk' ≡ desk) × (out' ≡ out)) (λ fact. Gave told fact desk out desk' out')
     → Went told HasText [] old desk out new desk' out'
-turned_went told old desk out t new desk' out' number stage pending (inl (none, same, waits, (desks, outs))) =
-    went-none told HasText [] old desk out new desk' out' number (stage ∙ same) (pending ∙ ap (λ (n : ℕ). drop n old.pending.items) none ∙ sym (append-nil old.pending.items)) desks outs
-turned_went told old desk out t new desk' out' number stage pending (inr (some, le, gave)) =
-    went-one told HasText [] old desk out new desk' out' (record { text = take t.count old.pending.items; asked = gave.asked; said = gave.text }) (rw (length-take-le t.count old.pending.items le) some) number (rw stage gave.fact)
+turned_went told old desk out t new desk' out' service stage pending (inl (none, same, waits, (desks, outs))) =
+    went-none told HasText [] old desk out new desk' out' service (stage ∙ same) (pending ∙ ap (λ (n : ℕ). drop n old.pending.items) none ∙ sym (append-nil old.pending.items)) desks outs
+turned_went told old desk out t new desk' out' service stage pending (inr (some, le, gave)) =
+    went-one told HasText [] old desk out new desk' out' (record { text = take t.count old.pending.items; asked = gave.asked; said = gave.text }) (rw (length-take-le t.count old.pending.items le) some) service (rw stage gave.fact)
     (append-nil old.pending.items ∙ sym (take-append-drop t.count old.pending.items) ∙ ap (λ (l : List ℕ). take t.count old.pending.items ++ l) (sym pending))
     gave.asks gave.says
 
 -- ---- frames out of their place
 
-pub out_of_place : (database : List ℕ) (f : Front) → ((bytes : CopyData) × (f ≡ fronts.CopyData bytes)) ⊎ ((f ≡ fronts.CopyDone) ⊎ ((fail : CopyFail) × (f ≡ fronts.CopyFail fail))) → Hears database f [] (refused Violation) Closed
-out_of_place database f (inl (bytes, is)) = subst (λ (g : Front). Hears database g [] (refused Violation) Closed) (sym is) (refl, refl, refl)
-out_of_place database f (inr (inl is)) = subst (λ (g : Front). Hears database g [] (refused Violation) Closed) (sym is) (refl, refl, refl)
-out_of_place database f (inr (inr (fail, is))) = subst (λ (g : Front). Hears database g [] (refused Violation) Closed) (sym is) (refl, refl, refl)
+pub out_of_place : (dialect : Dialect) (database : List ℕ) (f : Front) → ((bytes : CopyData) × (f ≡ fronts.CopyData bytes)) ⊎ ((f ≡ fronts.CopyDone) ⊎ ((fail : CopyFail) × (f ≡ fronts.CopyFail fail))) → Hears dialect database f [] (refused Violation) Closed
+out_of_place dialect database f (inl (bytes, is)) = subst (λ (g : Front). Hears dialect database g [] (refused Violation) Closed) (sym is) (refl, refl, refl)
+out_of_place dialect database f (inr (inl is)) = subst (λ (g : Front). Hears dialect database g [] (refused Violation) Closed) (sym is) (refl, refl, refl)
+out_of_place dialect database f (inr (inr (fail, is))) = subst (λ (g : Front). Hears dialect database g [] (refused Violation) Closed) (sym is) (refl, refl, refl)
 
 -- the same in a stream
 pub out_of_stream : (database : List ℕ) (f : Front) → ((query : Query) × (f ≡ fronts.Query query)) ⊎ ((fail : CopyFail) × (f ≡ fronts.CopyFail fail)) → Streams database f [] (refused Violation) Closed

@@ -10,8 +10,16 @@ use Rattle.pqformat.specs.Putting.{Extends}
 use Rattle.std.specs.declared.alloc.AllocError.{AllocError}
 use Rattle.server.specs.declared.fault.DeskFault.{DeskFault}
 use Rattle.server.specs.declared.refusal.Refusal.TheVariants as refusals
+use Rattle.server.specs.declared.service.Dialect.{Dialect}
+use Rattle.server.specs.declared.service.Dialect.TheVariants.{Commands, Questions}
+use Rattle.server.specs.declared.table_name.TableName.{TableName}
+use Rattle.server.specs.Answers.{path_set, mode_shown, publications_told, tables_told}
 use Rattle.server.specs.Calls.{Call, End, System, CreateSlot, DropSlot, StartStream, AreAsked}
+use Rattle.server.specs.Calls as calls
 use Rattle.server.specs.Said.{refused_ready, identified, created, dropped, started}
+use Rattle.questions.specs.declared.question.Question.{Question}
+use Rattle.questions.specs.declared.question.Question.TheVariants.{SearchPath, DirectoryMode, InitialCopy, Publications, Tables, DropWhenFree}
+use Rattle.questions.specs.Questions.{SpellsQuestion}
 
 -- what was asked of the desk, and what was said, in one step
 pub record Gave {D : Type 0} (told : D → Call → D → Type 0) (Fact : List Call → List ℕ → Type 0) (desk : D) (out : List ℕ) (desk' : D) (out' : List ℕ) : Type 0 where
@@ -61,3 +69,25 @@ pub record IsRefused (query : List ℕ) (asked : List Call) (text : List ℕ) : 
 
 abbrev pub Replies : List ℕ → List ℕ → Bool → List Call → List ℕ → Type 0
 Replies database query begins asked text = ((c : Command) × SpellsCommand query c × Runs database c begins asked text) ⊎ (IsRefused query asked text × (begins ≡ false))
+
+-- ---- questions
+
+-- A question makes one call or none. The answers of those without a call never change.
+abbrev pub AnswersQuestion : Question → List Call → List ℕ → Type 0
+AnswersQuestion SearchPath asked text = (asked ≡ []) × (text ≡ path_set)
+AnswersQuestion DirectoryMode asked text = (asked ≡ []) × (text ≡ mode_shown)
+AnswersQuestion InitialCopy asked text = (asked ≡ []) × (text ≡ refused_ready refusals.InitialCopy)
+AnswersQuestion (Publications names) asked text =
+    (answer : Result (List (List ℕ)) DeskFault) × (asked ≡ calls.Publications names answer ∷ []) × (text ≡ publications_told answer)
+AnswersQuestion (Tables names) asked text = (answer : Result (List TableName) DeskFault) × (asked ≡ calls.Tables names answer ∷ []) × (text ≡ tables_told answer)
+AnswersQuestion (DropWhenFree slot) asked text = (answer : Result (Unit {0}) DeskFault) × (asked ≡ DropSlot slot answer ∷ []) × (text ≡ dropped answer)
+
+-- a text that is a question
+abbrev pub IsAnswered : List ℕ → List Call → List ℕ → Type 0
+IsAnswered query asked text = (question : Question) × SpellsQuestion query question × AnswersQuestion question asked text
+
+-- Where questions are answered, what is none is replied to as ever.
+abbrev pub RepliesIn : Dialect → List ℕ → List ℕ → Bool → List Call → List ℕ → Type 0
+RepliesIn Commands database query begins asked text = Replies database query begins asked text
+RepliesIn Questions database query begins asked text =
+    (IsAnswered query asked text × (begins ≡ false)) ⊎ (((question : Question) → SpellsQuestion query question → ⊥) × Replies database query begins asked text)

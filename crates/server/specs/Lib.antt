@@ -1,5 +1,6 @@
 pub mod Refusals
 pub mod Said
+pub mod Answers
 pub mod Calls
 pub mod Opening
 pub mod Conversation

@@ -5,7 +5,7 @@ use Rattle.replcmd.specs.declared.fault.CmdFault.TheVariants as commands
 use Rattle.server.specs.declared.fault.DeskFault.{DeskFault}
 use Rattle.server.specs.declared.fault.DeskFault.TheVariants as desks
 use Rattle.server.specs.declared.refusal.Refusal.{Refusal}
-use Rattle.server.specs.declared.refusal.Refusal.TheVariants.{Violation, Version, NoReplication, Command, Asked}
+use Rattle.server.specs.declared.refusal.Refusal.TheVariants.{Violation, Version, NoReplication, InitialCopy, Command, Asked}
 
 abbrev pub command_code : CmdFault → List ℕ
 command_code commands.Syntax = codes "42601"
@@ -47,6 +47,7 @@ abbrev pub refusal_code : Refusal → List ℕ
 refusal_code Violation = codes "08P01"
 refusal_code Version = codes "0A000"
 refusal_code NoReplication = codes "0A000"
+refusal_code InitialCopy = codes "0A000"
 refusal_code (Command fault) = command_code fault
 refusal_code (Asked fault) = desk_code fault
 
@@ -54,5 +55,6 @@ abbrev pub refusal_text : Refusal → List ℕ
 refusal_text Violation = codes "protocol violation"
 refusal_text Version = codes "unsupported protocol version"
 refusal_text NoReplication = codes "only replication=database is served"
+refusal_text InitialCopy = codes "initial copies are not served"
 refusal_text (Command fault) = command_text fault
 refusal_text (Asked fault) = desk_text fault

@@ -13,6 +13,9 @@ use Rattle.replcmd.specs.Position.{printed}
 use Rattle.server.specs.declared.say.TheConstants.{TEXT_OID, INT4_OID, INT4_SIZE, ANY_SIZE, NO_MODIFIER, NO_ATTRIBUTE}
 use Rattle.server.specs.declared.fault.DeskFault.{DeskFault}
 use Rattle.server.specs.declared.refusal.Refusal.{Refusal}
+use Rattle.server.specs.declared.service.Dialect.{Dialect}
+use Rattle.server.specs.declared.service.Dialect.TheVariants.{Commands, Questions}
+use Rattle.server.specs.declared.service.Service.{Service}
 use Rattle.server.specs.declared.refusal.Refusal.TheVariants.{NoReplication, Asked}
 use Rattle.server.specs.Refusals.{refusal_code, refusal_text}
 
@@ -56,10 +59,22 @@ unfoldable pub greeting : ℕ → List ℕ
 greeting number = said AuthenticationOk ++ (said (status (codes "server_version") (codes "15.0")) ++ (said (status (codes "client_encoding") (codes "UTF8"))
     ++ (said (key_frame number) ++ ready)))
 
+-- Who answers questions calls itself 13.0, so that subscribers ask for what is served here, and tells how it keeps times.
+unfoldable pub other_greeting : ℕ → List ℕ
+other_greeting number = said AuthenticationOk ++ (said (status (codes "server_version") (codes "13.0")) ++ (said (status (codes "client_encoding") (codes "UTF8"))
+    ++ (said (status (codes "integer_datetimes") (codes "on")) ++ (said (key_frame number) ++ ready))))
+
+abbrev pub greeting_in : Dialect → ℕ → List ℕ
+greeting_in Commands number = greeting number
+greeting_in Questions number = other_greeting number
+
+abbrev pub greeting_of : Service → List ℕ
+greeting_of service = greeting_in service.dialect service.number
+
 -- a startup that is served, and one that isn't
-abbrev pub greeted : ℕ → Option (List ℕ) → List ℕ
-greeted number (Some database) = greeting number
-greeted number None = refused NoReplication
+abbrev pub greeted : Service → Option (List ℕ) → List ℕ
+greeted service (Some database) = greeting_of service
+greeted service None = refused NoReplication
 
 -- ---- rows
 

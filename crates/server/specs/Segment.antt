@@ -4,6 +4,7 @@ use Rattle.std.specs.Int.{w32}
 use Rattle.std.specs.List.{flat_map, AllByRecursion}
 use Rattle.pqformat.specs.Fields.{byte_at, number_at}
 use Rattle.frames.specs.declared.query.TheConstants.{QUERY}
+use Rattle.server.specs.declared.service.Service.{Service}
 use Rattle.server.specs.declared.fault.ConnFault.{ConnFault}
 use Rattle.server.specs.declared.fault.ConnFault.TheVariants as faults
 use Rattle.server.specs.declared.connection.Phase.{Phase}
@@ -32,15 +33,15 @@ IsAny t = Unit {0}
 pub record Went {D : Type 0} (told : D → Call → D → Type 0) (Kind : Turn → Type 0) (input : List ℕ) (old : Connection) (desk : D) (out : List ℕ) (new : Connection) (desk' : D) (out' : List ℕ) : Type 0 where
   pub turns : List Turn
   pub kind : AllByRecursion Kind turns
-  pub same : new.number ≡ old.number
-  pub follow : AreTurns old.number old.stage turns new.stage
+  pub same : new.service ≡ old.service
+  pub follow : AreTurns old.service old.stage turns new.stage
   pub spell : old.pending.items ++ input ≡ flat_map (λ t. t.text) turns ++ new.pending.items
   pub ask : AreAsked told desk (flat_map (λ t. t.asked) turns) desk'
   pub say : out' ≡ out ++ flat_map (λ t. t.said) turns
 
 -- A turn at the front of what is pending asks this.
-abbrev pub Asks : ℕ → Stage → List ℕ → List Call → Type 0
-Asks number stage pending asked = (t : Turn) × (next : Stage) × (rest : List ℕ) × IsTurn number stage t next × (t.asked ≡ asked) × (pending ≡ t.text ++ rest)
+abbrev pub Asks : Service → Stage → List ℕ → List Call → Type 0
+Asks service stage pending asked = (t : Turn) × (next : Stage) × (rest : List ℕ) × IsTurn service stage t next × (t.asked ≡ asked) × (pending ≡ t.text ++ rest)
 
 -- A call in which memory ran out. The turns before that are whole; of the turn that failed nothing was said, and the desk
 -- was asked nothing, or all that the turn asks.
@@ -50,16 +51,16 @@ pub record Broke {D : Type 0} (told : D → Call → D → Type 0) (input : List
   pub rest : List ℕ
   pub between : D
   pub kind : AllByRecursion HasText turns
-  pub follow : AreTurns old.number old.stage turns stage
+  pub follow : AreTurns old.service old.stage turns stage
   pub spell : old.pending.items ++ input ≡ flat_map (λ t. t.text) turns ++ rest
   pub ask : AreAsked told desk (flat_map (λ t. t.asked) turns) between
   pub say : out' ≡ out ++ flat_map (λ t. t.said) turns
-  pub failed : Tried told (Asks old.number stage rest) between desk'
+  pub failed : Tried told (Asks old.service stage rest) between desk'
 
 -- The end of a stream between two connections: the one turn without a text. What came before it is kept.
 pub record Ended (old : Connection) (out : List ℕ) (new : Connection) (out' : List ℕ) : Type 0 where
-  pub same : new.number ≡ old.number
-  pub turn : IsTurn old.number old.stage end_turn new.stage
+  pub same : new.service ≡ old.service
+  pub turn : IsTurn old.service old.stage end_turn new.stage
   pub keep : new.pending.items ≡ old.pending.items
   pub say : out' ≡ out ++ ended
 
@@ -97,8 +98,8 @@ phase_of Closed = phases.Closed
 -- ---- one turn
 
 -- the turn of this text
-abbrev pub OneTurn : ℕ → Stage → List ℕ → Stage → List Call → List ℕ → Type 0
-OneTurn number old text new asked said = IsTurn number old (record { text = text; asked = asked; said = said }) new
+abbrev pub OneTurn : Service → Stage → List ℕ → Stage → List Call → List ℕ → Type 0
+OneTurn service old text new asked said = IsTurn service old (record { text = text; asked = asked; said = said }) new
 
 -- what was said, where nothing is asked of the desk
 pub record Said (Fact : List Call → List ℕ → Type 0) (out : List ℕ) (out' : List ℕ) : Type 0 where
@@ -107,15 +108,15 @@ pub record Said (Fact : List Call → List ℕ → Type 0) (out : List ℕ) (out
   pub says : out' ≡ out ++ text
 
 -- Either nothing is whole and nothing changes, or a turn took the front of what was pending.
-abbrev pub IsTurned : ℕ → Stage → List ℕ → Turned → Type 0 → ((List Call → List ℕ → Type 0) → Type 0) → Type 0
-IsTurned number stage pending t Same Step =
+abbrev pub IsTurned : Service → Stage → List ℕ → Turned → Type 0 → ((List Call → List ℕ → Type 0) → Type 0) → Type 0
+IsTurned service stage pending t Same Step =
     ((t.count ≡ 0) × (t.stage ≡ stage) × Waits stage pending × Same)
-    ⊎ ((0 < t.count) × (t.count ≤ length pending) × Step (OneTurn number stage (take t.count pending) t.stage))
+    ⊎ ((0 < t.count) × (t.count ≤ length pending) × Step (OneTurn service stage (take t.count pending) t.stage))
 
 -- Either that, or memory ran out in the turn.
-abbrev pub TakesTurn : {D : Type 0} → (D → Call → D → Type 0) → ℕ → Stage → List ℕ → Result Turned AllocError → D → List ℕ → D → List ℕ → Type 0
-TakesTurn told number stage pending (Ok t) desk out desk' out' = IsTurned number stage pending t ((desk' ≡ desk) × (out' ≡ out)) (λ fact. Gave told fact desk out desk' out')
-TakesTurn told number stage pending (Err e) desk out desk' out' = Tried told (Asks number stage pending) desk desk' × Extends out out'
+abbrev pub TakesTurn : {D : Type 0} → (D → Call → D → Type 0) → Service → Stage → List ℕ → Result Turned AllocError → D → List ℕ → D → List ℕ → Type 0
+TakesTurn told service stage pending (Ok t) desk out desk' out' = IsTurned service stage pending t ((desk' ≡ desk) × (out' ≡ out)) (λ fact. Gave told fact desk out desk' out')
+TakesTurn told service stage pending (Err e) desk out desk' out' = Tried told (Asks service stage pending) desk desk' × Extends out out'
 
 -- ---- what is pending
 

@@ -13,12 +13,14 @@ use Rattle.frames.specs.Front.{SpellsFront, IsShortFront, framed_front}
 use Rattle.copyboth.specs.declared.fault.CopyFault.{CopyFault}
 use Rattle.copyboth.specs.declared.status.Status.{Status}
 use Rattle.copyboth.specs.Status.{SpellsStatus, client_fault}
+use Rattle.server.specs.declared.service.Dialect.{Dialect}
+use Rattle.server.specs.declared.service.Service.{Service}
 use Rattle.server.specs.declared.refusal.Refusal.{Refusal}
 use Rattle.server.specs.declared.refusal.Refusal.TheVariants.{Violation, Version}
 use Rattle.server.specs.declared.stage.Stage.{Stage}
 use Rattle.server.specs.declared.stage.Stage.TheVariants.{Fresh, Idle, Streaming, Stopping, Closed}
 use Rattle.server.specs.Calls.{Call, Flushed}
-use Rattle.server.specs.Conversation.{Replies}
+use Rattle.server.specs.Conversation.{RepliesIn}
 use Rattle.server.specs.Opening.{opened}
 use Rattle.server.specs.Said.{refused, greeted, ended}
 
@@ -47,22 +49,22 @@ session (Some database) = Idle database
 session None = Closed
 
 -- Encryption is declined by a single byte, and the startup is still waited for.
-abbrev pub Opens : ℕ → Startup → List Call → List ℕ → Stage → Type 0
-Opens number (Session parameters) = Says (greeted number (opened parameters)) (session (opened parameters))
-Opens number Ssl = Says (codes "N") Fresh
-Opens number Gss = Says (codes "N") Fresh
-Opens number (Cancel process key) = Says [] Closed
+abbrev pub Opens : Service → Startup → List Call → List ℕ → Stage → Type 0
+Opens service (Session parameters) = Says (greeted service (opened parameters)) (session (opened parameters))
+Opens service Ssl = Says (codes "N") Fresh
+Opens service Gss = Says (codes "N") Fresh
+Opens service (Cancel process key) = Says [] Closed
 
 -- ---- in a session
 
 -- A query is answered, and may begin a stream. Terminate is the client's own end, and the frames of a stream are out of
 -- their place.
-abbrev pub Hears : List ℕ → Front → List Call → List ℕ → Stage → Type 0
-Hears database (Query query) asked said next = (begins : Bool) × Replies database query.text begins asked said × (next ≡ (if begins then Streaming database else Idle database))
-Hears database Terminate asked said next = Says [] Closed asked said next
-Hears database (CopyData bytes) asked said next = Refuses Violation asked said next
-Hears database CopyDone asked said next = Refuses Violation asked said next
-Hears database (CopyFail fail) asked said next = Refuses Violation asked said next
+abbrev pub Hears : Dialect → List ℕ → Front → List Call → List ℕ → Stage → Type 0
+Hears dialect database (Query query) asked said next = (begins : Bool) × RepliesIn dialect database query.text begins asked said × (next ≡ (if begins then Streaming database else Idle database))
+Hears dialect database Terminate asked said next = Says [] Closed asked said next
+Hears dialect database (CopyData bytes) asked said next = Refuses Violation asked said next
+Hears dialect database CopyDone asked said next = Refuses Violation asked said next
+Hears dialect database (CopyFail fail) asked said next = Refuses Violation asked said next
 
 -- ---- in a stream
 
@@ -97,19 +99,19 @@ IsFrameTurn Answers t next =
 
 -- A turn from one stage to the next. Its text is one startup, or one frame, or it begins with what is neither: then the
 -- connection closes, and all that follows is passed over.
-abbrev pub IsTurn : ℕ → Stage → Turn → Stage → Type 0
-IsTurn number Fresh t next =
-    ((startup : Startup) × SpellsStartup t.text startup × Opens number startup t.asked t.said next)
+abbrev pub IsTurn : Service → Stage → Turn → Stage → Type 0
+IsTurn service Fresh t next =
+    ((startup : Startup) × SpellsStartup t.text startup × Opens service startup t.asked t.said next)
     ⊎ ((fault : FrameFault) × (framed_startup t.text ≡ Err fault) × Refuses (refusal_of fault) t.asked t.said next)
-IsTurn number (Idle database) t next = IsFrameTurn (Hears database) t next
-IsTurn number (Streaming database) t next = IsFrameTurn (Streams database) t next
-IsTurn number (Stopping database) t next = (t ≡ end_turn) × (next ≡ Idle database)
-IsTurn number Closed t next = Says [] Closed t.asked t.said next
+IsTurn service (Idle database) t next = IsFrameTurn (Hears service.dialect database) t next
+IsTurn service (Streaming database) t next = IsFrameTurn (Streams database) t next
+IsTurn service (Stopping database) t next = (t ≡ end_turn) × (next ≡ Idle database)
+IsTurn service Closed t next = Says [] Closed t.asked t.said next
 
 -- one turn after the other
-abbrev pub AreTurns : ℕ → Stage → List Turn → Stage → Type 0
-AreTurns number old [] new = new ≡ old
-AreTurns number old (t ∷ ts) new = (mid : Stage) × IsTurn number old t mid × AreTurns number mid ts new
+abbrev pub AreTurns : Service → Stage → List Turn → Stage → Type 0
+AreTurns service old [] new = new ≡ old
+AreTurns service old (t ∷ ts) new = (mid : Stage) × IsTurn service old t mid × AreTurns service mid ts new
 
 -- No startup and no frame stands whole at the front. While a stream stops, anything is kept; once the connection is
 -- closed, nothing is left.
@@ -124,13 +126,13 @@ Waits Closed rest = rest ≡ []
 abbrev pub HaveEnded : List Turn → Type 0
 HaveEnded turns = (before : List Turn) × (turns ≡ before ++ end_turn ∷ [])
 
--- What the connection of this number hears, what it asks of its desk and what it says are one conversation: from its
+-- What a connection of this service hears, what it asks of its desk and what it says are one conversation: from its
 -- startup on, turn by turn, the turns spell the input but for a rest that is waited on. The bytes of streams are apart.
-pub record IsConversation (number : ℕ) (input : List ℕ) (asked : List Call) (said : List ℕ) : Type 0 where
+pub record IsConversation (service : Service) (input : List ℕ) (asked : List Call) (said : List ℕ) : Type 0 where
   pub turns : List Turn
   pub end : Stage
   pub rest : List ℕ
-  pub follow : AreTurns number Fresh turns end
+  pub follow : AreTurns service Fresh turns end
   pub spell : input ≡ flat_map (λ t. t.text) turns ++ rest
   pub ask : asked ≡ flat_map (λ t. t.asked) turns
   pub say : said ≡ flat_map (λ t. t.said) turns

@@ -5,11 +5,13 @@ ghost use Rattle.pqformat.specs.Fields.{byte_at};
 ghost use Rattle.server.specs.Segment.{Went, HasText, Broke, Asks, Ended, UnlessMemory, has_command, has_query, phase_of};
 ghost use Rattle.server.specs.Conversation.{Tried};
 ghost use Rattle.server.specs.Turns.{IsTurn, Waits, end_turn};
+ghost use Rattle.server.specs.declared.service.Dialect.TheVariants.{Commands};
 ghost use Rattle.server.specs.declared.stage.Stage.TheVariants.{Fresh, Closed};
 
 use crate::desk::Desk;
 use crate::fault::ConnFault;
 use crate::say::say_ended;
+use crate::service::{Dialect, Service};
 use crate::stage::{Stage, Turned};
 use crate::turn::turn;
 use bytes::BytesMut;
@@ -39,22 +41,32 @@ pub enum Phase {
 #[derive(Drop)]
 pub struct Connection {
     pub(crate) alloc: Global,
-    pub(crate) number: u32,
+    pub(crate) service: Service,
     pub(crate) stage: Stage,
     /// What has come and isn't answered yet.
     pub(crate) pending: BytesMut,
 }
 
 impl Connection {
-    /// The connection of this number, which waits for its startup.
+    /// The connection of this number, which waits for its startup. It answers the commands of the replication protocol alone.
     pub fn new(alloc: Global, number: u32) -> Self
-        ensures number { result.number ≡ number }
+        ensures service { result.service ≡ record { number = number; dialect = Commands } }
+        ensures stage { result.stage ≡ Fresh }
+        ensures pending { result.pending.items ≡ [] }
+    {
+        let dialect = Dialect::Commands;
+        Connection::served(alloc, Service { number, dialect })
+    }
+
+    /// A connection that is served so, and waits for its startup.
+    pub fn served(alloc: Global, service: Service) -> Self
+        ensures service { result.service ≡ service }
         ensures stage { result.stage ≡ Fresh }
         ensures pending { result.pending.items ≡ [] }
     {
         Connection {
             alloc,
-            number,
+            service,
             stage: Stage::Fresh,
             pending: BytesMut::new(alloc),
         }
@@ -86,7 +98,7 @@ impl Connection {
     pub fn push(&mut self, bytes: &[u8]) -> Result<(), AllocError>
         ensures came { OnOk result (self.new.pending.items ≡ self.old.pending.items ++ bytes.now) }
         ensures err { OnErr result (self.new.pending.items ≡ self.old.pending.items) }
-        ensures same { (self.new.stage ≡ self.old.stage) × (self.new.number ≡ self.old.number) }
+        ensures same { (self.new.stage ≡ self.old.stage) × (self.new.service ≡ self.old.service) }
     {
         self.pending.extend_from_slice(bytes)
     }
@@ -102,7 +114,7 @@ impl Connection {
         ensures waits { IfOk result (λ more. more ≡ false → Waits self.new.stage self.new.pending.items) }
         ensures unsaid { result ≡ Err ConnFault.Memory → out.new.items ≡ out.old.items }
         // Of the desk nothing is asked then, or all that the turn asks.
-        ensures asked { result ≡ Err ConnFault.Memory → Tried D.told (Asks self.old.number self.old.stage self.old.pending.items) desk.old desk.new }
+        ensures asked { result ≡ Err ConnFault.Memory → Tried D.told (Asks self.old.service self.old.stage self.old.pending.items) desk.old desk.new }
         ensures closed { OnErr result (self.new.stage ≡ Closed) }
         ensures ended { (result ≡ Err ConnFault.Closed) ↔ (self.old.stage ≡ Closed) }
     {
@@ -123,13 +135,13 @@ impl Connection {
         ensures less { IfOk result (λ more. more ≡ true → length self.new.pending.items < length self.old.pending.items) }
         ensures waits { IfOk result (λ more. more ≡ false → Waits self.new.stage self.new.pending.items) }
         ensures unsaid { OnErr result (out.new.items ≡ out.old.items) }
-        ensures asked { OnErr result (Tried D.told (Asks self.old.number self.old.stage self.old.pending.items) desk.old desk.new) }
+        ensures asked { OnErr result (Tried D.told (Asks self.old.service self.old.stage self.old.pending.items) desk.old desk.new) }
     {
         let start = out.len();
         let stage = mem::replace(&mut self.stage, Stage::Closed);
         let turned = turn(
             self.alloc,
-            self.number,
+            self.service,
             stage,
             self.pending.as_slice(),
             desk,
@@ -222,6 +234,7 @@ impl Connection {
         let stage = mem::replace(&mut self.stage, Stage::Closed);
         if say_ended(self.alloc, out).is_err() {
             out.truncate(start);
+            drop(stage);
             return Err(ConnFault::Memory);
         }
         self.stage = after_end(stage);
@@ -246,7 +259,7 @@ fn has_query(bytes: &[u8]) -> bool
 /// Where a stream's end leads to.
 fn after_end(stage: Stage) -> Stage
     requires { phase_of stage ≡ Phase.Stopping }
-    ensures { (number : ℕ) → IsTurn number stage end_turn result }
+    ensures { (service : Service) → IsTurn service stage end_turn result }
 {
     match stage {
         Stage::Stopping(database) => Stage::Idle(database),

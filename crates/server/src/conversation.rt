@@ -9,6 +9,7 @@ ghost use Rattle.server.specs.Turns.{IsConversation};
 use crate::connection::{Connection, Phase};
 use crate::desk::Desk;
 use crate::fault::ConnFault;
+use crate::service::Service;
 use bytes::BytesMut;
 use std::alloc::{AllocError, Global};
 
@@ -54,20 +55,25 @@ fn unless_memory(answer: Result<(), ConnFault>) -> Result<(), AllocError>
     }
 }
 
-/// Holds a whole conversation on the connection of this number: what the client sends comes in any cuts, and streams that
+/// Holds a whole conversation on a connection that is served so: what the client sends comes in any cuts, and streams that
 /// stop end in between.
 pub fn converse<D: Desk>(
     alloc: Global,
-    number: u32,
+    service: Service,
     events: &[Event],
     desk: &mut D,
     out: &mut BytesMut,
 ) -> Result<(), AllocError>
-    ensures { OnOk result (Gave D.told (IsConversation number (flat_map heard events.now)) desk.old out.old.items desk.new out.new.items) }
+    ensures { OnOk result (Gave D.told (IsConversation service (flat_map heard events.now)) desk.old out.old.items desk.new out.new.items) }
 {
-    let mut connection = Connection::new(alloc, number);
+    let mut connection = Connection::served(alloc, service);
     for event in events {
-        unless_memory(happen(&mut connection, event, desk, out))?;
+        let happened = happen(&mut connection, event, desk, out);
+        if let Err(fault) = unless_memory(happened) {
+            drop(connection);
+            return Err(fault);
+        }
     }
+    drop(connection);
     Ok(())
 }

@@ -1,14 +1,18 @@
-//! What a connection asks while it answers: the log's end and the slots.
+//! What a connection asks while it answers: the log's end, the slots, and the publications.
 
-ghost use Rattle.std.specs.Prelude.{◌<◌, ◌^◌, length};
+ghost use Rattle.std.specs.Prelude.{◌<◌, ◌^◌, length, IfOk};
+ghost use Rattle.std.specs.List.{AllByRecursion};
+ghost use Rattle.server.specs.Calls.{IsShort, IsShortName};
 
 use crate::fault::DeskFault;
-use replcmd::{CmdFault, StreamOptions};
+use crate::table_name::TableName;
+use pqformat::Items;
+use replcmd::{CmdFault, Names, StreamOptions};
 
 /// The desk of a connection. `told` is what one call with its answer says of a desk before and after it; a desk that
 /// tells nothing says `Unit`, one that keeps a record of its calls says that it grew by this one.
 pub trait Desk {
-    ghost use Rattle.server.specs.Calls.{Call, End, System, CreateSlot, DropSlot, StartStream, Flushed};
+    ghost use Rattle.server.specs.Calls.{Call, End, System, CreateSlot, DropSlot, StartStream, Flushed, Publications, Tables};
 
     ghost told: { Self → Call → Self → Type 0 };
 
@@ -32,6 +36,20 @@ pub trait Desk {
     /// confirmed.
     fn start(&mut self, slot: &str, position: u64, options: &StreamOptions) -> Result<(), DeskFault>
         ensures { told self.old (StartStream slot.now position options.now result) self.new };
+
+    /// Which of these names are publications.
+    fn publications(&mut self, names: &Names) -> Result<Names, DeskFault>
+        ensures told { told self.old (Publications names.now result) self.new }
+        ensures short { IfOk result (λ found. AllByRecursion IsShort found) };
+
+    /// The tables of the publications of these names, each once. A name that no publication has adds none.
+    fn tables(&mut self, names: &Names) -> Result<Items<TableName>, DeskFault>
+        ensures told { told self.old (Tables names.now result) self.new }
+        ensures short { IfOk result (λ tables. AllByRecursion IsShortName tables) };
+
+    /// Drops a slot once nobody holds it; who can't wait, or not for so long, answers that it is held.
+    fn drop_when_free(&mut self, slot: &str) -> Result<(), DeskFault>
+        ensures { told self.old (DropSlot slot.now result) self.new };
 
     /// A text was refused that is no command, or none that is served. It is told and asks nothing.
     fn refused(&self, _text: &str, _fault: CmdFault) {}

@@ -1,15 +1,17 @@
 //! The beginning of a session: what its startup asks for.
 
 ghost use Rattle.std.specs.Prelude.{◌≡◌, ◌≤◌, ◌+◌, ◌++◌, length, option_map, OnOk, OnErr, IfOk, codes};
-ghost use Rattle.pqformat.specs.Putting.{Extends};
+ghost use Rattle.pqformat.specs.Putting.{Extends, Puts};
 ghost use Rattle.pqformat.specs.Steps.{closed};
 ghost use Rattle.frames.specs.Parameter.{parameter};
 ghost use Rattle.server.specs.Opening.{value_of, opened, is_database, first_of};
-ghost use Rattle.server.specs.Said.{greeted};
+ghost use Rattle.server.specs.Said.{greeted, greeting_of};
 
 use crate::database::{Database, MOST_DATABASE_BYTES};
 use crate::refusal::Refusal;
 use crate::say::{say_greeting, say_refused};
+use crate::say_answers::say_other_greeting;
+use crate::service::{Dialect, Service};
 use bytes::BytesMut;
 use frames::Parameter;
 use pqformat::Text;
@@ -51,20 +53,31 @@ fn database_of(parameters: &[Parameter]) -> &str
     }
 }
 
-/// Answers the startup of a session on the connection of this number: the database, or that none is served.
+/// The beginning of a session.
+#[tactic(auto, using(pqformat::proofs::Putting::in_place))]
+fn greet(alloc: Global, service: Service, out: &mut BytesMut) -> Result<(), AllocError>
+    ensures { Puts result out.old.items out.new.items (greeting_of service) }
+{
+    match service.dialect {
+        Dialect::Commands => say_greeting(alloc, out, service.number),
+        Dialect::Questions => say_other_greeting(alloc, out, service.number),
+    }
+}
+
+/// Answers the startup of a session on a connection that is served so: the database, or that none is served.
 ///
 /// The session must ask for `replication=database`. Other parameters are passed over, and of a repeated name the last
 /// pair counts. Refused, for want of memory: what stood in `out` still stands at its front.
 #[tactic(auto, using(pqformat::proofs::Putting::in_place), unfolding(crate::specs::Opening::opened))]
 pub(crate) fn open(
     alloc: Global,
-    number: u32,
+    service: Service,
     parameters: &[Parameter],
     out: &mut BytesMut,
 ) -> Result<Option<Database>, AllocError>
     requires { length (closed parameter parameters.now) ≤ MOST_DATABASE_BYTES }
     ensures database { IfOk result (λ d. d ≡ opened parameters.now) }
-    ensures says { OnOk result (out.new.items ≡ out.old.items ++ greeted number (opened parameters.now)) }
+    ensures says { OnOk result (out.new.items ≡ out.old.items ++ greeted service (opened parameters.now)) }
     ensures kept { OnErr result (Extends out.old.items out.new.items) }
 {
     if !asks_for_replication(parameters) {
@@ -73,6 +86,6 @@ pub(crate) fn open(
     }
     let name = Text::copy_of(alloc, database_of(parameters))?;
     let database = Database::new(name);
-    say_greeting(alloc, out, number)?;
+    greet(alloc, service, out)?;
     Ok(Some(database))
 }

@@ -121,7 +121,11 @@ pub(crate) fn reply<D: Desk>(
     ensures { Answered D.told result (λ begun. Replies database.now query.now begun) desk.old out.old.items desk.new out.new.items }
 {
     match parse_command(alloc, query) {
-        Ok(command) => run(alloc, database, &command, desk, out),
+        Ok(command) => {
+            let answered = run(alloc, database, &command, desk, out);
+            drop(command);
+            answered
+        }
         Err(fault) => {
             desk.refused(query, fault);
             say_refused_ready(alloc, out, Refusal::Command(fault))?;

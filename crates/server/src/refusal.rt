@@ -15,6 +15,8 @@ pub enum Refusal {
     Version,
     /// A startup that doesn't ask for `replication=database`.
     NoReplication,
+    /// The beginning of the initial copy of a table.
+    InitialCopy,
     /// A text that is no command.
     Command(CmdFault),
     /// A command that the desk refused.
@@ -28,7 +30,7 @@ impl Refusal {
     {
         match self {
             Refusal::Violation => "08P01",
-            Refusal::Version | Refusal::NoReplication => "0A000",
+            Refusal::Version | Refusal::NoReplication | Refusal::InitialCopy => "0A000",
             Refusal::Command(fault) => code_of_command(fault),
             Refusal::Asked(fault) => code_of_desk(fault),
         }
@@ -42,6 +44,7 @@ impl Refusal {
             Refusal::Violation => "protocol violation",
             Refusal::Version => "unsupported protocol version",
             Refusal::NoReplication => "only replication=database is served",
+            Refusal::InitialCopy => "initial copies are not served",
             Refusal::Command(fault) => text_of_command(fault),
             Refusal::Asked(fault) => text_of_desk(fault),
         }

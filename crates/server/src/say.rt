@@ -2,12 +2,15 @@
 
 ghost use Rattle.std.specs.Prelude.{◌≡◌, ◌<◌, ◌≤◌, ◌^◌, ◌++◌, ◌∷◌, [], length, OnOk, IfOk};
 ghost use Rattle.std.specs.List.{AllByRecursion};
+ghost use Rattle.frames.specs.Frame.{FitsLength};
+ghost use Rattle.frames.specs.Back.{HasCounts, back_body};
 ghost use Rattle.frames.specs.declared.data_row.DataValue.TheVariants.{Bytes};
 ghost use Rattle.frames.specs.declared.back.Back.TheVariants.{AuthenticationOk, ErrorResponse as ErrorFrame, CopyDone};
 ghost use Rattle.pqformat.specs.Putting.{Puts};
 ghost use Rattle.replcmd.specs.Position.{printed};
 ghost use Rattle.server.specs.Said.{said, error_frame, refused, refused_ready, ready, greeting, completed, status, shown, text_type, int4_type, IsSmall, identity_columns, identity_values, slot_columns, slot_values, key_frame, columns_frame, values_frame, slot_made, identified, created, dropped, started, ended};
 
+use crate::answer_rows::{identity_columns, identity_values, slot_columns, slot_values};
 use crate::fault::DeskFault;
 use crate::refusal::Refusal;
 use bytes::BytesMut;
@@ -33,11 +36,22 @@ pub const NO_MODIFIER: i32 = -1;
 /// The attribute of a column that is no table's.
 pub const NO_ATTRIBUTE: i16 = 0;
 
-#[tactic(auto, using(pqformat::proofs::Putting::in_place), unfolding(crate::specs::Said::ready, crate::specs::Said::said, pqformat::specs::Fields::int32))]
+#[tactic(auto, using(pqformat::proofs::Putting::in_place), unfolding(crate::specs::Said::said))]
+fn say(out: &mut BytesMut, frame: Back) -> Result<(), AllocError>
+    requires length { FitsLength (back_body frame) }
+    requires counts { HasCounts frame }
+    ensures { Puts result out.old.items out.new.items (said frame) }
+{
+    let written = write_back(&frame, out);
+    drop(frame);
+    written
+}
+
+#[tactic(auto, using(pqformat::proofs::Putting::in_place), unfolding(crate::specs::Said::ready, pqformat::specs::Fields::int32))]
 pub(crate) fn say_ready(out: &mut BytesMut) -> Result<(), AllocError>
     ensures { Puts result out.old.items out.new.items ready }
 {
-    write_back(&Back::ReadyForQuery(Status::Idle), out)
+    say(out, Back::ReadyForQuery(Status::Idle))
 }
 
 fn error_field(alloc: Global, code: u8, text: &str) -> Result<ErrorField, AllocError>
@@ -73,7 +87,7 @@ fn error_fields(alloc: Global, code: &str, text: &str) -> Result<Items<ErrorFiel
     Ok(Items::new(fields))
 }
 
-#[tactic(auto, using(pqformat::proofs::Putting::in_place), unfolding(crate::specs::Said::refused, crate::specs::Said::said))]
+#[tactic(auto, using(pqformat::proofs::Putting::in_place), unfolding(crate::specs::Said::refused))]
 pub(crate) fn say_refused(
     alloc: Global,
     out: &mut BytesMut,
@@ -82,7 +96,7 @@ pub(crate) fn say_refused(
     ensures { Puts result out.old.items out.new.items (refused refusal) }
 {
     let fields = error_fields(alloc, refusal.code(), refusal.text())?;
-    write_back(&Back::ErrorResponse(ErrorResponse { fields }), out)
+    say(out, Back::ErrorResponse(ErrorResponse { fields }))
 }
 
 /// That a command is refused, and that the next one is waited for.
@@ -98,31 +112,36 @@ pub(crate) fn say_refused_ready(
     say_ready(out)
 }
 
-#[tactic(auto, using(pqformat::proofs::Putting::in_place), unfolding(crate::specs::Said::said, pqformat::specs::Fields::int32))]
-fn say_status(alloc: Global, out: &mut BytesMut, name: &str, value: &str) -> Result<(), AllocError>
+#[tactic(auto, using(pqformat::proofs::Putting::in_place), unfolding(pqformat::specs::Fields::int32))]
+pub(crate) fn say_status(
+    alloc: Global,
+    out: &mut BytesMut,
+    name: &str,
+    value: &str,
+) -> Result<(), AllocError>
     requires name { length name.now ≤ 40 }
     requires value { length value.now ≤ 40 }
     ensures { Puts result out.old.items out.new.items (said (status name.now value.now)) }
 {
     let name = Text::copy_of(alloc, name)?;
     let value = Text::copy_of(alloc, value)?;
-    write_back(&Back::ParameterStatus(Parameter { name, value }), out)
+    say(out, Back::ParameterStatus(Parameter { name, value }))
 }
 
-#[tactic(auto, using(pqformat::proofs::Putting::in_place), unfolding(crate::specs::Said::said, pqformat::specs::Fields::int32))]
-fn say_authenticated(out: &mut BytesMut) -> Result<(), AllocError>
+#[tactic(auto, using(pqformat::proofs::Putting::in_place), unfolding(pqformat::specs::Fields::int32))]
+pub(crate) fn say_authenticated(out: &mut BytesMut) -> Result<(), AllocError>
     ensures { Puts result out.old.items out.new.items (said AuthenticationOk) }
 {
-    write_back(&Back::AuthenticationOk, out)
+    say(out, Back::AuthenticationOk)
 }
 
-#[tactic(auto, using(pqformat::proofs::Putting::in_place), unfolding(crate::specs::Said::said, pqformat::specs::Fields::int32))]
-fn say_key(out: &mut BytesMut, process: u32) -> Result<(), AllocError>
+#[tactic(auto, using(pqformat::proofs::Putting::in_place), unfolding(pqformat::specs::Fields::int32))]
+pub(crate) fn say_key(out: &mut BytesMut, process: u32) -> Result<(), AllocError>
     ensures { Puts result out.old.items out.new.items (said (key_frame process)) }
 {
-    write_back(
-        &Back::BackendKeyData(BackendKeyData { process, key: 0 }),
+    say(
         out,
+        Back::BackendKeyData(BackendKeyData { process, key: 0 }),
     )
 }
 
@@ -150,7 +169,7 @@ fn column(alloc: Global, name: &str, data_type: ColumnType) -> Result<ColumnDesc
     })
 }
 
-fn text_column(alloc: Global, name: &str) -> Result<ColumnDescription, AllocError>
+pub(crate) fn text_column(alloc: Global, name: &str) -> Result<ColumnDescription, AllocError>
     ensures { IfOk result (λ c. c ≡ shown text_type name.now) }
 {
     let data_type = ColumnType {
@@ -161,7 +180,7 @@ fn text_column(alloc: Global, name: &str) -> Result<ColumnDescription, AllocErro
     column(alloc, name, data_type)
 }
 
-fn int4_column(alloc: Global, name: &str) -> Result<ColumnDescription, AllocError>
+pub(crate) fn int4_column(alloc: Global, name: &str) -> Result<ColumnDescription, AllocError>
     ensures { IfOk result (λ c. c ≡ shown int4_type name.now) }
 {
     let data_type = ColumnType {
@@ -172,20 +191,20 @@ fn int4_column(alloc: Global, name: &str) -> Result<ColumnDescription, AllocErro
     column(alloc, name, data_type)
 }
 
-fn value(alloc: Global, text: &str) -> Result<DataValue, AllocError>
+pub(crate) fn value(alloc: Global, text: &str) -> Result<DataValue, AllocError>
     ensures { IfOk result (λ v. v ≡ Bytes text.now) }
 {
     let bytes = Vec::from_slice(alloc, text.as_bytes())?;
     Ok(DataValue::Bytes(Items::new(bytes)))
 }
 
-#[tactic(auto, using(pqformat::proofs::Putting::in_place), unfolding(crate::specs::Said::said, pqformat::specs::Fields::int32))]
-fn say_completed(alloc: Global, out: &mut BytesMut, tag: &str) -> Result<(), AllocError>
+#[tactic(auto, using(pqformat::proofs::Putting::in_place), unfolding(pqformat::specs::Fields::int32))]
+pub(crate) fn say_completed(alloc: Global, out: &mut BytesMut, tag: &str) -> Result<(), AllocError>
     requires { length tag.now ≤ 40 }
     ensures { Puts result out.old.items out.new.items (said (completed tag.now)) }
 {
     let tag = Text::copy_of(alloc, tag)?;
-    write_back(&Back::CommandComplete(CommandComplete { tag }), out)
+    say(out, Back::CommandComplete(CommandComplete { tag }))
 }
 
 /// The answer of DROP_REPLICATION_SLOT.
@@ -207,7 +226,7 @@ pub(crate) fn say_dropped(
 }
 
 /// The answer of START_REPLICATION.
-#[tactic(auto, using(pqformat::proofs::Putting::in_place), unfolding(crate::specs::Said::started, crate::specs::Said::said, pqformat::specs::Fields::int32, pqformat::specs::Fields::int16))]
+#[tactic(auto, using(pqformat::proofs::Putting::in_place), unfolding(crate::specs::Said::started, pqformat::specs::Fields::int32, pqformat::specs::Fields::int16))]
 pub(crate) fn say_started(
     alloc: Global,
     out: &mut BytesMut,
@@ -218,20 +237,20 @@ pub(crate) fn say_started(
     match answer {
         Ok(()) => {
             let formats = Items::new(Vec::new(alloc));
-            write_back(
-                &Back::CopyBothResponse(CopyBothResponse { format: 0, formats }),
+            say(
                 out,
+                Back::CopyBothResponse(CopyBothResponse { format: 0, formats }),
             )
         }
         Err(fault) => say_refused_ready(alloc, out, Refusal::Asked(fault)),
     }
 }
 
-#[tactic(auto, using(pqformat::proofs::Putting::in_place), unfolding(crate::specs::Said::said, pqformat::specs::Fields::int32))]
+#[tactic(auto, using(pqformat::proofs::Putting::in_place), unfolding(pqformat::specs::Fields::int32))]
 fn say_copy_done(out: &mut BytesMut) -> Result<(), AllocError>
     ensures { Puts result out.old.items out.new.items (said CopyDone) }
 {
-    write_back(&Back::CopyDone, out)
+    say(out, Back::CopyDone)
 }
 
 /// The end of a stream.
@@ -244,7 +263,7 @@ pub(crate) fn say_ended(alloc: Global, out: &mut BytesMut) -> Result<(), AllocEr
     say_ready(out)
 }
 
-fn position_value(alloc: Global, position: u64) -> Result<DataValue, AllocError>
+pub(crate) fn position_value(alloc: Global, position: u64) -> Result<DataValue, AllocError>
     ensures value { IfOk result (λ v. v ≡ Bytes (printed position)) }
     ensures small { IfOk result (λ _. length (printed position) ≤ 17) }
 {
@@ -252,39 +271,33 @@ fn position_value(alloc: Global, position: u64) -> Result<DataValue, AllocError>
     value(alloc, text.as_str())
 }
 
-#[tactic(auto, using(pqformat::proofs::Putting::in_place), unfolding(crate::specs::Said::said))]
-fn say_columns(
-    alloc: Global,
+#[tactic(auto, using(pqformat::proofs::Putting::in_place))]
+pub(crate) fn say_columns(
     out: &mut BytesMut,
-    columns: [ColumnDescription; 4],
+    columns: Items<ColumnDescription>,
 ) -> Result<(), AllocError>
     requires count { length columns ≤ 4 }
     requires names { AllByRecursion (λ c. length c.name ≤ 40) columns }
     ensures { Puts result out.old.items out.new.items (said (columns_frame columns)) }
 {
-    let columns = Items::new(Vec::from_array(alloc, columns)?);
-    write_back(&Back::RowDescription(RowDescription { columns }), out)
+    say(out, Back::RowDescription(RowDescription { columns }))
 }
 
-#[tactic(auto, using(pqformat::proofs::Putting::in_place), unfolding(crate::specs::Said::said))]
-fn say_values(alloc: Global, out: &mut BytesMut, values: [DataValue; 4]) -> Result<(), AllocError>
+#[tactic(auto, using(pqformat::proofs::Putting::in_place))]
+pub(crate) fn say_values(out: &mut BytesMut, values: Items<DataValue>) -> Result<(), AllocError>
     requires count { length values ≤ 4 }
     requires each { AllByRecursion IsSmall values }
     ensures { Puts result out.old.items out.new.items (said (values_frame values)) }
 {
-    let values = Items::new(Vec::from_array(alloc, values)?);
-    write_back(&Back::DataRow(DataRow { values }), out)
+    say(out, Back::DataRow(DataRow { values }))
 }
 
 #[tactic(auto, using(pqformat::proofs::Putting::in_place))]
 fn say_identity_columns(alloc: Global, out: &mut BytesMut) -> Result<(), AllocError>
     ensures { Puts result out.old.items out.new.items (said identity_columns) }
 {
-    let systemid = text_column(alloc, "systemid")?;
-    let timeline = int4_column(alloc, "timeline")?;
-    let xlogpos = text_column(alloc, "xlogpos")?;
-    let dbname = text_column(alloc, "dbname")?;
-    say_columns(alloc, out, [systemid, timeline, xlogpos, dbname])
+    let columns = identity_columns(alloc)?;
+    say_columns(out, columns)
 }
 
 #[tactic(auto, using(pqformat::proofs::Putting::in_place))]
@@ -299,11 +312,8 @@ fn say_identity_values(
     requires database { length database.now ≤ 2 ^ 16 }
     ensures { Puts result out.old.items out.new.items (said (identity_values systemid.now end database.now)) }
 {
-    let systemid = value(alloc, systemid)?;
-    let timeline = value(alloc, "1")?;
-    let xlogpos = position_value(alloc, end)?;
-    let dbname = value(alloc, database)?;
-    say_values(alloc, out, [systemid, timeline, xlogpos, dbname])
+    let values = identity_values(alloc, systemid, end, database)?;
+    say_values(out, values)
 }
 
 /// The answer of IDENTIFY_SYSTEM.
@@ -329,15 +339,8 @@ pub(crate) fn say_identified(
 fn say_slot_columns(alloc: Global, out: &mut BytesMut) -> Result<(), AllocError>
     ensures { Puts result out.old.items out.new.items (said slot_columns) }
 {
-    let slot_name = text_column(alloc, "slot_name")?;
-    let consistent_point = text_column(alloc, "consistent_point")?;
-    let snapshot_name = text_column(alloc, "snapshot_name")?;
-    let output_plugin = text_column(alloc, "output_plugin")?;
-    say_columns(
-        alloc,
-        out,
-        [slot_name, consistent_point, snapshot_name, output_plugin],
-    )
+    let columns = slot_columns(alloc)?;
+    say_columns(out, columns)
 }
 
 #[tactic(auto, using(pqformat::proofs::Putting::in_place))]
@@ -350,14 +353,8 @@ fn say_slot_values(
     requires { length slot.now ≤ 2 ^ 16 }
     ensures { Puts result out.old.items out.new.items (said (slot_values slot.now position)) }
 {
-    let slot_name = value(alloc, slot)?;
-    let consistent_point = position_value(alloc, position)?;
-    let output_plugin = value(alloc, "pgoutput")?;
-    say_values(
-        alloc,
-        out,
-        [slot_name, consistent_point, DataValue::Null, output_plugin],
-    )
+    let values = slot_values(alloc, slot, position)?;
+    say_values(out, values)
 }
 
 #[tactic(auto, using(pqformat::proofs::Putting::in_place), unfolding(crate::specs::Said::slot_made))]

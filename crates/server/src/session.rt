@@ -1,6 +1,5 @@
 //! The frames of a session, in which queries are answered.
 
-ghost use Rattle.std.specs.Prelude.{ℕ};
 ghost use Rattle.frames.specs.declared.front.Front.TheVariants.{Query};
 ghost use Rattle.server.specs.Conversation.{Answered};
 ghost use Rattle.server.specs.Segment.{TakesTurn};
@@ -9,9 +8,10 @@ ghost use Rattle.server.specs.declared.stage.Stage.TheVariants.{Idle};
 
 use crate::database::Database;
 use crate::desk::Desk;
-use crate::query::reply;
 use crate::refusal::Refusal;
+use crate::replying::reply_in;
 use crate::say::say_refused;
+use crate::service::{Dialect, Service};
 use crate::stage::{Stage, Turned, refuse};
 use bytes::BytesMut;
 use frames::{Front, read_front};
@@ -20,14 +20,15 @@ use std::alloc::{AllocError, Global};
 /// Answers a query.
 fn answer_query<D: Desk>(
     alloc: Global,
+    dialect: Dialect,
     database: Database,
     query: &str,
     desk: &mut D,
     out: &mut BytesMut,
 ) -> Result<Stage, AllocError>
-    ensures { Answered D.told result (λ next asked said. Hears database (Query (record { text = query.now })) asked said next) desk.old out.old.items desk.new out.new.items }
+    ensures { Answered D.told result (λ next asked said. Hears dialect database (Query (record { text = query.now })) asked said next) desk.old out.old.items desk.new out.new.items }
 {
-    if reply(alloc, &database, query, desk, out)? {
+    if reply_in(alloc, dialect, &database, query, desk, out)? {
         Ok(Stage::Streaming(database))
     } else {
         Ok(Stage::Idle(database))
@@ -36,15 +37,23 @@ fn answer_query<D: Desk>(
 
 fn answer_front<D: Desk>(
     alloc: Global,
+    dialect: Dialect,
     database: Database,
     front: &Front,
     desk: &mut D,
     out: &mut BytesMut,
 ) -> Result<Stage, AllocError>
-    ensures { Answered D.told result (λ next asked said. Hears database front.now asked said next) desk.old out.old.items desk.new out.new.items }
+    ensures { Answered D.told result (λ next asked said. Hears dialect database front.now asked said next) desk.old out.old.items desk.new out.new.items }
 {
     match front {
-        Front::Query(query) => answer_query(alloc, database, query.text.as_str(), desk, out),
+        Front::Query(query) => answer_query(
+            alloc,
+            dialect,
+            database,
+            query.text.as_str(),
+            desk,
+            out,
+        ),
         Front::Terminate => Ok(Stage::Closed),
         Front::CopyData(_) | Front::CopyDone | Front::CopyFail(_) => {
             say_refused(alloc, out, Refusal::Violation)?;
@@ -56,12 +65,13 @@ fn answer_front<D: Desk>(
 /// The turn of a session.
 pub(crate) fn turn_session<D: Desk>(
     alloc: Global,
+    service: Service,
     database: Database,
     pending: &[u8],
     desk: &mut D,
     out: &mut BytesMut,
 ) -> Result<Turned, AllocError>
-    ensures { (number : ℕ) → TakesTurn D.told number (Idle database) pending.now result desk.old out.old.items desk.new out.new.items }
+    ensures { TakesTurn D.told service (Idle database) pending.now result desk.old out.old.items desk.new out.new.items }
 {
     match read_front(alloc, pending) {
         Ok(None) => Ok(Turned {
@@ -69,7 +79,9 @@ pub(crate) fn turn_session<D: Desk>(
             count: 0,
         }),
         Ok(Some((front, count))) => {
-            let stage = answer_front(alloc, database, &front, desk, out)?;
+            let answered = answer_front(alloc, service.dialect, database, &front, desk, out);
+            drop(front);
+            let stage = answered?;
             Ok(Turned { stage, count })
         }
         Err(fault) => {

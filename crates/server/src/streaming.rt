@@ -1,6 +1,6 @@
 //! The frames of a client while a stream runs: how far it is, and that the stream is to end.
 
-ghost use Rattle.std.specs.Prelude.{◌∷◌, [], ℕ};
+ghost use Rattle.std.specs.Prelude.{◌∷◌, []};
 ghost use Rattle.frames.specs.declared.front.Front.TheVariants.{CopyData};
 ghost use Rattle.server.specs.Calls.{AreAsked, Flushed};
 ghost use Rattle.server.specs.Conversation.{Answered};
@@ -12,6 +12,7 @@ use crate::database::Database;
 use crate::desk::Desk;
 use crate::refusal::Refusal;
 use crate::say::say_refused;
+use crate::service::Service;
 use crate::stage::{Stage, Turned, refuse};
 use bytes::BytesMut;
 use copyboth::{Status, read_client};
@@ -75,7 +76,7 @@ pub(crate) fn turn_stream<D: Desk>(
     desk: &mut D,
     out: &mut BytesMut,
 ) -> Result<Turned, AllocError>
-    ensures { (number : ℕ) → TakesTurn D.told number (Streaming database) pending.now result desk.old out.old.items desk.new out.new.items }
+    ensures { (service : Service) → TakesTurn D.told service (Streaming database) pending.now result desk.old out.old.items desk.new out.new.items }
 {
     match read_front(alloc, pending) {
         Ok(None) => Ok(Turned {
@@ -83,7 +84,9 @@ pub(crate) fn turn_stream<D: Desk>(
             count: 0,
         }),
         Ok(Some((front, count))) => {
-            let stage = answer_in_stream(alloc, database, &front, desk, out)?;
+            let answered = answer_in_stream(alloc, database, &front, desk, out);
+            drop(front);
+            let stage = answered?;
             Ok(Turned { stage, count })
         }
         Err(fault) => {

@@ -13,6 +13,7 @@ ghost use Rattle.server.specs.declared.stage.Stage.TheVariants.{Fresh};
 use crate::database::MOST_DATABASE_BYTES;
 use crate::desk::Desk;
 use crate::opening::open;
+use crate::service::Service;
 use crate::session::turn_session;
 use crate::stage::{Stage, Turned, refuse};
 use crate::streaming::turn_stream;
@@ -24,15 +25,15 @@ use std::alloc::{AllocError, Global};
 #[tactic(auto, using(pqformat::proofs::Putting::in_place))]
 fn open_session(
     alloc: Global,
-    number: u32,
+    service: Service,
     parameters: &[Parameter],
     out: &mut BytesMut,
 ) -> Result<Stage, AllocError>
     requires { length (closed parameter parameters.now) ≤ MOST_DATABASE_BYTES }
-    ensures says { IfOk result (λ next. Said (λ asked said. Opens number (Session parameters.now) asked said next) out.old.items out.new.items) }
+    ensures says { IfOk result (λ next. Said (λ asked said. Opens service (Session parameters.now) asked said next) out.old.items out.new.items) }
     ensures kept { OnErr result (Extends out.old.items out.new.items) }
 {
-    match open(alloc, number, parameters, out)? {
+    match open(alloc, service, parameters, out)? {
         Some(database) => Ok(Stage::Idle(database)),
         None => Ok(Stage::Closed),
     }
@@ -49,16 +50,16 @@ fn decline(out: &mut BytesMut) -> Result<(), AllocError>
 #[tactic(auto, using(pqformat::proofs::Putting::in_place))]
 fn answer_startup(
     alloc: Global,
-    number: u32,
+    service: Service,
     startup: &Startup,
     out: &mut BytesMut,
 ) -> Result<Stage, AllocError>
     requires { 8 + length (startup_body startup.now) ≤ STARTUP_LIMIT }
-    ensures says { IfOk result (λ next. Said (λ asked said. Opens number startup.now asked said next) out.old.items out.new.items) }
+    ensures says { IfOk result (λ next. Said (λ asked said. Opens service startup.now asked said next) out.old.items out.new.items) }
     ensures kept { OnErr result (Extends out.old.items out.new.items) }
 {
     match startup {
-        Startup::Session(parameters) => open_session(alloc, number, parameters.as_slice(), out),
+        Startup::Session(parameters) => open_session(alloc, service, parameters.as_slice(), out),
         Startup::Ssl => {
             decline(out)?;
             Ok(Stage::Fresh)
@@ -75,11 +76,11 @@ fn answer_startup(
 #[tactic(auto, using(pqformat::proofs::Putting::in_place))]
 fn turn_startup(
     alloc: Global,
-    number: u32,
+    service: Service,
     pending: &[u8],
     out: &mut BytesMut,
 ) -> Result<Turned, AllocError>
-    ensures turned { IfOk result (λ t. IsTurned number Fresh pending.now t (out.new.items ≡ out.old.items) (λ fact. Said fact out.old.items out.new.items)) }
+    ensures turned { IfOk result (λ t. IsTurned service Fresh pending.now t (out.new.items ≡ out.old.items) (λ fact. Said fact out.old.items out.new.items)) }
     ensures kept { OnErr result (Extends out.old.items out.new.items) }
 {
     match read_startup(alloc, pending) {
@@ -88,7 +89,7 @@ fn turn_startup(
             count: 0,
         }),
         Ok(Some((startup, count))) => {
-            let stage = answer_startup(alloc, number, &startup, out)?;
+            let stage = answer_startup(alloc, service, &startup, out)?;
             Ok(Turned { stage, count })
         }
         Err(fault) => {
@@ -104,17 +105,17 @@ fn turn_startup(
 /// Takes one turn at this stage. While a stream stops, all that is pending waits; closed, it is passed over.
 pub(crate) fn turn<D: Desk>(
     alloc: Global,
-    number: u32,
+    service: Service,
     stage: Stage,
     pending: &[u8],
     desk: &mut D,
     out: &mut BytesMut,
 ) -> Result<Turned, AllocError>
-    ensures { TakesTurn D.told number stage pending.now result desk.old out.old.items desk.new out.new.items }
+    ensures { TakesTurn D.told service stage pending.now result desk.old out.old.items desk.new out.new.items }
 {
     match stage {
-        Stage::Fresh => turn_startup(alloc, number, pending, out),
-        Stage::Idle(database) => turn_session(alloc, database, pending, desk, out),
+        Stage::Fresh => turn_startup(alloc, service, pending, out),
+        Stage::Idle(database) => turn_session(alloc, service, database, pending, desk, out),
         Stage::Streaming(database) => turn_stream(alloc, database, pending, desk, out),
         Stage::Stopping(database) => Ok(Turned {
             stage: Stage::Stopping(database),

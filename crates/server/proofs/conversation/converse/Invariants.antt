@@ -5,4 +5,4 @@ use Rattle.server.proofs.Segments.{Began}
 use Rattle.server.proofs.conversation.converse.Given as goal
 
 abbrev pub invariant-loop-event : goal.invariant-loop-event
-invariant-loop-event g l = Began g.D.Desk.told l.number (flat_map heard (take l.event-index l.events)) l.fn.desk l.fn.out.items l.connection l.desk l.out.items
+invariant-loop-event g l = Began g.D.Desk.told l.fn.service (flat_map heard (take l.event-index l.events)) l.fn.desk l.fn.out.items l.connection l.desk l.out.items

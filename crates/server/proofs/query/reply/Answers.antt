@@ -6,13 +6,13 @@ use Rattle.server.proofs.Names.{short_slot}
 use Rattle.server.proofs.Steps.{not_read, answered_as}
 use Rattle.server.proofs.query.reply.Goals as goal
 
-pub run-requires : goal.run-requires
-run-requires g c = short_slot c.args.query.now c.in-Ok.command c.in-Ok.ensures.found
+pub run-answered-requires : goal.run-answered-requires
+run-answered-requires g c = short_slot c.args.query.now c.in-Ok.command c.in-Ok.ensures.found
 
 pub returns-in-Ok : goal.returns-in-Ok
 returns-in-Ok g c =
-    answered_as g.D.Desk.told c.run.result (λ begun. Runs c.args.database.now c.in-Ok.command begun) (λ begun. Replies c.args.database.now c.args.query.now begun) c.args.desk.now c.args.out.now.items c.run.new.desk c.run.new.out.items
-    (λ begun asked text fact. inl (c.in-Ok.command, c.in-Ok.ensures.found, fact)) c.run.ensures
+    answered_as g.D.Desk.told c.run-answered.result (λ begun. Runs c.args.database.now c.in-Ok.command begun) (λ begun. Replies c.args.database.now c.args.query.now begun) c.args.desk.now c.args.out.now.items c.run-answered.new.desk c.run-answered.new.out.items
+    (λ begun asked text fact. inl (c.in-Ok.command, c.in-Ok.ensures.found, fact)) c.run-answered.ensures
 
 pub returns-in_ok-say_refused_ready-in-Err : goal.returns-in_ok-say_refused_ready-in-Err
 returns-in_ok-say_refused_ready-in-Err g c = record {

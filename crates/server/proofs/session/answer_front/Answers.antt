@@ -15,7 +15,7 @@ pub returns-in-Terminate : goal.returns-in-Terminate
 returns-in-Terminate g c = record {
   asked = [];
   text = [];
-  fact = subst (λ (f : Front). Hears c.args.database f [] [] Closed) (sym c.in-Terminate.is) (refl, refl, refl);
+  fact = subst (λ (f : Front). Hears c.args.dialect c.args.database f [] [] Closed) (sym c.in-Terminate.is) (refl, refl, refl);
   asks = refl;
   says = sym (append-nil c.args.out.now.items);
 }
@@ -24,7 +24,7 @@ pub returns-in_ok-say_refused-in-CopyData : goal.returns-in_ok-say_refused-in-Co
 returns-in_ok-say_refused-in-CopyData g c = record {
   asked = [];
   text = refused Violation;
-  fact = out_of_place c.args.database c.args.front.now c.in-CopyData.is;
+  fact = out_of_place c.args.dialect c.args.database c.args.front.now c.in-CopyData.is;
   asks = refl;
   says = c.in_ok-say_refused-in-CopyData.ensures;
 }

@@ -6,22 +6,22 @@ use Rattle.server.proofs.Turning.{front_turned, front_tried, front_refused}
 use Rattle.server.proofs.streaming.turn_stream.Goals as goal
 
 pub returns-in_ok-stage-in-Ok-Some : goal.returns-in_ok-stage-in-Ok-Some
-returns-in_ok-stage-in-Ok-Some g c number =
+returns-in_ok-stage-in-Ok-Some g c service =
     let found = rw c.in-Ok-Some.field-0-is at c.in-Ok-Some.ensures.found in
-    front_turned g.D.Desk.told number (Streaming c.args.database) (Streams c.args.database) c.args.pending.now c.in-Ok-Some.count c.in-Ok-Some.front c.in_ok-stage-in-Ok-Some.stage ((c.answer_in_stream.new.desk ≡ c.args.desk.now) × (c.answer_in_stream.new.out.items ≡ c.args.out.now.items)) c.args.desk.now c.args.out.now.items c.answer_in_stream.new.desk c.answer_in_stream.new.out.items
+    front_turned g.D.Desk.told service (Streaming c.args.database) (Streams c.args.database) c.args.pending.now c.in-Ok-Some.count c.in-Ok-Some.front c.in_ok-stage-in-Ok-Some.stage ((c.answer_in_stream-answered.new.desk ≡ c.args.desk.now) × (c.answer_in_stream-answered.new.out.items ≡ c.args.out.now.items)) c.args.desk.now c.args.out.now.items c.answer_in_stream-answered.new.desk c.answer_in_stream-answered.new.out.items
     (λ t n is. is) found.0 found.1 found.2 c.in_ok-stage-in-Ok-Some.ensures
 
 pub returns-in_ok-refuse-in-Err : goal.returns-in_ok-refuse-in-Err
-returns-in_ok-refuse-in-Err g c number =
-    front_refused g.D.Desk.told number (Streaming c.args.database) (Streams c.args.database) c.args.pending.now c.in-Err.fault ((c.args.desk.now ≡ c.args.desk.now) × (c.refuse.new.out.items ≡ c.args.out.now.items)) c.args.desk.now c.args.out.now.items c.refuse.new.out.items
+returns-in_ok-refuse-in-Err g c service =
+    front_refused g.D.Desk.told service (Streaming c.args.database) (Streams c.args.database) c.args.pending.now c.in-Err.fault ((c.args.desk.now ≡ c.args.desk.now) × (c.refuse.new.out.items ≡ c.args.out.now.items)) c.args.desk.now c.args.out.now.items c.refuse.new.out.items
     (λ t n is. is) c.in_ok-refuse-in-Err.ensures.readable c.in-Err.ensures.exact c.in_ok-refuse-in-Err.ensures.says
 
 pub returns-in_err-stage-in-Ok-Some : goal.returns-in_err-stage-in-Ok-Some
-returns-in_err-stage-in-Ok-Some g c number =
+returns-in_err-stage-in-Ok-Some g c service =
     let p = err_from_is_err_and c.from_residual.result c.from_residual.ensures.1 in
     let found = rw c.in-Ok-Some.field-0-is at c.in-Ok-Some.ensures.found in
     rw p.1 (
-      front_tried g.D.Desk.told number (Streaming c.args.database) (Streams c.args.database) c.args.pending.now c.in-Ok-Some.count c.in-Ok-Some.front c.args.desk.now c.answer_in_stream.new.desk
+      front_tried g.D.Desk.told service (Streaming c.args.database) (Streams c.args.database) c.args.pending.now c.in-Ok-Some.count c.in-Ok-Some.front c.args.desk.now c.answer_in_stream-answered.new.desk
           (λ t n is. is) found.1 found.2 c.in_err-stage-in-Ok-Some.ensures.0,
       c.in_err-stage-in-Ok-Some.ensures.1,
     )

@@ -3,13 +3,13 @@ use Rattle.server.proofs.Turning.{quiet_turned, closed_turned}
 use Rattle.server.proofs.turn.turn.Goals as goal
 
 pub returns-in-Fresh : goal.returns-in-Fresh
-returns-in-Fresh g c = rw c.in-Fresh.is (quiet_turned g.D.Desk.told c.args.number Fresh c.args.pending.now c.args.desk.now c.args.out.now.items c.turn_startup.new.out.items c.turn_startup.result c.turn_startup.ensures.turned c.turn_startup.ensures.kept)
+returns-in-Fresh g c = rw c.in-Fresh.is (quiet_turned g.D.Desk.told c.args.service Fresh c.args.pending.now c.args.desk.now c.args.out.now.items c.turn_startup.new.out.items c.turn_startup.result c.turn_startup.ensures.turned c.turn_startup.ensures.kept)
 
 pub returns-in-Idle : goal.returns-in-Idle
-returns-in-Idle g c = rw c.in-Idle.is (c.turn_session.ensures c.args.number)
+returns-in-Idle g c = rw c.in-Idle.is c.turn_session.ensures
 
 pub returns-in-Streaming : goal.returns-in-Streaming
-returns-in-Streaming g c = rw c.in-Streaming.is (c.turn_stream.ensures c.args.number)
+returns-in-Streaming g c = rw c.in-Streaming.is (c.turn_stream.ensures c.args.service)
 
 pub returns-in-Closed : goal.returns-in-Closed
-returns-in-Closed g c = rw c.in-Closed.is (closed_turned g.D.Desk.told c.args.number c.args.pending.now c.args.desk.now c.args.out.now.items)
+returns-in-Closed g c = rw c.in-Closed.is (closed_turned g.D.Desk.told c.args.service c.args.pending.now c.args.desk.now c.args.out.now.items)

@@ -3,10 +3,10 @@ use Rattle.server.proofs.Turning.{startup_turned, startup_refused}
 use Rattle.server.proofs.turn.turn_startup.Goals as goal
 
 pub returns-in_ok-refuse-in-Err-clause-turned : goal.returns-in_ok-refuse-in-Err-clause-turned
-returns-in_ok-refuse-in-Err-clause-turned c = startup_refused c.args.number c.args.pending.now c.in-Err.fault (c.refuse.new.out.items ≡ c.args.out.now.items) c.args.out.now.items c.refuse.new.out.items c.in_ok-refuse-in-Err.ensures.readable c.in-Err.ensures.exact c.in_ok-refuse-in-Err.ensures.says
+returns-in_ok-refuse-in-Err-clause-turned c = startup_refused c.args.service c.args.pending.now c.in-Err.fault (c.refuse.new.out.items ≡ c.args.out.now.items) c.args.out.now.items c.refuse.new.out.items c.in_ok-refuse-in-Err.ensures.readable c.in-Err.ensures.exact c.in_ok-refuse-in-Err.ensures.says
 
 pub returns-in_ok-stage-in-Ok-Some-clause-turned : goal.returns-in_ok-stage-in-Ok-Some-clause-turned
 returns-in_ok-stage-in-Ok-Some-clause-turned c =
     let found = rw c.in-Ok-Some.field-0-is at c.in-Ok-Some.ensures.found in
-    startup_turned c.args.number c.args.pending.now c.in-Ok-Some.count c.in-Ok-Some.startup c.in_ok-stage-in-Ok-Some.stage (c.answer_startup.new.out.items ≡ c.args.out.now.items) c.args.out.now.items c.answer_startup.new.out.items
+    startup_turned c.args.service c.args.pending.now c.in-Ok-Some.count c.in-Ok-Some.startup c.in_ok-stage-in-Ok-Some.stage (c.answer_startup.new.out.items ≡ c.args.out.now.items) c.args.out.now.items c.answer_startup.new.out.items
     found.0 found.1 c.in_ok-stage-in-Ok-Some.ensures.says

@@ -1,0 +1,20 @@
+use Rattle.std.proofs.Common.{[], refl}
+use Rattle.questions.specs.declared.question.Question.TheVariants.{SearchPath, DirectoryMode, InitialCopy}
+use Rattle.server.specs.declared.refusal.Refusal.TheVariants as refusals
+use Rattle.server.specs.Answers.{path_set, mode_shown}
+use Rattle.server.specs.Conversation.{AnswersQuestion}
+use Rattle.server.specs.Said.{refused_ready}
+use Rattle.server.proofs.Steps.{gave}
+use Rattle.server.proofs.replying.answer_question.Goals as goal
+
+pub returns-in-SearchPath : goal.returns-in-SearchPath
+returns-in-SearchPath g c =
+    rw c.in-SearchPath.is (gave g.D.Desk.told (AnswersQuestion SearchPath) [] path_set c.say_path_set.result c.args.desk.now c.args.out.now.items c.args.desk.now c.say_path_set.new.out.items refl (refl, refl) c.say_path_set.ensures)
+
+pub returns-in-DirectoryMode : goal.returns-in-DirectoryMode
+returns-in-DirectoryMode g c =
+    rw c.in-DirectoryMode.is (gave g.D.Desk.told (AnswersQuestion DirectoryMode) [] mode_shown c.say_mode.result c.args.desk.now c.args.out.now.items c.args.desk.now c.say_mode.new.out.items refl (refl, refl) c.say_mode.ensures)
+
+pub returns-in-InitialCopy : goal.returns-in-InitialCopy
+returns-in-InitialCopy g c =
+    rw c.in-InitialCopy.is (gave g.D.Desk.told (AnswersQuestion InitialCopy) [] (refused_ready refusals.InitialCopy) c.say_refused_ready.result c.args.desk.now c.args.out.now.items c.args.desk.now c.say_refused_ready.new.out.items refl (refl, refl) c.say_refused_ready.ensures)
