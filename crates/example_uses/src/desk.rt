@@ -1,7 +1,8 @@
 //! The desk of a server without slots.
 
-use replcmd::StreamOptions;
-use server::{Desk, DeskFault};
+use pqformat::Items;
+use replcmd::{Names, StreamOptions};
+use server::{Desk, DeskFault, TableName};
 
 /// What a connection asks of its server: where the log ends, and for slots, of which this one has none.
 #[derive(Drop)]
@@ -27,6 +28,18 @@ impl Desk for EmptyDesk {
 
     fn drop_slot(&mut self, _slot: &str) -> Result<(), DeskFault> {
         Err(DeskFault::SlotMissing)
+    }
+
+    fn publications(&mut self, _names: &Names) -> Result<Names, DeskFault> {
+        Err(DeskFault::UnknownPublication)
+    }
+
+    fn tables(&mut self, _names: &Names) -> Result<Items<TableName>, DeskFault> {
+        Err(DeskFault::UnknownPublication)
+    }
+
+    fn drop_when_free(&mut self, slot: &str) -> Result<(), DeskFault> {
+        self.drop_slot(slot)
     }
 
     fn start(

@@ -2,4 +2,5 @@ pub mod Crossing
 pub mod Dropping
 pub mod Resuming
 pub mod Streams
+pub mod Telling
 pub mod Turns

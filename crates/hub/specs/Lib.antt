@@ -4,3 +4,4 @@ pub mod Refusals
 pub mod Reins
 pub mod Streams
 pub mod Turns
+pub mod Published

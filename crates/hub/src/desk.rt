@@ -3,9 +3,11 @@
 use crate::gate::Gate;
 use crate::hub::Hub;
 use crate::line::Line;
+use crate::published::{known_names, tables_of};
 use crate::refused_command::RefusedCommand;
-use replcmd::{CmdFault, StreamOptions};
-use server::{Desk, DeskFault};
+use pqformat::Items;
+use replcmd::{CmdFault, Names, StreamOptions};
+use server::{Desk, DeskFault, TableName};
 use shared_log::LogName;
 use slots::SlotName;
 use std::sync::Wait;
@@ -22,6 +24,16 @@ pub(crate) struct HubDesk<'h, L: LogName + SlotName, R: Wait, G: Gate> {
     pub number: u32,
     /// The latch of the stream that runs.
     pub latch: Option<usize>,
+}
+
+impl<'h, L: LogName + SlotName, R: Wait, G: Gate> HubDesk<'h, L, R, G> {
+    /// Tells the gate of a slot that could not be dropped.
+    fn tell_drop(&self, slot: &str, dropped: &Result<(), DeskFault>) {
+        if let Err(fault) = dropped {
+            let what = RefusedCommand::OfSlot("DROP_REPLICATION_SLOT", slot, *fault);
+            self.gate.refused(self.number, &what);
+        }
+    }
 }
 
 impl<'h, L: LogName + SlotName, R: Wait, G: Gate> Desk for HubDesk<'h, L, R, G> {
@@ -47,10 +59,24 @@ impl<'h, L: LogName + SlotName, R: Wait, G: Gate> Desk for HubDesk<'h, L, R, G> 
 
     fn drop_slot(&mut self, slot: &str) -> Result<(), DeskFault> {
         let dropped = self.hub.drop_slot(self.rt, slot);
-        if let Err(fault) = &dropped {
-            let what = RefusedCommand::OfSlot("DROP_REPLICATION_SLOT", slot, *fault);
-            self.gate.refused(self.number, &what);
+        self.tell_drop(slot, &dropped);
+        dropped
+    }
+
+    fn publications(&mut self, names: &Names) -> Result<Names, DeskFault> {
+        match known_names(self.hub.alloc, &self.hub.publications, names.as_slice()) {
+            Ok(known) => Ok(known),
+            Err(_) => Err(DeskFault::Memory),
         }
+    }
+
+    fn tables(&mut self, names: &Names) -> Result<Items<TableName>, DeskFault> {
+        tables_of(self.hub.alloc, &self.hub.publications, names.as_slice())
+    }
+
+    fn drop_when_free(&mut self, slot: &str) -> Result<(), DeskFault> {
+        let dropped = self.hub.drop_when_free(self.rt, slot);
+        self.tell_drop(slot, &dropped);
         dropped
     }
 

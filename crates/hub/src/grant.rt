@@ -109,6 +109,8 @@ impl<L: LogName + SlotName> StreamGrant<L> {
         let first = match reader.resume(start, LIMIT) {
             Ok(first) => first,
             Err(_) => {
+                drop(selection);
+                drop(arena);
                 let pair = Pair {
                     reader,
                     seat: hold.release(slots),

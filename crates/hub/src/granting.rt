@@ -1,6 +1,6 @@
 //! What commands ask of a hub: the end of its log, slots, and streams.
 
-ghost use Rattle.std.specs.Prelude.{◌<◌, IfSome};
+ghost use Rattle.std.specs.Prelude.{◌≡◌, ◌<◌, IfOk, IfSome};
 
 use crate::grant::StreamGrant;
 use crate::hub::Hub;
@@ -49,6 +49,31 @@ impl<L: LogName + SlotName> Hub<L> {
         }
         drop(names);
         Ok(())
+    }
+
+    /// Drops a slot once no stream has it. Where the server ends before that, the slot is in use.
+    pub(crate) fn drop_when_free<R: Wait>(&self, rt: &R, name: &str) -> Result<(), DeskFault> {
+        let mut dropped = self.drop_slot(rt, name);
+        for _ in rt.forever() {
+            if dropped != Err(DeskFault::SlotInUse) {
+                break;
+            }
+            let goes_on = self.await_free(rt, name);
+            // Somebody else may have dropped it.
+            dropped = self.drop_slot(rt, name);
+            if !goes_on {
+                break;
+            }
+        }
+        dropped
+    }
+
+    /// Waits until no stream of the slot is written; false: there is no such slot, or the server ends.
+    fn await_free<R: Wait>(&self, rt: &R, name: &str) -> bool {
+        match self.post_at(self.place_of(rt, name)) {
+            Some(post) => post.await_free(rt),
+            None => false,
+        }
     }
 
     /// What is known of the slot at a place, and how its stream is steered.
@@ -111,7 +136,9 @@ impl<L: LogName + SlotName> Hub<L> {
     }
 }
 
-fn texts_of(alloc: Global, names: &[Name]) -> Result<Vec<Text>, AllocError> {
+pub(crate) fn texts_of(alloc: Global, names: &[Name]) -> Result<Vec<Text>, AllocError>
+    ensures { IfOk result (λ texts. texts.items ≡ names.now) }
+{
     let mut texts = Vec::with_capacity(alloc, names.len())?;
     for name in names {
         texts.push(Text::copy_of(alloc, name.as_str())?)?;

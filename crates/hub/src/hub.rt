@@ -8,20 +8,22 @@ use crate::fault::HubFault;
 use crate::latch::Latch;
 use crate::line::Line;
 use crate::names::Names;
-use crate::opened::{MOST_STREAMS, OpenedHub};
+use crate::opened::OpenedHub;
 use crate::pool::Pool;
+use crate::shared::{Places, Shared};
 use crate::slot_post::SlotPost;
 use crate::sockets::Sockets;
 use crate::streaming::Stream;
 use crate::system::SystemName;
 use publication::Publications;
+use server::{Dialect, Service};
 use shared_log::{LogName, LogReader};
-use slots::{PLACES, SlotName, SlotSeat, SlotTable};
-use std::alloc::{AllocError, Global};
+use slots::{SlotName, SlotTable};
+use std::alloc::Global;
 use std::sync::atomic::{AtomicBool, AtomicU32, AtomicU64, Ordering};
 use std::sync::{Condvar, Mutex, Wait};
 use std::time::{Clock, Duration};
-use txlog::{Opened, Publisher, Receipt};
+use txlog::{Publisher, Receipt};
 
 /// What the connections of a publisher share: its log and rows, its slots, its publications, and what commits and notes tell.
 ///
@@ -41,6 +43,7 @@ pub struct Hub<L: LogName + SlotName> {
     authentication_timeout: Duration,
     max_connections: u32,
     pub(crate) chunks: u32,
+    answers_postgresql: bool,
     /// How many connections are served.
     pub(crate) served: AtomicU32,
     pub(crate) streams_begun: AtomicU64,
@@ -72,15 +75,29 @@ impl<L: LogName + SlotName> Hub<L> {
             authentication_timeout,
             max_connections,
             chunks,
+            answers_postgresql,
             records,
         } = opened;
-        let (table, mut seats) = slots.open::<L>(MOST_STREAMS + 1)?;
-        let Some(seat) = seats.pop() else {
-            return Err(HubFault::Memory);
+        let shared = match Shared::open(rt, alloc, log, slots) {
+            Ok(shared) => shared,
+            Err(fault) => {
+                drop(publications);
+                drop(system);
+                return Err(fault);
+            }
         };
-        let latches = latches_of(alloc)?;
-        let posts = posts_of(alloc)?;
-        let (publisher, pool, counter) = published(rt, alloc, log, seats)?;
+        let Shared {
+            places,
+            publisher,
+            pool,
+            counter,
+        } = shared;
+        let Places {
+            table,
+            seat,
+            latches,
+            posts,
+        } = places;
         Ok(Hub {
             alloc,
             publications,
@@ -95,6 +112,7 @@ impl<L: LogName + SlotName> Hub<L> {
             authentication_timeout,
             max_connections,
             chunks,
+            answers_postgresql,
             served: AtomicU32::new(0),
             streams_begun: AtomicU64::new(0),
             no_more_streams: AtomicBool::new(false),
@@ -122,6 +140,7 @@ impl<L: LogName + SlotName> Hub<L> {
             authentication_timeout: _,
             max_connections: _,
             chunks: _,
+            answers_postgresql: _,
             served: _,
             streams_begun: _,
             no_more_streams: _,
@@ -143,6 +162,16 @@ impl<L: LogName + SlotName> Hub<L> {
     /// `tell_note`.
     pub fn publisher(&self) -> &Mutex<Publisher<L>> {
         &self.publisher
+    }
+
+    /// How the connection of this number is served.
+    pub(crate) fn service(&self, number: u32) -> Service {
+        let dialect = if self.answers_postgresql {
+            Dialect::Questions
+        } else {
+            Dialect::Commands
+        };
+        Service { number, dialect }
     }
 
     /// For how long a read of a connection waits: half of the time for which the client of a stream may be silent.
@@ -278,54 +307,5 @@ impl<L: LogName + SlotName> Hub<L> {
         ensures hold { stream.new.hold ≡ stream.old.hold }
     {
         stream.learn(&*self.notice.lock(rt));
-    }
-}
-
-fn latches_of(alloc: Global) -> Result<Vec<Latch>, AllocError> {
-    let mut latches = Vec::with_capacity(alloc, MOST_STREAMS)?;
-    for _ in 0..MOST_STREAMS {
-        latches.push(Latch::new())?;
-    }
-    Ok(latches)
-}
-
-fn posts_of(alloc: Global) -> Result<Vec<SlotPost>, AllocError> {
-    let mut posts = Vec::with_capacity(alloc, PLACES)?;
-    for _ in 0..PLACES {
-        posts.push(SlotPost::new())?;
-    }
-    Ok(posts)
-}
-
-/// The publisher, its readers with a seat each, and one reader without.
-fn published<L: LogName + SlotName, R: Wait>(
-    rt: &R,
-    alloc: Global,
-    log: Opened,
-    seats: Vec<SlotSeat<L>>,
-) -> Result<(Publisher<L>, Pool<L>, LogReader<L>), HubFault>
-    requires { log.history.seen.book ≡ L.book }
-{
-    match Publisher::<L>::open(rt, log) {
-        Ok((publisher, readers)) => match parted(alloc, readers, seats) {
-            Some((pool, counter)) => Ok((publisher, pool, counter)),
-            None => {
-                publisher.close(rt);
-                Err(HubFault::Memory)
-            }
-        },
-        Err(_) => Err(HubFault::Memory),
-    }
-}
-
-fn parted<L: LogName + SlotName>(
-    alloc: Global,
-    mut readers: Vec<LogReader<L>>,
-    seats: Vec<SlotSeat<L>>,
-) -> Option<(Pool<L>, LogReader<L>)> {
-    let counter = readers.pop()?;
-    match Pool::of(alloc, readers, seats) {
-        Ok(pool) => Some((pool, counter)),
-        Err(_) => None,
     }
 }

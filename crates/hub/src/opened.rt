@@ -45,6 +45,9 @@ pub struct OpenedHub {
     pub max_connections: u32,
     /// How many chunks of 16,384 bytes the changes of the transactions in progress may take in a stream: 64, unless it is set.
     pub chunks: u32,
+    /// Whether the questions of PostgreSQL's own clients are answered, which subscribers (CREATE SUBSCRIPTION) and pg_recvlogical
+    /// ask before and beside commands: false, unless it is set. Then any text that is no command is a syntax error.
+    pub answers_postgresql: bool,
 }
 
 impl OpenedHub {
@@ -74,6 +77,7 @@ impl OpenedHub {
             authentication_timeout: Duration::from_secs(AUTHENTICATION_TIMEOUT),
             max_connections: MAX_CONNECTIONS,
             chunks: CHUNKS,
+            answers_postgresql: false,
         })
     }
 }

@@ -64,7 +64,7 @@ pub(crate) fn read_line<L: LogName + SlotName, R: Wait + Clock, G: Gate>(
     read: &ReadLoop<'_, L, R, G>,
 ) -> ConnectionEnd {
     let mut state = ReadState {
-        connection: Connection::new(read.hub.alloc, read.number),
+        connection: Connection::served(read.hub.alloc, read.hub.service(read.number)),
         commands: 0,
         posted: Phase::Startup,
         latch: None,

@@ -35,7 +35,7 @@ pub(crate) fn of_start(fault: StartFault) -> DeskFault
 }
 
 /// Why publications were not selected: an unknown one, lists that differ, or else memory.
-fn of_publications(fault: PubFault) -> DeskFault
+pub(crate) fn of_publications(fault: PubFault) -> DeskFault
     ensures { result ≡ of_publications fault }
 {
     match fault {

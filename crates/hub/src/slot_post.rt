@@ -14,7 +14,7 @@ use std::time::Duration;
 #[derive(Drop)]
 pub(crate) struct SlotPost {
     known: Mutex<KnownSlot>,
-    /// The slot was confirmed further, or dropped.
+    /// The slot was confirmed further, or dropped, or its stream has ended.
     moved: Condvar,
 }
 
@@ -152,6 +152,7 @@ impl SlotPost {
         known.latch = None;
         let was_cut = known.was_cut;
         drop(known);
+        self.moved.notify_all();
         was_cut
     }
 
@@ -216,6 +217,16 @@ impl SlotPost {
     pub fn await_confirmed<R: Wait>(&self, rt: &R, position: u64) -> bool {
         let known = self.moved.wait_while(rt, self.known.lock(rt), |known| {
             known.is_open && known.confirmed < position
+        });
+        let is_open = known.is_open;
+        drop(known);
+        is_open
+    }
+
+    /// Waits until no stream of the slot is written, and answers true; false: it was dropped, or the server ends.
+    pub fn await_free<R: Wait>(&self, rt: &R) -> bool {
+        let known = self.moved.wait_while(rt, self.known.lock(rt), |known| {
+            known.is_open && known.latch.is_some()
         });
         let is_open = known.is_open;
         drop(known);

@@ -103,12 +103,13 @@ pub struct Words<'a> {
     at_once: Option<&'a str>,
     messages: Option<&'a str>,
     status: Option<&'a str>,
+    answers_postgresql: bool,
     pub scripts: Vec<&'a str>,
 }
 
-/// Where it listens, for connections and for who asks what runs, how many connections it serves, how many streams the scripts await, how much it tells, and its limits where
+/// Where it listens, for connections and for who asks what runs, how many connections it serves, how many streams the scripts await, how much it tells, its limits where
 /// they are told: for how long a stream's client may be silent, how long a startup may take, and how many connections are served
-/// at once.
+/// at once; and whether PostgreSQL's own clients are answered.
 #[derive(Clone, Copy)]
 pub struct Numbers {
     pub address: SocketAddr,
@@ -119,6 +120,7 @@ pub struct Numbers {
     pub wal_sender_timeout: Option<Duration>,
     pub authentication_timeout: Option<Duration>,
     pub max_connections: Option<u32>,
+    pub answers_postgresql: bool,
 }
 
 impl<'a> Words<'a> {
@@ -134,6 +136,7 @@ impl<'a> Words<'a> {
             wal_sender_timeout: self.wal_sender_timeout()?,
             authentication_timeout: self.authentication_timeout()?,
             max_connections: self.max_connections()?,
+            answers_postgresql: self.answers_postgresql,
         })
     }
 
@@ -249,11 +252,15 @@ const OPTIONAL: [(&str, &str, &str); 6] = [
     ),
 ];
 
+/// The word that stands alone.
+const ANSWER_POSTGRESQL: &str = "answer-postgresql";
+
 /// All words, or the text for a user who asks for help or gives other words.
 pub fn words_of<'a>(alloc: Global, words: &'a [String]) -> Result<Words<'a>, Error> {
     let matches = command_of(alloc)?.try_get_matches_from(words)?;
-    let scripts = scripts_in(alloc, &matches)?;
-    Ok(words_in(&matches, scripts))
+    let words = words_in(alloc, &matches);
+    drop(matches);
+    Ok(words?)
 }
 
 fn command_of<'a>(alloc: Global) -> Result<Command<'a>, AllocError> {
@@ -264,6 +271,7 @@ fn command_of<'a>(alloc: Global) -> Result<Command<'a>, AllocError> {
     for (name, value, help) in &OPTIONAL {
         command = command.arg(optional(alloc, *name, *value, *help))?;
     }
+    command = command.arg(answer_postgresql(alloc))?;
     for (name, help) in &REQUIRED {
         command = command.arg(required(alloc, *name, *help))?;
     }
@@ -276,6 +284,15 @@ fn optional<'a>(alloc: Global, name: &'a str, value: &'a str, help: &'a str) -> 
         .value_name(value)
         .action(ArgAction::Set)
         .help(help)
+}
+
+fn answer_postgresql(alloc: Global) -> Arg<'static> {
+    Arg::new(alloc, ANSWER_POSTGRESQL)
+        .long(ANSWER_POSTGRESQL)
+        .action(ArgAction::SetTrue)
+        .help(
+            "Answer what CREATE SUBSCRIPTION and pg_recvlogical ask beside the commands of replication, and call the server 13.0 for them",
+        )
 }
 
 fn required<'a>(alloc: Global, name: &'a str, help: &'a str) -> Arg<'a> {
@@ -303,8 +320,8 @@ fn scripts_in<'a>(alloc: Global, matches: &ArgMatches<'a>) -> Result<Vec<&'a str
 }
 
 /// The first three are required, so they are there.
-fn words_in<'a>(matches: &ArgMatches<'a>, scripts: Vec<&'a str>) -> Words<'a> {
-    Words {
+fn words_in<'a>(alloc: Global, matches: &ArgMatches<'a>) -> Result<Words<'a>, AllocError> {
+    Ok(Words {
         config: matches.get_str("CONFIG").unwrap_or(""),
         address: matches.get_str("ADDR").unwrap_or(""),
         connections: matches.get_str("CONNECTIONS").unwrap_or(""),
@@ -314,6 +331,7 @@ fn words_in<'a>(matches: &ArgMatches<'a>, scripts: Vec<&'a str>) -> Words<'a> {
         at_once: matches.get_str("max-connections"),
         messages: matches.get_str("log-min-messages"),
         status: matches.get_str("status"),
-        scripts,
-    }
+        answers_postgresql: matches.get_flag(ANSWER_POSTGRESQL),
+        scripts: scripts_in(alloc, matches)?,
+    })
 }

@@ -164,6 +164,7 @@ fn limit(opened: &mut OpenedHub, numbers: &Numbers) {
         .authentication_timeout
         .unwrap_or(opened.authentication_timeout);
     opened.max_connections = numbers.max_connections.unwrap_or(opened.max_connections);
+    opened.answers_postgresql = numbers.answers_postgresql;
 }
 
 /// What is served, and what runs beside it.

@@ -1,7 +1,8 @@
 //! A desk that does as the names of slots say, and writes down what it is asked.
 
-use replcmd::StreamOptions;
-use server::{Desk, DeskFault};
+use pqformat::Items;
+use replcmd::{Names, StreamOptions};
+use server::{Desk, DeskFault, TableName};
 use std::alloc::{AllocError, Global};
 
 /// The slots that it refuses, and why. It takes any other.
@@ -71,6 +72,19 @@ impl Desk for ScriptedDesk {
         let noted = write!(self.asked, "(drop, {slot:?}), ");
         self.note(noted);
         answer_of(slot)
+    }
+
+    // Its connections answer no questions.
+    fn publications(&mut self, _names: &Names) -> Result<Names, DeskFault> {
+        Err(DeskFault::UnknownPublication)
+    }
+
+    fn tables(&mut self, _names: &Names) -> Result<Items<TableName>, DeskFault> {
+        Err(DeskFault::UnknownPublication)
+    }
+
+    fn drop_when_free(&mut self, slot: &str) -> Result<(), DeskFault> {
+        self.drop_slot(slot)
     }
 
     fn start(
