@@ -6,6 +6,12 @@ import subprocess
 import sys
 import time
 
+from asking import (
+    a_slot_is_dropped_once_its_stream_has_ended,
+    questions_are_answered_where_they_may_be,
+    questions_are_refused_where_they_may_not_be,
+    texts_near_questions_are_refused,
+)
 from closing import an_acknowledgement_holds_over_a_blocked_write, an_acknowledgement_holds_over_a_close
 from connection import STARTUP, Connection, Refused, keepalive, refusal_of_one_more, status
 from crowds import sixteen_clients_at_sixteen_slots, sixteen_streams_tell_the_same_of_eight_scripts
@@ -366,4 +372,8 @@ ALL = [
     a_word_that_is_none_is_told,
     acknowledgements_follow_what_was_printed,
     messages_are_asked_for_by_an_option,
+    questions_are_answered_where_they_may_be,
+    questions_are_refused_where_they_may_not_be,
+    texts_near_questions_are_refused,
+    a_slot_is_dropped_once_its_stream_has_ended,
 ]

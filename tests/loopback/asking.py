@@ -1,0 +1,153 @@
+"""What PostgreSQL's own clients ask beside commands: it is answered where pubd is told to, word for word, and refused else."""
+import struct
+import threading
+import time
+
+from connection import Connection, Refused
+from server import Server
+
+ON = ["--answer-postgresql"]
+PATH = "SELECT pg_catalog.set_config('search_path', '', false);"
+MODE = "SHOW data_directory_mode"
+COPY = "BEGIN READ ONLY ISOLATION LEVEL REPEATABLE READ"
+PUBLICATIONS = "SELECT t.pubname FROM\n pg_catalog.pg_publication t WHERE\n t.pubname IN ({})"
+TABLES = "SELECT DISTINCT t.schemaname, t.tablename \nFROM pg_catalog.pg_publication_tables t\n WHERE t.pubname IN ({})"
+DROP = 'DROP_REPLICATION_SLOT "s" WAIT'
+SYNTAX = "42601"
+UNSUPPORTED = "0A000"
+
+
+def frame(kind, body):
+    return kind + struct.pack(">I", len(body) + 4) + body
+
+
+def answer(columns, rows, tag):
+    """Columns of texts (type 25), rows, and the end of the answer."""
+    described = b"".join(name.encode() + b"\0" + struct.pack(">IhIhih", 0, 0, 25, -1, -1, 0) for name in columns)
+    frames = [frame(b"T", struct.pack(">h", len(columns)) + described)]
+    for row in rows:
+        values = b"".join(struct.pack(">I", len(value.encode())) + value.encode() for value in row)
+        frames.append(frame(b"D", struct.pack(">h", len(row)) + values))
+    return b"".join(frames) + completed(tag)
+
+
+def completed(tag):
+    return frame(b"C", tag.encode() + b"\0") + frame(b"Z", b"I")
+
+
+ANSWERED = [
+    (PATH, answer(["set_config"], [[""]], "SELECT 1")),
+    (MODE, answer(["data_directory_mode"], [["0700"]], "SHOW")),
+    (PUBLICATIONS.format("'p'"), answer(["pubname"], [["p"]], "SELECT 1")),
+    (PUBLICATIONS.format("'no', 'p', 'o''ne'"), answer(["pubname"], [["p"]], "SELECT 1")),
+    (PUBLICATIONS.format("'P'"), answer(["pubname"], [], "SELECT 0")),
+    (TABLES.format("'p'"), answer(["schemaname", "tablename"], [["public", "item"]], "SELECT 1")),
+    (TABLES.format("'p', 'p', 'no'"), answer(["schemaname", "tablename"], [["public", "item"]], "SELECT 1")),
+    (TABLES.format("'no'"), answer(["schemaname", "tablename"], [], "SELECT 0")),
+    (DROP, completed("DROP_REPLICATION_SLOT")),
+]
+
+ENDED = "'p'); DROP_REPLICATION_SLOT s; ("
+LISTS = ["", "p", '"p"', "'p' ", " 'p'", "'p','p'", "'p',  'p'", "'p', ", "'p',", "'p''", "'p' -- ", "'p'/**/", "E'p'", ENDED]
+NEAR = [
+    *(text.format(each) for text in (PUBLICATIONS, TABLES) for each in LISTS),
+    *(change(text) for text in (PATH, MODE, COPY, PUBLICATIONS.format("'p'"), TABLES.format("'p'")) for change in (
+        lambda text: text + " ",
+        lambda text: " " + text,
+        lambda text: text + "\n",
+        lambda text: text + ";",
+        lambda text: text + "; DROP_REPLICATION_SLOT s",
+        lambda text: "DROP_REPLICATION_SLOT s; " + text,
+        lambda text: text + " -- it",
+        lambda text: "/* it */" + text,
+        lambda text: text.replace(" ", "  ", 1),
+        lambda text: text.replace(" ", "\t", 1),
+        lambda text: text.swapcase(),
+        lambda text: text[:-1],
+        lambda text: text[1:],
+    )),
+    "SELECT 1",
+    "",
+]
+NEAR_DROPS = [DROP + each for each in (";", " ", " -- it")]
+NEAR_DROPS += [DROP.lower(), DROP.replace(" W", "  W"), DROP.replace('"s"', "'s'"), DROP.replace('"', "")]
+
+
+def code_for(client, text):
+    """By which code it is refused, if it is."""
+    try:
+        client.ask(text)
+        return None
+    except Refused as refused:
+        return refused.args[0]
+
+
+def said_to(client, text):
+    return b"".join(frame(*each) for each in client.ask(text))
+
+
+def questions_are_answered_where_they_may_be(pubd, subcat):
+    """And the beginning of an initial copy is refused."""
+    wrong = []
+    with Server(pubd, 1, more=ON) as server:
+        client = Connection(server.port)
+        client.create("s")
+        for text, due in ANSWERED:
+            got = said_to(client, text)
+            wrong += [f"{text!r} is answered by {got}, and not by {due}"] * (got != due)
+        wrong += ["an initial copy isn't refused"] * (code_for(client, COPY) != UNSUPPORTED)
+        wrong += ["a slot isn't dropped"] * (code_for(client, "DROP_REPLICATION_SLOT s") != "42704")
+        client.close()
+        return wrong + server.end()
+
+
+def questions_are_refused_where_they_may_not_be(pubd, subcat):
+    """As any text that is no command."""
+    with Server(pubd, 1) as server:
+        client = Connection(server.port)
+        client.create("s")
+        due = [(text, SYNTAX) for text, _ in ANSWERED[:-1]] + [(COPY, SYNTAX), (DROP, UNSUPPORTED)]
+        wrong = refused_otherwise(client, due)
+        client.close()
+        return wrong + server.end()
+
+
+def texts_near_questions_are_refused(pubd, subcat):
+    """A blank, a quote, a comment, a statement more or less; and the slot is there still."""
+    with Server(pubd, 1, more=ON) as server:
+        client = Connection(server.port)
+        client.create("s")
+        texts = [text for text in NEAR if text != PATH]
+        wrong = refused_otherwise(client, [(text, SYNTAX) for text in texts])
+        wrong += [f"{text!r} is taken" for text in NEAR_DROPS if code_for(client, text) is None]
+        wrong += ["the slot has gone"] * (code_for(client, "DROP_REPLICATION_SLOT s") is not None)
+        client.close()
+        return wrong + server.end()
+
+
+def refused_otherwise(client, due):
+    got = [(text, code, code_for(client, text)) for text, code in due]
+    return [f"{text!r} is refused by {code}, and not by {due}" for text, due, code in got if code != due]
+
+
+def a_slot_is_dropped_once_its_stream_has_ended(pubd, subcat):
+    """Two drops of it wait until then: one is answered, and to the other the slot is gone."""
+    with Server(pubd, 4, more=ON) as server:
+        streaming, *dropping = (Connection(server.port) for _ in range(3))
+        streaming.create("s")
+        streaming.start("s")
+        codes = []
+        threads = [threading.Thread(target=lambda each=each: codes.append(code_for(each, DROP))) for each in dropping]
+        for thread in threads:
+            thread.start()
+        time.sleep(0.5)
+        wrong = ["a slot is dropped under its stream"] * bool(codes)
+        streaming.break_off()
+        for thread in threads:
+            thread.join(20)
+        wrong += [f"the drops are answered by {codes}"] * (sorted(codes, key=str) != ["42704", None])
+        again = Connection(server.port)
+        wrong += ["the slot is there still"] * (code_for(again, "DROP_REPLICATION_SLOT s") != "42704")
+        for client in (*dropping, again):
+            client.close()
+        return wrong + server.end()
