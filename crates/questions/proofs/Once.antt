@@ -9,7 +9,7 @@ use Rattle.questions.specs.Questions.{quoted, further, SpellsDrop, SpellsNames, 
 use Rattle.questions.specs.Reading.{quoted_front}
 use Rattle.questions.proofs.Lists.{ends, first_read, same_first}
 use Rattle.questions.proofs.Quotes.{quoted_reads}
-use Rattle.questions.proofs.Slots.{drop_reads}
+use Rattle.questions.proofs.Slots.{drop_once}
 
 both : (n m : List ℕ) (ns ms : List (List ℕ)) → n ≡ m → ns ≡ ms → n ∷ ns ≡ m ∷ ms
 both n m ns ms same others = ap (λ (l : List ℕ). l ∷ ns) same ∙ ap (λ (l : List (List ℕ)). m ∷ l) others
@@ -30,11 +30,6 @@ names_once list (n ∷ ns) (m ∷ ms) x y =
     let same = same_first n (further ns) m (further ms) (sym (first_read list n ns x) ∙ first_read list m ms y) in
     both n m ns ms same.0 (further_once ns ms same.1)
 
-slot_once : (text a b : List ℕ) → SpellsDrop text a → SpellsDrop text b → a ≡ b
-slot_once text a b x y =
-    let read = drop_reads text (quoted NAME_QUOTE a ++ codes " WAIT") b x.1 y in
-    (same_first a (codes " WAIT") b (codes " WAIT") (sym (quoted_reads NAME_QUOTE a (codes " WAIT") refl) ∙ read)).0
-
 -- The ninth byte tells questions apart.
 mark : Question → ℕ
 mark SearchPath = 103
@@ -51,7 +46,7 @@ marked text DirectoryMode x = ap (λ (t : List ℕ). get_or t 8 0) x
 marked text InitialCopy x = ap (λ (t : List ℕ). get_or t 8 0) x
 marked text (Publications names) x = ap (λ (t : List ℕ). get_or t 8 0) x.1
 marked text (Tables names) x = ap (λ (t : List ℕ). get_or t 8 0) x.1
-marked text (DropWhenFree slot) x = ap (λ (t : List ℕ). get_or t 8 0) x.1
+marked text (DropWhenFree slot) x = ap (λ (t : List ℕ). get_or t 8 0) x.1.1
 
 apart : (m n : ℕ) → m ≢ n → (text : List ℕ) → get_or text 8 0 ≡ m → get_or text 8 0 ≡ n → ⊥
 apart m n other text x y = other (sym x ∙ y)
@@ -93,4 +88,4 @@ once text (DropWhenFree m) DirectoryMode x y = absurd (apart 76 97 (omega arith)
 once text (DropWhenFree m) InitialCopy x y = absurd (apart 76 65 (omega arith) text (marked text (DropWhenFree m) x) (marked text InitialCopy y))
 once text (DropWhenFree m) (Publications n) x y = absurd (apart 76 46 (omega arith) text (marked text (DropWhenFree m) x) (marked text (Publications n) y))
 once text (DropWhenFree m) (Tables n) x y = absurd (apart 76 73 (omega arith) text (marked text (DropWhenFree m) x) (marked text (Tables n) y))
-once text (DropWhenFree m) (DropWhenFree n) x y = ap (λ (l : List ℕ). DropWhenFree l) (slot_once text m n x y)
+once text (DropWhenFree m) (DropWhenFree n) x y = ap (λ (l : List ℕ). DropWhenFree l) (drop_once text m n x y)

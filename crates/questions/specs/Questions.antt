@@ -1,6 +1,6 @@
 -- The questions that the clients of PostgreSQL 15 ask beside the commands of the replication protocol, text by text: a subscriber (CREATE,
 -- ALTER and DROP SUBSCRIPTION, 31.2) and pg_recvlogical. Names stand as string literals (4.1.2.1), in which a quote that is meant stands twice.
-use Rattle.std.specs.Prelude.{◌≡◌, ℕ, true, List, [], ◌∷◌, ◌++◌, codes}
+use Rattle.std.specs.Prelude.{◌≡◌, ◌⊎◌, ℕ, true, List, [], ◌∷◌, ◌++◌, codes}
 use Rattle.replcmd.specs.Tokens.{doubled}
 use Rattle.replcmd.specs.Words.{is_slot_name}
 use Rattle.questions.specs.declared.question.Question.{Question}
@@ -20,9 +20,13 @@ abbrev pub SpellsNames : List ℕ → List (List ℕ) → Type 0
 SpellsNames text [] = ⊥
 SpellsNames text (name ∷ names) = text ≡ quoted LITERAL_QUOTE name ++ further names
 
+-- The name of a slot stands in quotes, or without: the first releases of PostgreSQL 15 write each in quotes, 15.18 only one that needs them.
+abbrev pub SpellsSlot : List ℕ → List ℕ → Type 0
+SpellsSlot named slot = (named ≡ quoted NAME_QUOTE slot) ⊎ (named ≡ slot)
+
 -- The text drops this slot once nobody holds it.
 abbrev pub SpellsDrop : List ℕ → List ℕ → Type 0
-SpellsDrop text slot = (is_slot_name slot ≡ true) × (text ≡ codes "DROP_REPLICATION_SLOT " ++ (quoted NAME_QUOTE slot ++ codes " WAIT"))
+SpellsDrop text slot = (is_slot_name slot ≡ true) × ((named : List ℕ) × (text ≡ codes "DROP_REPLICATION_SLOT " ++ (named ++ codes " WAIT")) × SpellsSlot named slot)
 
 -- The whole text asks this.
 abbrev pub SpellsQuestion : List ℕ → Question → Type 0

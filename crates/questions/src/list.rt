@@ -16,6 +16,14 @@ pub(crate) fn behind<'a>(text: &'a [u8], front: &str) -> Option<&'a [u8]>
     text.strip_prefix(front.as_bytes())
 }
 
+/// What stands before this text, where it stands at the end.
+#[tactic(auto, using(std::proofs::lemmas::Slice::Eq::strip_suffix_is))]
+pub(crate) fn before<'a>(text: &'a [u8], end: &str) -> Option<&'a [u8]>
+    ensures { MatchOption result ((front : List ℕ) → text.now ≢ front ++ end.now) (λ front. text.now ≡ front.now ++ end.now) }
+{
+    text.strip_suffix(end.as_bytes())
+}
+
 /// The names of a list of which the opening bracket was read, up to the closing one, with which the text ends.
 pub(crate) fn names_of(alloc: Global, text: &[u8]) -> Result<Option<Names>, AllocError>
     requires { IsUtf8 text.now }

@@ -1,17 +1,19 @@
 //! Questions, and their reader.
 
-ghost use Rattle.std.specs.Prelude.{◌≡◌, ◌++◌, ℕ, List, IfOk, MatchOption, nat_lt, true};
+ghost use Rattle.std.specs.Prelude.{◌≡◌, ◌≢◌, ◌++◌, ℕ, List, IfOk, MatchOption, false, nat_lt, true};
 ghost use Rattle.std.specs.List.{list_all};
 ghost use Rattle.std.specs.Str.{IsUtf8};
-ghost use Rattle.questions.specs.Questions.{SpellsDrop, SpellsNames, SpellsQuestion};
+ghost use Rattle.replcmd.specs.Words.{is_slot_name};
+ghost use Rattle.questions.specs.Questions.{SpellsDrop, SpellsNames, SpellsQuestion, quoted};
+ghost use Rattle.questions.specs.declared.quoted.TheConstants.{NAME_QUOTE};
 ghost use Rattle.questions.specs.Reading.{IsPlain};
 
-use crate::list::{behind, names_of};
+use crate::list::{before, behind, names_of};
 use crate::quoted::{NAME_QUOTE, quoted_of};
 use replcmd::{Name, Names, is_slot_name};
 use std::alloc::{AllocError, Global};
 
-/// A question of a client of PostgreSQL 15. Each has one text.
+/// A question of a client of PostgreSQL 15. Each has one text, but that a slot may be named with quotes or without.
 #[derive(Debug, Drop)]
 pub enum Question {
     /// That names without a schema mean nothing from here on: what `pg_recvlogical` and subscribers say first.
@@ -80,13 +82,38 @@ fn slot_of(alloc: Global, text: &[u8]) -> Result<Option<Name>, AllocError>
     requires { IsUtf8 text.now }
     ensures { IfOk result (λ found. MatchOption found ((slot : List ℕ) → SpellsDrop text.now slot → ⊥) (λ slot. SpellsDrop text.now slot)) }
 {
-    let Some(named) = behind(text, "DROP_REPLICATION_SLOT ") else {
+    let Some(rest) = behind(text, "DROP_REPLICATION_SLOT ") else {
         return Ok(None);
     };
+    let Some(named) = before(rest, " WAIT") else {
+        return Ok(None);
+    };
+    match bare_of(alloc, named)? {
+        Some(slot) => Ok(Some(slot)),
+        None => quoted_slot_of(alloc, named),
+    }
+}
+
+/// The name of a slot that stands there without quotes.
+fn bare_of(alloc: Global, named: &[u8]) -> Result<Option<Name>, AllocError>
+    ensures { IfOk result (λ found. MatchOption found (is_slot_name named.now ≡ false) (λ slot. (slot ≡ named.now) × (is_slot_name named.now ≡ true))) }
+{
+    match std::str::from_utf8(named) {
+        Ok(slot) if is_slot_name(slot) => Ok(Some(Name::new(String::from_str(alloc, slot)?))),
+        _ => Ok(None),
+    }
+}
+
+/// The name of a slot that stands there in quotes.
+fn quoted_slot_of(alloc: Global, named: &[u8]) -> Result<Option<Name>, AllocError>
+    requires { IsUtf8 named.now }
+    ensures { IfOk result (λ found. MatchOption found ((slot : List ℕ) → is_slot_name slot ≡ true → named.now ≢ quoted NAME_QUOTE slot)
+        (λ slot. (is_slot_name slot ≡ true) × (named.now ≡ quoted NAME_QUOTE slot))) }
+{
     let Some((slot, rest)) = quoted_of(alloc, NAME_QUOTE, named)? else {
         return Ok(None);
     };
-    if rest == b" WAIT".as_slice() && is_slot_name(slot.as_str()) {
+    if rest.is_empty() && is_slot_name(slot.as_str()) {
         return Ok(Some(slot));
     }
     Ok(None)
