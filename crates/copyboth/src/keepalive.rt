@@ -8,7 +8,7 @@ ghost use Rattle.copyboth.specs.Reading.{keepalive_at};
 use crate::fault::CopyFault;
 use crate::fields::{ask_of, end_of, int64_of, signed64_of};
 use bytes::BytesMut;
-use pqformat::{Cursor, put_byte, put_int64};
+use pqformat::{Cursor, put_byte, put_int64, whole_or_nothing};
 use std::alloc::AllocError;
 
 /// The kind byte of a primary keepalive.
@@ -48,11 +48,7 @@ pub fn write_keepalive(
     ensures err { OnErr result (out.new.items ≡ out.old.items) }
 {
     let length = out.len();
-    let written = put_keepalive(end, clock, ask, out);
-    if written.is_err() {
-        out.truncate(length);
-    }
-    written
+    whole_or_nothing(put_keepalive(end, clock, ask, out), length, out)
 }
 
 fn put_keepalive(end: u64, clock: i64, ask: bool, out: &mut BytesMut) -> Result<(), AllocError>

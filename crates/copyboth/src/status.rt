@@ -9,7 +9,7 @@ use crate::fault::CopyFault;
 use crate::fields::{ask_of, end_of, int64_of, signed64_of};
 use crate::keepalive::byte_of;
 use bytes::BytesMut;
-use pqformat::{Cursor, put_byte, put_int64};
+use pqformat::{Cursor, put_byte, put_int64, whole_or_nothing};
 use std::alloc::AllocError;
 
 /// The kind byte of a standby status update.
@@ -40,11 +40,7 @@ pub fn write_status(message: &Status, out: &mut BytesMut) -> Result<(), AllocErr
     ensures err { OnErr result (out.new.items ≡ out.old.items) }
 {
     let length = out.len();
-    let written = put_status(message, out);
-    if written.is_err() {
-        out.truncate(length);
-    }
-    written
+    whole_or_nothing(put_status(message, out), length, out)
 }
 
 fn put_status(message: &Status, out: &mut BytesMut) -> Result<(), AllocError>

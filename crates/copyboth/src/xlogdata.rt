@@ -8,7 +8,7 @@ ghost use Rattle.copyboth.specs.Reading.{xlogdata_at};
 use crate::fault::CopyFault;
 use crate::fields::{int64_of, signed64_of};
 use bytes::BytesMut;
-use pqformat::{Cursor, put_byte, put_bytes, put_int64};
+use pqformat::{Cursor, put_byte, put_bytes, put_int64, whole_or_nothing};
 use std::alloc::AllocError;
 use std::marker::Model;
 
@@ -53,41 +53,34 @@ pub fn write_xlogdata(
     ensures ok { OnOk result (out.new.items ≡ out.old.items ++ xlogdata start end clock payload.now) }
     ensures err { OnErr result (out.new.items ≡ out.old.items) }
 {
+    let data = XLogData {
+        start,
+        end,
+        clock,
+        payload,
+    };
     let length = out.len();
-    let written = put_xlogdata(start, end, clock, payload, out);
-    if written.is_err() {
-        out.truncate(length);
-    }
-    written
+    whole_or_nothing(put_xlogdata(&data, out), length, out)
 }
 
-fn put_xlogdata(
-    start: u64,
-    end: u64,
-    clock: i64,
-    payload: &[u8],
-    out: &mut BytesMut,
-) -> Result<(), AllocError>
-    ensures { Puts result out.old.items out.new.items (xlogdata start end clock payload.now) }
+fn put_xlogdata(data: &XLogData<'_>, out: &mut BytesMut) -> Result<(), AllocError>
+    ensures { Puts result out.old.items out.new.items (xlogdata data.now.start data.now.end data.now.clock data.now.payload) }
 {
     put_byte(out, XLOGDATA)?;
-    put_int64(out, start)?;
-    put_int64(out, end)?;
-    put_int64(out, clock.cast_unsigned())?;
-    put_bytes(out, payload)
+    put_int64(out, data.start)?;
+    put_int64(out, data.end)?;
+    put_int64(out, data.clock.cast_unsigned())?;
+    put_bytes(out, data.payload)
 }
 
 /// What stands behind the kind byte.
 pub(crate) fn xlogdata_of<'a>(cursor: &mut Cursor<'a>) -> Result<XLogData<'a>, CopyFault>
     ensures { result ≡ xlogdata_at cursor.old }
 {
-    let start = int64_of(cursor)?;
-    let end = int64_of(cursor)?;
-    let clock = signed64_of(cursor)?;
     Ok(XLogData {
-        start,
-        end,
-        clock,
+        start: int64_of(cursor)?,
+        end: int64_of(cursor)?,
+        clock: signed64_of(cursor)?,
         payload: cursor.rest(),
     })
 }

@@ -1,16 +1,17 @@
 //! Following a stream: each message printed, each transaction and each note acknowledged.
 
 use crate::asking::{ask_for_stream, send};
-use crate::fault::{FollowFault, told};
+use crate::fault::FollowFault;
 use crate::form::Form;
 use crate::incoming::Incoming;
 use crate::json_transcript::JsonTranscript;
 use crate::kept::Kept;
 use crate::options::Options;
+use crate::streamed::{body_in, carried, message_in, print_lines};
 use client::{Applier, ClientFault, render};
-use copyboth::{ServerBody, read_server};
+use copyboth::ServerBody;
 use frames::{Back, Front};
-use pgoutput::{Logical, OutFault, read_logical};
+use pgoutput::Logical;
 use std::alloc::{AllocError, Global};
 use std::io::{Read, Write};
 use std::sync::Wait;
@@ -101,36 +102,17 @@ impl Following {
         socket: &mut S,
         output: &mut W,
     ) -> Result<(), FollowFault> {
-        match frame {
-            Back::ErrorResponse(error) => Err(told(error)),
-            Back::CopyData(data) => self.take_body(data.bytes.as_slice(), taken, socket, output),
-            Back::CopyDone => Err(FollowFault::Ended),
-            other => {
-                drop(other);
-                Err(FollowFault::Client(ClientFault::Frame))
-            }
-        }
-    }
-
-    fn take_body<S: Write, W: Write>(
-        &mut self,
-        body: &[u8],
-        taken: Result<(), ClientFault>,
-        socket: &mut S,
-        output: &mut W,
-    ) -> Result<(), FollowFault> {
-        taken?;
-        match read_server(body) {
-            Ok(ServerBody::XLogData(data)) => {
+        let data = carried(frame, taken)?;
+        match body_in(&data)? {
+            ServerBody::XLogData(data) => {
                 if self.print(data.start, data.payload, output)? {
                     self.left = self.left.saturating_sub(1);
                     self.acknowledge(socket)?;
                 }
                 Ok(())
             }
-            Ok(ServerBody::Keepalive(keepalive)) if keepalive.ask => self.acknowledge(socket),
-            Ok(ServerBody::Keepalive(_)) => Ok(()),
-            Err(_) => Err(FollowFault::Client(ClientFault::Frame)),
+            ServerBody::Keepalive(keepalive) if keepalive.ask => self.acknowledge(socket),
+            ServerBody::Keepalive(_) => Ok(()),
         }
     }
 
@@ -141,11 +123,8 @@ impl Following {
         payload: &[u8],
         output: &mut W,
     ) -> Result<bool, FollowFault> {
-        match read_logical(self.alloc, payload) {
-            Ok(message) => self.print_message(position, message, output),
-            Err(OutFault::Memory) => Err(FollowFault::Client(ClientFault::Memory)),
-            Err(_) => Err(FollowFault::Client(ClientFault::Frame)),
-        }
+        let message = message_in(self.alloc, payload)?;
+        self.print_message(position, message, output)
     }
 
     fn print_message<W: Write>(
@@ -181,11 +160,7 @@ impl Following {
     /// Prints what stands behind all.
     fn print_last<W: Write>(&self, output: &mut W) -> Result<(), FollowFault> {
         if let Some(transcript) = &self.transcript {
-            let last = transcript.summary()?;
-            output
-                .write_all(last.as_slice())
-                .map_err(FollowFault::Output)?;
-            output.flush().map_err(FollowFault::Output)?;
+            print_lines(transcript.summary()?.as_slice(), output)?;
         }
         Ok(())
     }

@@ -2,6 +2,7 @@
 
 use crate::fault::FollowFault;
 use crate::kept::Kept;
+use crate::streamed::{begin_of, commit_of};
 use crate::told::Told;
 use client::{Applied, ClientFault};
 use indexmap::IndexMap;
@@ -53,19 +54,9 @@ impl JsonTranscript {
         if transaction.is_note {
             return self.add_changes(transaction, lines);
         }
-        let begin = Begin {
-            position: transaction.start,
-            time: transaction.time,
-            xid: transaction.xid,
-        };
-        self.add_begin(&begin, lines)?;
+        self.add_begin(&begin_of(transaction), lines)?;
         self.add_changes(transaction, lines)?;
-        let commit = Commit {
-            position: transaction.start,
-            end: transaction.end,
-            time: transaction.time,
-        };
-        self.add_commit(&commit, lines)
+        self.add_commit(&commit_of(transaction), lines)
     }
 
     fn add_changes(

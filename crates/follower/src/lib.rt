@@ -17,6 +17,7 @@ mod printer;
 mod promise;
 mod resuming;
 mod retrying;
+mod streamed;
 mod text_form;
 mod told;
 mod transcript;

@@ -3,16 +3,16 @@
 ghost use Rattle.std.specs.Prelude.{◌≡◌, [], OnOk};
 
 use crate::asking::{create_if_absent, greet, send, start_stream};
-use crate::fault::{FollowFault, told};
+use crate::fault::FollowFault;
 use crate::incoming::Incoming;
 use crate::intake::Intake;
 use crate::kept::Kept;
 use crate::options::Options;
 use crate::printer::Printer;
-use client::ClientFault;
-use copyboth::{ServerBody, read_server};
+use crate::streamed::{body_in, carried, message_in, print_lines};
+use copyboth::ServerBody;
 use frames::{Back, Front};
-use pgoutput::{Logical, OutFault, RELATION, Relation, read_logical};
+use pgoutput::{Logical, RELATION, Relation};
 use std::alloc::Global;
 use std::io::{Read, Write};
 use std::sync::Wait;
@@ -155,6 +155,7 @@ impl Subscription {
         }
     }
 
+    /// Takes a frame, and does what it asks for.
     fn take_frame<S: Write, W: Write>(
         &mut self,
         frame: Back,
@@ -163,33 +164,13 @@ impl Subscription {
         output: &mut W,
     ) -> Result<(), FollowFault> {
         let taken = self.intake.take(bytes);
-        match frame {
-            Back::ErrorResponse(error) => Err(told(error)),
-            Back::CopyData(data) => self.take_body(data.bytes.as_slice(), taken, socket, output),
-            Back::CopyDone => Err(FollowFault::Ended),
-            other => {
-                drop(other);
-                Err(FollowFault::Client(ClientFault::Frame))
-            }
-        }
-    }
-
-    /// What of a frame that was taken asks for more.
-    fn take_body<S: Write, W: Write>(
-        &mut self,
-        body: &[u8],
-        taken: Result<(), ClientFault>,
-        socket: &mut S,
-        output: &mut W,
-    ) -> Result<(), FollowFault> {
-        taken?;
-        match read_server(body) {
-            Ok(ServerBody::XLogData(data)) => self.take_message(data.payload, output),
-            Ok(ServerBody::Keepalive(keepalive)) if keepalive.ask => {
+        let data = carried(frame, taken)?;
+        match body_in(&data)? {
+            ServerBody::XLogData(data) => self.take_message(data.payload, output),
+            ServerBody::Keepalive(keepalive) if keepalive.ask => {
                 self.acknowledge(false, socket, output)
             }
-            Ok(ServerBody::Keepalive(_)) => Ok(()),
-            Err(_) => Err(FollowFault::Client(ClientFault::Frame)),
+            ServerBody::Keepalive(_) => Ok(()),
         }
     }
 
@@ -201,14 +182,12 @@ impl Subscription {
         if payload.first() != Some(&RELATION) {
             return Ok(());
         }
-        match read_logical(self.alloc, payload) {
-            Ok(Logical::Relation(relation)) => self.tell(relation, output),
-            Ok(other) => {
+        match message_in(self.alloc, payload)? {
+            Logical::Relation(relation) => self.tell(relation, output),
+            other => {
                 drop(other);
                 Ok(())
             }
-            Err(OutFault::Memory) => Err(FollowFault::Client(ClientFault::Memory)),
-            Err(_) => Err(FollowFault::Client(ClientFault::Frame)),
         }
     }
 
@@ -249,11 +228,7 @@ impl Subscription {
     fn print<W: Write>(&mut self, output: &mut W) -> Result<(), FollowFault>
         ensures { OnOk result (self.new.intake.applier.subscriber.applied ≡ []) }
     {
-        let lines = self.lines()?;
-        output
-            .write_all(lines.as_slice())
-            .map_err(FollowFault::Output)?;
-        output.flush().map_err(FollowFault::Output)?;
+        print_lines(self.lines()?.as_slice(), output)?;
         self.intake.printed();
         Ok(())
     }
@@ -269,11 +244,7 @@ impl Subscription {
 
     /// Prints what stands behind all, once all is printed.
     fn print_last<W: Write>(&self, output: &mut W) -> Result<(), FollowFault> {
-        let last = self.printer.last(self.alloc)?;
-        output
-            .write_all(last.as_slice())
-            .map_err(FollowFault::Output)?;
-        output.flush().map_err(FollowFault::Output)
+        print_lines(self.printer.last(self.alloc)?.as_slice(), output)
     }
 
     /// The last status, and the end of the stream.

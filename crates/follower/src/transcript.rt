@@ -1,8 +1,9 @@
 //! Transactions as lines of text, and the tables that were told before them.
 
+use crate::streamed::{begin_of, commit_of};
 use client::{Applied, render};
 use indexmap::IndexMap;
-use pgoutput::{Begin, Commit, Logical};
+use pgoutput::Logical;
 use std::alloc::{AllocError, Global};
 
 /// What was told of tables, over all connections, and whether it is printed already: the Relation of a table stands once in front
@@ -61,19 +62,9 @@ impl Transcript {
         if transaction.is_note {
             return self.add_changes(transaction, lines);
         }
-        let begin = Begin {
-            position: transaction.start,
-            time: transaction.time,
-            xid: transaction.xid,
-        };
-        self.add_message(Logical::Begin(begin), lines)?;
+        self.add_message(Logical::Begin(begin_of(transaction)), lines)?;
         self.add_changes(transaction, lines)?;
-        let commit = Commit {
-            position: transaction.start,
-            end: transaction.end,
-            time: transaction.time,
-        };
-        self.add_message(Logical::Commit(commit), lines)
+        self.add_message(Logical::Commit(commit_of(transaction)), lines)
     }
 
     fn add_message(&self, message: Logical, lines: &mut Vec<u8>) -> Result<(), AllocError> {

@@ -24,7 +24,7 @@ use crate::parameter_status::{
 use crate::ready_for_query::{READY_FOR_QUERY, Status, ready_of};
 use crate::row_description::{ROW_DESCRIPTION, RowDescription};
 use bytes::BytesMut;
-use pqformat::{Cursor, put_byte, put_int32, put_string};
+use pqformat::{Cursor, put_byte, put_int32, put_string, whole_or_nothing};
 use std::alloc::{AllocError, Global};
 
 /// A frame that the server sends (PostgreSQL 15, 55.7).
@@ -165,11 +165,7 @@ pub fn write_back(message: &Back, out: &mut BytesMut) -> Result<(), AllocError>
     ensures err { OnErr result (out.new.items ≡ out.old.items) }
 {
     let start = out.len();
-    let written = put_back(out, message);
-    if written.is_err() {
-        out.truncate(start);
-    }
-    written
+    whole_or_nothing(put_back(out, message), start, out)
 }
 
 #[tactic(auto, using(pqformat::proofs::Putting::in_place))]

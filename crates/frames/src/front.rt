@@ -14,7 +14,7 @@ use crate::frame::{FRAME_LIMIT, body_of, put_head};
 use crate::query::{QUERY, QUERY_LIMIT, Query};
 use crate::terminate::TERMINATE;
 use bytes::BytesMut;
-use pqformat::{Cursor, put_string};
+use pqformat::{Cursor, put_string, whole_or_nothing};
 use std::alloc::{AllocError, Global};
 
 /// A frame that a client sends (PostgreSQL 15, 55.7).
@@ -112,11 +112,7 @@ pub fn write_front(message: &Front, out: &mut BytesMut) -> Result<(), AllocError
     ensures err { OnErr result (out.new.items ≡ out.old.items) }
 {
     let start = out.len();
-    let written = put_front(out, message);
-    if written.is_err() {
-        out.truncate(start);
-    }
-    written
+    whole_or_nothing(put_front(out, message), start, out)
 }
 
 #[tactic(auto, using(pqformat::proofs::Putting::in_place))]

@@ -1,6 +1,6 @@
 -- Reading a message field by field, up to its leftmost fault: Short where a field isn't there whole, BadMark and BadText
 -- where it is there and is none of its kind.
-use Rattle.std.specs.Prelude.{◌≡◌, ℕ, ℤ, ◌^◌, List, Option, Result, Ok, Err, if◌then◌else◌}
+use Rattle.std.specs.Prelude.{◌≡◌, ℕ, ℤ, ◌^◌, ◌==◌, Bool, true, false, List, Option, Some, None, Result, Ok, Err, if◌then◌else◌}
 use Rattle.std.specs.Option.{ok_or}
 use Rattle.std.specs.Str.{is_utf8}
 use Rattle.std.specs.Int.{w16, w32, w64}
@@ -19,6 +19,10 @@ expected letter bytes = mark_at Short BadMark letter bytes
 -- a letter that stands for a value
 abbrev pub one_of : {X : Type 0} → (ℕ → Option X) → List ℕ → Result (X × List ℕ) OutFault
 one_of value_of bytes = letter_at Short BadMark value_of bytes
+
+-- a byte that says whether
+abbrev pub flag_of : ℕ → Option Bool
+flag_of b = if b == 1 then Some true else if b == 0 then Some false else None
 
 -- counts and lengths, with no top bit
 abbrev pub count16_at : List ℕ → Result (ℕ × List ℕ) OutFault

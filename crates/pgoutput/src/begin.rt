@@ -34,13 +34,10 @@ pub(crate) fn begin_of(cursor: &mut Cursor<'_>) -> Result<Begin, OutFault>
     ensures exact { Gives result cursor.new (begin_at cursor.old) }
     ensures steady { result ≢ Err OutFault.Memory }
 {
-    let position = number64_of(cursor)?;
-    let time = signed64_of(cursor)?;
-    let xid = number32_of(cursor)?;
     Ok(Begin {
-        position,
-        time,
-        xid,
+        position: number64_of(cursor)?,
+        time: signed64_of(cursor)?,
+        xid: number32_of(cursor)?,
     })
 }
 

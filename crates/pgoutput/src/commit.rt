@@ -38,13 +38,10 @@ pub(crate) fn commit_of(cursor: &mut Cursor<'_>) -> Result<Commit, OutFault>
     ensures steady { result ≢ Err OutFault.Memory }
 {
     expected_of(cursor, COMMIT_FLAGS)?;
-    let position = number64_of(cursor)?;
-    let end = number64_of(cursor)?;
-    let time = signed64_of(cursor)?;
     Ok(Commit {
-        position,
-        end,
-        time,
+        position: number64_of(cursor)?,
+        end: number64_of(cursor)?,
+        time: signed64_of(cursor)?,
     })
 }
 

@@ -7,6 +7,7 @@ mod delete;
 mod fault;
 mod fields;
 mod insert;
+mod letter;
 mod list;
 mod logical;
 mod message;

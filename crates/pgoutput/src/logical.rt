@@ -17,7 +17,7 @@ use crate::relation::{RELATION, Relation, put_relation, relation_of};
 use crate::truncate::{TRUNCATE, Truncate, put_truncate, truncate_of};
 use crate::update::{UPDATE, Update, put_update, update_of};
 use bytes::BytesMut;
-use pqformat::{Cursor, put_byte};
+use pqformat::{Cursor, put_byte, whole_or_nothing};
 use std::alloc::{AllocError, Global};
 
 /// A logical replication message (PostgreSQL 15, 55.9), protocol version 1.
@@ -112,11 +112,7 @@ pub fn write_logical(message: &Logical, out: &mut BytesMut) -> Result<(), AllocE
     ensures err { OnErr result (out.new.items ≡ out.old.items) }
 {
     let start = out.len();
-    let written = put_logical(out, message);
-    if written.is_err() {
-        out.truncate(start);
-    }
-    written
+    whole_or_nothing(put_logical(out, message), start, out)
 }
 
 #[tactic(auto, using(pqformat::proofs::Putting::in_place))]

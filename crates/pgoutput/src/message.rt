@@ -2,11 +2,12 @@
 
 ghost use Rattle.std.specs.Prelude.{◌≡◌};
 ghost use Rattle.pqformat.specs.Putting.{Puts};
-ghost use Rattle.pgoutput.specs.Reading.{Gives, one_of};
-ghost use Rattle.pgoutput.specs.Message.{content_at, is_transactional_of, message, message_at, message_flags, HasShortContent};
+ghost use Rattle.pgoutput.specs.Reading.{Gives};
+ghost use Rattle.pgoutput.specs.Message.{content_at, message, message_at, message_flags, HasShortContent};
 
 use crate::fault::OutFault;
-use crate::fields::{byte_of, count32_of, name_of, number64_of};
+use crate::fields::{count32_of, name_of, number64_of};
+use crate::letter::told_of;
 use bytes::BytesMut;
 use pqformat::{Cursor, Items, Text, put_byte, put_bytes, put_int32, put_int64, put_string};
 use std::alloc::{AllocError, Global};
@@ -39,7 +40,7 @@ pub struct Message {
 pub(crate) fn message_of(alloc: Global, cursor: &mut Cursor<'_>) -> Result<Message, OutFault>
     ensures { Gives result cursor.new (message_at cursor.old) }
 {
-    let is_transactional = is_transactional_of(cursor)?;
+    let is_transactional = told_of::<bool>(cursor)?;
     let position = number64_of(cursor)?;
     let prefix = name_of(alloc, cursor)?;
     let content = content_of(alloc, cursor)?;
@@ -49,23 +50,6 @@ pub(crate) fn message_of(alloc: Global, cursor: &mut Cursor<'_>) -> Result<Messa
         prefix,
         content,
     })
-}
-
-fn is_transactional_of(cursor: &mut Cursor<'_>) -> Result<bool, OutFault>
-    ensures { Gives result cursor.new (one_of is_transactional_of cursor.old) }
-{
-    let flags = byte_of(cursor)?;
-    is_transactional_by(flags).ok_or(OutFault::BadMark)
-}
-
-fn is_transactional_by(flags: u8) -> Option<bool>
-    ensures { result ≡ is_transactional_of flags }
-{
-    match flags {
-        TRANSACTIONAL => Some(true),
-        NOT_TRANSACTIONAL => Some(false),
-        _ => None,
-    }
 }
 
 /// The bytes behind a length, whatever they are.

@@ -2,11 +2,12 @@
 
 ghost use Rattle.std.specs.Prelude.{◌≡◌};
 ghost use Rattle.pqformat.specs.Putting.{Puts};
-ghost use Rattle.pgoutput.specs.Reading.{Gives, one_of};
-ghost use Rattle.pgoutput.specs.Relation.{identity_letter, identity_of, is_key_of, column_at, columns_at, relation, relation_at, IsShortRelation};
+ghost use Rattle.pgoutput.specs.Reading.{Gives};
+ghost use Rattle.pgoutput.specs.Relation.{identity_letter, column_at, columns_at, relation, relation_at, IsShortRelation};
 
 use crate::fault::OutFault;
-use crate::fields::{byte_of, count16_of, name_of, number32_of, put_signed32, signed32_of};
+use crate::fields::{count16_of, name_of, number32_of, put_signed32, signed32_of};
+use crate::letter::{Letter, told_of};
 use crate::list::{PutItem, ReadItem, items_of, put_items};
 use bytes::BytesMut;
 use pqformat::{Cursor, Items, Text, put_byte, put_int32, put_string};
@@ -73,7 +74,7 @@ pub(crate) fn relation_of(alloc: Global, cursor: &mut Cursor<'_>) -> Result<Rela
     let oid = number32_of(cursor)?;
     let namespace = name_of(alloc, cursor)?;
     let name = name_of(alloc, cursor)?;
-    let identity = identity_of(cursor)?;
+    let identity = told_of::<Identity>(cursor)?;
     let columns = columns_of(alloc, cursor)?;
     Ok(Relation {
         oid,
@@ -84,22 +85,19 @@ pub(crate) fn relation_of(alloc: Global, cursor: &mut Cursor<'_>) -> Result<Rela
     })
 }
 
-fn identity_of(cursor: &mut Cursor<'_>) -> Result<Identity, OutFault>
-    ensures { Gives result cursor.new (one_of identity_of cursor.old) }
-{
-    let letter = byte_of(cursor)?;
-    identity_by(letter).ok_or(OutFault::BadMark)
-}
+impl Letter for Identity {
+    ghost use Rattle.pgoutput.specs.Relation.{identity_of};
 
-fn identity_by(letter: u8) -> Option<Identity>
-    ensures { result ≡ identity_of letter }
-{
-    match letter {
-        IDENTITY_DEFAULT => Some(Identity::Default),
-        IDENTITY_NOTHING => Some(Identity::Nothing),
-        IDENTITY_FULL => Some(Identity::Full),
-        IDENTITY_INDEX => Some(Identity::Index),
-        _ => None,
+    ghost told_by = { identity_of };
+
+    fn of(letter: u8) -> Option<Identity> {
+        match letter {
+            IDENTITY_DEFAULT => Some(Identity::Default),
+            IDENTITY_NOTHING => Some(Identity::Nothing),
+            IDENTITY_FULL => Some(Identity::Full),
+            IDENTITY_INDEX => Some(Identity::Index),
+            _ => None,
+        }
     }
 }
 
@@ -115,7 +113,7 @@ fn columns_of(alloc: Global, cursor: &mut Cursor<'_>) -> Result<Items<Column>, O
 fn column_of(alloc: Global, cursor: &mut Cursor<'_>) -> Result<Column, OutFault>
     ensures { Gives result cursor.new (column_at cursor.old) }
 {
-    let is_key = is_key_of(cursor)?;
+    let is_key = told_of::<bool>(cursor)?;
     let name = name_of(alloc, cursor)?;
     let kind = number32_of(cursor)?;
     let modifier = signed32_of(cursor)?;
@@ -125,23 +123,6 @@ fn column_of(alloc: Global, cursor: &mut Cursor<'_>) -> Result<Column, OutFault>
         kind,
         modifier,
     })
-}
-
-fn is_key_of(cursor: &mut Cursor<'_>) -> Result<bool, OutFault>
-    ensures { Gives result cursor.new (one_of is_key_of cursor.old) }
-{
-    let flags = byte_of(cursor)?;
-    is_key_by(flags).ok_or(OutFault::BadMark)
-}
-
-fn is_key_by(flags: u8) -> Option<bool>
-    ensures { result ≡ is_key_of flags }
-{
-    match flags {
-        KEY_FLAG => Some(true),
-        NO_FLAG => Some(false),
-        _ => None,
-    }
 }
 
 #[tactic(auto, using(pqformat::proofs::Putting::in_place))]

@@ -4,11 +4,12 @@ ghost use Rattle.std.specs.Prelude.{◌≡◌};
 ghost use Rattle.pqformat.specs.Fields.{int32};
 ghost use Rattle.pqformat.specs.Putting.{Puts};
 ghost use Rattle.std.specs.List.{flat_map};
-ghost use Rattle.pgoutput.specs.Reading.{Gives, one_of};
-ghost use Rattle.pgoutput.specs.Truncate.{truncate, truncate_at, options_letter, options_of, IsShortTruncate};
+ghost use Rattle.pgoutput.specs.Reading.{Gives};
+ghost use Rattle.pgoutput.specs.Truncate.{truncate, truncate_at, options_letter, IsShortTruncate};
 
 use crate::fault::OutFault;
-use crate::fields::{byte_of, count32_of, number32_of};
+use crate::fields::{count32_of, number32_of};
+use crate::letter::{Letter, told_of};
 use crate::list::{PutItem, ReadItem, items_of, put_each};
 use bytes::BytesMut;
 use pqformat::{Cursor, Items, put_byte, put_int32};
@@ -50,32 +51,29 @@ pub(crate) fn truncate_of(alloc: Global, cursor: &mut Cursor<'_>) -> Result<Trun
     ensures { Gives result cursor.new (truncate_at cursor.old) }
 {
     let count = count32_of(cursor)?;
-    let options = options_of(cursor)?;
+    let options = told_of::<TruncateOptions>(cursor)?;
     let oids = items_of::<u32>(alloc, cursor, count as usize)?;
     Ok(Truncate { options, oids })
 }
 
-fn options_of(cursor: &mut Cursor<'_>) -> Result<TruncateOptions, OutFault>
-    ensures { Gives result cursor.new (one_of options_of cursor.old) }
-{
-    let letter = byte_of(cursor)?;
-    options_by(letter).ok_or(OutFault::BadMark)
-}
+impl Letter for TruncateOptions {
+    ghost use Rattle.pgoutput.specs.Truncate.{options_of};
 
-fn options_by(letter: u8) -> Option<TruncateOptions>
-    ensures { result ≡ options_of letter }
-{
-    let (cascade, restart_identity) = match letter {
-        NO_OPTIONS => (false, false),
-        CASCADE => (true, false),
-        RESTART_IDENTITY => (false, true),
-        CASCADE_AND_RESTART_IDENTITY => (true, true),
-        _ => return None,
-    };
-    Some(TruncateOptions {
-        cascade,
-        restart_identity,
-    })
+    ghost told_by = { options_of };
+
+    fn of(letter: u8) -> Option<TruncateOptions> {
+        let (cascade, restart_identity) = match letter {
+            NO_OPTIONS => (false, false),
+            CASCADE => (true, false),
+            RESTART_IDENTITY => (false, true),
+            CASCADE_AND_RESTART_IDENTITY => (true, true),
+            _ => return None,
+        };
+        Some(TruncateOptions {
+            cascade,
+            restart_identity,
+        })
+    }
 }
 
 fn letter_of(options: TruncateOptions) -> u8

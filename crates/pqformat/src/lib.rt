@@ -8,5 +8,5 @@ mod text;
 
 pub use cursor::{Cursor, utf8_of};
 pub use items::Items;
-pub use put::{put_byte, put_bytes, put_int16, put_int32, put_int64, put_string};
+pub use put::{put_byte, put_bytes, put_int16, put_int32, put_int64, put_string, whole_or_nothing};
 pub use text::Text;

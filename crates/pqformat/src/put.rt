@@ -1,7 +1,7 @@
 //! Writing the fields of a message at the end of a buffer, one call a field. Ok: the field's spelling stands at the end.
 //! Refused, for want of memory: the buffer is as it was.
 
-ghost use Rattle.std.specs.Prelude.{◌≡◌, ◌∷◌, ◌++◌, [], OnOk, OnErr};
+ghost use Rattle.std.specs.Prelude.{◌≡◌, ◌∷◌, ◌++◌, [], take, OnOk, OnErr};
 ghost use Rattle.pqformat.specs.Fields.{int16, int32, int64, string};
 
 use bytes::{BufMut, BytesMut};
@@ -58,9 +58,21 @@ pub fn put_string(out: &mut BytesMut, text: &str) -> Result<(), AllocError>
 {
     let start = out.len();
     put_bytes(out, text.as_bytes())?;
-    let ended = put_byte(out, 0);
-    if ended.is_err() {
+    whole_or_nothing(put_byte(out, 0), start, out)
+}
+
+/// What a writer in place answered; where it was refused, what it added behind `start` is cut off.
+pub fn whole_or_nothing(
+    written: Result<(), AllocError>,
+    start: usize,
+    out: &mut BytesMut,
+) -> Result<(), AllocError>
+    ensures same { result ≡ written }
+    ensures ok { OnOk result (out.new.items ≡ out.old.items) }
+    ensures err { OnErr result (out.new.items ≡ take start out.old.items) }
+{
+    if written.is_err() {
         out.truncate(start);
     }
-    ended
+    written
 }

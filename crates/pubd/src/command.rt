@@ -1,9 +1,10 @@
 //! The words of the command line.
 
 use crate::fault::Fault;
-use crate::numbers::{count_of, timeout_of};
+use crate::numbers::timeout_of;
 use crate::reports::Level;
 use clap::{Arg, ArgAction, ArgMatches, Command, Error};
+use command_line::{address_of, count_of, required};
 use std::alloc::{AllocError, Global};
 use std::net::SocketAddr;
 use std::time::Duration;
@@ -126,9 +127,8 @@ pub struct Numbers {
 impl<'a> Words<'a> {
     /// The words that are numbers.
     pub fn numbers(&self) -> Result<Numbers, Fault> {
-        let address = self.address.parse::<SocketAddr>();
         Ok(Numbers {
-            address: address.map_err(|_| Fault::Address)?,
+            address: address_of(self.address)?,
             status: self.status()?,
             connections: self.connections()?,
             awaited: self.awaited()?,
@@ -293,13 +293,6 @@ fn answer_postgresql(alloc: Global) -> Arg<'static> {
         .help(
             "Answer what CREATE SUBSCRIPTION and pg_recvlogical ask beside the commands of replication, and call the server 13.0 for them",
         )
-}
-
-fn required<'a>(alloc: Global, name: &'a str, help: &'a str) -> Arg<'a> {
-    Arg::new(alloc, name)
-        .required(true)
-        .action(ArgAction::Set)
-        .help(help)
 }
 
 fn scripts(alloc: Global) -> Arg<'static> {

@@ -1,20 +1,16 @@
 //! Why the program served nothing, or not to its end, and with which status it then ends.
 
-use clap::error::ErrorKind;
+use command_line::{Ending, WordsFault};
 use configuration::ConfigFault;
 use hub::HubFault;
-use std::alloc::{AllocError, AllocFailed};
+use std::alloc::AllocError;
 use std::io;
 use thiserror::Error;
 
 #[derive(Debug, Drop, Error)]
 pub enum Fault {
-    #[error("the arguments cannot be read: {0}")]
-    Arguments(io::Error),
     #[error("{0}")]
-    Usage(clap::Error),
-    #[error("ADDR is an address and a port, as in 127.0.0.1:5433")]
-    Address,
+    Words(#[from] WordsFault),
     #[error("ADDR of --status is an address and a port, as in 127.0.0.1:9187")]
     StatusAddress,
     #[error("CONNECTIONS is a number from 0 to 1000, or forever")]
@@ -46,25 +42,15 @@ pub enum Fault {
     #[error("not all was done")]
     EndedEarly,
     #[error("out of memory")]
-    Memory,
+    Memory(#[from(alloc)] AllocError),
 }
 
-impl Fault {
+impl Ending for Fault {
     /// 2 where the arguments, the configuration or a script are refused, and 0 where help was asked for. 1 where a file, a
     /// socket or memory failed.
-    pub fn status(&self) -> u8 {
+    fn status(&self) -> u8 {
         match self {
-            Fault::Arguments(error) => match error.kind() {
-                io::ErrorKind::OutOfMemory => 1,
-                _ => 2,
-            },
-            Fault::Usage(error) => match error.kind() {
-                ErrorKind::DisplayHelp | ErrorKind::DisplayVersion => 0,
-                ErrorKind::OutOfMemory => 1,
-                _ => 2,
-            },
-            Fault::Address
-            | Fault::StatusAddress
+            Fault::StatusAddress
             | Fault::Connections
             | Fault::Awaited
             | Fault::Silence
@@ -84,27 +70,16 @@ impl Fault {
             | Fault::Listen(_)
             | Fault::Output(_)
             | Fault::EndedEarly
-            | Fault::Memory => 1,
+            | Fault::Memory(_) => 1,
+            Fault::Words(fault) => fault.status(),
         }
     }
 
     /// Prints the fault on the standard error, and a text that was asked for on the standard output.
-    pub fn print<R: Print + Eprint>(&self, rt: &R) -> io::Result<()> {
+    fn print<R: Print + Eprint>(&self, rt: &R) -> io::Result<()> {
         match self {
-            Fault::Usage(error) => error.print(rt),
+            Fault::Words(WordsFault::Usage(error)) => error.print(rt),
             fault => eprintln!(rt; "pubd: {fault}"),
         }
-    }
-}
-
-impl From<AllocError> for Fault {
-    fn from(_e: AllocError) -> Fault {
-        Fault::Memory
-    }
-}
-
-impl<T: Drop> From<AllocFailed<T>> for Fault {
-    fn from(_e: AllocFailed<T>) -> Fault {
-        Fault::Memory
     }
 }

@@ -13,6 +13,7 @@ mod status_text;
 ghost use Rattle.std.specs.Prelude.{◌≡◌};
 
 use command::{Numbers, Words, words_of};
+use command_line::{WordsFault, ended};
 use configuration::{Config, explained};
 use ending::{Door, Doors, end_server};
 use fault::Fault;
@@ -23,6 +24,7 @@ use scripts::{STANDARD_INPUT, Script, run_all, scripts_of};
 use shared_log::LogName;
 use slots::SlotName;
 use status_page::serve_status;
+use std::alloc::AllocError;
 use std::io::{Print, Stdin};
 use std::marker::Brand;
 use std::net::{Net, SocketAddr, TcpListener, TcpStream};
@@ -34,13 +36,7 @@ use std::time::Clock;
 use std::{env, fs, io, thread};
 
 fn main(rt: HostRuntime) -> ExitCode {
-    match run(&rt, &rt) {
-        Ok(()) => ExitCode::SUCCESS,
-        Err(fault) => {
-            let _ = fault.print(&rt);
-            ExitCode::from(fault.status())
-        }
-    }
+    ended(&rt, run(&rt, &rt))
 }
 
 /// The runtime has the words and the files, and `host` the threads and the sockets.
@@ -49,8 +45,10 @@ where
     R: Net<Listener = TcpListener, Stream = TcpStream> + Threads + Wait + Clock + Sync,
 {
     let alloc = rt.alloc();
-    let arguments: Vec<String> = env::args(rt).map_err(Fault::Arguments)?.collect(alloc)?;
-    let words = words_of(alloc, arguments.as_slice()).map_err(Fault::Usage)?;
+    let arguments: Vec<String> = env::args(rt)
+        .map_err(WordsFault::Arguments)?
+        .collect(alloc)?;
+    let words = words_of(alloc, arguments.as_slice()).map_err(WordsFault::Usage)?;
     run_words(rt, host, &words)
 }
 
@@ -269,7 +267,7 @@ where
 {
     service.doors.close_status();
     end_server(rt, hub, service.doors);
-    Err(Fault::Memory)
+    Err(Fault::Memory(AllocError))
 }
 
 /// The lines of the standard input are done as they come, and answered on the standard output.

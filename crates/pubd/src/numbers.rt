@@ -1,5 +1,6 @@
 //! Numbers of the command line, and times as PostgreSQL's settings write them.
 
+use command_line::count_of;
 use std::time::Duration;
 
 /// The most milliseconds of a setting.
@@ -22,14 +23,6 @@ pub fn timeout_of(text: &str) -> Option<Duration> {
         }
     }
     times(text, 1)
-}
-
-/// A number without a sign.
-pub fn count_of(text: &str) -> Option<u32> {
-    if text.starts_with('+') {
-        return None;
-    }
-    text.parse::<u32>().ok()
 }
 
 fn times(number: &str, milliseconds: u64) -> Option<Duration> {

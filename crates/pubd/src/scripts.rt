@@ -7,7 +7,7 @@ use schedule::{LineFault, WorldFault};
 use scripting::{ScriptEnd, Steps, run_steps};
 use shared_log::LogName;
 use slots::SlotName;
-use std::alloc::Global;
+use std::alloc::{AllocError, Global};
 use std::io::Print;
 use std::sync::Wait;
 use std::sync::atomic::{AtomicBool, Ordering};
@@ -47,7 +47,7 @@ fn script_at(rt: &HostRuntime, path: &str) -> Result<Script, Fault> {
         Ok(steps) => Ok(Script { path: name, steps }),
         Err(LineFault { line, fault }) => match fault {
             WorldFault::BadEvent => Err(Fault::Script(name, line)),
-            WorldFault::Memory | WorldFault::NoEntry => Err(Fault::Memory),
+            WorldFault::Memory | WorldFault::NoEntry => Err(Fault::Memory(AllocError)),
         },
     }
 }

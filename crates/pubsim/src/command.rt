@@ -2,6 +2,7 @@
 
 use crate::simulation::Form;
 use clap::{Arg, ArgAction, ArgMatches, Command, Error};
+use command_line::required;
 use std::alloc::{AllocError, Global};
 
 const ABOUT: &str =
@@ -37,8 +38,8 @@ A configuration names the server, the tables and their publications, as in
   tables = [{ name = 'public.item', where = 'id > 0', columns = ['id', 'qty'] }]
 
 The log has room for that number of records, and a sender for changes of transactions in
-progress in that number of chunks, each of 16,384 bytes. The types are bool, int4, int8 and
-text. A table of a publication may have a filter and a column list; without them all its rows
+progress in that number of chunks, each of 16,384 bytes. The types are bool, int2, int4, int8
+and text. A table of a publication may have a filter and a column list; without them all its rows
 and columns are published. A publication has tables = [..], or schemas = [..], or
 all_tables = true, and publishes what publish = [..] names of insert, update, delete and
 truncate, or all of them.
@@ -129,13 +130,6 @@ fn render(alloc: Global) -> Arg<'static> {
         .long(RENDER)
         .action(ArgAction::SetTrue)
         .help("Print what each sender produced as text, a line for each frame")
-}
-
-fn required<'a>(alloc: Global, name: &'a str, help: &'a str) -> Arg<'a> {
-    Arg::new(alloc, name)
-        .required(true)
-        .action(ArgAction::Set)
-        .help(help)
 }
 
 /// All but --render are required, so they are there.

@@ -1,7 +1,7 @@
 //! Why the program did not run a schedule, and with which status it then ends.
 
 use crate::simulation::SimFault;
-use clap::error::ErrorKind;
+use command_line::{Ending, WordsFault};
 use configuration::ConfigFault;
 use std::alloc::AllocError;
 use std::io;
@@ -9,58 +9,42 @@ use thiserror::Error;
 
 #[derive(Debug, Drop, Error)]
 pub enum Fault {
-    #[error("the arguments cannot be read: {0}")]
-    Arguments(io::Error),
     #[error("{0}")]
-    Usage(clap::Error),
+    Words(#[from] WordsFault),
     #[error("the configuration cannot be read: {0}")]
     ReadConfig(io::Error),
     #[error("in the configuration: {1}")]
     Config(ConfigFault, String),
     #[error("the schedule cannot be opened: {0}")]
     Open(io::Error),
-    #[error("standard output cannot be used: {0}")]
-    Output(io::Error),
     #[error("{0}")]
     Run(SimFault),
+    #[error("standard output cannot be used: {0}")]
+    Output(io::Error),
     #[error("out of memory")]
-    Memory,
+    Memory(#[from(alloc)] AllocError),
 }
 
-impl Fault {
+impl Ending for Fault {
     /// 2 where the arguments, the configuration or the schedule are refused, and 0 where help was asked for. 1 where a
     /// file, the output or memory failed.
-    pub fn status(&self) -> u8 {
+    fn status(&self) -> u8 {
         match self {
-            Fault::Arguments(error) => match error.kind() {
-                io::ErrorKind::OutOfMemory => 1,
-                _ => 2,
-            },
-            Fault::Usage(error) => match error.kind() {
-                ErrorKind::DisplayHelp | ErrorKind::DisplayVersion => 0,
-                ErrorKind::OutOfMemory => 1,
-                _ => 2,
-            },
             // A file that is no text is a bad configuration, and no file that can't be read.
             Fault::ReadConfig(error) if error.kind() == io::ErrorKind::InvalidData => 2,
             Fault::Config(fault, _) if !fault.is_memory() => 2,
             Fault::Run(fault) if fault.is_bad_schedule() => 2,
             Fault::ReadConfig(_) | Fault::Config(_, _) => 1,
-            Fault::Run(_) | Fault::Open(_) | Fault::Output(_) | Fault::Memory => 1,
+            Fault::Run(_) | Fault::Open(_) | Fault::Output(_) | Fault::Memory(_) => 1,
+            Fault::Words(fault) => fault.status(),
         }
     }
 
     /// Prints the fault on the standard error, and a text that was asked for on the standard output.
-    pub fn print<R: Print + Eprint>(&self, rt: &R) -> io::Result<()> {
+    fn print<R: Print + Eprint>(&self, rt: &R) -> io::Result<()> {
         match self {
-            Fault::Usage(error) => error.print(rt),
+            Fault::Words(WordsFault::Usage(error)) => error.print(rt),
             fault => eprintln!(rt; "pubsim: {fault}"),
         }
-    }
-}
-
-impl From<AllocError> for Fault {
-    fn from(_e: AllocError) -> Fault {
-        Fault::Memory
     }
 }

@@ -8,6 +8,7 @@ mod rendering;
 mod simulation;
 
 use command::{Words, words_of};
+use command_line::{WordsFault, ended};
 use configuration::{Config, explained};
 use fault::Fault;
 use simulation::{Form, simulate};
@@ -17,20 +18,16 @@ use std::sync::Wait;
 use std::{env, fs, io};
 
 fn main(rt: HostRuntime) -> ExitCode {
-    match run(&rt, &rt) {
-        Ok(()) => ExitCode::SUCCESS,
-        Err(fault) => {
-            let _ = fault.print(&rt);
-            ExitCode::from(fault.status())
-        }
-    }
+    ended(&rt, run(&rt, &rt))
 }
 
 /// The runtime has the files, and `waits` may wait for readers of the log.
 fn run<R: Wait>(rt: &HostRuntime, waits: &R) -> Result<(), Fault> {
     let alloc = rt.alloc();
-    let arguments: Vec<String> = env::args(rt).map_err(Fault::Arguments)?.collect(alloc)?;
-    let words = words_of(alloc, arguments.as_slice()).map_err(Fault::Usage)?;
+    let arguments: Vec<String> = env::args(rt)
+        .map_err(WordsFault::Arguments)?
+        .collect(alloc)?;
+    let words = words_of(alloc, arguments.as_slice()).map_err(WordsFault::Usage)?;
     run_words(rt, waits, words)
 }
 

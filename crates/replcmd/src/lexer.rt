@@ -86,8 +86,9 @@ fn goes_on(quote: u8, b: u8, tail: &[u8]) -> Option<&[u8]>
     if *c == quote { Some(more) } else { None }
 }
 
-/// The text up to the closing quote, and what follows that; None where no quote closes it.
-fn quoted_of(alloc: Global, quote: u8, text: &[u8]) -> Result<Option<(Name, &[u8])>, AllocError>
+/// The text up to the closing quote, behind the opening one, and what follows that; None where no quote closes it. A quote
+/// that is meant stands twice.
+pub fn quoted_of(alloc: Global, quote: u8, text: &[u8]) -> Result<Option<(Name, &[u8])>, AllocError>
     requires ascii { quote < 128 }
     requires utf8 { IsUtf8 text.now }
     ensures { IfOk result (λ x. lent_text x ≡ quoted_at false quote text.now) }

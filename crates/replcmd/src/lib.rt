@@ -1,4 +1,4 @@
-//! The texts of the replication protocol: positions of the log, and the commands that a client sends.
+//! The texts of the replication protocol: positions of the log, the commands that a client sends, and texts in quotes.
 #![tactic(auto)]
 
 mod command;
@@ -21,6 +21,7 @@ mod words;
 
 pub use command::{Command, no_text_spells_two_commands, parse_command};
 pub use fault::CmdFault;
+pub use lexer::quoted_of;
 pub use name::Name;
 pub use names::Names;
 pub use position::{parse_position, write_position};

@@ -1,6 +1,6 @@
 -- One turn, from what was read at the front of the pending bytes.
 use Rattle.std.proofs.Common.{◌≡◌, ℕ, ◌<◌, ◌≤◌, ◌+◌, List, [], ◌∷◌, ◌++◌, length, take, drop, Result, Ok, Err, refl, sym, ap, subst, ◌∙◌, inl, inr, arith}
-use Rattle.std.specs.Prelude.{◌≢◌, ◌⊎◌, IfOk, OnErr}
+use Rattle.std.specs.Prelude.{◌≢◌, ◌⊎◌, IfOk, OnOk, OnErr}
 use Rattle.std.specs.declared.alloc.AllocError.{AllocError}
 use Rattle.std.proofs.lemmas.List.{length-append, length-take-le, take_all, append-nil, take-append-drop}
 use Rattle.frames.specs.declared.fault.FrameFault.{FrameFault}
@@ -147,6 +147,27 @@ pub closed_turned : {D : Type 0} (told : D → Call → D → Type 0) (service :
     → IsTurned service Closed pending (record { stage = Closed; count = length pending }) ((desk ≡ desk) × (out ≡ out)) (λ fact. Gave told fact desk out desk out)
 closed_turned told service [] desk out = inl (refl, refl, refl, (refl, refl))
 closed_turned told service (b ∷ bytes) desk out = inr (omega arith, omega arith, record { asked = []; text = []; fact = (refl, refl, refl); asks = refl; says = sym (append-nil out) })
+
+-- ---- what can't be read
+
+pub refused_takes : {D : Type 0} (told : D → Call → D → Type 0) (service : Service) (stage : Stage) (Answers : Front → List Call → List ℕ → Stage → Type 0) (pending : List ℕ) (fault : FrameFault) (desk : D) (out out' : List ℕ) (r : Result Turned AllocError)
+    → ((t : Turn) (n : Stage) → IsFrameTurn Answers t n → IsTurn service stage t n)
+    → Gives (Err fault) (framed_front pending)
+    → OnOk r (fault ≢ Memory) → IfOk r (λ t. t ≡ record { stage = Closed; count = length pending }) → OnOk r (out' ≡ out ++ refused (refusal_of fault)) → OnErr r (Extends out out')
+    → TakesTurn told service stage pending r desk out desk out'
+refused_takes told service stage Answers pending fault desk out out' (Ok t) turn gives other is says keeps =
+    subst (λ (x : Turned). IsTurned service stage pending x ((desk ≡ desk) × (out' ≡ out)) (λ fact. Gave told fact desk out desk out')) (sym is)
+    (front_refused told service stage Answers pending fault ((desk ≡ desk) × (out' ≡ out)) desk out out' turn other gives says)
+refused_takes told service stage Answers pending fault desk out out' (Err e) turn gives other is says keeps = (nothing_tried told (Asks service stage pending) desk, keeps)
+
+pub startup_refused_turned : (service : Service) (pending : List ℕ) (fault : FrameFault) (out out' : List ℕ) (r : Result Turned AllocError)
+    → Gives (Err fault) (framed_startup pending)
+    → OnOk r (fault ≢ Memory) → IfOk r (λ t. t ≡ record { stage = Closed; count = length pending }) → OnOk r (out' ≡ out ++ refused (refusal_of fault))
+    → IfOk r (λ t. IsTurned service Fresh pending t (out' ≡ out) (λ fact. Said fact out out'))
+startup_refused_turned service pending fault out out' (Ok t) gives other is says =
+    subst (λ (x : Turned). IsTurned service Fresh pending x (out' ≡ out) (λ fact. Said fact out out')) (sym is)
+    (startup_refused service pending fault (out' ≡ out) out out' other gives says)
+startup_refused_turned service pending fault out out' (Err e) gives other is says = tt
 
 -- ---- the connection after a turn
 

@@ -1,7 +1,7 @@
 //! Why a session or a command is refused, as the client is told it.
 
 ghost use Rattle.std.specs.Prelude.{◌≡◌, ◌≤◌, length};
-ghost use Rattle.server.specs.Refusals.{command_code, command_text, desk_code, desk_text, refusal_code, refusal_text};
+ghost use Rattle.server.specs.Refusals.{refusal_code, refusal_text};
 
 use crate::fault::DeskFault;
 use replcmd::CmdFault;
@@ -24,86 +24,33 @@ pub enum Refusal {
 }
 
 impl Refusal {
-    pub fn code(self) -> &'static str
-        ensures value { result.now ≡ refusal_code self }
-        ensures short { length result.now ≤ 40 }
+    /// The code and the text.
+    pub fn told(self) -> (&'static str, &'static str)
+        ensures code { result.0.now ≡ refusal_code self }
+        ensures text { result.1.now ≡ refusal_text self }
+        ensures short { (length result.0.now ≤ 40) × (length result.1.now ≤ 40) }
     {
         match self {
-            Refusal::Violation => "08P01",
-            Refusal::Version | Refusal::NoReplication | Refusal::InitialCopy => "0A000",
-            Refusal::Command(fault) => code_of_command(fault),
-            Refusal::Asked(fault) => code_of_desk(fault),
+            Refusal::Violation => ("08P01", "protocol violation"),
+            Refusal::Version => ("0A000", "unsupported protocol version"),
+            Refusal::NoReplication => ("0A000", "only replication=database is served"),
+            Refusal::InitialCopy => ("0A000", "initial copies are not served"),
+            Refusal::Command(CmdFault::Syntax) => ("42601", "syntax error"),
+            Refusal::Command(CmdFault::BadName) => ("42602", "bad slot name"),
+            Refusal::Command(CmdFault::BadPosition) => ("42601", "bad position"),
+            Refusal::Command(CmdFault::Unsupported) => ("0A000", "not supported"),
+            Refusal::Command(CmdFault::BadOption) => ("22023", "bad option"),
+            Refusal::Command(CmdFault::Memory) => ("53200", "out of memory"),
+            Refusal::Asked(DeskFault::SlotMissing) => ("42704", "slot does not exist"),
+            Refusal::Asked(DeskFault::SlotInUse) => ("55006", "slot is in use"),
+            Refusal::Asked(DeskFault::SlotExists) => ("42710", "slot already exists"),
+            Refusal::Asked(DeskFault::NoSlotPlace) => ("53400", "no slot place is left"),
+            Refusal::Asked(DeskFault::UnknownPublication) => {
+                ("42704", "publication does not exist")
+            }
+            Refusal::Asked(DeskFault::ListConflict) => ("0A000", "different column lists"),
+            Refusal::Asked(DeskFault::NoReader) => ("53400", "too many senders"),
+            Refusal::Asked(DeskFault::Memory) => ("53200", "out of memory"),
         }
-    }
-
-    pub fn text(self) -> &'static str
-        ensures value { result.now ≡ refusal_text self }
-        ensures short { length result.now ≤ 40 }
-    {
-        match self {
-            Refusal::Violation => "protocol violation",
-            Refusal::Version => "unsupported protocol version",
-            Refusal::NoReplication => "only replication=database is served",
-            Refusal::InitialCopy => "initial copies are not served",
-            Refusal::Command(fault) => text_of_command(fault),
-            Refusal::Asked(fault) => text_of_desk(fault),
-        }
-    }
-}
-
-fn code_of_command(fault: CmdFault) -> &'static str
-    ensures value { result.now ≡ command_code fault }
-    ensures short { length result.now ≤ 40 }
-{
-    match fault {
-        CmdFault::Syntax | CmdFault::BadPosition => "42601",
-        CmdFault::BadName => "42602",
-        CmdFault::Unsupported => "0A000",
-        CmdFault::BadOption => "22023",
-        CmdFault::Memory => "53200",
-    }
-}
-
-fn text_of_command(fault: CmdFault) -> &'static str
-    ensures value { result.now ≡ command_text fault }
-    ensures short { length result.now ≤ 40 }
-{
-    match fault {
-        CmdFault::Syntax => "syntax error",
-        CmdFault::BadName => "bad slot name",
-        CmdFault::BadPosition => "bad position",
-        CmdFault::Unsupported => "not supported",
-        CmdFault::BadOption => "bad option",
-        CmdFault::Memory => "out of memory",
-    }
-}
-
-fn code_of_desk(fault: DeskFault) -> &'static str
-    ensures value { result.now ≡ desk_code fault }
-    ensures short { length result.now ≤ 40 }
-{
-    match fault {
-        DeskFault::SlotMissing | DeskFault::UnknownPublication => "42704",
-        DeskFault::SlotInUse => "55006",
-        DeskFault::SlotExists => "42710",
-        DeskFault::NoSlotPlace | DeskFault::NoReader => "53400",
-        DeskFault::ListConflict => "0A000",
-        DeskFault::Memory => "53200",
-    }
-}
-
-fn text_of_desk(fault: DeskFault) -> &'static str
-    ensures value { result.now ≡ desk_text fault }
-    ensures short { length result.now ≤ 40 }
-{
-    match fault {
-        DeskFault::SlotMissing => "slot does not exist",
-        DeskFault::SlotInUse => "slot is in use",
-        DeskFault::SlotExists => "slot already exists",
-        DeskFault::NoSlotPlace => "no slot place is left",
-        DeskFault::UnknownPublication => "publication does not exist",
-        DeskFault::ListConflict => "different column lists",
-        DeskFault::NoReader => "too many senders",
-        DeskFault::Memory => "out of memory",
     }
 }

@@ -95,7 +95,8 @@ pub(crate) fn say_refused(
 ) -> Result<(), AllocError>
     ensures { Puts result out.old.items out.new.items (refused refusal) }
 {
-    let fields = error_fields(alloc, refusal.code(), refusal.text())?;
+    let (code, text) = refusal.told();
+    let fields = error_fields(alloc, code, text)?;
     say(out, Back::ErrorResponse(ErrorResponse { fields }))
 }
 

@@ -1,7 +1,7 @@
 //! How far a conversation is, what a turn leaves of it, and the answer of what can't be read.
 
-ghost use Rattle.std.specs.Prelude.{◌≢◌, OnOk};
-ghost use Rattle.pqformat.specs.Putting.{Puts};
+ghost use Rattle.std.specs.Prelude.{◌≡◌, ◌≢◌, ◌++◌, length, IfOk, OnOk, OnErr};
+ghost use Rattle.pqformat.specs.Putting.{Extends};
 ghost use Rattle.server.specs.Said.{refused};
 ghost use Rattle.server.specs.Turns.{refusal_of};
 
@@ -33,15 +33,26 @@ pub struct Turned {
     pub count: usize,
 }
 
-/// Refuses what can't be read.
+/// Refuses what is pending, since it can't be read. The connection closes, and all of that is passed over.
 #[tactic(auto, using(pqformat::proofs::Putting::in_place))]
-pub(crate) fn refuse(alloc: Global, fault: FrameFault, out: &mut BytesMut) -> Result<(), AllocError>
+pub(crate) fn refuse(
+    alloc: Global,
+    fault: FrameFault,
+    pending: &[u8],
+    out: &mut BytesMut,
+) -> Result<Turned, AllocError>
     ensures readable { OnOk result (fault ≢ FrameFault.Memory) }
-    ensures says { Puts result out.old.items out.new.items (refused (refusal_of fault)) }
+    ensures closes { IfOk result (λ t. t ≡ record { stage = Stage.Closed; count = length pending.now }) }
+    ensures says { OnOk result (out.new.items ≡ out.old.items ++ refused (refusal_of fault)) }
+    ensures kept { OnErr result (Extends out.old.items out.new.items) }
 {
     match fault {
-        FrameFault::Memory => Err(AllocError),
-        FrameFault::BadVersion => say_refused(alloc, out, Refusal::Version),
-        _ => say_refused(alloc, out, Refusal::Violation),
+        FrameFault::Memory => return Err(AllocError),
+        FrameFault::BadVersion => say_refused(alloc, out, Refusal::Version)?,
+        _ => say_refused(alloc, out, Refusal::Violation)?,
     }
+    Ok(Turned {
+        stage: Stage::Closed,
+        count: pending.len(),
+    })
 }

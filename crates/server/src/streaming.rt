@@ -89,12 +89,6 @@ pub(crate) fn turn_stream<D: Desk>(
             let stage = answered?;
             Ok(Turned { stage, count })
         }
-        Err(fault) => {
-            refuse(alloc, fault, out)?;
-            Ok(Turned {
-                stage: Stage::Closed,
-                count: pending.len(),
-            })
-        }
+        Err(fault) => refuse(alloc, fault, pending, out),
     }
 }

@@ -92,13 +92,7 @@ fn turn_startup(
             let stage = answer_startup(alloc, service, &startup, out)?;
             Ok(Turned { stage, count })
         }
-        Err(fault) => {
-            refuse(alloc, fault, out)?;
-            Ok(Turned {
-                stage: Stage::Closed,
-                count: pending.len(),
-            })
-        }
+        Err(fault) => refuse(alloc, fault, pending, out),
     }
 }
 

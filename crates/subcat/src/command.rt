@@ -1,6 +1,7 @@
 //! The words of the command line.
 
 use clap::{Arg, ArgAction, ArgMatches, Command, Error};
+use command_line::required;
 use std::alloc::{AllocError, Global};
 
 const ABOUT: &str =
@@ -124,13 +125,6 @@ fn output(alloc: Global) -> Result<Arg<'static>, AllocError> {
         .action(ArgAction::Set)
         .help("With --follow, print into FILE, and go on where it ends")
         .requires_arg("follow")
-}
-
-fn required<'a>(alloc: Global, name: &'a str, help: &'a str) -> Arg<'a> {
-    Arg::new(alloc, name)
-        .required(true)
-        .action(ArgAction::Set)
-        .help(help)
 }
 
 /// All but the options are required, so they are there.

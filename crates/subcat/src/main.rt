@@ -8,6 +8,7 @@ mod journal;
 mod keeping;
 
 use command::{Words, words_of};
+use command_line::{WordsFault, address_of, count_of, ended};
 use fault::Fault;
 use follower::{Form, Options, follow};
 use keeping::{keep_in, keep_printing};
@@ -19,13 +20,7 @@ use std::sync::Wait;
 use std::{env, io};
 
 fn main(rt: HostRuntime) -> ExitCode {
-    match run(&rt, &rt) {
-        Ok(()) => ExitCode::SUCCESS,
-        Err(fault) => {
-            let _ = fault.print(&rt);
-            ExitCode::from(fault.status())
-        }
-    }
+    ended(&rt, run(&rt, &rt))
 }
 
 /// The runtime has the words and the output, and `net` the socket.
@@ -34,10 +29,11 @@ fn run<N: Net<Listener = TcpListener, Stream = TcpStream> + Wait>(
     net: &N,
 ) -> Result<(), Fault> {
     let alloc = rt.alloc();
-    let arguments: Vec<String> = env::args(rt).map_err(Fault::Arguments)?.collect(alloc)?;
-    let words = words_of(alloc, arguments.as_slice()).map_err(Fault::Usage)?;
-    let address = words.address.parse::<SocketAddr>();
-    let address = address.map_err(|_| Fault::Address)?;
+    let arguments: Vec<String> = env::args(rt)
+        .map_err(WordsFault::Arguments)?
+        .collect(alloc)?;
+    let words = words_of(alloc, arguments.as_slice()).map_err(WordsFault::Usage)?;
+    let address = address_of(words.address)?;
     let options = options_of(&words)?;
     match words.output {
         Some(path) => keep_in(rt, net, address, &options, path),
@@ -65,15 +61,14 @@ fn options_of<'a>(words: &Words<'a>) -> Result<Options<'a>, Fault> {
         position: parse_position(words.position).map_err(|_| Fault::Position)?,
         publications: words.publications,
         messages: words.messages,
-        count: count_of(words.count)?,
+        count: count_in(words.count)?,
         form: if words.json { Form::Json } else { Form::Text },
     })
 }
 
-/// A number without a sign.
-fn count_of(text: &str) -> Result<u32, Fault> {
-    if text.starts_with('+') {
-        return Err(Fault::Count);
+fn count_in(text: &str) -> Result<u32, Fault> {
+    match count_of(text) {
+        Some(count) => Ok(count),
+        None => Err(Fault::Count),
     }
-    text.parse::<u32>().map_err(|_| Fault::Count)
 }

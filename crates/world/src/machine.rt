@@ -1,6 +1,6 @@
 //! The publisher with its sessions and the starts of its senders.
 
-ghost use Rattle.std.specs.Prelude.{◌≡◌, ◌≢◌, ◌≤◌, ◌<◌, ◌+◌, map, is_some, true, Err, IfErr, IfOk, IsNone, OnErr, vec_capacity, vec_len};
+ghost use Rattle.std.specs.Prelude.{◌≡◌, ◌≢◌, ◌≤◌, ◌<◌, ◌+◌, map, is_some, true, Err, IfErr, IfOk, IfSome, IsNone, None, OnErr, Some, vec_capacity, vec_len};
 ghost use Rattle.std.specs.List.{AllByRecursion};
 ghost use Rattle.txlog.specs.Publishing.{new_publisher};
 ghost use Rattle.world.specs.State.{new_world, open_start};
@@ -10,7 +10,7 @@ ghost use Rattle.starts.specs.Acting.{is_read as reads_log, takes_memory as take
 ghost use Rattle.world.specs.Delivering.{Delivers};
 ghost use Rattle.sessions.specs.SessionLines.{IsLine, ask_of, line_takes_memory};
 ghost use Rattle.world.specs.Steps.{IsStep, IsStepAt, is_bad, is_bad_at, is_read, is_read_at, session_state, takes_memory, takes_memory_at};
-ghost use Rattle.world.specs.Machine.{ActsIn, IsMachine, IsOpenAt, shown};
+ghost use Rattle.world.specs.Machine.{ActsIn, IsMachine, IsOpenAt, IsOpenStartAt, shown, subscriber_place};
 ghost use Rattle.starts.specs.Starts.{IsServed, start_state};
 
 use crate::limits::MAX_SENDERS;
@@ -239,15 +239,28 @@ impl<L: LogName + SlotName> Machine<L> {
         ensures err { OnErr result (shown self.new ≡ shown self.old) }
         ensures machine { IsMachine self.new }
     {
+        let Some((place, at)) = self.places_of(name) else {
+            return Err(WorldFault::BadEvent);
+        };
+        let start = &self.starts[place];
+        Ok(self.subscribers[at].take(start.produced(), max))
+    }
+
+    /// The places of the connection's open start and of its subscriber, where it has a sender.
+    pub(crate) fn places_of(&self, name: &Text) -> Option<(usize, usize)>
+        requires machine { IsMachine self.now }
+        ensures none { result ≡ None → IsNone (open_start name.now (shown self.now).starts) }
+        ensures start { IfSome result (λ p. IsOpenStartAt name.now p.0 self.now.starts.items) }
+        ensures subscriber { IfSome result (λ p. subscriber_place 0 name.now (shown self.now).subscribers ≡ Some p.1) }
+    {
         let found = place_among(self.starts.as_slice(), self.opened.as_slice(), name);
         let Some(place) = found else {
-            return Err(WorldFault::BadEvent);
+            return None;
         };
         let Some(at) = place_of(&self.names, name) else {
             unreachable!();
         };
-        let start = &self.starts[place];
-        Ok(self.subscribers[at].take(start.produced(), max))
+        Some((place, at))
     }
 
     pub(crate) fn is_connected(&self, name: &Text) -> bool

@@ -6,8 +6,7 @@ ghost use Rattle.world.specs.Slots.{Acknowledges, Creates, PutsBack, has_status,
 ghost use Rattle.world.specs.Machine.{IsMachine, shown};
 
 use crate::machine::Machine;
-use crate::opening::place_among;
-use crate::subscriber::{has_status, place_of};
+use crate::subscriber::has_status;
 use named_slots::confirm;
 use pqformat::Text;
 use schedule::{Answer, WorldFault};
@@ -50,12 +49,8 @@ impl<L: LogName + SlotName> Machine<L> {
         ensures err { OnErr result (shown self.new ≡ shown self.old) }
         ensures machine { IsMachine self.new }
     {
-        let found = place_among(self.starts.as_slice(), self.opened.as_slice(), name);
-        let Some(_) = found else {
+        let Some((_, at)) = self.places_of(name) else {
             return Err(WorldFault::BadEvent);
-        };
-        let Some(at) = place_of(&self.names, name) else {
-            unreachable!();
         };
         self.subscribers[at].put_back(flushed, clock)?;
         Ok(Answer::Done)
@@ -72,12 +67,8 @@ impl<L: LogName + SlotName> Machine<L> {
         ensures err { OnErr result (shown self.new ≡ shown self.old) }
         ensures machine { IsMachine self.new }
     {
-        let found = place_among(self.starts.as_slice(), self.opened.as_slice(), name);
-        let Some(place) = found else {
+        let Some((place, at)) = self.places_of(name) else {
             return Err(WorldFault::BadEvent);
-        };
-        let Some(at) = place_of(&self.names, name) else {
-            unreachable!();
         };
         let subscriber = &mut self.subscribers[at];
         let Some(status) = subscriber.next_status() else {

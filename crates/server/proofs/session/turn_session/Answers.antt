@@ -2,7 +2,7 @@ use Rattle.std.proofs.Common.{◌≡◌}
 use Rattle.std.proofs.lemmas.Result.{err_from_is_err_and}
 use Rattle.server.specs.declared.stage.Stage.TheVariants.{Idle}
 use Rattle.server.specs.Turns.{Hears}
-use Rattle.server.proofs.Turning.{front_turned, front_tried, front_refused}
+use Rattle.server.proofs.Turning.{front_turned, front_tried, refused_takes}
 use Rattle.server.proofs.session.turn_session.Goals as goal
 
 pub returns-in_ok-stage-in-Ok-Some : goal.returns-in_ok-stage-in-Ok-Some
@@ -11,10 +11,10 @@ returns-in_ok-stage-in-Ok-Some g c =
     front_turned g.D.Desk.told c.args.service (Idle c.args.database) (Hears c.args.service.dialect c.args.database) c.args.pending.now c.in-Ok-Some.count c.in-Ok-Some.front c.in_ok-stage-in-Ok-Some.stage ((c.answer_front-answered.new.desk ≡ c.args.desk.now) × (c.answer_front-answered.new.out.items ≡ c.args.out.now.items)) c.args.desk.now c.args.out.now.items c.answer_front-answered.new.desk c.answer_front-answered.new.out.items
     (λ t n is. is) found.0 found.1 found.2 c.in_ok-stage-in-Ok-Some.ensures
 
-pub returns-in_ok-refuse-in-Err : goal.returns-in_ok-refuse-in-Err
-returns-in_ok-refuse-in-Err g c =
-    front_refused g.D.Desk.told c.args.service (Idle c.args.database) (Hears c.args.service.dialect c.args.database) c.args.pending.now c.in-Err.fault ((c.args.desk.now ≡ c.args.desk.now) × (c.refuse.new.out.items ≡ c.args.out.now.items)) c.args.desk.now c.args.out.now.items c.refuse.new.out.items
-    (λ t n is. is) c.in_ok-refuse-in-Err.ensures.readable c.in-Err.ensures.exact c.in_ok-refuse-in-Err.ensures.says
+pub returns-in-Err : goal.returns-in-Err
+returns-in-Err g c =
+    refused_takes g.D.Desk.told c.args.service (Idle c.args.database) (Hears c.args.service.dialect c.args.database) c.args.pending.now c.in-Err.fault c.args.desk.now c.args.out.now.items c.refuse.new.out.items c.refuse.result
+    (λ t n is. is) c.in-Err.ensures.exact c.refuse.ensures.readable c.refuse.ensures.closes c.refuse.ensures.says c.refuse.ensures.kept
 
 pub returns-in_err-stage-in-Ok-Some : goal.returns-in_err-stage-in-Ok-Some
 returns-in_err-stage-in-Ok-Some g c =

@@ -1,9 +1,9 @@
 use Rattle.std.proofs.Common.{◌≡◌}
-use Rattle.server.proofs.Turning.{startup_turned, startup_refused}
+use Rattle.server.proofs.Turning.{startup_turned, startup_refused_turned}
 use Rattle.server.proofs.turn.turn_startup.Goals as goal
 
-pub returns-in_ok-refuse-in-Err-clause-turned : goal.returns-in_ok-refuse-in-Err-clause-turned
-returns-in_ok-refuse-in-Err-clause-turned c = startup_refused c.args.service c.args.pending.now c.in-Err.fault (c.refuse.new.out.items ≡ c.args.out.now.items) c.args.out.now.items c.refuse.new.out.items c.in_ok-refuse-in-Err.ensures.readable c.in-Err.ensures.exact c.in_ok-refuse-in-Err.ensures.says
+pub returns-in-Err-clause-turned : goal.returns-in-Err-clause-turned
+returns-in-Err-clause-turned c = startup_refused_turned c.args.service c.args.pending.now c.in-Err.fault c.args.out.now.items c.refuse.new.out.items c.refuse.result c.in-Err.ensures.exact c.refuse.ensures.readable c.refuse.ensures.closes c.refuse.ensures.says
 
 pub returns-in_ok-stage-in-Ok-Some-clause-turned : goal.returns-in_ok-stage-in-Ok-Some-clause-turned
 returns-in_ok-stage-in-Ok-Some-clause-turned c =

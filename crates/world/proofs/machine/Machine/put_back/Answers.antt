@@ -12,20 +12,12 @@ use Rattle.world.proofs.Subscribing.{has_place, open_subscribed, still_subscribe
 use Rattle.world.proofs.machine.Machine.put_back.Goals as goal
 
 pub returns-in_default-clause-bad : goal.returns-in_default-clause-bad
-returns-in_default-clause-bad g c = λ same.
-    none_open c.args.name.now _ c.args.self.now.opened.items c.requires.machine.found (rw (c.as_slice.ensures.value, c.as_slice-2.ensures.value) at (sym c.place_among-found.ensures ∙ c.in_default.is))
-
-pub unreachable-requires : goal.unreachable-requires
-unreachable-requires g c =
-    let at = open_at c.args.name.now c.args.self.now.starts.items c.args.self.now.opened.items c.in-Some.field-0 c.requires.machine.found
-    (rw (c.as_slice.ensures.value, c.as_slice-2.ensures.value) at (sym c.place_among-found.ensures ∙ c.in-Some.is)) in
-    let has = open_subscribed c.args.name.now (map subscriber_state c.args.self.now.subscribers.items) (map start_state c.args.self.now.starts.items) (start_state at.start) c.requires.machine.subscribed at.of in
-    has_place c.args.name.now (map subscriber_state c.args.self.now.subscribers.items) has (sym (c.place_of.ensures c.args.self.now.subscribers.items c.requires.machine.named) ∙ c.in_default-place_of.is)
+returns-in_default-clause-bad g c = λ same. c.places_of.ensures.none c.in_default.is
 
 pub returns-in_err-put_back-clause-err : goal.returns-in_err-put_back-clause-err
 returns-in_err-put_back-clause-err g c =
     on_err c.from_residual.result _
-    (ap (λ (l : List SubscriberState). record (shown c.args.self.now) { subscribers = l }) (same_states c.in-Some-place_of.at c.args.self.now.subscribers.items c.index_mut.result.now c.put_back.new.self c.index_mut.ensures.value c.in_err-put_back.ensures.err))
+    (ap (λ (l : List SubscriberState). record (shown c.args.self.now) { subscribers = l }) (same_states c.in-Some.at c.args.self.now.subscribers.items c.index_mut.result.now c.put_back.new.self c.index_mut.ensures.value c.in_err-put_back.ensures.err))
 
 pub returns-in_err-put_back-clause-machine : goal.returns-in_err-put_back-clause-machine
 returns-in_err-put_back-clause-machine g c = record {
@@ -33,32 +25,31 @@ returns-in_err-put_back-clause-machine g c = record {
   served = c.requires.machine.served;
   found = c.requires.machine.found;
   subscribed = subst (λ (l : List SubscriberState). AllByRecursion (IsSubscribed l) (map start_state c.args.self.now.starts.items))
-      (sym (same_states c.in-Some-place_of.at c.args.self.now.subscribers.items c.index_mut.result.now c.put_back.new.self c.index_mut.ensures.value c.in_err-put_back.ensures.err)) c.requires.machine.subscribed;
-  named = still_named c.args.self.now.names c.in-Some-place_of.at c.args.self.now.subscribers.items c.index_mut.result.now c.put_back.new.self c.index_mut.ensures.value (ap (λ (s : SubscriberState). s.connection) c.in_err-put_back.ensures.err) c.requires.machine.named;
+      (sym (same_states c.in-Some.at c.args.self.now.subscribers.items c.index_mut.result.now c.put_back.new.self c.index_mut.ensures.value c.in_err-put_back.ensures.err)) c.requires.machine.subscribed;
+  named = still_named c.args.self.now.names c.in-Some.at c.args.self.now.subscribers.items c.index_mut.result.now c.put_back.new.self c.index_mut.ensures.value (ap (λ (s : SubscriberState). s.connection) c.in_err-put_back.ensures.err) c.requires.machine.named;
   readers = c.requires.machine.readers;
   room = c.requires.machine.room;
 }
 
 pub returns-clause-puts : goal.returns-clause-puts
 returns-clause-puts g c =
-    let at = open_at c.args.name.now c.args.self.now.starts.items c.args.self.now.opened.items c.in-Some.field-0 c.requires.machine.found
-    (rw (c.as_slice.ensures.value, c.as_slice-2.ensures.value) at (sym c.place_among-found.ensures ∙ c.in-Some.is)) in
-    let one = subscriber_at c.args.name.now c.args.self.now.subscribers.items c.in-Some-place_of.at (sym (c.place_of.ensures c.args.self.now.subscribers.items c.requires.machine.named) ∙ c.in-Some-place_of.is) in
-    puts_back c.args.name.now c.args.flushed c.args.clock c.in-Some.field-0 c.in-Some-place_of.at c.args.self.now c.index_mut.result.now c.put_back.new.self at one c.index_mut.ensures.value
+    let at = c.in-Some.ensures.start in
+    let one = subscriber_at c.args.name.now c.args.self.now.subscribers.items c.in-Some.at c.in-Some.ensures.subscriber in
+    puts_back c.args.name.now c.args.flushed c.args.clock c.in-Some.field-0-0 c.in-Some.at c.args.self.now c.index_mut.result.now c.put_back.new.self at one c.index_mut.ensures.value
     (rw (to_z-of_z w64 c.args.clock c.ranges.clock) at c.in_ok-put_back.ensures.ok)
 
 pub returns-clause-machine : goal.returns-clause-machine
 returns-clause-machine g c =
-    let one = subscriber_at c.args.name.now c.args.self.now.subscribers.items c.in-Some-place_of.at (sym (c.place_of.ensures c.args.self.now.subscribers.items c.requires.machine.named) ∙ c.in-Some-place_of.is) in
+    let one = subscriber_at c.args.name.now c.args.self.now.subscribers.items c.in-Some.at c.in-Some.ensures.subscriber in
     record {
       good = c.requires.machine.good;
       served = c.requires.machine.served;
       found = c.requires.machine.found;
-      subscribed = still_subscribed c.args.name.now c.in-Some-place_of.at c.args.self.now c.index_mut.result.now c.put_back.new.self one c.index_mut.ensures.value (ap (λ (s : SubscriberState). s.connection) c.in_ok-put_back.ensures.ok) c.requires.machine.subscribed;
-      named = still_named c.args.self.now.names c.in-Some-place_of.at c.args.self.now.subscribers.items c.index_mut.result.now c.put_back.new.self c.index_mut.ensures.value (ap (λ (s : SubscriberState). s.connection) c.in_ok-put_back.ensures.ok) c.requires.machine.named;
+      subscribed = still_subscribed c.args.name.now c.in-Some.at c.args.self.now c.index_mut.result.now c.put_back.new.self one c.index_mut.ensures.value (ap (λ (s : SubscriberState). s.connection) c.in_ok-put_back.ensures.ok) c.requires.machine.subscribed;
+      named = still_named c.args.self.now.names c.in-Some.at c.args.self.now.subscribers.items c.index_mut.result.now c.put_back.new.self c.index_mut.ensures.value (ap (λ (s : SubscriberState). s.connection) c.in_ok-put_back.ensures.ok) c.requires.machine.named;
       readers = c.requires.machine.readers;
       room = c.requires.machine.room;
     }
 
 pub index_mut-requires : goal.index_mut-requires
-index_mut-requires g c = omega (arith, place_within c.args.name.now c.in-Some-place_of.at c.args.self.now.subscribers.items (sym (c.place_of.ensures c.args.self.now.subscribers.items c.requires.machine.named) ∙ c.in-Some-place_of.is))
+index_mut-requires g c = omega (arith, place_within c.args.name.now c.in-Some.at c.args.self.now.subscribers.items c.in-Some.ensures.subscriber)
