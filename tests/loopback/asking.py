@@ -13,6 +13,8 @@ COPY = "BEGIN READ ONLY ISOLATION LEVEL REPEATABLE READ"
 PUBLICATIONS = "SELECT t.pubname FROM\n pg_catalog.pg_publication t WHERE\n t.pubname IN ({})"
 TABLES = "SELECT DISTINCT t.schemaname, t.tablename \nFROM pg_catalog.pg_publication_tables t\n WHERE t.pubname IN ({})"
 DROP = 'DROP_REPLICATION_SLOT "s" WAIT'
+# As PostgreSQL 15.18 writes a name that needs no quotes.
+BARE_DROP = "DROP_REPLICATION_SLOT s WAIT"
 SYNTAX = "42601"
 UNSUPPORTED = "0A000"
 
@@ -70,7 +72,8 @@ NEAR = [
     "",
 ]
 NEAR_DROPS = [DROP + each for each in (";", " ", " -- it")]
-NEAR_DROPS += [DROP.lower(), DROP.replace(" W", "  W"), DROP.replace('"s"', "'s'"), DROP.replace('"', "")]
+NEAR_DROPS += [DROP.lower(), DROP.replace(" W", "  W"), DROP.replace('"s"', "'s'"), BARE_DROP.lower(), BARE_DROP.replace(" W", "  W")]
+NEAR_DROPS += [BARE_DROP + each for each in (";", " ", " -- it")] + ["DROP_REPLICATION_SLOT  WAIT", "DROP_REPLICATION_SLOT s;s WAIT"]
 
 
 def code_for(client, text):
@@ -97,6 +100,9 @@ def questions_are_answered_where_they_may_be(pubd, subcat):
             wrong += [f"{text!r} is answered by {got}, and not by {due}"] * (got != due)
         wrong += ["an initial copy isn't refused"] * (code_for(client, COPY) != UNSUPPORTED)
         wrong += ["a slot isn't dropped"] * (code_for(client, "DROP_REPLICATION_SLOT s") != "42704")
+        client.create("s")
+        got = said_to(client, BARE_DROP)
+        wrong += [f"{BARE_DROP!r} is answered by {got}"] * (got != completed("DROP_REPLICATION_SLOT"))
         client.close()
         return wrong + server.end()
 
@@ -106,7 +112,7 @@ def questions_are_refused_where_they_may_not_be(pubd, subcat):
     with Server(pubd, 1) as server:
         client = Connection(server.port)
         client.create("s")
-        due = [(text, SYNTAX) for text, _ in ANSWERED[:-1]] + [(COPY, SYNTAX), (DROP, UNSUPPORTED)]
+        due = [(text, SYNTAX) for text, _ in ANSWERED[:-1]] + [(COPY, SYNTAX), (DROP, UNSUPPORTED), (BARE_DROP, UNSUPPORTED)]
         wrong = refused_otherwise(client, due)
         client.close()
         return wrong + server.end()

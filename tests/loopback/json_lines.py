@@ -34,14 +34,14 @@ schema = "ödön"
 name = "tag"
 identity = "full"
 key = ["id"]
-columns = [["id", "int4"], ["text", "text"]]
+columns = [["id", "int4"], ["text", "text"], ["size", "int2"]]
 
 [[publication]]
 name = "p"
 all_tables = true
 """
 ITEM = "public", "item", [("id", "integer"), ('a "name"', "text"), ("qty", "bigint"), ("is_new", "boolean")]
-TAG = "ödön", "tag", [("id", "integer"), ("text", "text")]
+TAG = "ödön", "tag", [("id", "integer"), ("text", "text"), ("size", "smallint")]
 # What a line of a script can say in a text.
 HOSTILE = ["", "plain", "it's", 'a "quote"', "a \\ backslash\\n", "tab\tbell\x07escape\x1bdelete\x7f", "ä ∷ 😀", "\u2028 \ufeff", "null", "7", "{}"]
 # What it can't say, and a server can send.
@@ -88,9 +88,9 @@ def script_of_everything():
         ("update public.item (1) (1,'new',5,null)", [change("U", ITEM, (1, "new", 5, None))]),
         ("update public.item (2) (50,'moved',6,true)", [change("U", ITEM, (50, "moved", 6, True), [2])]),
         ("delete public.item (3)", [change("D", ITEM, old=[3])]),
-        ("insert ödön.tag (1,'one')", [change("I", TAG, (1, "one"))]),
-        ("update ödön.tag (1) (1,null)", [change("U", TAG, (1, None), (1, "one"))]),
-        ("delete ödön.tag (1)", [change("D", TAG, old=(1, None))]),
+        ("insert ödön.tag (1,'one',-32768)", [change("I", TAG, (1, "one", -(2**15)))]),
+        ("update ödön.tag (1) (1,null,32767)", [change("U", TAG, (1, None, 2**15 - 1), (1, "one", -(2**15)))]),
+        ("delete ödön.tag (1)", [change("D", TAG, old=(1, None, 2**15 - 1))]),
         ("truncate public.item ödön.tag", [change("T", ITEM), change("T", TAG)]),
     ]
     return [first, second]

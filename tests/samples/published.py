@@ -14,7 +14,12 @@ ROWS = {
     16384: [(("int4", 10), "x", ("int8", 1)), (("int4", 11), "x", ("int8", 2)), (("int4", 11), "y", ("int8", 3))],
     16385: [("a", ("int4", 5)), ("a", ("int4", 6)), ("a", None)],
     16386: [(("int8", number), "m") for number in (1, 2, 3)],
+    16388: [(("int2", number), ("int2", -1), ("int8", 7)) for number in (-32768, 6, 32767)],
 }
+
+
+# Of each kind of whole numbers its tag, and the form of its bytes.
+NUMBERS = {"int2": (b"\5", ">h"), "int4": (b"\2", ">i"), "int8": (b"\3", ">q")}
 
 
 def coded_value(value):
@@ -26,7 +31,8 @@ def coded_value(value):
         text = value.encode()
         return b"\4" + struct.pack(">I", len(text)) + text
     kind, number = value
-    return b"\2" + struct.pack(">i", number) if kind == "int4" else b"\3" + struct.pack(">q", number)
+    tag, form = NUMBERS[kind]
+    return tag + struct.pack(form, number)
 
 
 def coded_row(row):

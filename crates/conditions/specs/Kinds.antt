@@ -9,9 +9,10 @@ use Rattle.conditions.specs.declared.question.Question.{Question}
 use Rattle.conditions.specs.declared.question.Question.TheVariants as questions
 use Rattle.conditions.specs.Conditions.{Datum, Missing, Flag, Number, Bytes, Condition, Column, Literal, Compare, Is, Not, And, Or}
 
--- int4 and int8 are both whole numbers; null is of any kind
+-- int2, int4 and int8 are all whole numbers; null is of any kind
 abbrev pub sort_of_kind : Kind → Sort
 sort_of_kind kinds.Bool = Truths
+sort_of_kind kinds.Int2 = Numbers
 sort_of_kind kinds.Int4 = Numbers
 sort_of_kind kinds.Int8 = Numbers
 sort_of_kind kinds.Text = Texts

@@ -44,6 +44,7 @@ is_true _ = false
 abbrev pub datum_of : Value → Datum
 datum_of values.Null = Missing
 datum_of (values.Bool b) = Flag b
+datum_of (values.Int2 n) = Number n
 datum_of (values.Int4 n) = Number n
 datum_of (values.Int8 n) = Number n
 datum_of (values.Text text) = Bytes text

@@ -43,6 +43,7 @@ fn number_against(how: Comparison, value: ValueRef<'_>, number: i64) -> Truth
     ensures { result ≡ compared how (datum_of (value_of value.entry)) (Number number) }
 {
     match value {
+        ValueRef::Int2(n) => Truth::of(how.holds(i64::from(n).cmp(&number))),
         ValueRef::Int4(n) => Truth::of(how.holds(i64::from(n).cmp(&number))),
         ValueRef::Int8(n) => Truth::of(how.holds(n.cmp(&number))),
         _ => Truth::Unknown,

@@ -12,7 +12,7 @@ use crate::truth::Truth;
 use std::cmp::Ordering;
 use tables::ValueRef;
 
-/// A value as conditions see it: numbers of both widths are alike, and a text is lent. Unknown is null.
+/// A value as conditions see it: numbers of all widths are alike, and a text is lent. Unknown is null.
 #[derive(Clone, Copy)]
 pub(crate) enum Operand<'a> {
     Null,
@@ -28,6 +28,7 @@ impl<'a> Operand<'a> {
         match value {
             ValueRef::Null => Operand::Null,
             ValueRef::Bool(b) => Operand::Bool(b),
+            ValueRef::Int2(n) => Operand::Number(i64::from(n)),
             ValueRef::Int4(n) => Operand::Number(i64::from(n)),
             ValueRef::Int8(n) => Operand::Number(n),
             ValueRef::Text(text) => Operand::Text(text),

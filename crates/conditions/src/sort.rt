@@ -8,7 +8,7 @@ use crate::literal::Literal;
 use crate::question::Question;
 use tables::Kind;
 
-/// The kind of an operand. Numbers of both widths are one; null is of any.
+/// The kind of an operand. Numbers of all widths are one; null is of any.
 #[derive(Clone, Copy)]
 pub enum Sort {
     Any,
@@ -23,7 +23,7 @@ impl Sort {
     {
         match kind {
             Kind::Bool => Sort::Truths,
-            Kind::Int4 | Kind::Int8 => Sort::Numbers,
+            Kind::Int2 | Kind::Int4 | Kind::Int8 => Sort::Numbers,
             Kind::Text => Sort::Texts,
         }
     }

@@ -15,6 +15,8 @@ pub(crate) const BOOL_OID: u32 = 16;
 
 pub(crate) const INT8_OID: u32 = 20;
 
+pub(crate) const INT2_OID: u32 = 21;
+
 pub(crate) const INT4_OID: u32 = 23;
 
 pub(crate) const TEXT_OID: u32 = 25;
@@ -37,6 +39,7 @@ fn kind_name(kind: u32) -> Option<&'static str>
     match kind {
         BOOL_OID => Some("boolean"),
         INT8_OID => Some("bigint"),
+        INT2_OID => Some("smallint"),
         INT4_OID => Some("integer"),
         TEXT_OID => Some("text"),
         _ => None,
@@ -47,5 +50,5 @@ fn kind_name(kind: u32) -> Option<&'static str>
 pub(crate) fn is_integer(kind: u32) -> bool
     ensures { result ≡ is_integer kind }
 {
-    kind == INT4_OID || kind == INT8_OID
+    kind == INT2_OID || kind == INT4_OID || kind == INT8_OID
 }

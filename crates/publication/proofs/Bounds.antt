@@ -2,7 +2,7 @@
 use Rattle.std.proofs.Common.{◌≡◌, ℕ, ◌+◌, ◌*◌, ◌≤◌, Bool, true, false, cond, List, [], ◌∷◌, length, ap, ◌∙◌, arith}
 use Rattle.std.specs.Prelude.{codes}
 use Rattle.std.specs.List.{flat_map, AllByRecursion}
-use Rattle.std.specs.Int.{w32, w64, cast_unsigned}
+use Rattle.std.specs.Int.{w16, w32, w64, cast_unsigned}
 use Rattle.std.specs.Fmt.{signed_decimal}
 use Rattle.std.proofs.lemmas.Fmt.{length_signed_le}
 use Rattle.std.proofs.lemmas.List.{length-append}
@@ -24,6 +24,9 @@ cell_near : (v : Value) → IsValue v → length (cell (cell_of v)) ≤ 16 + len
 cell_near values.Null in_range = omega arith
 cell_near (values.Bool true) in_range = omega (arith, length-append (int32 1) (codes "t"), length-int32 1)
 cell_near (values.Bool false) in_range = omega (arith, length-append (int32 1) (codes "f"), length-int32 1)
+cell_near (values.Int2 z) in_range =
+    let six : length (signed_decimal z) ≤ 6 = length_signed_le 5 z (omega (arith, in_range.sfits)) (omega (arith, in_range.sfits)) in
+    omega (arith, six, length-append (int32 (length (signed_decimal z))) (signed_decimal z), length-int32 (length (signed_decimal z)), length-int16 (cast_unsigned w16 z))
 cell_near (values.Int4 z) in_range =
     let eleven : length (signed_decimal z) ≤ 11 = length_signed_le 10 z (omega (arith, in_range.sfits)) (omega (arith, in_range.sfits)) in
     omega (arith, eleven, length-append (int32 (length (signed_decimal z))) (signed_decimal z), length-int32 (length (signed_decimal z)), length-int32 (cast_unsigned w32 z))

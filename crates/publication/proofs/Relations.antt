@@ -51,6 +51,7 @@ record ColumnsFit (identity : Identity) (cs : List Column) : Type 0 where
 
 type_fits : (k : Kind) → type_oid k < 2 ^ 32
 type_fits kinds.Bool = omega arith
+type_fits kinds.Int2 = omega arith
 type_fits kinds.Int4 = omega arith
 type_fits kinds.Int8 = omega arith
 type_fits kinds.Text = omega arith

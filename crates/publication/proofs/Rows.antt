@@ -2,7 +2,7 @@
 use Rattle.std.proofs.Common.{◌≡◌, ℕ, ℤ, zero, suc, ◌+◌, ◌*◌, ◌≤◌, Bool, true, false, cond, eqb, leb, ltb, List, [], ◌∷◌, ◌++◌, length, map, Option, Some, None, refl, sym, ap, ◌∙◌, arith}
 use Rattle.std.specs.Prelude.{FitsSigned, ◌&&◌, codes}
 use Rattle.std.specs.List.{flat_map, list_all, AllByRecursion}
-use Rattle.std.specs.Int.{w32, w64, cast_unsigned}
+use Rattle.std.specs.Int.{w16, w32, w64, cast_unsigned}
 use Rattle.std.specs.Str.{IsAscii, is_utf8}
 use Rattle.std.specs.Fmt.{signed_decimal}
 use Rattle.std.proofs.lemmas.Str.{IsUtf8-from_ascii, is_utf8-from_IsUtf8}
@@ -61,6 +61,11 @@ cell_fits : (v : Value) → IsValue v → length (spell_value v) ≤ MAX_ROW_LEN
 cell_fits values.Null in_range short = record { fits = tt; short = omega arith }
 cell_fits (values.Bool true) in_range short = record { fits = (omega arith, letter_fits true); short = omega (arith, length-append (int32 1) (codes "t"), length-int32 1) }
 cell_fits (values.Bool false) in_range short = record { fits = (omega arith, letter_fits false); short = omega (arith, length-append (int32 1) (codes "f"), length-int32 1) }
+cell_fits (values.Int2 z) in_range short =
+    let wide : FitsSigned w64 z = record { sfits = omega (arith, in_range.sfits) } in
+    let d = decimal_text z wide in
+    let six : length (signed_decimal z) ≤ 6 = length_signed_le 5 z (omega (arith, in_range.sfits)) (omega (arith, in_range.sfits)) in
+    record { fits = (omega (arith, d.0), d.1); short = omega (arith, six, length-append (int32 (length (signed_decimal z))) (signed_decimal z), length-int32 (length (signed_decimal z)), length-int16 (cast_unsigned w16 z)) }
 cell_fits (values.Int4 z) in_range short =
     let wide : FitsSigned w64 z = record { sfits = omega (arith, in_range.sfits) } in
     let d = decimal_text z wide in
@@ -81,6 +86,7 @@ record KeyCellFits (is_key : Bool) (v : Value) : Type 0 where
 some_byte : (v : Value) → 1 ≤ length (spell_value v)
 some_byte values.Null = omega arith
 some_byte (values.Bool b) = omega arith
+some_byte (values.Int2 z) = omega arith
 some_byte (values.Int4 z) = omega arith
 some_byte (values.Int8 z) = omega arith
 some_byte (values.Text text) = omega arith
@@ -138,6 +144,7 @@ behind_fits (o ∷ old) (v ∷ new) counts in_range short =
 sent_cell : (v : Value) → FitsCell (cell_of v) → FitsSentCell (cell_of v)
 sent_cell values.Null fits = tt
 sent_cell (values.Bool b) fits = fits
+sent_cell (values.Int2 z) fits = fits
 sent_cell (values.Int4 z) fits = fits
 sent_cell (values.Int8 z) fits = fits
 sent_cell (values.Text text) fits = fits

@@ -84,6 +84,7 @@ nothing_if (Some m) false e = refl
 value_is : (v : Value) → IsCodedValue v → IsValue v
 value_is values.Null is = tt
 value_is (values.Bool b) is = tt
+value_is (values.Int2 n) is = is
 value_is (values.Int4 n) is = is
 value_is (values.Int8 n) is = is
 value_is (values.Text text) is = is.1

@@ -13,7 +13,7 @@ use Rattle.tables.specs.declared.identity.Identity.TheVariants as identities
 use Rattle.tables.specs.declared.column.Column.{Column}
 use Rattle.tables.specs.declared.table.Table.{Table}
 use Rattle.tables.specs.Tables.{table_of}
-use Rattle.publication.specs.declared.relation.TheConstants.{BOOL_OID, INT4_OID, INT8_OID, TEXT_OID, NO_MODIFIER}
+use Rattle.publication.specs.declared.relation.TheConstants.{BOOL_OID, INT2_OID, INT4_OID, INT8_OID, TEXT_OID, NO_MODIFIER}
 use Rattle.publication_config.specs.declared.publication.Publication.{Publication}
 use Rattle.publication_config.specs.declared.published_table.PublishedTable.{PublishedTable}
 use Rattle.publication_config.specs.Published.{PublicationSet, has, is_identity, table_in}
@@ -56,6 +56,7 @@ selected_oids s = filter (has_table s) (map (λ t. t.oid) s.tables)
 
 abbrev pub type_oid : Kind → ℕ
 type_oid kinds.Bool = BOOL_OID
+type_oid kinds.Int2 = INT2_OID
 type_oid kinds.Int4 = INT4_OID
 type_oid kinds.Int8 = INT8_OID
 type_oid kinds.Text = TEXT_OID

@@ -20,6 +20,7 @@ use Rattle.publication.specs.declared.cells.TheConstants.{MOST_RESENT}
 abbrev pub cell_of : Value → Cell
 cell_of values.Null = cells.Null
 cell_of (values.Bool b) = cells.Text (if b then codes "t" else codes "f")
+cell_of (values.Int2 n) = cells.Text (signed_decimal n)
 cell_of (values.Int4 n) = cells.Text (signed_decimal n)
 cell_of (values.Int8 n) = cells.Text (signed_decimal n)
 cell_of (values.Text text) = cells.Text text
@@ -39,6 +40,10 @@ abbrev pub is_the_bool : Bool → Value → Bool
 is_the_bool a (values.Bool b) = if a then b else not b
 is_the_bool a value = false
 
+abbrev pub is_the_int2 : ℤ → Value → Bool
+is_the_int2 a (values.Int2 b) = int_eq a b
+is_the_int2 a value = false
+
 abbrev pub is_the_int4 : ℤ → Value → Bool
 is_the_int4 a (values.Int4 b) = int_eq a b
 is_the_int4 a value = false
@@ -55,6 +60,7 @@ is_the_text a value = false
 abbrev pub same_value : Value → Value → Bool
 same_value values.Null value = is_null value
 same_value (values.Bool a) value = is_the_bool a value
+same_value (values.Int2 a) value = is_the_int2 a value
 same_value (values.Int4 a) value = is_the_int4 a value
 same_value (values.Int8 a) value = is_the_int8 a value
 same_value (values.Text a) value = is_the_text a value

@@ -41,6 +41,7 @@ fn cell(alloc: Global, value: &Value) -> Result<Cell, AllocError>
         Value::Null => Cell::Null,
         Value::Bool(true) => Cell::Text(Text::copy_of(alloc, "t")?),
         Value::Bool(false) => Cell::Text(Text::copy_of(alloc, "f")?),
+        Value::Int2(n) => Cell::Text(Text::new(n.to_string(alloc)?)),
         Value::Int4(n) => Cell::Text(Text::new(n.to_string(alloc)?)),
         Value::Int8(n) => Cell::Text(Text::new(n.to_string(alloc)?)),
         Value::Text(text) => Cell::Text(text.copy(alloc)?),
@@ -80,7 +81,8 @@ pub(crate) fn is_long(value: ValueRef<'_>) -> bool
     ensures { result ≡ is_long (value_of value.entry) }
 {
     match value {
-        ValueRef::Null | ValueRef::Bool(_) | ValueRef::Int4(_) | ValueRef::Int8(_) => false,
+        ValueRef::Null | ValueRef::Bool(_) => false,
+        ValueRef::Int2(_) | ValueRef::Int4(_) | ValueRef::Int8(_) => false,
         ValueRef::Text(text) => text.len() > MOST_RESENT,
     }
 }
@@ -147,6 +149,7 @@ pub(crate) fn is_same(a: ValueRef<'_>, b: ValueRef<'_>) -> bool
     match a {
         ValueRef::Null => matches!(b, ValueRef::Null),
         ValueRef::Bool(a) => matches!(b, ValueRef::Bool(b) if a == b),
+        ValueRef::Int2(a) => matches!(b, ValueRef::Int2(b) if a == b),
         ValueRef::Int4(a) => matches!(b, ValueRef::Int4(b) if a == b),
         ValueRef::Int8(a) => matches!(b, ValueRef::Int8(b) if a == b),
         ValueRef::Text(a) => matches!(b, ValueRef::Text(b) if a == b),

@@ -20,5 +20,5 @@ pub use projection::Projected;
 pub use publication_config::{Member, Misfit, Place, PubFault, TableMember, explained};
 pub use publications::Publications;
 pub use putting::MAX_MESSAGE_LENGTH;
-pub use relation::{BOOL_OID, INT4_OID, INT8_OID, NO_MODIFIER, TEXT_OID};
+pub use relation::{BOOL_OID, INT2_OID, INT4_OID, INT8_OID, NO_MODIFIER, TEXT_OID};
 pub use selection::Selection;

@@ -14,6 +14,8 @@ pub const BOOL_OID: u32 = 16;
 
 pub const INT8_OID: u32 = 20;
 
+pub const INT2_OID: u32 = 21;
+
 pub const INT4_OID: u32 = 23;
 
 pub const TEXT_OID: u32 = 25;
@@ -85,6 +87,7 @@ fn oid_of(kind: Kind) -> u32
 {
     match kind {
         Kind::Bool => BOOL_OID,
+        Kind::Int2 => INT2_OID,
         Kind::Int4 => INT4_OID,
         Kind::Int8 => INT8_OID,
         Kind::Text => TEXT_OID,

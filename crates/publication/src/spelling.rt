@@ -76,6 +76,10 @@ pub(crate) fn put_cell(out: &mut [u8], at: usize, value: ValueRef<'_>) -> usize
         ValueRef::Null => put_byte(out, at, NULL),
         ValueRef::Bool(true) => put_text(out, at, b"t"),
         ValueRef::Bool(false) => put_text(out, at, b"f"),
+        ValueRef::Int2(n) => {
+            let mut digits = Buffer::new();
+            put_text(out, at, digits.format(n).as_bytes())
+        }
         ValueRef::Int4(n) => {
             let mut digits = Buffer::new();
             put_text(out, at, digits.format(n).as_bytes())

@@ -9,11 +9,16 @@ use Rattle.tables.specs.declared.column.Column.{Column}
 use Rattle.schedule.specs.declared.event.Literal.{Literal}
 use Rattle.schedule.specs.declared.event.Literal.TheVariants as literals
 
+abbrev pub is_int2 : ℤ → Bool
+is_int2 (pos n) = nat_lt n (2 ^ 15)
+is_int2 (negsuc n) = nat_lt n (2 ^ 15)
+
 abbrev pub is_int4 : ℤ → Bool
 is_int4 (pos n) = nat_lt n (2 ^ 31)
 is_int4 (negsuc n) = nat_lt n (2 ^ 31)
 
 abbrev pub integer_in : Kind → ℤ → Value
+integer_in kinds.Int2 n = if is_int2 n then values.Int2 n else values.Int8 n
 integer_in kinds.Int4 n = if is_int4 n then values.Int4 n else values.Int8 n
 integer_in kinds.Int8 n = values.Int8 n
 integer_in kinds.Bool n = values.Int8 n
@@ -22,6 +27,7 @@ integer_in kinds.Text n = values.Int8 n
 -- an integer that no column holds
 abbrev pub huge_in : Kind → Value
 huge_in kinds.Bool = values.Int8 (pos 0)
+huge_in kinds.Int2 = values.Bool false
 huge_in kinds.Int4 = values.Bool false
 huge_in kinds.Int8 = values.Bool false
 huge_in kinds.Text = values.Bool false

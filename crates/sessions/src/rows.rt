@@ -87,6 +87,10 @@ fn integer_of(kind: Kind, n: i64) -> Value
     ensures { result ≡ integer_in kind n }
 {
     match kind {
+        Kind::Int2 => match i16::try_from(n) {
+            Ok(small) => Value::Int2(small),
+            Err(_) => Value::Int8(n),
+        },
         Kind::Int4 => match i32::try_from(n) {
             Ok(small) => Value::Int4(small),
             Err(_) => Value::Int8(n),
@@ -101,6 +105,6 @@ fn huge_of(kind: Kind) -> Value
 {
     match kind {
         Kind::Bool => Value::Int8(0),
-        Kind::Int4 | Kind::Int8 | Kind::Text => Value::Bool(false),
+        Kind::Int2 | Kind::Int4 | Kind::Int8 | Kind::Text => Value::Bool(false),
     }
 }

@@ -1,7 +1,7 @@
 //! The texts by which a store finds its places: those of rows' keys, and one for each table.
 
 ghost use Rattle.std.specs.Prelude.{◌≡◌, ◌+◌, ◌++◌, ◌∷◌, [], ◌<◌, ◌≤◌, MatchOption, length, take};
-ghost use Rattle.pqformat.specs.Fields.{int32, int64};
+ghost use Rattle.pqformat.specs.Fields.{int16, int32, int64};
 ghost use Rattle.store.specs.History.{is_within, table_place};
 ghost use Rattle.store.specs.Rows.{key_text, key_values};
 ghost use Rattle.store.specs.Slots.{same_key};
@@ -9,7 +9,7 @@ ghost use Rattle.tables.specs.Spelling.{row_length, spell_value};
 
 use std::marker::Model;
 use tables::{
-    BOOL_TAG, Column, INT4_TAG, INT8_TAG, MAX_ROW_LENGTH, NULL_TAG, Row, TEXT_TAG, Value,
+    BOOL_TAG, Column, INT2_TAG, INT4_TAG, INT8_TAG, MAX_ROW_LENGTH, NULL_TAG, Row, TEXT_TAG, Value,
 };
 
 /// The longest text of a key, in bytes: the values of the longest row, behind its table's OID.
@@ -69,6 +69,14 @@ impl Place {
         }
     }
 
+    #[tactic(auto, unfolding(pqformat::specs::Fields::int16))]
+    fn push_int16(&mut self, number: u16)
+        requires { length self.old + 2 ≤ MAX_KEY_LENGTH }
+        ensures { self.new ≡ self.old ++ int16 number }
+    {
+        self.extend(&number.to_be_bytes());
+    }
+
     #[tactic(auto, using(tables::proofs::Lengths::lengths), unfolding(pqformat::specs::Fields::int32))]
     fn push_int32(&mut self, number: u32)
         requires { length self.old + 4 ≤ MAX_KEY_LENGTH }
@@ -95,6 +103,10 @@ impl Place {
             Value::Bool(b) => {
                 self.push(BOOL_TAG);
                 self.push(*b as u8);
+            }
+            Value::Int2(n) => {
+                self.push(INT2_TAG);
+                self.push_int16(n.cast_unsigned());
             }
             Value::Int4(n) => {
                 self.push(INT4_TAG);

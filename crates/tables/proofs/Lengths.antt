@@ -29,6 +29,7 @@ row_length_is row = omega (arith, length-append (int16 (length row)) (flat_map s
 one_at_least : (value : Value) → 1 ≤ length (spell_value value)
 one_at_least values.Null = omega arith
 one_at_least (values.Bool b) = omega arith
+one_at_least (values.Int2 n) = omega arith
 one_at_least (values.Int4 n) = omega arith
 one_at_least (values.Int8 n) = omega arith
 one_at_least (values.Text text) = omega arith
@@ -69,6 +70,7 @@ message_length message =
 coded_value : (value : Value) → IsValue value → length (spell_value value) ≤ MAX_ROW_LENGTH → IsCodedValue value
 coded_value values.Null fits short = tt
 coded_value (values.Bool b) fits short = tt
+coded_value (values.Int2 n) fits short = fits
 coded_value (values.Int4 n) fits short = fits
 coded_value (values.Int8 n) fits short = fits
 coded_value (values.Text text) fits short = (omega (arith, short, length-text text), fits)

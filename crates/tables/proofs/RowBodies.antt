@@ -9,8 +9,8 @@ use Rattle.pqformat.specs.Fields.{byte_at, bytes_at, int32}
 use Rattle.pqformat.specs.Steps.{◌>>=◌, letter_at, repeat_at}
 use Rattle.pqformat.proofs.Codec.{Codec, field, last_field, codec_of, with_range, tested, counted, repeated, Chooses, no_choice, choice, choice_codec}
 use Rattle.pqformat.proofs.Loop.{with_front, ends}
-use Rattle.pqformat.proofs.Numbers.{number16, number32, bytes_codec, nothing_codec, letter_codec, signed32, signed64}
-use Rattle.tables.specs.declared.row_body.TheConstants.{NULL_TAG, BOOL_TAG, INT4_TAG, INT8_TAG, TEXT_TAG}
+use Rattle.pqformat.proofs.Numbers.{number16, number32, bytes_codec, nothing_codec, letter_codec, signed16, signed32, signed64}
+use Rattle.tables.specs.declared.row_body.TheConstants.{NULL_TAG, BOOL_TAG, INT2_TAG, INT4_TAG, INT8_TAG, TEXT_TAG}
 use Rattle.tables.specs.declared.fault.BodyFault.{BodyFault}
 use Rattle.tables.specs.declared.fault.BodyFault.TheVariants.{Short, UnknownTag, BadBool, BadText, Trailing, Memory}
 use Rattle.tables.specs.declared.value.Value.{Value}
@@ -55,11 +55,13 @@ values_choose =
     (choice INT4_TAG (signed32 Short) values.Int4 spell_value IsCodedValue (λ _. refl) (λ _ fits. fits)
     (choice INT8_TAG (signed64 Short) values.Int8 spell_value IsCodedValue (λ _. refl) (λ _ fits. fits)
     (choice TEXT_TAG text_codec values.Text spell_value IsCodedValue (λ _. refl) (λ _ fits. fits)
-    (no_choice UnknownTag spell_value IsCodedValue)))))
+    (choice INT2_TAG (signed16 Short) values.Int2 spell_value IsCodedValue (λ _. refl) (λ _ fits. fits)
+    (no_choice UnknownTag spell_value IsCodedValue))))))
 
 value_again : (x : Value) (rest : List ℕ) → IsCodedValue x → (ok_or (byte_at (spell_value x ++ rest)) Short >>= λ tag. tagged_at tag.0 tag.1) ≡ Ok (x, rest)
 value_again values.Null rest fits = refl
 value_again (values.Bool b) rest fits = rw (bool_codec.again b rest fits) refl
+value_again (values.Int2 n) rest fits = rw ((signed16 Short).again n rest fits) refl
 value_again (values.Int4 n) rest fits = rw ((signed32 Short).again n rest fits) refl
 value_again (values.Int8 n) rest fits = rw ((signed64 Short).again n rest fits) refl
 value_again (values.Text text) rest fits = rw (text_codec.again text rest fits) refl

@@ -55,6 +55,7 @@ identity_in (Some d) = and_then (as_str d) identity_of
 abbrev pub kind_of : List ℕ → Option Kind
 kind_of text =
     if bytes_eq text (codes "bool") then Some kinds.Bool
+    else if bytes_eq text (codes "int2") then Some kinds.Int2
     else if bytes_eq text (codes "int4") then Some kinds.Int4
     else if bytes_eq text (codes "int8") then Some kinds.Int8
     else if bytes_eq text (codes "text") then Some kinds.Text

@@ -6,7 +6,7 @@ use Rattle.std.specs.Int.{w16, w32, w64}
 use Rattle.std.specs.Str.{is_utf8}
 use Rattle.pqformat.specs.Fields.{byte_at, bytes_at, number_at, int16, int32}
 use Rattle.pqformat.specs.Steps.{◌>>=◌, letter_at, signed_at, repeat_at}
-use Rattle.tables.specs.declared.row_body.TheConstants.{NULL_TAG, BOOL_TAG, INT4_TAG, INT8_TAG, TEXT_TAG}
+use Rattle.tables.specs.declared.row_body.TheConstants.{NULL_TAG, BOOL_TAG, INT2_TAG, INT4_TAG, INT8_TAG, TEXT_TAG}
 use Rattle.tables.specs.declared.change_body.TheConstants.{INSERT_TAG, UPDATE_TAG, DELETE_TAG, TRUNCATE_TAG, MESSAGE_TAG}
 use Rattle.tables.specs.declared.fault.BodyFault.{BodyFault}
 use Rattle.tables.specs.declared.fault.BodyFault.TheVariants.{Short, UnknownTag, BadBool, BadText, Trailing, Memory}
@@ -20,6 +20,7 @@ use Rattle.tables.specs.Spelling.{spell_value, spell_message, spell_body}
 -- WHAT HAS A BODY
 
 abbrev pub IsCodedValue : Value → Type 0
+IsCodedValue (values.Int2 n) = FitsSigned w16 n
 IsCodedValue (values.Int4 n) = FitsSigned w32 n
 IsCodedValue (values.Int8 n) = FitsSigned w64 n
 IsCodedValue (values.Text text) = (length text < 2 ^ 32) × (is_utf8 text ≡ true)
@@ -67,7 +68,8 @@ tagged_at tag bytes =
     else (if tag == INT4_TAG then signed_at Short w32 bytes >>= (λ n. Ok (values.Int4 n.0, n.1))
     else (if tag == INT8_TAG then signed_at Short w64 bytes >>= (λ n. Ok (values.Int8 n.0, n.1))
     else (if tag == TEXT_TAG then text_at bytes >>= (λ t. Ok (values.Text t.0, t.1))
-    else Err UnknownTag))))
+    else (if tag == INT2_TAG then signed_at Short w16 bytes >>= (λ n. Ok (values.Int2 n.0, n.1))
+    else Err UnknownTag)))))
 
 unfoldable pub value_at : List ℕ → Result (Value × List ℕ) BodyFault
 value_at bytes = short (byte_at bytes) >>= λ tag. tagged_at tag.0 tag.1

@@ -13,6 +13,7 @@ use Rattle.tables.specs.Spelling.{row_length}
 abbrev pub value_of : ValueRef → Value
 value_of refs.Null = values.Null
 value_of (refs.Bool b) = values.Bool b
+value_of (refs.Int2 n) = values.Int2 n
 value_of (refs.Int4 n) = values.Int4 n
 value_of (refs.Int8 n) = values.Int8 n
 value_of (refs.Text text) = values.Text text.now

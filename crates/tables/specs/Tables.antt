@@ -1,7 +1,7 @@
 -- Which rows a table takes, and which changes fit a catalogue.
 use Rattle.std.specs.Prelude.{◌≡◌, ℕ, ◌^◌, ◌<◌, ◌≤◌, ◌==◌, nat_le, Bool, true, false, ◌&&◌, ◌||◌, not, List, [], ◌∷◌, ◌++◌, length, codes, count_by, filter, find, map, Option, IsSome, IsSomeAnd, FitsSigned}
 use Rattle.std.specs.List.{list_all, list_any, zip, AllByRecursion}
-use Rattle.std.specs.Int.{w32, w64}
+use Rattle.std.specs.Int.{w16, w32, w64}
 use Rattle.std.specs.Str.{bytes_eq, is_utf8}
 use Rattle.tables.specs.declared.config_member.TheConstants.{MAX_NAME_LENGTH}
 use Rattle.tables.specs.declared.config_table.TheConstants.{MAX_COLUMNS}
@@ -74,6 +74,10 @@ abbrev pub is_bool : Value → Bool
 is_bool (values.Bool b) = true
 is_bool value = false
 
+abbrev pub is_int2 : Value → Bool
+is_int2 (values.Int2 n) = true
+is_int2 value = false
+
 abbrev pub is_int4 : Value → Bool
 is_int4 (values.Int4 n) = true
 is_int4 value = false
@@ -89,6 +93,7 @@ is_text value = false
 
 abbrev pub is_of_kind : Kind → Value → Bool
 is_of_kind kinds.Bool value = is_bool value
+is_of_kind kinds.Int2 value = is_int2 value
 is_of_kind kinds.Int4 value = is_int4 value
 is_of_kind kinds.Int8 value = is_int8 value
 is_of_kind kinds.Text value = is_text value
@@ -109,6 +114,7 @@ fits_key table key =
 
 -- what a value of Rust is: an integer of its width, and a text in UTF-8
 abbrev pub IsValue : Value → Type 0
+IsValue (values.Int2 n) = FitsSigned w16 n
 IsValue (values.Int4 n) = FitsSigned w32 n
 IsValue (values.Int8 n) = FitsSigned w64 n
 IsValue (values.Text text) = is_utf8 text ≡ true

@@ -88,6 +88,7 @@ pub(crate) fn kind_in(value: &Value) -> Option<Kind>
 {
     match value.as_str()? {
         "bool" => Some(Kind::Bool),
+        "int2" => Some(Kind::Int2),
         "int4" => Some(Kind::Int4),
         "int8" => Some(Kind::Int8),
         "text" => Some(Kind::Text),

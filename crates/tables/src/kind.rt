@@ -10,6 +10,7 @@ use crate::row_ref::ValueRef;
 #[derive(Clone, Copy, Debug)]
 pub enum Kind {
     Bool,
+    Int2,
     Int4,
     Int8,
     Text,
@@ -22,6 +23,7 @@ impl Kind {
     {
         match self {
             Kind::Bool => matches!(value, ValueRef::Bool(_)),
+            Kind::Int2 => matches!(value, ValueRef::Int2(_)),
             Kind::Int4 => matches!(value, ValueRef::Int4(_)),
             Kind::Int8 => matches!(value, ValueRef::Int8(_)),
             Kind::Text => matches!(value, ValueRef::Text(text) if is_without_zero(text)),

@@ -6,8 +6,8 @@ ghost use Rattle.tables.specs.Reading.{oid_at, oids_at, text_at, value_at};
 ghost use Rattle.tables.specs.Refs.{value_of};
 
 use crate::fault::BodyFault;
-use crate::row_body::{BOOL_TAG, INT4_TAG, INT8_TAG, NULL_TAG, TEXT_TAG};
-use crate::row_reading::{bool_in, i32_in, i64_in};
+use crate::row_body::{BOOL_TAG, INT2_TAG, INT4_TAG, INT8_TAG, NULL_TAG, TEXT_TAG};
+use crate::row_reading::{bool_in, i16_in, i32_in, i64_in};
 use crate::row_ref::ValueRef;
 use pqformat::{Cursor, utf8_of};
 
@@ -80,6 +80,7 @@ fn value_in<'a>(cursor: &mut Cursor<'a>) -> Result<ValueRef<'a>, BodyFault>
         INT4_TAG => Ok(ValueRef::Int4(i32_in(cursor)?)),
         INT8_TAG => Ok(ValueRef::Int8(i64_in(cursor)?)),
         TEXT_TAG => Ok(ValueRef::Text(text_in(cursor)?)),
+        INT2_TAG => Ok(ValueRef::Int2(i16_in(cursor)?)),
         _ => Err(BodyFault::UnknownTag),
     }
 }

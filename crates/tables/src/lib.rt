@@ -46,7 +46,7 @@ pub use message::{
 };
 pub use oids::repeats;
 pub use row::{MAX_ROW_LENGTH, Row};
-pub use row_body::{BOOL_TAG, INT4_TAG, INT8_TAG, NULL_TAG, TEXT_TAG};
+pub use row_body::{BOOL_TAG, INT2_TAG, INT4_TAG, INT8_TAG, NULL_TAG, TEXT_TAG};
 pub use row_ref::{RowRef, ValueRef};
 pub use table::Table;
 pub use value::Value;

@@ -85,6 +85,10 @@ fn coded_len_of(value: &Value) -> usize
     match value {
         Value::Null => 1,
         Value::Bool(_) => 2,
+        Value::Int2(n) => {
+            let _in_range = *n;
+            3
+        }
         Value::Int4(n) => {
             let _in_range = *n;
             5

@@ -24,6 +24,8 @@ pub const INT8_TAG: u8 = 3;
 
 pub const TEXT_TAG: u8 = 4;
 
+pub const INT2_TAG: u8 = 5;
+
 pub(crate) fn put_row(row: &Row, out: &mut BytesMut) -> Result<(), AllocError>
     requires { row_length row.now ≤ MAX_ROW_LENGTH }
     ensures { Puts result out.old.items out.new.items (spell_row row.now) }
@@ -45,6 +47,10 @@ fn put_value(value: &Value, out: &mut BytesMut) -> Result<(), AllocError>
         Value::Bool(b) => {
             out.put_u8(BOOL_TAG)?;
             out.put_u8(*b as u8)
+        }
+        Value::Int2(n) => {
+            out.put_u8(INT2_TAG)?;
+            put_int16(out, n.cast_unsigned())
         }
         Value::Int4(n) => {
             out.put_u8(INT4_TAG)?;

@@ -1,14 +1,14 @@
 //! How a row is read from the body of a change.
 
 ghost use Rattle.std.specs.Prelude.{◌≡◌, ◌≢◌, ◌<◌, IsOk, Err};
-ghost use Rattle.std.specs.Int.{w32, w64};
+ghost use Rattle.std.specs.Int.{w16, w32, w64};
 ghost use Rattle.pqformat.specs.Steps.{letter_at, signed_at, repeat_at};
 ghost use Rattle.tables.specs.Reading.{Gives, RowHasValue, bool_of, row_at, text_at, value_at};
 ghost use Rattle.tables.specs.declared.fault.BodyFault.TheVariants.{Short, BadBool, Memory};
 
 use crate::fault::BodyFault;
 use crate::row::Row;
-use crate::row_body::{BOOL_TAG, INT4_TAG, INT8_TAG, NULL_TAG, TEXT_TAG};
+use crate::row_body::{BOOL_TAG, INT2_TAG, INT4_TAG, INT8_TAG, NULL_TAG, TEXT_TAG};
 use crate::value::Value;
 use pqformat::{Cursor, Items, Text, utf8_of};
 use std::alloc::Global;
@@ -46,6 +46,7 @@ fn value_of(alloc: Global, cursor: &mut Cursor<'_>) -> Result<Value, BodyFault>
         INT4_TAG => Ok(Value::Int4(i32_in(cursor)?)),
         INT8_TAG => Ok(Value::Int8(i64_in(cursor)?)),
         TEXT_TAG => Ok(Value::Text(text_of(alloc, cursor)?)),
+        INT2_TAG => Ok(Value::Int2(i16_in(cursor)?)),
         _ => Err(BodyFault::UnknownTag),
     }
 }
@@ -59,6 +60,14 @@ pub(crate) fn bool_in(cursor: &mut Cursor<'_>) -> Result<bool, BodyFault>
         1 => Ok(true),
         _ => Err(BodyFault::BadBool),
     }
+}
+
+pub(crate) fn i16_in(cursor: &mut Cursor<'_>) -> Result<i16, BodyFault>
+    ensures exact { Gives result cursor.new (signed_at Short w16 cursor.old) }
+    ensures no_memory { result ≢ Err Memory }
+{
+    let n = cursor.u16().ok_or(BodyFault::Short)?;
+    Ok(n.cast_signed())
 }
 
 pub(crate) fn i32_in(cursor: &mut Cursor<'_>) -> Result<i32, BodyFault>

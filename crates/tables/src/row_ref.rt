@@ -21,6 +21,7 @@ use std::marker::Model;
 pub enum ValueRef<'a> {
     Null,
     Bool(bool),
+    Int2(i16),
     Int4(i32),
     Int8(i64),
     Text(&'a [u8]),
@@ -139,6 +140,7 @@ impl Value {
         match self {
             Value::Null => ValueRef::Null,
             Value::Bool(b) => ValueRef::Bool(*b),
+            Value::Int2(n) => ValueRef::Int2(*n),
             Value::Int4(n) => ValueRef::Int4(*n),
             Value::Int8(n) => ValueRef::Int8(*n),
             Value::Text(text) => ValueRef::Text(text.as_str().as_bytes()),

@@ -10,6 +10,7 @@ use std::alloc::{AllocError, Global};
 pub enum Value {
     Null,
     Bool(bool),
+    Int2(i16),
     Int4(i32),
     Int8(i64),
     Text(Text),
@@ -22,6 +23,7 @@ impl Value {
         match self {
             Value::Null => Ok(Value::Null),
             Value::Bool(b) => Ok(Value::Bool(*b)),
+            Value::Int2(n) => Ok(Value::Int2(*n)),
             Value::Int4(n) => Ok(Value::Int4(*n)),
             Value::Int8(n) => Ok(Value::Int8(*n)),
             Value::Text(text) => Ok(Value::Text(text.copy(alloc)?)),

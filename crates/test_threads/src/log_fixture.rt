@@ -19,15 +19,9 @@ const CHUNKS: usize = 64;
 
 /// One table, and a publication of it.
 pub const CONFIGURATION: &str = "\
-[[table]]
-oid = 16384
-schema = 'public'
-name = 'item'
-key = ['id']
-columns = [['id', 'int4'], ['name', 'text'], ['qty', 'int8']]
-[[publication]]
-name = 'p'
-tables = [{ name = 'public.item' }]
+table = [{ oid = 16384, schema = 'public', name = 'item', key = ['id'], \
+    columns = [['id', 'int4'], ['name', 'text'], ['qty', 'int8']] }]
+publication = [{ name = 'p', tables = [{ name = 'public.item' }] }]
 ";
 
 pub const ITEM: u32 = 16384;
