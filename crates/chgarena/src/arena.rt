@@ -76,7 +76,9 @@ impl Arena {
     pub fn push(&mut self, strand: &mut Strand, entry: &[u8]) -> Result<(), Full>
         requires of { IsOf self.old strand.old }
         requires fits { length entry.now ≤ 16380 }
-        ensures full { IsErr result ↔ ((has_room (entries_of self.old strand.old) (length entry.now) ≡ false) × (fills self.old ≡ length self.old)) }
+        ensures full { IsErr result
+            ↔ ((has_room (entries_of self.old strand.old) (length entry.now) ≡ false)
+            × (fills self.old ≡ length self.old)) }
         ensures err { OnErr result ((self.new ≡ self.old) × (strand.new ≡ strand.old)) }
         ensures ok { OnOk result (IsPushed self.old strand.old entry.now self.new strand.new) }
     {
@@ -101,9 +103,10 @@ impl Arena {
     /// Begins a strand with this entry, and answers its first chunk, unless no chunk is free.
     fn begin(&mut self, entry: &[u8]) -> Option<usize>
         requires { length entry.now ≤ 16380 }
-        ensures { MatchOption result
-            ((self.new ≡ self.old) × (fills self.old ≡ length self.old))
-            (λ h. (h < length self.old) × (get_or self.old h None ≡ None) × (self.new ≡ slice_set self.old h (Some (entry.now ∷ []))) × (fills self.old < length self.old)) }
+        ensures { MatchOption result ((self.new ≡ self.old) × (fills self.old ≡ length self.old))
+            (λ h. (h < length self.old) × (get_or self.old h None ≡ None)
+            × (self.new ≡ slice_set self.old h (Some (entry.now ∷ [])))
+            × (fills self.old < length self.old)) }
     {
         let chunk = push_first(&mut self.links, &mut self.pages, entry)?;
         self.before[chunk] = 0;
@@ -115,8 +118,14 @@ impl Arena {
         requires of { IsOf self.old (Some head) }
         requires fits { length entry.now ≤ 16380 }
         ensures { MatchBool result
-            ((self.new ≡ slice_set self.old head (Some (entries_of self.old (Some head) ++ entry.now ∷ []))) × (has_room (entries_of self.old (Some head)) (length entry.now) ≡ false → fills self.old < length self.old))
-            ((self.new ≡ self.old) × (has_room (entries_of self.old (Some head)) (length entry.now) ≡ false) × (fills self.old ≡ length self.old)) }
+            ((self.new
+            ≡ slice_set self.old head
+            (Some (entries_of self.old (Some head) ++ entry.now ∷ [])))
+            × (has_room (entries_of self.old (Some head)) (length entry.now) ≡ false →
+            fills self.old < length self.old))
+            ((self.new ≡ self.old)
+            × (has_room (entries_of self.old (Some head)) (length entry.now) ≡ false)
+            × (fills self.old ≡ length self.old)) }
     {
         let last = self.links.last(head);
         if self.pages.left(last) >= entry.len() + 4 {
@@ -198,8 +207,10 @@ fn push_first(links: &mut Links, pages: &mut Pages, entry: &[u8]) -> Option<usiz
     requires fits { length entry.now ≤ 16380 }
     ensures links { IsLinks links.new }
     ensures done { MatchOption result
-        ((books links.new ≡ books links.old) × (pages.new ≡ pages.old) × (length (books links.old).free ≡ 0))
-        (λ c. IsPopped (books links.old) c × (books links.new ≡ begun (books links.old) c) × (pages.new ≡ slice_set pages.old c (entry.now ∷ []))) }
+        ((books links.new ≡ books links.old) × (pages.new ≡ pages.old)
+        × (length (books links.old).free ≡ 0))
+        (λ c. IsPopped (books links.old) c × (books links.new ≡ begun (books links.old) c)
+        × (pages.new ≡ slice_set pages.old c (entry.now ∷ []))) }
 {
     let chunk = links.begin()?;
     start(pages, chunk, entry);
@@ -209,13 +220,16 @@ fn push_first(links: &mut Links, pages: &mut Pages, entry: &[u8]) -> Option<usiz
 /// Makes a free chunk with this entry the last of a strand, unless no chunk is free.
 fn push_behind(links: &mut Links, pages: &mut Pages, head: usize, entry: &[u8]) -> Option<usize>
     requires links { IsLinks links.old }
-    requires strand { (head < (books links.old).chunks) × (at (books links.old).last head < (books links.old).chunks) }
+    requires strand { (head < (books links.old).chunks)
+        × (at (books links.old).last head < (books links.old).chunks) }
     requires pages { length pages.old ≡ (books links.old).chunks }
     requires fits { length entry.now ≤ 16380 }
     ensures links { IsLinks links.new }
     ensures done { MatchOption result
-        ((books links.new ≡ books links.old) × (pages.new ≡ pages.old) × (length (books links.old).free ≡ 0))
-        (λ c. IsPopped (books links.old) c × (books links.new ≡ grown (books links.old) head c) × (pages.new ≡ slice_set pages.old c (entry.now ∷ []))) }
+        ((books links.new ≡ books links.old) × (pages.new ≡ pages.old)
+        × (length (books links.old).free ≡ 0))
+        (λ c. IsPopped (books links.old) c × (books links.new ≡ grown (books links.old) head c)
+        × (pages.new ≡ slice_set pages.old c (entry.now ∷ []))) }
 {
     let chunk = links.grow(head)?;
     start(pages, chunk, entry);
@@ -232,12 +246,16 @@ fn find_near(
     near: usize,
 ) -> (usize, usize)
     requires links { IsLinks links.now }
-    requires strand { (head < (books links.now).chunks) × (at (books links.now).last head < (books links.now).chunks) }
+    requires strand { (head < (books links.now).chunks)
+        × (at (books links.now).last head < (books links.now).chunks) }
     requires pages { length pages.now ≡ (books links.now).chunks }
-    requires before { (length before.now ≡ (books links.now).chunks) × AreCounted pages.now before.now 0 (chunks_of (books links.now) head) }
+    requires before { (length before.now ≡ (books links.now).chunks)
+        × AreCounted pages.now before.now 0 (chunks_of (books links.now) head) }
     requires entry { k < length (joined pages.now (chunks_of (books links.now) head)) }
-    ensures within { (result.0 < length pages.now) × (result.1 < length (get_or pages.now result.0 [])) }
-    ensures entry { get_or (get_or pages.now result.0 []) result.1 [] ≡ get_or (joined pages.now (chunks_of (books links.now) head)) k [] }
+    ensures within { (result.0 < length pages.now)
+        × (result.1 < length (get_or pages.now result.0 [])) }
+    ensures entry { get_or (get_or pages.now result.0 []) result.1 []
+        ≡ get_or (joined pages.now (chunks_of (books links.now) head)) k [] }
 {
     if near < links.chunks() && links.owner(near) == head {
         let first = before[near];
@@ -251,11 +269,14 @@ fn find_near(
 /// The chunk that has the k-th entry of a strand, and which of its entries that is.
 fn find(links: &Links, pages: &Pages, head: usize, k: usize) -> (usize, usize)
     requires links { IsLinks links.now }
-    requires strand { (head < (books links.now).chunks) × (at (books links.now).last head < (books links.now).chunks) }
+    requires strand { (head < (books links.now).chunks)
+        × (at (books links.now).last head < (books links.now).chunks) }
     requires pages { length pages.now ≡ (books links.now).chunks }
     requires entry { k < length (joined pages.now (chunks_of (books links.now) head)) }
-    ensures within { (result.0 < length pages.now) × (result.1 < length (get_or pages.now result.0 [])) }
-    ensures entry { get_or (get_or pages.now result.0 []) result.1 [] ≡ get_or (joined pages.now (chunks_of (books links.now) head)) k [] }
+    ensures within { (result.0 < length pages.now)
+        × (result.1 < length (get_or pages.now result.0 [])) }
+    ensures entry { get_or (get_or pages.now result.0 []) result.1 []
+        ≡ get_or (joined pages.now (chunks_of (books links.now) head)) k [] }
 {
     let mut chunk = head;
     let mut rest = k;

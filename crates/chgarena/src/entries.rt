@@ -38,7 +38,8 @@ impl<'a> Entries<'a> {
     /// Those of a strand that has chunks.
     pub(crate) fn from(links: &'a Links, pages: &'a Pages, head: usize) -> Self
         requires links { IsLinks links.now }
-        requires strand { (head < (books links.now).chunks) × (at (books links.now).last head < (books links.now).chunks) }
+        requires strand { (head < (books links.now).chunks)
+            × (at (books links.now).last head < (books links.now).chunks) }
         requires pages { length pages.now ≡ (books links.now).chunks }
         ensures { result ≡ joined pages.now (chunks_of (books links.now) head) }
     {

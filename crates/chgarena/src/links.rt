@@ -22,7 +22,8 @@ impl Links {
     pub(crate) fn new(alloc: Global, chunks: usize) -> Result<Self, AllocError>
         requires { chunks < 2 ^ 32 }
         ensures links { IfOk result IsLinks }
-        ensures none { IfOk result (λ l. ((books l).chunks ≡ chunks) × ((books l).last ≡ replicate chunks chunks)) }
+        ensures none { IfOk result
+            (λ l. ((books l).chunks ≡ chunks) × ((books l).last ≡ replicate chunks chunks)) }
     {
         let mut free = Vec::with_capacity(alloc, chunks)?;
         for chunk in 0..chunks {
@@ -88,7 +89,8 @@ impl Links {
     pub(crate) fn begin(&mut self) -> Option<usize>
         requires { IsLinks self.old }
         ensures links { IsLinks self.new }
-        ensures chunk { MatchOption result ((books self.new ≡ books self.old) × (length (books self.old).free ≡ 0))
+        ensures chunk { MatchOption result
+            ((books self.new ≡ books self.old) × (length (books self.old).free ≡ 0))
             (λ c. IsPopped (books self.old) c × (books self.new ≡ begun (books self.old) c)) }
     {
         let chunk = self.free.pop()?;
@@ -101,9 +103,11 @@ impl Links {
     /// Makes a free chunk the last of a strand, unless none is free.
     pub(crate) fn grow(&mut self, head: usize) -> Option<usize>
         requires links { IsLinks self.old }
-        requires strand { (head < (books self.old).chunks) × (at (books self.old).last head < (books self.old).chunks) }
+        requires strand { (head < (books self.old).chunks)
+            × (at (books self.old).last head < (books self.old).chunks) }
         ensures links { IsLinks self.new }
-        ensures chunk { MatchOption result ((books self.new ≡ books self.old) × (length (books self.old).free ≡ 0))
+        ensures chunk { MatchOption result
+            ((books self.new ≡ books self.old) × (length (books self.old).free ≡ 0))
             (λ c. IsPopped (books self.old) c × (books self.new ≡ grown (books self.old) head c)) }
     {
         let chunk = self.free.pop()?;
@@ -119,7 +123,8 @@ impl Links {
     /// Makes the chunks of a strand free.
     pub(crate) fn release(&mut self, head: usize)
         requires links { IsLinks self.old }
-        requires strand { (head < (books self.old).chunks) × (at (books self.old).last head < (books self.old).chunks) }
+        requires strand { (head < (books self.old).chunks)
+            × (at (books self.old).last head < (books self.old).chunks) }
         ensures links { IsLinks self.new }
         ensures released { IsReleased (books self.old) head (books self.new) }
     {

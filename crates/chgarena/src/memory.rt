@@ -41,7 +41,9 @@ impl Memory {
     /// Asks for a region of this many bytes, none of them written.
     pub(crate) fn make<A: Allocator>(alloc: &A, size: usize) -> Option<(Memory, Lease<A>)>
         requires { size < 2 ^ 60 }
-        ensures { IfSome result (λ m. (m.0.places ≡ replicate size None) × (m.1.alloc ≡ alloc.now) × (m.1.ptr ≡ m.0.ptr) × (m.1.size ≡ size)) }
+        ensures { IfSome result
+            (λ m. (m.0.places ≡ replicate size None) × (m.1.alloc ≡ alloc.now) × (m.1.ptr ≡ m.0.ptr)
+            × (m.1.size ≡ size)) }
     {
         match alloc.allocate(size, 1) {
             Ok(ptr) => {
@@ -56,7 +58,8 @@ impl Memory {
     #[inline(always)]
     pub(crate) fn copy_in(&mut self, at: usize, bytes: &[u8])
         requires { at + length bytes.now ≤ length self.old.places }
-        ensures { (self.new.places ≡ with_bytes self.old.places at bytes.now) × (self.new.ptr ≡ self.old.ptr) }
+        ensures { (self.new.places ≡ with_bytes self.old.places at bytes.now)
+            × (self.new.ptr ≡ self.old.ptr) }
     {
         let to = unsafe { self.ptr.add(at) };
         let mut i = 0;
@@ -69,7 +72,8 @@ impl Memory {
     /// Lends bytes that are written.
     pub(crate) fn lend(&self, from: usize, len: usize) -> &[u8]
         requires within { from + len ≤ length self.now.places }
-        requires written { (bytes : List ℕ) × (take len (drop from self.now.places) ≡ map Some bytes) }
+        requires written { (bytes : List ℕ)
+            × (take len (drop from self.now.places) ≡ map Some bytes) }
         ensures { take len (drop from self.now.places) ≡ map Some result.now }
     {
         unsafe { std::slice::from_raw_parts(self.ptr.add(from), len) }
@@ -77,7 +81,8 @@ impl Memory {
 
     /// Gives the region back.
     pub(crate) fn give_back<A: Allocator>(self, lease: Lease<A>, alloc: &A, size: usize)
-        requires { (lease.alloc ≡ alloc.now) × (lease.ptr ≡ self.ptr) × (lease.size ≡ size) × (length self.places ≡ size) }
+        requires { (lease.alloc ≡ alloc.now) × (lease.ptr ≡ self.ptr) × (lease.size ≡ size)
+            × (length self.places ≡ size) }
     {
         let Memory { ptr } = self;
         let Lease { of: _ } = lease;

@@ -127,8 +127,10 @@ fn line(from: usize, size: usize) -> [u8; 4]
 /// Where an entry begins in its chunk and how long it is, from its line.
 fn read_line(region: &Region, at: usize) -> (usize, usize)
     requires within { at + 4 ≤ length region.now }
-    requires written { (from : ℕ) × (size : ℕ) × (from < 2 ^ 16) × (size < 2 ^ 16) × (take 4 (drop at region.now) ≡ map Some (line_of from size)) }
-    ensures { (from size : ℕ) → from < 2 ^ 16 → size < 2 ^ 16 → take 4 (drop at region.now) ≡ map Some (line_of from size) → result ≡ (from, size) }
+    requires written { (from : ℕ) × (size : ℕ) × (from < 2 ^ 16) × (size < 2 ^ 16)
+        × (take 4 (drop at region.now) ≡ map Some (line_of from size)) }
+    ensures { (from size : ℕ) → from < 2 ^ 16 → size < 2 ^ 16 →
+        take 4 (drop at region.now) ≡ map Some (line_of from size) → result ≡ (from, size) }
 {
     let line = region.lend(at, LINE);
     let from = u16::from_be_bytes([line[0], line[1]]);

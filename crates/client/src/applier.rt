@@ -58,7 +58,8 @@ impl Applier {
 
     /// The applier of a subscriber that has applied elsewhere all that commits below a position, and keeps none of it.
     pub fn at(alloc: Global, position: u64) -> Self
-        ensures value { result ≡ record { subscriber = resting position []; unread = []; fault = None } }
+        ensures value { result
+            ≡ record { subscriber = resting position []; unread = []; fault = None } }
         ensures taken { HasTaken result.subscriber result [] }
     {
         Applier {
@@ -86,7 +87,8 @@ impl Applier {
     /// Forgets the transactions that were applied, once its caller has done with them. All else stays, so none of them is applied
     /// again.
     pub fn forget_applied(&mut self)
-        ensures { self.new ≡ record self.old { subscriber = record self.old.subscriber { applied = [] } } }
+        ensures { self.new
+            ≡ record self.old { subscriber = record self.old.subscriber { applied = [] } } }
     {
         self.progress.forget_applied();
     }
@@ -109,7 +111,13 @@ impl Applier {
     /// For a connection that begins: forgets what wasn't read, the tables that were told, a transaction that isn't whole, and
     /// a fault.
     pub fn reconnect(&mut self)
-        ensures value { self.new ≡ record { subscriber = resting self.old.subscriber.position self.old.subscriber.applied; unread = []; fault = None } }
+        ensures value { self.new
+            ≡ record {
+              subscriber = resting self.old.subscriber.position
+                  self.old.subscriber.applied;
+              unread = [];
+              fault = None;
+            } }
         ensures taken { HasTaken self.new.subscriber self.new [] }
     {
         self.progress.reconnect();
@@ -129,7 +137,8 @@ impl Applier {
         // Over a stream nothing but want of memory is refused, and what stands whole is gained.
         ensures follows { Follows self.old self.new bytes.now result }
         // Want of memory is answered for the bytes themselves, before a word is taken, or at a frame that is kept.
-        ensures memory { self.old.fault ≡ None → result ≡ Err ClientFault.Memory → StopsForMemory self.old.subscriber (self.old.unread ++ bytes.now) self.new.subscriber }
+        ensures memory { self.old.fault ≡ None → result ≡ Err ClientFault.Memory →
+            StopsForMemory self.old.subscriber (self.old.unread ++ bytes.now) self.new.subscriber }
     {
         if let Some(fault) = self.fault {
             return Err(fault);
@@ -143,10 +152,15 @@ impl Applier {
 
     /// Takes all words that what is unread and these bytes hold.
     fn take_words(&mut self, bytes: &[u8]) -> Result<(), ClientFault>
-        ensures ok { OnOk result (Reached self.old.subscriber (self.old.unread ++ bytes.now) self.new.subscriber self.new.unread) }
+        ensures ok { OnOk result
+            (Reached self.old.subscriber (self.old.unread ++ bytes.now) self.new.subscriber
+            self.new.unread) }
         ensures waits { OnOk result (Waits self.new.unread) }
-        ensures err { IfErr result (λ e. StopsAfter self.old.subscriber (self.old.unread ++ bytes.now) self.new.subscriber e) }
-        ensures memory { result ≡ Err ClientFault.Memory → StopsForMemory self.old.subscriber (self.old.unread ++ bytes.now) self.new.subscriber }
+        ensures err { IfErr result
+            (λ e. StopsAfter self.old.subscriber (self.old.unread ++ bytes.now) self.new.subscriber
+            e) }
+        ensures memory { result ≡ Err ClientFault.Memory →
+            StopsForMemory self.old.subscriber (self.old.unread ++ bytes.now) self.new.subscriber }
         ensures fault { self.new.fault ≡ self.old.fault }
     {
         self.unread.extend_from_slice(bytes)?;
@@ -156,7 +170,8 @@ impl Applier {
 
     /// Takes the word at the front; false: no frame is there whole.
     fn step(&mut self) -> Result<bool, ClientFault>
-        ensures more { result ≡ Ok true → Reached self.old.subscriber self.old.unread self.new.subscriber self.new.unread }
+        ensures more { result ≡ Ok true →
+            Reached self.old.subscriber self.old.unread self.new.subscriber self.new.unread }
         ensures fewer { result ≡ Ok true → length self.new.unread < length self.old.unread }
         ensures none { result ≡ Ok false → self.new ≡ self.old }
         ensures waits { result ≡ Ok false → Waits self.new.unread }

@@ -89,7 +89,8 @@ impl Progress {
     }
 
     fn hear(&mut self, data: XLogData) -> Result<(), ClientFault>
-        ensures { Makes result self.old self.new (after_message self.old data.start data.end data.message) }
+        ensures { Makes result self.old self.new
+            (after_message self.old data.start data.end data.message) }
     {
         let XLogData {
             start,
@@ -151,7 +152,8 @@ impl Progress {
     }
 
     fn message(&mut self, start: u64, end: u64, message: Message) -> Result<(), ClientFault>
-        ensures { Makes result self.old self.new (heard message.is_transactional self.old start end message) }
+        ensures { Makes result self.old self.new
+            (heard message.is_transactional self.old start end message) }
     {
         if message.is_transactional {
             self.change(start, Logical::Message(message))

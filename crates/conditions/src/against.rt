@@ -19,7 +19,8 @@ pub(crate) fn column_against(
     place: usize,
     literal: &Literal,
 ) -> Truth
-    ensures { result ≡ compared how (datum_at (slice_get row.now place)) (literal_datum literal.now) }
+    ensures { result
+        ≡ compared how (datum_at (slice_get row.now place)) (literal_datum literal.now) }
 {
     match row.get(place) {
         Some(value) => value_against(how, value, literal),

@@ -129,7 +129,8 @@ impl Expression {
 
     /// How it compares with the literal in the row.
     fn against(&self, how: Comparison, literal: &Literal, row: &RowRef<'_>) -> Truth
-        ensures { result ≡ compared how (value_in row.now (shape self.now)) (literal_datum literal.now) }
+        ensures { result
+            ≡ compared how (value_in row.now (shape self.now)) (literal_datum literal.now) }
     {
         match self {
             Expression::Column(place) => column_against(how, row, *place, literal),

@@ -62,7 +62,9 @@ fn after_run(class: Class, text: &[u8]) -> &[u8]
 
 /// Adds the bytes of this class at the front, and gives what follows them.
 fn take_run<'a>(bytes: &mut Vec<u8>, class: Class, text: &'a [u8]) -> Result<&'a [u8], AllocError>
-    ensures { IfOk result (λ rest. (bytes.new.items ≡ bytes.old.items ++ run_of class text.now) × (rest.now ≡ after_run class text.now)) }
+    ensures { IfOk result
+        (λ rest. (bytes.new.items ≡ bytes.old.items ++ run_of class text.now)
+        × (rest.now ≡ after_run class text.now)) }
 {
     let mut rest = text;
     while let Some((b, tail)) = rest.split_first() {
@@ -78,7 +80,8 @@ fn take_run<'a>(bytes: &mut Vec<u8>, class: Class, text: &'a [u8]) -> Result<&'a
 /// Where a quoted text goes on behind this byte: a quote goes on behind the second of two, and else closes the text.
 fn goes_on(quote: u8, b: u8, tail: &[u8]) -> Option<&[u8]>
     ensures goes { MatchOption result (quoted_at false quote (b ∷ tail.now) ≡ Some ([], tail.now))
-        (λ more. quoted_at false quote (b ∷ tail.now) ≡ in_front (b ∷ []) (quoted_at false quote more.now)) }
+        (λ more. quoted_at false quote (b ∷ tail.now)
+        ≡ in_front (b ∷ []) (quoted_at false quote more.now)) }
     ensures shorter { IfSome result (λ more. length more.now ≤ length tail.now) }
 {
     if b != quote {
@@ -94,7 +97,8 @@ fn quoted_bytes(
     quote: u8,
     text: &[u8],
 ) -> Result<Option<(Vec<u8>, &[u8])>, AllocError>
-    ensures { IfOk result (λ x. option_map (λ y. (y.0.items, y.1.now)) x ≡ quoted_at false quote text.now) }
+    ensures { IfOk result
+        (λ x. option_map (λ y. (y.0.items, y.1.now)) x ≡ quoted_at false quote text.now) }
 {
     let mut found = Vec::new(alloc);
     let mut rest = text;
@@ -110,7 +114,8 @@ fn quoted_bytes(
 
 /// The token of a name in quotes, where its first quote was read.
 fn quoted_name(alloc: Global, text: &[u8]) -> Result<(Token, &[u8]), AllocError>
-    ensures { IfOk result (λ x. lent_token x ≡ closed (λ n. Quoted n) (quoted_at false NAME_QUOTE text.now)) }
+    ensures { IfOk result
+        (λ x. lent_token x ≡ closed (λ n. Quoted n) (quoted_at false NAME_QUOTE text.now)) }
 {
     let Some((bytes, rest)) = quoted_bytes(alloc, NAME_QUOTE, text)? else {
         return Ok((Token::Stray, nothing_of(text)));
@@ -120,7 +125,8 @@ fn quoted_name(alloc: Global, text: &[u8]) -> Result<(Token, &[u8]), AllocError>
 
 /// The token of a text in quotes, where its first quote was read.
 fn quoted_text(alloc: Global, text: &[u8]) -> Result<(Token, &[u8]), AllocError>
-    ensures { IfOk result (λ x. lent_token x ≡ closed (λ t. Text t) (quoted_at false TEXT_QUOTE text.now)) }
+    ensures { IfOk result
+        (λ x. lent_token x ≡ closed (λ t. Text t) (quoted_at false TEXT_QUOTE text.now)) }
 {
     let Some((bytes, rest)) = quoted_bytes(alloc, TEXT_QUOTE, text)? else {
         return Ok((Token::Stray, nothing_of(text)));
@@ -136,7 +142,9 @@ fn nothing_of(text: &[u8]) -> &[u8]
 }
 
 fn word(alloc: Global, text: &[u8]) -> Result<(Token, &[u8]), AllocError>
-    ensures { IfOk result (λ x. lent_token x ≡ (Word (run_of classes.Later text.now), after_run classes.Later text.now)) }
+    ensures { IfOk result
+        (λ x. lent_token x
+        ≡ (Word (run_of classes.Later text.now), after_run classes.Later text.now)) }
 {
     let mut bytes = Vec::new(alloc);
     let rest = take_run(&mut bytes, Class::Later, text)?;
@@ -144,7 +152,9 @@ fn word(alloc: Global, text: &[u8]) -> Result<(Token, &[u8]), AllocError>
 }
 
 fn number(alloc: Global, text: &[u8]) -> Result<(Token, &[u8]), AllocError>
-    ensures { IfOk result (λ x. lent_token x ≡ (Number (run_of classes.Digit text.now), after_run classes.Digit text.now)) }
+    ensures { IfOk result
+        (λ x. lent_token x
+        ≡ (Number (run_of classes.Digit text.now), after_run classes.Digit text.now)) }
 {
     let mut bytes = Vec::new(alloc);
     let rest = take_run(&mut bytes, Class::Digit, text)?;

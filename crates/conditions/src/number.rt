@@ -23,7 +23,8 @@ fn digit(b: u8) -> u32
 
 /// The number with one digit more; None where it is of over 64 bits.
 fn with_digit(value: u64, b: u8) -> Option<u64>
-    ensures { MatchOption result (2 ^ 64 ≤ value * 10 + digit_value b) (λ n. n ≡ value * 10 + digit_value b) }
+    ensures { MatchOption result (2 ^ 64 ≤ value * 10 + digit_value b)
+        (λ n. n ≡ value * 10 + digit_value b) }
 {
     match value.checked_mul(10) {
         Some(tens) => tens.checked_add(u64::from(digit(b))),
@@ -34,7 +35,8 @@ fn with_digit(value: u64, b: u8) -> Option<u64>
 /// The number that the digits write; None where it is of over 64 bits.
 
 fn magnitude(digits: &[u8]) -> Option<u64>
-    ensures { MatchOption result (2 ^ 64 ≤ digits_value 10 digits.now) (λ n. n ≡ digits_value 10 digits.now) }
+    ensures { MatchOption result (2 ^ 64 ≤ digits_value 10 digits.now)
+        (λ n. n ≡ digits_value 10 digits.now) }
 {
     let mut value = 0;
     let mut rest = digits;

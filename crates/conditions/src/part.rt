@@ -65,7 +65,8 @@ impl Part {
         left: Part,
         right: Part,
     ) -> Result<Part, AllocError>
-        ensures { IfOk result (λ p. seen_part p ≡ parts.joined joint (seen_part left) (seen_part right)) }
+        ensures { IfOk result
+            (λ p. seen_part p ≡ parts.joined joint (seen_part left) (seen_part right)) }
     {
         Ok(Part {
             tightness: joint.tightness(),
@@ -90,7 +91,8 @@ impl Part {
         question: Question,
         is_negated: bool,
     ) -> Result<Part, AllocError>
-        ensures { IfOk result (λ p. seen_part p ≡ parts.asked question is_negated (seen_part self)) }
+        ensures { IfOk result
+            (λ p. seen_part p ≡ parts.asked question is_negated (seen_part self)) }
     {
         Ok(Part {
             tightness: IS,
@@ -129,7 +131,8 @@ fn joined_trees(
     left: Result<Tree, FilterFault>,
     right: Result<Tree, FilterFault>,
 ) -> Result<Result<Tree, FilterFault>, AllocError>
-    ensures { IfOk result (λ t. seen_tree t ≡ beside (joined_condition joint) (seen_tree left) (seen_tree right)) }
+    ensures { IfOk result
+        (λ t. seen_tree t ≡ beside (joined_condition joint) (seen_tree left) (seen_tree right)) }
 {
     match (left, right) {
         (Ok(a), Ok(b)) => {
@@ -181,7 +184,8 @@ fn asked_tree(
     is_negated: bool,
     tree: Result<Tree, FilterFault>,
 ) -> Result<Result<Tree, FilterFault>, AllocError>
-    ensures { IfOk result (λ t. seen_tree t ≡ over (λ c. Is question is_negated c) (seen_tree tree)) }
+    ensures { IfOk result
+        (λ t. seen_tree t ≡ over (λ c. Is question is_negated c) (seen_tree tree)) }
 {
     match tree {
         Ok(a) => {

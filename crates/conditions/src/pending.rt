@@ -33,7 +33,8 @@ impl Pending {
 
     /// It with this part on its right.
     pub(crate) fn completed(self, alloc: Global, part: Part) -> Result<Part, AllocError>
-        ensures { IfOk result (λ p. seen_part p ≡ completed parts (seen_pending self) (seen_part part)) }
+        ensures { IfOk result
+            (λ p. seen_part p ≡ completed parts (seen_pending self) (seen_part part)) }
     {
         match self {
             Pending::Parenthesis => Ok(part.enclosed()),
@@ -62,7 +63,9 @@ pub(crate) fn folded(
     tightness: usize,
     part: Part,
 ) -> Result<Part, AllocError>
-    ensures { IfOk result (λ p. fold_seen (stack_of pending.new.items) p ≡ folded parts tightness (stack_of pending.old.items) (seen_part part)) }
+    ensures { IfOk result
+        (λ p. fold_seen (stack_of pending.new.items) p
+        ≡ folded parts tightness (stack_of pending.old.items) (seen_part part)) }
 {
     let mut part = part;
     while tightness < wanted_by(pending.as_slice()) {

@@ -32,7 +32,8 @@ impl Place {
         pending: &mut Vec<Pending>,
         word: Word,
     ) -> Result<Place, FilterFault>
-        ensures { Moves result pending.new.items (step parts (state_of pending.old.items self) (seen_word word)) }
+        ensures { Moves result pending.new.items
+            (step parts (state_of pending.old.items self) (seen_word word)) }
     {
         match self {
             Place::Wanting => begun(pending, word),
@@ -44,7 +45,8 @@ impl Place {
 
 /// A word where an operand is wanted.
 fn begun(pending: &mut Vec<Pending>, word: Word) -> Result<Place, FilterFault>
-    ensures { Moves result pending.new.items (step parts (Wanting (stack_of pending.old.items)) (seen_word word)) }
+    ensures { Moves result pending.new.items
+        (step parts (Wanting (stack_of pending.old.items)) (seen_word word)) }
 {
     match word {
         Word::Operand(part, _) => Ok(Place::Having(part)),
@@ -57,7 +59,8 @@ fn begun(pending: &mut Vec<Pending>, word: Word) -> Result<Place, FilterFault>
 /// The item waits for what follows.
 #[tactic(auto, using(crate::proofs::Stacking::stack_pushed))]
 fn awaits(pending: &mut Vec<Pending>, item: Pending) -> Result<Place, FilterFault>
-    ensures { Moves result pending.new.items (Some (Wanting (seen_pending item ∷ stack_of pending.old.items))) }
+    ensures { Moves result pending.new.items
+        (Some (Wanting (seen_pending item ∷ stack_of pending.old.items))) }
 {
     pending.push(item)?;
     Ok(Place::Wanting)
@@ -70,7 +73,8 @@ fn followed(
     part: Part,
     word: Word,
 ) -> Result<Place, FilterFault>
-    ensures { Moves result pending.new.items (step parts (Having (stack_of pending.old.items) (seen_part part)) (seen_word word)) }
+    ensures { Moves result pending.new.items
+        (step parts (Having (stack_of pending.old.items) (seen_part part)) (seen_word word)) }
 {
     match word {
         Word::Joint(joint) => joined(alloc, pending, part, joint),
@@ -86,7 +90,9 @@ fn joined(
     part: Part,
     joint: Joint,
 ) -> Result<Place, FilterFault>
-    ensures { Moves result pending.new.items (joins parts joint (folded parts (binds joint) (stack_of pending.old.items) (seen_part part))) }
+    ensures { Moves result pending.new.items
+        (joins parts joint
+        (folded parts (binds joint) (stack_of pending.old.items) (seen_part part))) }
 {
     let left = folded(alloc, pending, joint.tightness(), part)?;
     if left.tightness < joint.left() {
@@ -96,7 +102,8 @@ fn joined(
 }
 
 fn asked(alloc: Global, pending: &mut Vec<Pending>, part: Part) -> Result<Place, FilterFault>
-    ensures { Moves result pending.new.items (asks parts (folded parts 3 (stack_of pending.old.items) (seen_part part))) }
+    ensures { Moves result pending.new.items
+        (asks parts (folded parts 3 (stack_of pending.old.items) (seen_part part))) }
 {
     let left = folded(alloc, pending, IS, part)?;
     if left.tightness < COMPARISON {
@@ -107,7 +114,8 @@ fn asked(alloc: Global, pending: &mut Vec<Pending>, part: Part) -> Result<Place,
 
 #[tactic(auto, using(crate::proofs::Stacking::stack_pushed))]
 fn closed(alloc: Global, pending: &mut Vec<Pending>, part: Part) -> Result<Place, FilterFault>
-    ensures { Moves result pending.new.items (closes parts (folded parts 0 (stack_of pending.old.items) (seen_part part))) }
+    ensures { Moves result pending.new.items
+        (closes parts (folded parts 0 (stack_of pending.old.items) (seen_part part))) }
 {
     let inner = folded(alloc, pending, OR, part)?;
     let Some(item) = pending.pop() else {
@@ -118,7 +126,9 @@ fn closed(alloc: Global, pending: &mut Vec<Pending>, part: Part) -> Result<Place
 
 /// The part with what waits for it, where that is a parenthesis.
 fn closed_by(item: Pending, inner: Part) -> Result<Place, FilterFault>
-    ensures { (items : List Item) → Moves result items (closes_over parts (seen_pending item ∷ stack_of items) (seen_part inner)) }
+    ensures { (items : List Item) →
+        Moves result items
+        (closes_over parts (seen_pending item ∷ stack_of items) (seen_part inner)) }
 {
     match item {
         Pending::Parenthesis => Ok(Place::Having(inner.enclosed())),
@@ -128,7 +138,9 @@ fn closed_by(item: Pending, inner: Part) -> Result<Place, FilterFault>
 
 /// A word behind IS or IS NOT.
 fn answered(alloc: Global, part: Part, is_negated: bool, word: Word) -> Result<Place, FilterFault>
-    ensures { (items : List Item) → Moves result items (step parts (Asking (stack_of items) (seen_part part) is_negated) (seen_word word)) }
+    ensures { (items : List Item) →
+        Moves result items
+        (step parts (Asking (stack_of items) (seen_part part) is_negated) (seen_word word)) }
 {
     match word {
         Word::Not if !is_negated => Ok(Place::Asking(part, true)),

@@ -71,7 +71,8 @@ fn place_of(columns: &[Column], name: &[u8]) -> usize
 }
 
 fn of_name(name: &[u8], columns: &[Column], question: Option<Question>) -> Word
-    ensures { seen_word result ≡ Operand (leaf (the_column (place_of columns.now name.now))) question }
+    ensures { seen_word result
+        ≡ Operand (leaf (the_column (place_of columns.now name.now))) question }
 {
     let place = place_of(columns, name);
     Word::Operand(Part::leaf(Expression::Column(place)), question)
@@ -92,7 +93,9 @@ fn of_text(alloc: Global, text: &[u8]) -> Result<Word, AllocError>
 
 /// A keyword in either case, or else a bare name, which is meant in lower case.
 fn of_bare(alloc: Global, bytes: &[u8], columns: &[Column]) -> Result<Word, AllocError>
-    ensures { IfOk result (λ w. seen_word w ≡ word_said_of columns.now (said_by_word (map to_ascii_lowercase bytes.now))) }
+    ensures { IfOk result
+        (λ w. seen_word w
+        ≡ word_said_of columns.now (said_by_word (map to_ascii_lowercase bytes.now))) }
 {
     let folded = bytes.to_ascii_lowercase(alloc)?;
     Ok(of_folded(folded.as_slice(), columns))

@@ -125,7 +125,8 @@ impl Config {
 
     /// The tables, the publications over them, and the server.
     pub fn into_parts(self) -> (Catalog, Publications, Server)
-        ensures parts { (result.0 ≡ self.tables) × (result.1 ≡ self.publications) × (result.2 ≡ self.server) }
+        ensures parts { (result.0 ≡ self.tables) × (result.1 ≡ self.publications)
+            × (result.2 ≡ self.server) }
         ensures server { IsServer result.2 }
     {
         let Config {

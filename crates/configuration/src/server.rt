@@ -160,7 +160,8 @@ fn has_others(server: &Value) -> bool
 }
 
 fn has_other_than_server(members: &Table) -> bool
-    ensures { result ≡ list_any (λ name. not (is_of_server (string_bytes name))) (keys members.now) }
+    ensures { result
+        ≡ list_any (λ name. not (is_of_server (string_bytes name))) (keys members.now) }
 {
     members.keys().any(|name| !is_of_server(name.as_str()))
 }

@@ -50,7 +50,8 @@ pub fn write_xlogdata(
     payload: &[u8],
     out: &mut BytesMut,
 ) -> Result<(), AllocError>
-    ensures ok { OnOk result (out.new.items ≡ out.old.items ++ xlogdata start end clock payload.now) }
+    ensures ok { OnOk result
+        (out.new.items ≡ out.old.items ++ xlogdata start end clock payload.now) }
     ensures err { OnErr result (out.new.items ≡ out.old.items) }
 {
     let data = XLogData {
@@ -64,7 +65,8 @@ pub fn write_xlogdata(
 }
 
 fn put_xlogdata(data: &XLogData<'_>, out: &mut BytesMut) -> Result<(), AllocError>
-    ensures { Puts result out.old.items out.new.items (xlogdata data.now.start data.now.end data.now.clock data.now.payload) }
+    ensures { Puts result out.old.items out.new.items
+        (xlogdata data.now.start data.now.end data.now.clock data.now.payload) }
 {
     put_byte(out, XLOGDATA)?;
     put_int64(out, data.start)?;

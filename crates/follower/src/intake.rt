@@ -25,7 +25,8 @@ pub(crate) struct Intake {
 impl Intake {
     /// Of a subscriber that has all that commits below the position, and waits for so many transactions.
     pub(crate) fn new(alloc: Global, position: u64, count: u32) -> Self
-        ensures applier { result.applier ≡ record { subscriber = resting position []; unread = []; fault = None } }
+        ensures applier { result.applier
+            ≡ record { subscriber = resting position []; unread = []; fault = None } }
         ensures left { result.left ≡ count }
     {
         Intake {
@@ -58,7 +59,9 @@ impl Intake {
         // Whatever a server sends: each transaction once, in the order of the commits.
         ensures once { Gains self.old.applier.subscriber self.new.applier.subscriber }
         // Over a stream, with all that was printed already: nothing but want of memory is refused, and what stands whole is gained.
-        ensures follows { (printed : List Published) → Follows (with_printed printed self.old.applier) (with_printed printed self.new.applier) frame.now result }
+        ensures follows { (printed : List Published) →
+            Follows (with_printed printed self.old.applier) (with_printed printed self.new.applier)
+            frame.now result }
     {
         self.applier.take(frame)
     }
@@ -72,7 +75,11 @@ impl Intake {
 
     /// They are printed.
     pub(crate) fn printed(&mut self)
-        ensures { self.new ≡ record { applier = forgotten self.old.applier; left = self.old.left - length self.old.applier.subscriber.applied } }
+        ensures { self.new
+            ≡ record {
+              applier = forgotten self.old.applier;
+              left = self.old.left - length self.old.applier.subscriber.applied;
+            } }
     {
         let count = self.applier.applied().len();
         let count = u32::try_from(count).unwrap_or(u32::MAX);

@@ -15,9 +15,11 @@ pub(crate) fn json_line(alloc: Global, text: &[u8]) -> Result<Line, AllocError>
     ensures length { IfOk result (λ told. told.length ≡ length text.now) }
     ensures begins { IfOk result (λ told. Tells text.now told.begins told.is_note told.is_change) }
     // Of a whole line, what a reader of JSON finds in it.
-    ensures whole { (line : List ℕ) → IsUtf8 line → text.now ≡ line ++ 10 ∷ [] → IfOk result (λ told. told.end ≡ end_of line) }
+    ensures whole { (line : List ℕ) → IsUtf8 line → text.now ≡ line ++ 10 ∷ [] →
+        IfOk result (λ told. told.end ≡ end_of line) }
     // What isn't whole ends nothing.
-    ensures half { ((line : List ℕ) → text.now ≡ line ++ 10 ∷ [] → ⊥) → IfOk result (λ told. told.end ≡ None) }
+    ensures half { ((line : List ℕ) → text.now ≡ line ++ 10 ∷ [] → ⊥) →
+        IfOk result (λ told. told.end ≡ None) }
 {
     let end = end_told(alloc, text)?;
     Ok(Line {
@@ -31,8 +33,10 @@ pub(crate) fn json_line(alloc: Global, text: &[u8]) -> Result<Line, AllocError>
 
 /// A position of the log behind what the line ends, if it is whole and ends something.
 fn end_told(alloc: Global, text: &[u8]) -> Result<Option<u64>, AllocError>
-    ensures whole { (line : List ℕ) → IsUtf8 line → text.now ≡ line ++ 10 ∷ [] → IfOk result (λ end. end ≡ end_of line) }
-    ensures half { ((line : List ℕ) → text.now ≡ line ++ 10 ∷ [] → ⊥) → IfOk result (λ end. end ≡ None) }
+    ensures whole { (line : List ℕ) → IsUtf8 line → text.now ≡ line ++ 10 ∷ [] →
+        IfOk result (λ end. end ≡ end_of line) }
+    ensures half { ((line : List ℕ) → text.now ≡ line ++ 10 ∷ [] → ⊥) →
+        IfOk result (λ end. end ≡ None) }
 {
     match whole(text) {
         Some(line) => end_of(alloc, line),

@@ -26,7 +26,16 @@ pub struct Kept {
 impl Kept {
     /// Of no line.
     pub fn new() -> Self
-        ensures { result ≡ record { length = 0; transactions = 0; changes = 0; position = 0; rest = 0; rest_changes = 0; is_foreign = false } }
+        ensures { result
+            ≡ record {
+              length = 0;
+              transactions = 0;
+              changes = 0;
+              position = 0;
+              rest = 0;
+              rest_changes = 0;
+              is_foreign = false;
+            } }
     {
         Kept {
             length: 0,

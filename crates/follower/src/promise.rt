@@ -12,14 +12,20 @@ ghost use Rattle.follower.specs.Promise.{Deed, Runs, begun_at, printed_in, AreRe
 /// Whatever servers send, wherever connections are cut, and whenever something is printed: what was printed, and then what wasn't
 /// yet, came one behind the other from where it began up to the position, each transaction once.
 pub fn each_transaction_is_printed_once()
-    ensures { (start : ℕ) (deeds : List Deed) (now : ApplierState) (run : Runs (begun_at start) deeds now)
-        → EachOnce start (printed_in (begun_at start) deeds now run ++ now.subscriber.applied) now.subscriber.position }
+    ensures { (start : ℕ) (deeds : List Deed) (now : ApplierState)
+        (run : Runs (begun_at start) deeds now) →
+        EachOnce start (printed_in (begun_at start) deeds now run ++ now.subscriber.applied)
+        now.subscriber.position }
 {}
 
 /// Of a connection whose bytes begin a stream, all that stands whole in them was added to what was printed before or waits for it,
 /// but for the transactions that stood below the position already.
 pub fn no_transaction_is_lost()
-    ensures { (printed : List Published) (old : ApplierState) (deeds : List Deed) (now : ApplierState) (run : Runs (connected old) deeds now) (relation : ℕ → Relation) (items : List Item) (more : List ℕ)
-        → AreReceived deeds → FitItems relation items → received deeds ++ more ≡ spelled relation [] items
-        → GainedAll relation (before printed (connected old).subscriber) (received deeds) items (before (printed ++ printed_in (connected old) deeds now run) now.subscriber) }
+    ensures { (printed : List Published) (old : ApplierState) (deeds : List Deed)
+        (now : ApplierState) (run : Runs (connected old) deeds now) (relation : ℕ → Relation)
+        (items : List Item) (more : List ℕ) →
+        AreReceived deeds → FitItems relation items →
+        received deeds ++ more ≡ spelled relation [] items →
+        GainedAll relation (before printed (connected old).subscriber) (received deeds) items
+        (before (printed ++ printed_in (connected old) deeds now run) now.subscriber) }
 {}

@@ -53,26 +53,31 @@ pub enum Back {
 /// that is right and needs memory.
 pub fn read_back(alloc: Global, bytes: &[u8]) -> Result<Option<(Back, usize)>, FrameFault>
     // What is read stands at the front, spelled so.
-    ensures found { IfOk result (λ o. IfSome o (λ x. (x.1 ≤ length bytes.now) × SpellsBack (take x.1 bytes.now) x.0 × IsShortBack x.0)) }
+    ensures found { IfOk result
+        (λ o. IfSome o
+        (λ x. (x.1 ≤ length bytes.now) × SpellsBack (take x.1 bytes.now) x.0
+        × IsShortBack x.0)) }
     // What is spelled at the front is read, whatever follows it, unless memory runs out.
-    ensures only { (text rest : List ℕ) (f : Back) → SpellsBack text f → IsShortBack f → bytes.now ≡ text ++ rest
-        → Gives result (Ok (Some (f, length text))) }
+    ensures only { (text rest : List ℕ) (f : Back) → SpellsBack text f → IsShortBack f →
+        bytes.now ≡ text ++ rest → Gives result (Ok (Some (f, length text))) }
     // A front of a spelling that isn't the whole is waited on.
-    ensures waits { (text more : List ℕ) (f : Back) → SpellsBack text f → IsShortBack f → text ≡ bytes.now ++ more
-        → length bytes.now < length text → result ≡ Ok None }
+    ensures waits { (text more : List ℕ) (f : Back) → SpellsBack text f → IsShortBack f →
+        text ≡ bytes.now ++ more → length bytes.now < length text → result ≡ Ok None }
     // A fault stands in the bytes.
     ensures fault { IfErr result (λ e. IsBackFault e bytes.now) }
     // Which fault it is, in the order in which the bytes are judged.
     ensures exact { Gives result (framed_back bytes.now) }
     // Want of memory is answered only where nothing else is, and a frame stands that needs it.
-    ensures memory { result ≡ Err FrameFault.Memory → IsKept back_needs_memory (framed_back bytes.now) }
+    ensures memory { result ≡ Err FrameFault.Memory →
+        IsKept back_needs_memory (framed_back bytes.now) }
 {
     back_of(alloc, bytes)
 }
 
 fn back_of(alloc: Global, bytes: &[u8]) -> Result<Option<(Back, usize)>, FrameFault>
     ensures exact { Gives result (framed_back bytes.now) }
-    ensures memory { result ≡ Err FrameFault.Memory → IsKept back_needs_memory (framed_back bytes.now) }
+    ensures memory { result ≡ Err FrameFault.Memory →
+        IsKept back_needs_memory (framed_back bytes.now) }
 {
     let mut cursor = Cursor::new(bytes);
     let Some(kind) = cursor.u8() else {
@@ -107,7 +112,8 @@ fn limit_of(kind: u8) -> Option<u32>
 #[tactic(auto, unfolding(crate::specs::Back::back_at))]
 fn whole_of(alloc: Global, kind: u8, body: &[u8]) -> Result<Back, FrameFault>
     ensures exact { Gives result (back_at kind body.now) }
-    ensures memory { result ≡ Err FrameFault.Memory → IsOkAnd (back_at kind body.now) (λ f. back_needs_memory f ≡ true) }
+    ensures memory { result ≡ Err FrameFault.Memory →
+        IsOkAnd (back_at kind body.now) (λ f. back_needs_memory f ≡ true) }
 {
     match kind {
         AUTHENTICATION => {
@@ -138,7 +144,8 @@ fn whole_of(alloc: Global, kind: u8, body: &[u8]) -> Result<Back, FrameFault>
 #[tactic(auto, unfolding(crate::specs::Back::list_at))]
 fn list_of(alloc: Global, kind: u8, body: &[u8]) -> Result<Back, FrameFault>
     ensures exact { Gives result (list_at kind body.now) }
-    ensures memory { result ≡ Err FrameFault.Memory → IsOkAnd (list_at kind body.now) (λ f. back_needs_memory f ≡ true) }
+    ensures memory { result ≡ Err FrameFault.Memory →
+        IsOkAnd (list_at kind body.now) (λ f. back_needs_memory f ≡ true) }
 {
     match kind {
         ROW_DESCRIPTION => {
@@ -161,7 +168,8 @@ fn list_of(alloc: Global, kind: u8, body: &[u8]) -> Result<Back, FrameFault>
 pub fn write_back(message: &Back, out: &mut BytesMut) -> Result<(), AllocError>
     requires length { FitsLength (back_body message.now) }
     requires counts { HasCounts message.now }
-    ensures ok { OnOk result (out.new.items ≡ out.old.items ++ frame (back_kind message.now) (back_body message.now)) }
+    ensures ok { OnOk result
+        (out.new.items ≡ out.old.items ++ frame (back_kind message.now) (back_body message.now)) }
     ensures err { OnErr result (out.new.items ≡ out.old.items) }
 {
     let start = out.len();
@@ -172,7 +180,8 @@ pub fn write_back(message: &Back, out: &mut BytesMut) -> Result<(), AllocError>
 fn put_back(out: &mut BytesMut, message: &Back) -> Result<(), AllocError>
     requires length { FitsLength (back_body message.now) }
     requires counts { HasCounts message.now }
-    ensures { Puts result out.old.items out.new.items (frame (back_kind message.now) (back_body message.now)) }
+    ensures { Puts result out.old.items out.new.items
+        (frame (back_kind message.now) (back_body message.now)) }
 {
     put_head(out, kind_of(message), body_len(message))?;
     put_body(out, message)
@@ -242,5 +251,6 @@ fn body_len(message: &Back) -> usize
 /// The law of the grammar: of two frames whose spellings begin the same bytes, one is the other. So no spelling of a
 /// frame is a proper beginning of another's, and frames that stand one behind the other are read in one way.
 pub fn no_back_begins_another()
-    ensures { (a b x y : List ℕ) (f g : Back) → SpellsBack a f → SpellsBack b g → a ++ x ≡ b ++ y → (a ≡ b) × (f ≡ g) × (x ≡ y) }
+    ensures { (a b x y : List ℕ) (f g : Back) → SpellsBack a f → SpellsBack b g → a ++ x ≡ b ++ y →
+        (a ≡ b) × (f ≡ g) × (x ≡ y) }
 {}

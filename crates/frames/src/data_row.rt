@@ -82,7 +82,8 @@ impl Field for DataValue {
 #[tactic(auto, using(crate::proofs::Lists::untested))]
 pub(crate) fn data_row_of(alloc: Global, body: &[u8]) -> Result<Items<DataValue>, FrameFault>
     ensures exact { Gives result (whole always (counted_at value_at body.now)) }
-    ensures memory { result ≡ Err FrameFault.Memory → IsOk (whole always (counted_at value_at body.now)) }
+    ensures memory { result ≡ Err FrameFault.Memory →
+        IsOk (whole always (counted_at value_at body.now)) }
 {
     counted_of(alloc, &mut Cursor::new(body))
 }

@@ -29,7 +29,8 @@ pub(crate) fn int32(cursor: &mut Cursor<'_>) -> Result<u32, FrameFault>
 
 /// The bytes before the next zero byte.
 pub(crate) fn string<'a>(cursor: &mut Cursor<'a>) -> Result<&'a [u8], FrameFault>
-    ensures { ReadsAt (as_bytes result) cursor.new (passed (λ s. s) (there (string_at cursor.old))) }
+    ensures { ReadsAt (as_bytes result) cursor.new
+        (passed (λ s. s) (there (string_at cursor.old))) }
 {
     cursor.cstr().ok_or(FrameFault::BadBody)
 }

@@ -37,26 +37,31 @@ pub enum Front {
 /// that is right and needs memory.
 pub fn read_front(alloc: Global, bytes: &[u8]) -> Result<Option<(Front, usize)>, FrameFault>
     // What is read stands at the front, spelled so.
-    ensures found { IfOk result (λ o. IfSome o (λ x. (x.1 ≤ length bytes.now) × SpellsFront (take x.1 bytes.now) x.0 × IsShortFront x.0)) }
+    ensures found { IfOk result
+        (λ o. IfSome o
+        (λ x. (x.1 ≤ length bytes.now) × SpellsFront (take x.1 bytes.now) x.0
+        × IsShortFront x.0)) }
     // What is spelled at the front is read, whatever follows it, unless memory runs out.
-    ensures only { (text rest : List ℕ) (f : Front) → SpellsFront text f → IsShortFront f → bytes.now ≡ text ++ rest
-        → Gives result (Ok (Some (f, length text))) }
+    ensures only { (text rest : List ℕ) (f : Front) → SpellsFront text f → IsShortFront f →
+        bytes.now ≡ text ++ rest → Gives result (Ok (Some (f, length text))) }
     // A front of a spelling that isn't the whole is waited on.
-    ensures waits { (text more : List ℕ) (f : Front) → SpellsFront text f → IsShortFront f → text ≡ bytes.now ++ more
-        → length bytes.now < length text → result ≡ Ok None }
+    ensures waits { (text more : List ℕ) (f : Front) → SpellsFront text f → IsShortFront f →
+        text ≡ bytes.now ++ more → length bytes.now < length text → result ≡ Ok None }
     // A fault stands in the bytes.
     ensures fault { IfErr result (λ e. IsFrontFault e bytes.now) }
     // Which fault it is, in the order in which the bytes are judged.
     ensures exact { Gives result (framed_front bytes.now) }
     // Want of memory is answered only where nothing else is, and a frame stands that needs it.
-    ensures memory { result ≡ Err FrameFault.Memory → IsKept front_needs_memory (framed_front bytes.now) }
+    ensures memory { result ≡ Err FrameFault.Memory →
+        IsKept front_needs_memory (framed_front bytes.now) }
 {
     front_of(alloc, bytes)
 }
 
 fn front_of(alloc: Global, bytes: &[u8]) -> Result<Option<(Front, usize)>, FrameFault>
     ensures exact { Gives result (framed_front bytes.now) }
-    ensures memory { result ≡ Err FrameFault.Memory → IsKept front_needs_memory (framed_front bytes.now) }
+    ensures memory { result ≡ Err FrameFault.Memory →
+        IsKept front_needs_memory (framed_front bytes.now) }
 {
     let mut cursor = Cursor::new(bytes);
     let Some(kind) = cursor.u8() else {
@@ -81,7 +86,8 @@ fn limit_of(kind: u8) -> Option<u32>
 
 fn whole_of(alloc: Global, kind: u8, body: &[u8]) -> Result<Front, FrameFault>
     ensures exact { Gives result (front_at kind body.now) }
-    ensures memory { result ≡ Err FrameFault.Memory → IsOkAnd (front_at kind body.now) (λ f. front_needs_memory f ≡ true) }
+    ensures memory { result ≡ Err FrameFault.Memory →
+        IsOkAnd (front_at kind body.now) (λ f. front_needs_memory f ≡ true) }
 {
     match kind {
         QUERY => {
@@ -108,7 +114,8 @@ fn whole_of(alloc: Global, kind: u8, body: &[u8]) -> Result<Front, FrameFault>
 /// Adds the frame at the end of `out`; refused, adds nothing.
 pub fn write_front(message: &Front, out: &mut BytesMut) -> Result<(), AllocError>
     requires { FitsLength (front_body message.now) }
-    ensures ok { OnOk result (out.new.items ≡ out.old.items ++ frame (front_kind message.now) (front_body message.now)) }
+    ensures ok { OnOk result
+        (out.new.items ≡ out.old.items ++ frame (front_kind message.now) (front_body message.now)) }
     ensures err { OnErr result (out.new.items ≡ out.old.items) }
 {
     let start = out.len();
@@ -118,7 +125,8 @@ pub fn write_front(message: &Front, out: &mut BytesMut) -> Result<(), AllocError
 #[tactic(auto, using(pqformat::proofs::Putting::in_place))]
 fn put_front(out: &mut BytesMut, message: &Front) -> Result<(), AllocError>
     requires { FitsLength (front_body message.now) }
-    ensures { Puts result out.old.items out.new.items (frame (front_kind message.now) (front_body message.now)) }
+    ensures { Puts result out.old.items out.new.items
+        (frame (front_kind message.now) (front_body message.now)) }
 {
     put_head(out, kind_of(message), body_len(message))?;
     match message {
@@ -155,5 +163,6 @@ fn body_len(message: &Front) -> usize
 /// The law of the grammar: of two frames whose spellings begin the same bytes, one is the other. So no spelling of a
 /// frame is a proper beginning of another's, and frames that stand one behind the other are read in one way.
 pub fn no_front_begins_another()
-    ensures { (a b x y : List ℕ) (f g : Front) → SpellsFront a f → SpellsFront b g → a ++ x ≡ b ++ y → (a ≡ b) × (f ≡ g) × (x ≡ y) }
+    ensures { (a b x y : List ℕ) (f g : Front) → SpellsFront a f → SpellsFront b g →
+        a ++ x ≡ b ++ y → (a ≡ b) × (f ≡ g) × (x ≡ y) }
 {}

@@ -38,7 +38,8 @@ fn items_of<T: Field + Drop>(
     cursor: &mut Cursor<'_>,
     count: usize,
 ) -> Result<Items<T>, FrameFault>
-    ensures { GivesAt result cursor.new (repeat_at (λ bytes. checked_at T.is_text (T.field_at bytes)) count cursor.old) }
+    ensures { GivesAt result cursor.new
+        (repeat_at (λ bytes. checked_at T.is_text (T.field_at bytes)) count cursor.old) }
 {
     let mut items = Vec::new(alloc);
     for _ in 0..count {
@@ -80,8 +81,10 @@ fn count_of<T: Field>(cursor: &mut Cursor<'_>, limit: usize) -> Result<usize, Fr
 
 /// The items of a body, up to the zero byte that ends both.
 pub(crate) fn listed<T: Field + Drop>(alloc: Global, body: &[u8]) -> Result<Items<T>, FrameFault>
-    ensures exact { Gives result (whole (list_all T.is_text) (until_at tt T.field_at (length body.now) body.now)) }
-    ensures memory { result ≡ Err FrameFault.Memory → IsOk (whole (list_all T.is_text) (until_at tt T.field_at (length body.now) body.now)) }
+    ensures exact { Gives result
+        (whole (list_all T.is_text) (until_at tt T.field_at (length body.now) body.now)) }
+    ensures memory { result ≡ Err FrameFault.Memory →
+        IsOk (whole (list_all T.is_text) (until_at tt T.field_at (length body.now) body.now)) }
 {
     let mut cursor = Cursor::new(body);
     let count = count_of::<T>(&mut cursor, body.len())?;
@@ -95,7 +98,8 @@ pub(crate) fn listed<T: Field + Drop>(alloc: Global, body: &[u8]) -> Result<Item
 
 /// Moves past as many as the count says, and tells whether all their texts are UTF-8.
 fn pass_items<T: Field>(cursor: &mut Cursor<'_>, count: usize) -> Result<bool, FrameFault>
-    ensures { ReadsAt result cursor.new (passed (list_all T.is_text) (repeat_at T.field_at count cursor.old)) }
+    ensures { ReadsAt result cursor.new
+        (passed (list_all T.is_text) (repeat_at T.field_at count cursor.old)) }
 {
     let mut are_texts = true;
     for _ in 0..count {
@@ -110,7 +114,8 @@ pub(crate) fn counted_of<T: Field + Drop>(
     cursor: &mut Cursor<'_>,
 ) -> Result<Items<T>, FrameFault>
     ensures exact { Gives result (whole (list_all T.is_text) (counted_at T.field_at cursor.old)) }
-    ensures memory { result ≡ Err FrameFault.Memory → IsOk (whole (list_all T.is_text) (counted_at T.field_at cursor.old)) }
+    ensures memory { result ≡ Err FrameFault.Memory →
+        IsOk (whole (list_all T.is_text) (counted_at T.field_at cursor.old)) }
 {
     let count = int16(cursor)?;
     if count >= 1 << 15 {
@@ -124,8 +129,10 @@ fn ending_of<T: Field + Drop>(
     bytes: &[u8],
     count: usize,
 ) -> Result<Items<T>, FrameFault>
-    ensures exact { Gives result (whole (list_all T.is_text) (repeat_at T.field_at count bytes.now)) }
-    ensures memory { result ≡ Err FrameFault.Memory → IsOk (whole (list_all T.is_text) (repeat_at T.field_at count bytes.now)) }
+    ensures exact { Gives result
+        (whole (list_all T.is_text) (repeat_at T.field_at count bytes.now)) }
+    ensures memory { result ≡ Err FrameFault.Memory →
+        IsOk (whole (list_all T.is_text) (repeat_at T.field_at count bytes.now)) }
 {
     let mut cursor = Cursor::new(bytes);
     let are_texts = pass_items::<T>(&mut cursor, count)?;

@@ -24,7 +24,8 @@ pub const PARAMETER_STATUS: u8 = b'S';
 #[tactic(auto, unfolding(crate::specs::Parameter::parameter_at))]
 pub(crate) fn parameter_status_of(alloc: Global, body: &[u8]) -> Result<Parameter, FrameFault>
     ensures exact { Gives result (whole is_parameter_text (parameter_at body.now)) }
-    ensures memory { result ≡ Err FrameFault.Memory → IsOk (whole is_parameter_text (parameter_at body.now)) }
+    ensures memory { result ≡ Err FrameFault.Memory →
+        IsOk (whole is_parameter_text (parameter_at body.now)) }
 {
     let mut cursor = Cursor::new(body);
     let name = string(&mut cursor)?;

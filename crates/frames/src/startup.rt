@@ -50,26 +50,29 @@ pub enum Startup {
 /// only where a session's startup stands that is right.
 pub fn read_startup(alloc: Global, bytes: &[u8]) -> Result<Option<(Startup, usize)>, FrameFault>
     // What is read stands at the front, spelled so.
-    ensures found { IfOk result (λ o. IfSome o (λ x. (x.1 ≤ length bytes.now) × SpellsStartup (take x.1 bytes.now) x.0)) }
+    ensures found { IfOk result
+        (λ o. IfSome o (λ x. (x.1 ≤ length bytes.now) × SpellsStartup (take x.1 bytes.now) x.0)) }
     // What is spelled at the front is read, whatever follows it, unless memory runs out.
-    ensures only { (text rest : List ℕ) (f : Startup) → SpellsStartup text f → bytes.now ≡ text ++ rest
-        → Gives result (Ok (Some (f, length text))) }
+    ensures only { (text rest : List ℕ) (f : Startup) → SpellsStartup text f →
+        bytes.now ≡ text ++ rest → Gives result (Ok (Some (f, length text))) }
     // A front of a spelling that isn't the whole is waited on.
-    ensures waits { (text more : List ℕ) (f : Startup) → SpellsStartup text f → text ≡ bytes.now ++ more
-        → length bytes.now < length text → result ≡ Ok None }
+    ensures waits { (text more : List ℕ) (f : Startup) → SpellsStartup text f →
+        text ≡ bytes.now ++ more → length bytes.now < length text → result ≡ Ok None }
     // A fault stands in the bytes.
     ensures fault { IfErr result (λ e. IsStartupFault e bytes.now) }
     // Which fault it is, in the order in which the bytes are judged.
     ensures exact { Gives result (framed_startup bytes.now) }
     // Want of memory is answered only where nothing else is, and a startup stands that needs it.
-    ensures memory { result ≡ Err FrameFault.Memory → IsKept startup_needs_memory (framed_startup bytes.now) }
+    ensures memory { result ≡ Err FrameFault.Memory →
+        IsKept startup_needs_memory (framed_startup bytes.now) }
 {
     startup_of(alloc, bytes)
 }
 
 fn startup_of(alloc: Global, bytes: &[u8]) -> Result<Option<(Startup, usize)>, FrameFault>
     ensures exact { Gives result (framed_startup bytes.now) }
-    ensures memory { result ≡ Err FrameFault.Memory → IsKept startup_needs_memory (framed_startup bytes.now) }
+    ensures memory { result ≡ Err FrameFault.Memory →
+        IsKept startup_needs_memory (framed_startup bytes.now) }
 {
     let mut cursor = Cursor::new(bytes);
     let Some(((number, body), size)) = sized_of(&mut cursor)? else {
@@ -128,7 +131,8 @@ fn limit_of(number: u32) -> Option<u32>
 
 fn whole_of(alloc: Global, number: u32, body: &[u8]) -> Result<Startup, FrameFault>
     ensures exact { Gives result (startup_at number body.now) }
-    ensures memory { result ≡ Err FrameFault.Memory → IsOkAnd (startup_at number body.now) (λ f. startup_needs_memory f ≡ true) }
+    ensures memory { result ≡ Err FrameFault.Memory →
+        IsOkAnd (startup_at number body.now) (λ f. startup_needs_memory f ≡ true) }
 {
     match number {
         PROTOCOL_VERSION => Ok(Startup::Session(listed(alloc, body)?)),
@@ -150,5 +154,6 @@ fn whole_of(alloc: Global, number: u32, body: &[u8]) -> Result<Startup, FrameFau
 
 /// The law of the grammar: of two startups whose spellings begin the same bytes, one is the other.
 pub fn no_startup_begins_another()
-    ensures { (a b x y : List ℕ) (f g : Startup) → SpellsStartup a f → SpellsStartup b g → a ++ x ≡ b ++ y → (a ≡ b) × (f ≡ g) × (x ≡ y) }
+    ensures { (a b x y : List ℕ) (f g : Startup) → SpellsStartup a f → SpellsStartup b g →
+        a ++ x ≡ b ++ y → (a ≡ b) × (f ≡ g) × (x ≡ y) }
 {}

@@ -57,7 +57,8 @@ impl<L: LogName> CommitNotice<L> {
     /// it.
     pub fn tell(&self, reader: &mut LogReader<L>)
         ensures kept { IsPrefix reader.old.told reader.new.told }
-        ensures same { (seen_of reader.new ≡ seen_of reader.old) × (reader.new.place ≡ reader.old.place) }
+        ensures same { (seen_of reader.new ≡ seen_of reader.old)
+            × (reader.new.place ≡ reader.old.place) }
     {
         if let Some(latest) = &self.latest {
             reader.learn(latest.told());

@@ -36,7 +36,9 @@ pub(crate) struct Means<'a> {
 impl<'a> Means<'a> {
     /// Only memory refuses it, once the publications are judged.
     fn make(&self) -> Result<(Selection, Arena), PubFault>
-        ensures { IfOk result (λ made. made.0 ≡ asked_for self.now.publications.now self.now.names.now self.now.messages) }
+        ensures { IfOk result
+            (λ made. made.0
+            ≡ asked_for self.now.publications.now self.now.names.now self.now.messages) }
     {
         let selection = self.publications.select(self.names)?;
         let arena = Arena::new(self.alloc, self.chunks as usize)?;
@@ -72,11 +74,17 @@ impl<L: LogName + SlotName> StreamGrant<L> {
         position: u64,
     ) -> Result<Self, (Pair<L>, ClaimFault)>
         requires { place < 16 }
-        ensures hold { IfOk result (λ b. (confirmed : ℕ)
-            × (b.hold.seat ≡ with_step (with_step pair.seat (slot_step Claim place 1 (held_by pair.seat.number))) (slot_step Read place confirmed confirmed))
+        ensures hold { IfOk result
+            (λ b. (confirmed : ℕ)
+            × (b.hold.seat
+            ≡ with_step
+            (with_step pair.seat (slot_step Claim place 1 (held_by pair.seat.number)))
+            (slot_step Read place confirmed confirmed))
             × (b.start ≡ max position confirmed)) }
         ensures place { IfOk result (λ b. b.hold.lease.place ≡ place) }
-        ensures selection { IfOk result (λ b. b.selection ≡ asked_for means.now.publications.now means.now.names.now means.now.messages) }
+        ensures selection { IfOk result
+            (λ b. b.selection
+            ≡ asked_for means.now.publications.now means.now.names.now means.now.messages) }
     {
         let Pair {
             mut reader,
@@ -133,7 +141,9 @@ impl<L: LogName + SlotName> StreamGrant<L> {
     /// Makes the slot free, and gives reader and seat back.
     pub fn end(self, slots: &SlotTable<L>) -> Pair<L>
         ensures reader { result.reader ≡ self.reader }
-        ensures seat { result.seat ≡ with_step self.hold.seat (slot_step Release self.hold.lease.place (held_by self.hold.seat.number) 1) }
+        ensures seat { result.seat
+            ≡ with_step self.hold.seat
+            (slot_step Release self.hold.lease.place (held_by self.hold.seat.number) 1) }
     {
         let StreamGrant {
             selection: _,

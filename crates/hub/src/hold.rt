@@ -24,8 +24,10 @@ impl<L: SlotName> Hold<L> {
     ) -> Result<Self, (SlotSeat<L>, SlotFault)>
         requires { place < 16 }
         ensures { MatchResult result
-            (λ hold. (hold.lease.place ≡ place) × Did Claim place 1 (held_by seat.number) seat hold.seat)
-            (λ back. (found : ℕ) × IsRefusal back.1 found × Did Claim place found found seat back.0) }
+            (λ hold. (hold.lease.place ≡ place)
+            × Did Claim place 1 (held_by seat.number) seat hold.seat)
+            (λ back. (found : ℕ) × IsRefusal back.1 found
+            × Did Claim place found found seat back.0) }
     {
         match slots.claim(&mut seat, place) {
             Ok(lease) => Ok(Hold { seat, lease }),
@@ -42,7 +44,8 @@ impl<L: SlotName> Hold<L> {
 
     /// Raises the slot's confirmed position, and answers it: the greater of the old and the new.
     pub fn confirm(&mut self, slots: &SlotTable<L>, position: u64) -> u64
-        ensures raised { (found : ℕ) × (result ≡ max found position) × DidAt Raise self.old.lease.place found result self.old.seat self.new.seat }
+        ensures raised { (found : ℕ) × (result ≡ max found position)
+            × DidAt Raise self.old.lease.place found result self.old.seat self.new.seat }
         ensures same { self.new.lease ≡ self.old.lease }
     {
         slots.confirm(&mut self.seat, &mut self.lease, position)
@@ -58,7 +61,9 @@ impl<L: SlotName> Hold<L> {
 
     /// Makes the slot free, and gives the seat back.
     pub fn release(self, slots: &SlotTable<L>) -> SlotSeat<L>
-        ensures { result ≡ with_step self.seat (slot_step Release self.lease.place (held_by self.seat.number) 1) }
+        ensures { result
+            ≡ with_step self.seat
+            (slot_step Release self.lease.place (held_by self.seat.number) 1) }
     {
         let Hold { mut seat, lease } = self;
         slots.release(&mut seat, lease);

@@ -77,7 +77,11 @@ impl Inbox {
 
     /// A status came. It answers whether that is the first thing to do since all was taken.
     pub fn flush(&mut self, position: u64, ask: bool) -> bool
-        ensures status { self.new ≡ record self.old { flushed = flushed_after self.old.flushed position; asked = asked_after self.old.asked ask } }
+        ensures status { self.new
+            ≡ record self.old {
+              flushed = flushed_after self.old.flushed position;
+              asked = asked_after self.old.asked ask;
+            } }
     {
         let is_first = self.flushed.is_none() && self.asked == 0;
         let before = self.flushed.unwrap_or(0);
@@ -97,10 +101,19 @@ impl Inbox {
 
     /// Takes all that is there for the writing thread.
     pub fn take(&mut self, alloc: Global) -> Work
-        ensures work { result ≡ record { said = self.old.said; flushed = self.old.flushed; asked = self.old.asked; is_silent = self.old.is_silent; phase = self.old.phase } }
+        ensures work { result
+            ≡ record {
+              said = self.old.said;
+              flushed = self.old.flushed;
+              asked = self.old.asked;
+              is_silent = self.old.is_silent;
+              phase = self.old.phase;
+            } }
         ensures empty { self.new.said.items ≡ [] }
-        ensures rest { (self.new.flushed ≡ None) × (self.new.asked ≡ 0) × (self.new.is_silent ≡ false) × (self.new.phase ≡ self.old.phase) }
-        ensures same { (self.new.has_ended ≡ self.old.has_ended) × (self.new.is_broken ≡ self.old.is_broken) }
+        ensures rest { (self.new.flushed ≡ None) × (self.new.asked ≡ 0)
+            × (self.new.is_silent ≡ false) × (self.new.phase ≡ self.old.phase) }
+        ensures same { (self.new.has_ended ≡ self.old.has_ended)
+            × (self.new.is_broken ≡ self.old.is_broken) }
     {
         let said = mem::replace(&mut self.said, BytesMut::new(alloc));
         let flushed = mem::replace(&mut self.flushed, None);

@@ -44,12 +44,17 @@ impl<L: SlotName> Names<L> {
         position: u64,
     ) -> Result<(), SlotFault>
         ensures new { OnOk result (place_of self.old.directory name.now ≡ None) }
-        ensures exists { result ≡ Err SlotFault.Exists → IsSome (place_of self.old.directory name.now) }
-        ensures ok { OnOk result ((place : ℕ) × Created self.old.seat position place self.new.seat × ChangesOnly self.old.directory self.new.directory name.now (Some place)) }
+        ensures exists { result ≡ Err SlotFault.Exists →
+            IsSome (place_of self.old.directory name.now) }
+        ensures ok { OnOk result
+            ((place : ℕ) × Created self.old.seat position place self.new.seat
+            × ChangesOnly self.old.directory self.new.directory name.now (Some place)) }
         ensures err { OnErr result (AreSame self.old.directory self.new.directory) }
         ensures untouched { result ≡ Err SlotFault.Exists → self.new.seat ≡ self.old.seat }
         ensures full { result ≡ Err SlotFault.NoPlace → NoneLeft self.old.seat self.new.seat }
-        ensures dropped { result ≡ Err SlotFault.Memory → (place found left : ℕ) × (made : View) × Created self.old.seat position place made × Did Retire place found left made self.new.seat }
+        ensures dropped { result ≡ Err SlotFault.Memory →
+            (place found left : ℕ) × (made : View) × Created self.old.seat position place made
+            × Did Retire place found left made self.new.seat }
     {
         if self.directory.find(name).is_some() {
             return Err(SlotFault::Exists);
@@ -64,7 +69,10 @@ impl<L: SlotName> Names<L> {
 
     /// Drops the slot of this name. L1 where there is none, L2 where it is held.
     pub fn drop_slot(&mut self, slots: &SlotTable<L>, name: &str) -> Result<(), SlotFault>
-        ensures ok { OnOk result ((place : ℕ) × (place_of self.old.directory name.now ≡ Some place) × Did Retire place 1 2 self.old.seat self.new.seat × ChangesOnly self.old.directory self.new.directory name.now None) }
+        ensures ok { OnOk result
+            ((place : ℕ) × (place_of self.old.directory name.now ≡ Some place)
+            × Did Retire place 1 2 self.old.seat self.new.seat
+            × ChangesOnly self.old.directory self.new.directory name.now None) }
         ensures err { OnErr result (AreSame self.old.directory self.new.directory) }
     {
         let place = self.place_of(name).ok_or(SlotFault::Missing)?;

@@ -24,7 +24,8 @@ pub(crate) fn known_names(
     publications: &Publications,
     names: &[Name],
 ) -> Result<Names, AllocError>
-    ensures known { IfOk result (λ known. known ≡ filter (is_publication publications.now) names.now) }
+    ensures known { IfOk result
+        (λ known. known ≡ filter (is_publication publications.now) names.now) }
     ensures short { IfOk result (λ known. AllByRecursion IsShort known) }
 {
     let mut known = Vec::new(alloc);
@@ -80,7 +81,8 @@ fn known_texts(
     publications: &Publications,
     names: &[Name],
 ) -> Result<Vec<Text>, AllocError>
-    ensures { IfOk result (λ known. known.items ≡ filter (is_publication publications.now) names.now) }
+    ensures { IfOk result
+        (λ known. known.items ≡ filter (is_publication publications.now) names.now) }
 {
     let known = known_names(alloc, publications, names)?;
     texts_of(alloc, known.as_slice())

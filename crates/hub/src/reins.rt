@@ -78,7 +78,8 @@ impl Reins {
 
     /// So many bytes have passed.
     pub fn pass(&mut self, count: usize)
-        ensures { self.new ≡ record self.old { cut_behind = left_behind self.old.cut_behind count } }
+        ensures { self.new
+            ≡ record self.old { cut_behind = left_behind self.old.cut_behind count } }
     {
         if let Some(left) = self.cut_behind {
             self.cut_behind = Some(left.saturating_sub(count as u64));

@@ -27,7 +27,9 @@ pub(crate) fn write_stream<L: LogName + SlotName, R: Wait, D: WorkDesk<L>, W: Wr
     first: Work,
     to: &mut W,
 ) -> Result<(), ConnectionEnd>
-    ensures slot { LeavesSlot D.told stream.old.hold.lease.place first result desk.old (standing stream.old.walsender stream.old.hold.seat (W.contents to.old)) desk.new stream.new.hold.seat }
+    ensures slot { LeavesSlot D.told stream.old.hold.lease.place first result desk.old
+        (standing stream.old.walsender stream.old.hold.seat (W.contents to.old)) desk.new
+        stream.new.hold.seat }
 {
     let ended = write_to_end(rt, desk, slots, stream, first, to);
     if ended.is_err() {
@@ -46,7 +48,9 @@ fn write_to_end<L: LogName + SlotName, R: Wait, D: WorkDesk<L>, W: Write>(
     first: Work,
     to: &mut W,
 ) -> Result<(), ConnectionEnd>
-    ensures turns { EndsTurns D.told stream.old.hold.lease.place first desk.old (standing stream.old.walsender stream.old.hold.seat (W.contents to.old)) desk.new stream.new.walsender.sender.position stream.new.hold.seat }
+    ensures turns { EndsTurns D.told stream.old.hold.lease.place first desk.old
+        (standing stream.old.walsender stream.old.hold.seat (W.contents to.old)) desk.new
+        stream.new.walsender.sender.position stream.new.hold.seat }
     ensures lease { stream.new.hold.lease ≡ stream.old.hold.lease }
 {
     match run(rt, desk, slots, stream, first, to) {
@@ -75,8 +79,11 @@ fn run<L: LogName + SlotName, R: Wait, D: WorkDesk<L>, W: Write>(
     first: Work,
     to: &mut W,
 ) -> Result<Work, TurnFault>
-    ensures serves { StreamsOn stream.old.walsender stream.new.walsender (W.contents to.old) (W.contents to.new) }
-    ensures turns { TakesTurns D.told stream.old.hold.lease.place (Ended result) first desk.old (standing stream.old.walsender stream.old.hold.seat (W.contents to.old)) desk.new (standing stream.new.walsender stream.new.hold.seat (W.contents to.new)) }
+    ensures serves { StreamsOn stream.old.walsender stream.new.walsender (W.contents to.old)
+        (W.contents to.new) }
+    ensures turns { TakesTurns D.told stream.old.hold.lease.place (Ended result) first desk.old
+        (standing stream.old.walsender stream.old.hold.seat (W.contents to.old)) desk.new
+        (standing stream.new.walsender stream.new.hold.seat (W.contents to.new)) }
     ensures lease { stream.new.hold.lease ≡ stream.old.hold.lease }
 {
     stream.go_on(slots, &first, to)?;
@@ -105,7 +112,9 @@ fn tell<L: LogName + SlotName, W: Write>(
     end: ConnectionEnd,
     to: &mut W,
 ) -> io::Result<()>
-    ensures behind { OnOk result (WordsBehind stream.old.walsender stream.new.walsender (W.contents to.old) (W.contents to.new)) }
+    ensures behind { OnOk result
+        (WordsBehind stream.old.walsender stream.new.walsender (W.contents to.old)
+        (W.contents to.new)) }
     ensures position { stream.new.walsender.sender.position ≡ stream.old.walsender.sender.position }
     ensures hold { stream.new.hold ≡ stream.old.hold }
 {

@@ -52,8 +52,10 @@ pub(crate) struct Stream<L: LogName + SlotName> {
 impl<L: LogName + SlotName> Stream<L> {
     /// The stream of a grant, which has read nothing.
     pub fn open(alloc: Global, grant: StreamGrant<L>) -> Self
-        ensures asked { (result.walsender.sender.selection ≡ grant.selection) × (result.walsender.sender.start ≡ grant.start) }
-        ensures serves { (log : List Record) → IsPrefix (seen_of grant.reader) log → IsWellFormedLog log → Serves log [] result.walsender }
+        ensures asked { (result.walsender.sender.selection ≡ grant.selection)
+            × (result.walsender.sender.start ≡ grant.start) }
+        ensures serves { (log : List Record) → IsPrefix (seen_of grant.reader) log →
+            IsWellFormedLog log → Serves log [] result.walsender }
         ensures hold { result.hold ≡ grant.hold }
     {
         let StreamGrant {
@@ -119,10 +121,17 @@ impl<L: LogName + SlotName> Stream<L> {
         work: &Work,
         to: &mut W,
     ) -> Result<(), TurnFault>
-        ensures serves { StreamsOn self.old.walsender self.new.walsender (W.contents to.old) (W.contents to.new) }
-        ensures confirms { Confirms work.now.flushed self.old.walsender.sender.position self.old.hold.lease.place self.old.hold.seat self.new.hold.seat }
+        ensures serves { StreamsOn self.old.walsender self.new.walsender (W.contents to.old)
+            (W.contents to.new) }
+        ensures confirms { Confirms work.now.flushed self.old.walsender.sender.position
+            self.old.hold.lease.place self.old.hold.seat self.new.hold.seat }
         ensures lease { self.new.hold.lease ≡ self.old.hold.lease }
-        ensures answers { OnOk result ((work.now.phase ≡ Phase.Closed) ⊎ WritesFirst (self.old.walsender.sender.held ++ keepalives self.old.walsender.sender.position work.now.asked) self.old.walsender (W.contents to.old) (W.contents to.new)) }
+        ensures answers { OnOk result
+            ((work.now.phase ≡ Phase.Closed)
+            ⊎ WritesFirst
+            (self.old.walsender.sender.held
+            ++ keepalives self.old.walsender.sender.position work.now.asked)
+            self.old.walsender (W.contents to.old) (W.contents to.new)) }
     {
         self.confirm_any(slots, work.flushed);
         if work.phase == Phase::Closed {
@@ -139,7 +148,8 @@ impl<L: LogName + SlotName> Stream<L> {
         ensures serves { StaysOn self.old.walsender self.new.walsender }
         ensures reader { self.new.walsender.reader ≡ self.old.walsender.reader }
         ensures hold { self.new.hold ≡ self.old.hold }
-        ensures held { (more : List ℕ) × (self.new.walsender.sender.held ≡ self.old.walsender.sender.held ++ more) }
+        ensures held { (more : List ℕ)
+            × (self.new.walsender.sender.held ≡ self.old.walsender.sender.held ++ more) }
     {
         if is_silent {
             self.walsender.keepalive(CLOCK, true)?;
@@ -150,7 +160,8 @@ impl<L: LogName + SlotName> Stream<L> {
     /// Writes a keepalive where the client has flushed less than was read and wasn't told of it yet: it may be of transactions
     /// that aren't sent, and the client can confirm them all the same.
     fn tell_position<W: Write>(&mut self, to: &mut W) -> Result<(), TurnFault>
-        ensures serves { StreamsOn self.old.walsender self.new.walsender (W.contents to.old) (W.contents to.new) }
+        ensures serves { StreamsOn self.old.walsender self.new.walsender (W.contents to.old)
+            (W.contents to.new) }
         ensures hold { self.new.hold ≡ self.old.hold }
     {
         let position = self.walsender.position();
@@ -165,8 +176,10 @@ impl<L: LogName + SlotName> Stream<L> {
 
     /// Confirms what a client has flushed, if it told of any.
     pub fn confirm_any(&mut self, slots: &SlotTable<L>, flushed: Option<u64>)
-        ensures confirms { Confirms flushed self.old.walsender.sender.position self.old.hold.lease.place self.old.hold.seat self.new.hold.seat }
-        ensures same { (self.new.walsender ≡ self.old.walsender) × (self.new.hold.lease ≡ self.old.hold.lease) }
+        ensures confirms { Confirms flushed self.old.walsender.sender.position
+            self.old.hold.lease.place self.old.hold.seat self.new.hold.seat }
+        ensures same { (self.new.walsender ≡ self.old.walsender)
+            × (self.new.hold.lease ≡ self.old.hold.lease) }
     {
         if let Some(flushed) = flushed {
             self.flushed = self.flushed.max(flushed);
@@ -176,8 +189,12 @@ impl<L: LogName + SlotName> Stream<L> {
 
     /// Confirms what a client has flushed, as far as the stream has come.
     fn confirm(&mut self, slots: &SlotTable<L>, flushed: u64) -> u64
-        ensures raised { (found : ℕ) × (result ≡ max found (min flushed self.old.walsender.sender.position)) × DidAt Raise self.old.hold.lease.place found result self.old.hold.seat self.new.hold.seat }
-        ensures same { (self.new.walsender ≡ self.old.walsender) × (self.new.hold.lease ≡ self.old.hold.lease) }
+        ensures raised { (found : ℕ)
+            × (result ≡ max found (min flushed self.old.walsender.sender.position))
+            × DidAt Raise self.old.hold.lease.place found result self.old.hold.seat
+            self.new.hold.seat }
+        ensures same { (self.new.walsender ≡ self.old.walsender)
+            × (self.new.hold.lease ≡ self.old.hold.lease) }
     {
         let reached = self.walsender.confirmable(flushed);
         self.hold.confirm(slots, reached)
@@ -186,9 +203,14 @@ impl<L: LogName + SlotName> Stream<L> {
     /// Holds a keepalive for each of so many statuses that asked. What is held is written in between, so that few are held at
     /// once.
     fn answer_statuses<W: Write>(&mut self, count: u32, to: &mut W) -> Result<(), TurnFault>
-        ensures kept { OnOk result ((given : List ℕ) × (given ++ self.new.walsender.sender.held ≡ self.old.walsender.sender.held ++ keepalives self.old.walsender.sender.position count)
+        ensures kept { OnOk result
+            ((given : List ℕ)
+            × (given ++ self.new.walsender.sender.held
+            ≡ self.old.walsender.sender.held
+            ++ keepalives self.old.walsender.sender.position count)
             × Appends (W.contents to.old) (W.contents to.new) given) }
-        ensures serves { StreamsOn self.old.walsender self.new.walsender (W.contents to.old) (W.contents to.new) }
+        ensures serves { StreamsOn self.old.walsender self.new.walsender (W.contents to.old)
+            (W.contents to.new) }
         ensures hold { self.new.hold ≡ self.old.hold }
     {
         let mut due = count;
@@ -203,7 +225,10 @@ impl<L: LogName + SlotName> Stream<L> {
 
     /// Holds so many keepalives behind all that is held.
     fn keep_alive(&mut self, count: u32) -> Result<(), SendFault>
-        ensures held { OnOk result (self.new.walsender.sender.held ≡ self.old.walsender.sender.held ++ keepalives self.old.walsender.sender.position count) }
+        ensures held { OnOk result
+            (self.new.walsender.sender.held
+            ≡ self.old.walsender.sender.held
+            ++ keepalives self.old.walsender.sender.position count) }
         ensures position { self.new.walsender.sender.position ≡ self.old.walsender.sender.position }
         ensures serves { StaysOn self.old.walsender self.new.walsender }
         ensures reader { self.new.walsender.reader ≡ self.old.walsender.reader }
@@ -218,7 +243,8 @@ impl<L: LogName + SlotName> Stream<L> {
     /// Writes what is held of what was read.
     pub fn write_rest<W: Write>(&mut self, to: &mut W) -> io::Result<()>
         ensures ok { OnOk result (self.new.walsender.sender.held ≡ []) }
-        ensures serves { (given : List ℕ) × Gives given self.old.walsender self.new.walsender × Appends (W.contents to.old) (W.contents to.new) given }
+        ensures serves { (given : List ℕ) × Gives given self.old.walsender self.new.walsender
+            × Appends (W.contents to.old) (W.contents to.new) given }
         ensures position { self.new.walsender.sender.position ≡ self.old.walsender.sender.position }
         ensures hold { self.new.hold ≡ self.old.hold }
     {
@@ -228,7 +254,9 @@ impl<L: LogName + SlotName> Stream<L> {
     /// Makes the slot free, and gives reader and seat back.
     pub fn end(self, slots: &SlotTable<L>) -> Pair<L>
         ensures reader { result.reader ≡ self.walsender.reader }
-        ensures seat { result.seat ≡ with_step self.hold.seat (slot_step Release self.hold.lease.place (held_by self.hold.seat.number) 1) }
+        ensures seat { result.seat
+            ≡ with_step self.hold.seat
+            (slot_step Release self.hold.lease.place (held_by self.hold.seat.number) 1) }
     {
         let Stream {
             alloc: _,

@@ -56,7 +56,8 @@ impl Trouble {
 
 /// Writes the ErrorResponse that tells it.
 pub(crate) fn write_trouble<W: Write>(alloc: Global, trouble: Trouble, to: &mut W) -> io::Result<()>
-    ensures { OnOk result ((words : List ℕ) × Appends (W.contents to.old) (W.contents to.new) words) }
+    ensures { OnOk result
+        ((words : List ℕ) × Appends (W.contents to.old) (W.contents to.new) words) }
 {
     let mut frame = BytesMut::new(alloc);
     if say_trouble(alloc, trouble, &mut frame).is_err() {

@@ -23,7 +23,8 @@ pub fn insert_line(
     relation: &Relation,
     message: &Insert,
 ) -> Result<Vec<u8>, LineFault>
-    ensures { IfOk result (λ line. line.items ≡ line_of (insert_json lsn relation.now message.now)) }
+    ensures { IfOk result
+        (λ line. line.items ≡ line_of (insert_json lsn relation.now message.now)) }
 {
     let mut out = change(alloc, "I", lsn, relation)?;
     put_row(
@@ -44,7 +45,8 @@ pub fn update_line(
     relation: &Relation,
     message: &Update,
 ) -> Result<Vec<u8>, LineFault>
-    ensures { IfOk result (λ line. line.items ≡ line_of (update_json lsn relation.now message.now)) }
+    ensures { IfOk result
+        (λ line. line.items ≡ line_of (update_json lsn relation.now message.now)) }
 {
     let mut out = change(alloc, "U", lsn, relation)?;
     put_row(
@@ -65,7 +67,8 @@ pub fn delete_line(
     relation: &Relation,
     message: &Delete,
 ) -> Result<Vec<u8>, LineFault>
-    ensures { IfOk result (λ line. line.items ≡ line_of (delete_json lsn relation.now message.now)) }
+    ensures { IfOk result
+        (λ line. line.items ≡ line_of (delete_json lsn relation.now message.now)) }
 {
     let mut out = change(alloc, "D", lsn, relation)?;
     put_old(&mut out, relation, &message.old)?;
@@ -97,7 +100,8 @@ fn put_if_any(
     relation: &Relation,
     old: &Option<OldTuple>,
 ) -> Result<(), LineFault>
-    ensures tokens { OnOk result (out.new.tokens ≡ out.old.tokens ++ old_tokens relation.now old.now) }
+    ensures tokens { OnOk result
+        (out.new.tokens ≡ out.old.tokens ++ old_tokens relation.now old.now) }
     ensures before { out.new.before ≡ out.old.before }
 {
     match old {
@@ -107,7 +111,10 @@ fn put_if_any(
 }
 
 fn put_old(out: &mut Writer, relation: &Relation, old: &OldTuple) -> Result<(), LineFault>
-    ensures tokens { OnOk result (out.new.tokens ≡ out.old.tokens ++ key (codes "identity") ∷ json_tokens (old_json relation.now old.now)) }
+    ensures tokens { OnOk result
+        (out.new.tokens
+        ≡ out.old.tokens ++ key (codes "identity")
+        ∷ json_tokens (old_json relation.now old.now)) }
     ensures before { out.new.before ≡ out.old.before }
 {
     match old {

@@ -23,7 +23,10 @@ pub(crate) const TEXT_OID: u32 = 25;
 
 /// The member that tells a type: its name, or its OID where no name is known.
 pub(crate) fn put_kind(out: &mut Writer, kind: u32) -> Result<(), AllocError>
-    ensures tokens { OnOk result (out.new.tokens ≡ out.old.tokens ++ key (kind_key (kind_name kind)) ∷ json_tokens (kind_json (kind_name kind) kind)) }
+    ensures tokens { OnOk result
+        (out.new.tokens
+        ≡ out.old.tokens ++ key (kind_key (kind_name kind))
+        ∷ json_tokens (kind_json (kind_name kind) kind)) }
     ensures before { out.new.before ≡ out.old.before }
 {
     match kind_name(kind) {

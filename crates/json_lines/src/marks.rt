@@ -48,7 +48,10 @@ pub fn message_line(alloc: Global, message: &Message) -> Result<Vec<u8>, AllocEr
 
 #[tactic(auto, using(crate::proofs::Contents::content_is_text, crate::proofs::Contents::content_is_none))]
 fn put_content(alloc: Global, out: &mut Writer, content: &[u8]) -> Result<(), AllocError>
-    ensures tokens { OnOk result (out.new.tokens ≡ out.old.tokens ++ key (content_key (is_utf8 content.now)) ∷ string (content_text (is_utf8 content.now) content.now) ∷ []) }
+    ensures tokens { OnOk result
+        (out.new.tokens
+        ≡ out.old.tokens ++ key (content_key (is_utf8 content.now))
+        ∷ string (content_text (is_utf8 content.now) content.now) ∷ []) }
     ensures before { out.new.before ≡ out.old.before }
 {
     match str::from_utf8(content) {
@@ -67,7 +70,8 @@ pub fn summary_line(
     changes: u64,
     position: u64,
 ) -> Result<Vec<u8>, AllocError>
-    ensures { IfOk result (λ line. line.items ≡ line_of (summary_json transactions changes position)) }
+    ensures { IfOk result
+        (λ line. line.items ≡ line_of (summary_json transactions changes position)) }
 {
     let mut out = Writer::new(Vec::new(alloc));
     put_summary(alloc, &mut out, transactions, changes, position)?;
@@ -81,7 +85,12 @@ fn put_summary(
     changes: u64,
     position: u64,
 ) -> Result<(), AllocError>
-    ensures tokens { OnOk result (out.new.tokens ≡ out.old.tokens ++ begin_object ∷ key (codes "summary") ∷ begin_object ∷ key (codes "transactions") ∷ number (decimal transactions) ∷ key (codes "changes") ∷ number (decimal changes) ∷ key (codes "lsn") ∷ string (printed position) ∷ end_object ∷ []) }
+    ensures tokens { OnOk result
+        (out.new.tokens
+        ≡ out.old.tokens ++ begin_object ∷ key (codes "summary") ∷ begin_object
+        ∷ key (codes "transactions") ∷ number (decimal transactions) ∷ key (codes "changes")
+        ∷ number (decimal changes) ∷ key (codes "lsn") ∷ string (printed position)
+        ∷ end_object ∷ []) }
     ensures before { out.new.before ≡ out.old.before }
 {
     out.begin_object()?;

@@ -12,7 +12,8 @@ use std::alloc::{AllocError, Global};
 
 /// A line that is begun: an object that tells what happened.
 pub(crate) fn opened(alloc: Global, action: &str) -> Result<Writer, AllocError>
-    ensures tokens { IfOk result (λ out. out.tokens ≡ begin_object ∷ key (codes "action") ∷ string action.now ∷ []) }
+    ensures tokens { IfOk result
+        (λ out. out.tokens ≡ begin_object ∷ key (codes "action") ∷ string action.now ∷ []) }
     ensures before { IfOk result (λ out. out.before ≡ []) }
 {
     let mut out = Writer::new(Vec::new(alloc));
@@ -24,7 +25,8 @@ pub(crate) fn opened(alloc: Global, action: &str) -> Result<Writer, AllocError>
 /// The line, ended.
 pub(crate) fn closed(writer: Writer) -> Result<Vec<u8>, AllocError>
     requires { writer.before ≡ [] }
-    ensures { IfOk result (λ line. line.items ≡ print (writer.tokens ++ end_object ∷ []) ++ 10 ∷ []) }
+    ensures { IfOk result
+        (λ line. line.items ≡ print (writer.tokens ++ end_object ∷ []) ++ 10 ∷ []) }
 {
     let mut out = writer;
     out.end_object()?;
@@ -35,7 +37,8 @@ pub(crate) fn closed(writer: Writer) -> Result<Vec<u8>, AllocError>
 
 /// A member whose value is a text.
 pub(crate) fn put_text(out: &mut Writer, name: &str, text: &str) -> Result<(), AllocError>
-    ensures tokens { OnOk result (out.new.tokens ≡ out.old.tokens ++ key name.now ∷ string text.now ∷ []) }
+    ensures tokens { OnOk result
+        (out.new.tokens ≡ out.old.tokens ++ key name.now ∷ string text.now ∷ []) }
     ensures before { out.new.before ≡ out.old.before }
 {
     out.key(name)?;
@@ -44,7 +47,8 @@ pub(crate) fn put_text(out: &mut Writer, name: &str, text: &str) -> Result<(), A
 }
 
 pub(crate) fn put_number(out: &mut Writer, name: &str, value: u64) -> Result<(), AllocError>
-    ensures tokens { OnOk result (out.new.tokens ≡ out.old.tokens ++ key name.now ∷ number (decimal value) ∷ []) }
+    ensures tokens { OnOk result
+        (out.new.tokens ≡ out.old.tokens ++ key name.now ∷ number (decimal value) ∷ []) }
     ensures before { out.new.before ≡ out.old.before }
 {
     out.key(name)?;
@@ -54,7 +58,8 @@ pub(crate) fn put_number(out: &mut Writer, name: &str, value: u64) -> Result<(),
 
 /// A time, in microseconds since 2000-01-01.
 pub(crate) fn put_time(out: &mut Writer, name: &str, time: i64) -> Result<(), AllocError>
-    ensures tokens { OnOk result (out.new.tokens ≡ out.old.tokens ++ key name.now ∷ number (signed_decimal time) ∷ []) }
+    ensures tokens { OnOk result
+        (out.new.tokens ≡ out.old.tokens ++ key name.now ∷ number (signed_decimal time) ∷ []) }
     ensures before { out.new.before ≡ out.old.before }
 {
     out.key(name)?;
@@ -63,7 +68,8 @@ pub(crate) fn put_time(out: &mut Writer, name: &str, time: i64) -> Result<(), Al
 }
 
 pub(crate) fn put_truth(out: &mut Writer, name: &str, truth: bool) -> Result<(), AllocError>
-    ensures tokens { OnOk result (out.new.tokens ≡ out.old.tokens ++ key name.now ∷ boolean truth ∷ []) }
+    ensures tokens { OnOk result
+        (out.new.tokens ≡ out.old.tokens ++ key name.now ∷ boolean truth ∷ []) }
     ensures before { out.new.before ≡ out.old.before }
 {
     out.key(name)?;
@@ -78,7 +84,8 @@ pub(crate) fn put_position(
     name: &str,
     position: u64,
 ) -> Result<(), AllocError>
-    ensures tokens { OnOk result (out.new.tokens ≡ out.old.tokens ++ key name.now ∷ string (printed position) ∷ []) }
+    ensures tokens { OnOk result
+        (out.new.tokens ≡ out.old.tokens ++ key name.now ∷ string (printed position) ∷ []) }
     ensures before { out.new.before ≡ out.old.before }
 {
     let text = write_position(alloc, position)?;

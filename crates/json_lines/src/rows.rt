@@ -26,7 +26,9 @@ pub(crate) fn put_row(
     relation: &Relation,
     row: &[Cell],
 ) -> Result<(), LineFault>
-    ensures tokens { OnOk result (out.new.tokens ≡ out.old.tokens ++ key name.now ∷ json_tokens (row_json part relation.now row.now)) }
+    ensures tokens { OnOk result
+        (out.new.tokens
+        ≡ out.old.tokens ++ key name.now ∷ json_tokens (row_json part relation.now row.now)) }
     ensures before { out.new.before ≡ out.old.before }
 {
     out.key(name)?;
@@ -42,7 +44,8 @@ fn put_cells(
     columns: &[Column],
     row: &[Cell],
 ) -> Result<(), LineFault>
-    ensures tokens { OnOk result (out.new.tokens ≡ out.old.tokens ++ items_tokens (cells_items part columns.now row.now)) }
+    ensures tokens { OnOk result
+        (out.new.tokens ≡ out.old.tokens ++ items_tokens (cells_items part columns.now row.now)) }
     ensures before { out.new.before ≡ out.old.before }
 {
     let mut left = columns;
@@ -64,7 +67,8 @@ fn put_cells(
 
 /// A value with its column. One that didn't change and wasn't sent is left out.
 fn put_cell(out: &mut Writer, part: Part, column: &Column, cell: &Cell) -> Result<(), AllocError>
-    ensures tokens { OnOk result (out.new.tokens ≡ out.old.tokens ++ cell_tokens part column.now cell.now) }
+    ensures tokens { OnOk result
+        (out.new.tokens ≡ out.old.tokens ++ cell_tokens part column.now cell.now) }
     ensures before { out.new.before ≡ out.old.before }
 {
     match cell {
@@ -75,7 +79,8 @@ fn put_cell(out: &mut Writer, part: Part, column: &Column, cell: &Cell) -> Resul
 }
 
 fn put_null(out: &mut Writer, part: Part, column: &Column) -> Result<(), AllocError>
-    ensures tokens { OnOk result (out.new.tokens ≡ out.old.tokens ++ cell_tokens part column.now cells.Null) }
+    ensures tokens { OnOk result
+        (out.new.tokens ≡ out.old.tokens ++ cell_tokens part column.now cells.Null) }
     ensures before { out.new.before ≡ out.old.before }
 {
     if !is_told(part, column) {
@@ -88,7 +93,10 @@ fn put_null(out: &mut Writer, part: Part, column: &Column) -> Result<(), AllocEr
 }
 
 fn put_sent(out: &mut Writer, column: &Column, text: &str) -> Result<(), AllocError>
-    ensures tokens { OnOk result (out.new.tokens ≡ out.old.tokens ++ json_tokens (column_json column.now (value_json column.now.kind text.now))) }
+    ensures tokens { OnOk result
+        (out.new.tokens
+        ≡ out.old.tokens
+        ++ json_tokens (column_json column.now (value_json column.now.kind text.now))) }
     ensures before { out.new.before ≡ out.old.before }
 {
     begin_column(out, column)?;

@@ -12,7 +12,8 @@ use std::alloc::AllocError;
 /// A number or a truth, where the type is one and the text says one, and else the text.
 #[tactic(auto, unfolding(crate::specs::Values::value_json))]
 pub(crate) fn put_value(out: &mut Writer, kind: u32, text: &str) -> Result<(), AllocError>
-    ensures tokens { OnOk result (out.new.tokens ≡ out.old.tokens ++ json_tokens (value_json kind text.now)) }
+    ensures tokens { OnOk result
+        (out.new.tokens ≡ out.old.tokens ++ json_tokens (value_json kind text.now)) }
     ensures before { out.new.before ≡ out.old.before }
 {
     if is_whole_number(kind, text) {

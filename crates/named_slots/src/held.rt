@@ -149,7 +149,10 @@ impl<L: SlotName> HeldSlots<L> {
 
 /// No lease of any place.
 fn no_leases<L: SlotName>(alloc: Global) -> Result<Vec<Option<Lease<L>>>, AllocError>
-    ensures { IfOk result (λ leases. (vec_len leases ≡ PLACES) × AllByRecursion (λ o. o ≡ None) (map (option_map (λ lease. lease.place)) leases.items)) }
+    ensures { IfOk result
+        (λ leases. (vec_len leases ≡ PLACES)
+        × AllByRecursion (λ o. o ≡ None)
+        (map (option_map (λ lease. lease.place)) leases.items)) }
 {
     let mut leases = Vec::with_capacity(alloc, PLACES)?;
     for _ in 0..PLACES {

@@ -87,7 +87,8 @@ impl<L: SlotName> NamedSlots<L> {
     pub(crate) fn place(&self, name: &str) -> Option<usize>
         ensures within { IfSome result (λ place. place < PLACES) }
         ensures only { IfSome result (λ place. IsOnlyAt name.now place self.now.slots) }
-        ensures alike { IfSome result (λ place. IsHeldAs (holds_at place self.now) place self.now.slots) }
+        ensures alike { IfSome result
+            (λ place. IsHeldAs (holds_at place self.now) place self.now.slots) }
         ensures found { IfSome result (λ place. place_of name.now self.now ≡ Some place) }
         ensures none { IsNone result → IsUnnamed name.now self.now.slots }
     {
@@ -98,7 +99,10 @@ impl<L: SlotName> NamedSlots<L> {
     pub fn claim(&mut self, name: &str) -> Result<Lease<L>, SlotFault>
         ensures ok { OnOk result (self.new ≡ claimed name.now self.old) }
         ensures only { IfOk result (λ lease. IsOnlyAt name.now lease.place self.old.slots) }
-        ensures lease { IfOk result (λ lease. (place_of name.now self.new ≡ Some lease.place) × (holds_at lease.place self.old ≡ false) × (holds_at lease.place self.new ≡ true)) }
+        ensures lease { IfOk result
+            (λ lease. (place_of name.now self.new ≡ Some lease.place)
+            × (holds_at lease.place self.old ≡ false)
+            × (holds_at lease.place self.new ≡ true)) }
         ensures err { OnErr result (self.new ≡ self.old) }
         ensures refused { RefusedExactly (claim_refusal name.now self.old) result }
     {
@@ -122,7 +126,8 @@ impl<L: SlotName> NamedSlots<L> {
         requires { holds_at lease.old.place self.old ≡ true }
         ensures value { result ≡ confirmed_of (slot_at lease.old.place self.new.slots) }
         ensures raised { self.new ≡ raised lease.old.place position self.old }
-        ensures named { (name : List ℕ) → place_of name self.old ≡ Some lease.old.place → self.new ≡ raised_for name position self.old }
+        ensures named { (name : List ℕ) → place_of name self.old ≡ Some lease.old.place →
+            self.new ≡ raised_for name position self.old }
         ensures lease { lease.new ≡ lease.old }
     {
         let confirmed = self.table.confirm(&mut self.seat, lease, position);
@@ -134,7 +139,8 @@ impl<L: SlotName> NamedSlots<L> {
     pub fn release(&mut self, lease: Lease<L>)
         requires { holds_at lease.place self.old ≡ true }
         ensures released { self.new ≡ released lease.place self.old }
-        ensures named { (name : List ℕ) → place_of name self.old ≡ Some lease.place → self.new ≡ released_for name self.old }
+        ensures named { (name : List ℕ) → place_of name self.old ≡ Some lease.place →
+            self.new ≡ released_for name self.old }
     {
         self.table.release(&mut self.seat, lease);
     }

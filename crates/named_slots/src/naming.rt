@@ -20,7 +20,10 @@ pub(crate) fn name_place(
     confirmed: u64,
 ) -> Result<(), SlotFault>
     requires { place_of directory.old name.now ≡ None }
-    ensures ok { OnOk result (slots.new.items ≡ slots.old.items ++ record { name = name.now; place = place; confirmed = confirmed } ∷ []) }
+    ensures ok { OnOk result
+        (slots.new.items
+        ≡ slots.old.items ++ record { name = name.now; place = place; confirmed = confirmed }
+        ∷ []) }
     ensures named { OnOk result (ChangesOnly directory.old directory.new name.now (Some place)) }
     ensures err { OnErr result (slots.new.items ≡ slots.old.items) }
     ensures unnamed { OnErr result (AreSame directory.old directory.new) }

@@ -46,10 +46,12 @@ pub fn take<L: SlotName>(
 ) -> Result<u64, SlotFault>
     requires { is_missing (slot_named word.now) slots.old ≡ false }
     ensures ok { OnOk result (slots.new ≡ taken (slot_named word.now) slots.old) }
-    ensures from { IfOk result (λ start. start ≡ start_from (slot_named word.now) position slots.old) }
+    ensures from { IfOk result
+        (λ start. start ≡ start_from (slot_named word.now) position slots.old) }
     ensures free { OnOk result (is_held (slot_named word.now) slots.old ≡ false) }
     ensures err { OnErr result (slots.new ≡ slots.old) }
-    ensures held { IfErr result (λ fault. (fault ≡ InUse) × (is_held (slot_named word.now) slots.old ≡ true)) }
+    ensures held { IfErr result
+        (λ fault. (fault ≡ InUse) × (is_held (slot_named word.now) slots.old ≡ true)) }
 {
     if word.as_str() == NO_SLOT {
         return Ok(position);

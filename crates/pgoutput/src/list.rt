@@ -58,7 +58,8 @@ pub(crate) trait PutItem {
 pub(crate) fn put_items<T: PutItem>(out: &mut BytesMut, items: &[T]) -> Result<(), AllocError>
     requires count { length items.now < 2 ^ 15 }
     requires each { AllByRecursion T.is_short items.now }
-    ensures { Puts result out.old.items out.new.items (int16 (length items.now) ++ flat_map T.spelled items.now) }
+    ensures { Puts result out.old.items out.new.items
+        (int16 (length items.now) ++ flat_map T.spelled items.now) }
 {
     put_int16(out, items.len() as u16)?;
     put_each(out, items)

@@ -48,17 +48,20 @@ pub fn read_logical(alloc: Global, bytes: &[u8]) -> Result<Logical, OutFault>
     // A fault stands in the bytes.
     ensures fault { IfErr result (λ e. Stands e bytes.now) }
     // And where a fault stands it is answered, unless memory runs out before it.
-    ensures refused { (e : OutFault) → e ≢ OutFault.Memory → Stands e bytes.now → (result ≡ Err e) ⊎ (result ≡ Err OutFault.Memory) }
+    ensures refused { (e : OutFault) → e ≢ OutFault.Memory → Stands e bytes.now →
+        (result ≡ Err e) ⊎ (result ≡ Err OutFault.Memory) }
     // A proper beginning of a message is O1, so every other fault stands where no bytes behind it make a message.
-    ensures cut { (text more : List ℕ) (m : Logical) → SpellsLogical text m → text ≡ bytes.now ++ more → more ≢ []
-        → (result ≡ Err OutFault.Short) ⊎ (result ≡ Err OutFault.Memory) }
+    ensures cut { (text more : List ℕ) (m : Logical) → SpellsLogical text m →
+        text ≡ bytes.now ++ more → more ≢ [] →
+        (result ≡ Err OutFault.Short) ⊎ (result ≡ Err OutFault.Memory) }
     // Behind whole fields of a message its next one isn't there whole, or another letter, flag, count or length stands there, or a
     // text that isn't UTF-8.
     ensures short { result ≡ Err OutFault.Short → StopsIn OutFault.Short bytes.now }
     ensures bad { result ≡ Err OutFault.BadMark → StopsIn OutFault.BadMark bytes.now }
     ensures text { result ≡ Err OutFault.BadText → StopsIn OutFault.BadText bytes.now }
     // And where that is so it is answered, unless memory runs out before it.
-    ensures stopped { (e : OutFault) → StopsIn e bytes.now → (result ≡ Err e) ⊎ (result ≡ Err OutFault.Memory) }
+    ensures stopped { (e : OutFault) → StopsIn e bytes.now →
+        (result ≡ Err e) ⊎ (result ≡ Err OutFault.Memory) }
     // Which fault it is, in the order in which the fields are judged.
     ensures exact { Answers result (whole_of bytes.now) }
 {
@@ -159,7 +162,8 @@ fn kind_of(message: &Logical) -> u8
 /// The law of the spellings: of two messages whose spellings begin the same bytes, one is the other. So a message has one
 /// spelling, no text spells two messages, and no spelling is a proper beginning of another.
 pub fn no_message_has_two_spellings()
-    ensures { (m n : Logical) (x y : List ℕ) → FitsLogical m → FitsLogical n → spell_logical m ++ x ≡ spell_logical n ++ y → (m ≡ n) × (x ≡ y) }
+    ensures { (m n : Logical) (x y : List ℕ) → FitsLogical m → FitsLogical n →
+        spell_logical m ++ x ≡ spell_logical n ++ y → (m ≡ n) × (x ≡ y) }
 {}
 
 /// The law of the layouts, by which O1, O3 and O4 are told: the fields of a message, one behind the other, are its spelling.
@@ -169,5 +173,6 @@ pub fn a_message_is_its_fields()
 
 /// The law of what is at fault: where O3 or O4 stands, no message begins with the bytes, whatever follows them.
 pub fn no_message_goes_on()
-    ensures { (bytes more : List ℕ) (e : OutFault) (m : Logical) → e ≢ OutFault.Short → StopsIn e bytes → FitsLogical m → spell_logical m ≡ bytes ++ more → ⊥ }
+    ensures { (bytes more : List ℕ) (e : OutFault) (m : Logical) → e ≢ OutFault.Short →
+        StopsIn e bytes → FitsLogical m → spell_logical m ≡ bytes ++ more → ⊥ }
 {}

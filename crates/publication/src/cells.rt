@@ -56,7 +56,8 @@ pub(crate) fn tuple_behind(
     new: &[Value],
 ) -> Result<Items<Cell>, AllocError>
     requires { length old.now ≡ length new.now }
-    ensures { IfOk result (λ cells. cells ≡ tuple_behind (chosen listed.now old.now) (chosen listed.now new.now)) }
+    ensures { IfOk result
+        (λ cells. cells ≡ tuple_behind (chosen listed.now old.now) (chosen listed.now new.now)) }
 {
     let mut cells = Vec::with_capacity(alloc, new.len())?;
     for (i, before) in old.iter().enumerate() {
@@ -95,7 +96,10 @@ pub(crate) fn old_of(
     old: &Row,
 ) -> Result<Option<OldTuple>, AllocError>
     requires { length table.now.columns ≡ length old.now }
-    ensures { IfOk result (λ o. o ≡ old_by table.now.identity (narrowed listed.now table.now) (chosen listed.now old.now)) }
+    ensures { IfOk result
+        (λ o. o
+        ≡ old_by table.now.identity (narrowed listed.now table.now)
+        (chosen listed.now old.now)) }
 {
     Ok(match table.identity {
         Identity::Default => {
@@ -116,7 +120,10 @@ pub(crate) fn replaced_of(
     new: &Row,
 ) -> Result<Option<OldTuple>, AllocError>
     requires { length table.now.columns ≡ length old.now }
-    ensures { IfOk result (λ o. o ≡ replaced_by table.now.identity (narrowed listed.now table.now) (chosen listed.now old.now) (chosen listed.now new.now)) }
+    ensures { IfOk result
+        (λ o. o
+        ≡ replaced_by table.now.identity (narrowed listed.now table.now)
+        (chosen listed.now old.now) (chosen listed.now new.now)) }
 {
     let columns = table.columns.as_slice();
     if table.identity == Identity::Default
@@ -129,14 +136,18 @@ pub(crate) fn replaced_of(
 
 /// Whether a listed column of the primary key has one value in the one row and another one in the other.
 fn changes_key(columns: &[Column], listed: &[bool], old: &[Value], new: &[Value]) -> bool
-    ensures { result ≡ changes_key (chosen listed.now columns.now) (chosen listed.now old.now) (chosen listed.now new.now) }
+    ensures { result
+        ≡ changes_key (chosen listed.now columns.now) (chosen listed.now old.now)
+        (chosen listed.now new.now) }
 {
     has_other_key(columns, listed, old, new)
 }
 
 /// The same, asked of the columns side by side.
 fn has_other_key(columns: &[Column], listed: &[bool], old: &[Value], new: &[Value]) -> bool
-    ensures { result ≡ list_any (λ p. p.0 && (p.1.0.is_key && not (same_value p.1.1.0 p.1.1.1))) (zip listed.now (zip columns.now (zip old.now new.now))) }
+    ensures { result
+        ≡ list_any (λ p. p.0 && (p.1.0.is_key && not (same_value p.1.1.0 p.1.1.1)))
+        (zip listed.now (zip columns.now (zip old.now new.now))) }
 {
     let mut cells = listed.iter().zip(columns.iter().zip(old.iter().zip(new)));
     cells.any(|(listed, (column, (old, new)))| *listed
@@ -164,7 +175,9 @@ fn key_tuple_of(
     row: &[Value],
 ) -> Result<Items<Cell>, AllocError>
     requires { length columns.now ≡ length row.now }
-    ensures { IfOk result (λ cells. cells ≡ key_tuple_of (chosen listed.now columns.now) (chosen listed.now row.now)) }
+    ensures { IfOk result
+        (λ cells. cells
+        ≡ key_tuple_of (chosen listed.now columns.now) (chosen listed.now row.now)) }
 {
     let mut cells = Vec::with_capacity(alloc, columns.len())?;
     for (i, column) in columns.iter().enumerate() {

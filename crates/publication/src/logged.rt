@@ -26,8 +26,10 @@ impl Selection {
     /// answers how long it is. None where no messages were asked for, and where the bytes are no body of a message. It takes no memory.
     pub fn put_note(&self, position: u64, body: &[u8], out: &mut [u8]) -> Option<usize>
         requires { MAX_MESSAGE_LENGTH ≤ length out.old }
-        ensures message { (c : Changed) → SpellsBody body.now c → IsPut result out.new (note_message self.now position c) }
-        ensures fits { (c : Changed) (m : Meant) → SpellsBody body.now c → note_message self.now position c ≡ Some m → IsNoteAt position m }
+        ensures message { (c : Changed) → SpellsBody body.now c →
+            IsPut result out.new (note_message self.now position c) }
+        ensures fits { (c : Changed) (m : Meant) → SpellsBody body.now c →
+            note_message self.now position c ≡ Some m → IsNoteAt position m }
         ensures short { IfSome result (λ n. n ≤ MAX_MESSAGE_LENGTH) }
         ensures same { length out.new ≡ length out.old }
     {
@@ -43,7 +45,8 @@ impl Selection {
         out: &mut [u8],
     ) -> Option<usize>
         requires { HasRoom out.old }
-        ensures told { (c : Changed) → change_tagged tag fields.now ≡ Ok (c, []) → IsWritten result out.old out.new (note_message self.now position c) }
+        ensures told { (c : Changed) → change_tagged tag fields.now ≡ Ok (c, []) →
+            IsWritten result out.old out.new (note_message self.now position c) }
         ensures short { IfSome result (λ n. n ≤ MAX_MESSAGE_LENGTH) }
         ensures same { length out.new ≡ length out.old }
     {
@@ -62,7 +65,8 @@ impl Selection {
         out: &mut [u8],
     ) -> Option<usize>
         requires { HasRoom out.old }
-        ensures told { (m : Held) → message_at fields.now ≡ Ok (m, []) → IsWritten result out.old out.new (logged is_transactional self.now position m) }
+        ensures told { (m : Held) → message_at fields.now ≡ Ok (m, []) →
+            IsWritten result out.old out.new (logged is_transactional self.now position m) }
         ensures found { IfSome result (λ _. IsReadWhole (message_at fields.now)) }
         ensures short { IfSome result (λ n. n ≤ MAX_MESSAGE_LENGTH) }
         ensures same { length out.new ≡ length out.old }
@@ -117,8 +121,10 @@ fn put_message(
     position: u64,
     message: MessageRef<'_>,
 ) -> usize
-    requires { FitsRoom 0 out.old (spell_logical (told_of is_transactional position (message_of message))) }
-    ensures { Writes 0 result out.old out.new (spell_logical (told_of is_transactional position (message_of message.entry))) }
+    requires { FitsRoom 0 out.old
+        (spell_logical (told_of is_transactional position (message_of message))) }
+    ensures { Writes 0 result out.old out.new
+        (spell_logical (told_of is_transactional position (message_of message.entry))) }
 {
     let kind = put_byte(out, 0, MESSAGE);
     let flags = put_byte(out, kind, flags_of(is_transactional));

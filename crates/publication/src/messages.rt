@@ -16,7 +16,8 @@ pub(crate) fn insertion(
     listed: &[bool],
     row: &Row,
 ) -> Result<Logical, AllocError>
-    ensures { IfOk result (λ m. m ≡ insert_message (chosen listed.now row.now) (narrowed listed.now table.now)) }
+    ensures { IfOk result
+        (λ m. m ≡ insert_message (chosen listed.now row.now) (narrowed listed.now table.now)) }
 {
     Ok(Logical::Insert(Insert {
         oid: table.oid,
@@ -36,7 +37,10 @@ pub(crate) fn update(
 ) -> Result<Option<Logical>, AllocError>
     requires columns { length table.now.columns ≡ length old.now }
     requires rows { length old.now ≡ length new.now }
-    ensures { IfOk result (λ o. o ≡ updated old_passes new_passes (Some (narrowed listed.now table.now)) (chosen listed.now old.now) (chosen listed.now new.now)) }
+    ensures { IfOk result
+        (λ o. o
+        ≡ updated old_passes new_passes (Some (narrowed listed.now table.now))
+        (chosen listed.now old.now) (chosen listed.now new.now)) }
 {
     match (old_passes, new_passes) {
         (true, true) => Ok(Some(replacement(alloc, table, listed, old, new)?)),
@@ -55,7 +59,10 @@ fn replacement(
 ) -> Result<Logical, AllocError>
     requires columns { length table.now.columns ≡ length old.now }
     requires rows { length old.now ≡ length new.now }
-    ensures { IfOk result (λ m. m ≡ update_message (chosen listed.now old.now) (chosen listed.now new.now) (narrowed listed.now table.now)) }
+    ensures { IfOk result
+        (λ m. m
+        ≡ update_message (chosen listed.now old.now) (chosen listed.now new.now)
+        (narrowed listed.now table.now)) }
 {
     Ok(Logical::Update(Update {
         oid: table.oid,
@@ -72,7 +79,8 @@ pub(crate) fn deletion(
     old: &Row,
 ) -> Result<Option<Logical>, AllocError>
     requires { length table.now.columns ≡ length old.now }
-    ensures { IfOk result (λ o. o ≡ delete_message (chosen listed.now old.now) (narrowed listed.now table.now)) }
+    ensures { IfOk result
+        (λ o. o ≡ delete_message (chosen listed.now old.now) (narrowed listed.now table.now)) }
 {
     let Some(old) = old_of(alloc, table, listed, old)? else {
         return Ok(None);

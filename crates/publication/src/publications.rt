@@ -71,7 +71,9 @@ impl Publications {
         catalog: &Catalog,
         publications: Items<Publication>,
     ) -> Result<Self, AllocError>
-        ensures { IfOk result (λ p. p ≡ record { tables = catalog.now; publications = publications; messages = false }) }
+        ensures { IfOk result
+            (λ p. p
+            ≡ record { tables = catalog.now; publications = publications; messages = false }) }
     {
         Ok(Publications {
             alloc,
@@ -87,8 +89,12 @@ impl Publications {
         ensures known { IfOk result (λ s. is_unknown self.now names.now ≡ false) }
         ensures agree { IfOk result (λ s. conflicts s.publications ≡ false) }
         ensures unknown { result ≡ Err PubFault.Unknown → is_unknown self.now names.now ≡ true }
-        ensures conflict { result ≡ Err PubFault.ListConflict → (is_unknown self.now names.now ≡ false) × (conflicts (selected self.now names.now).publications ≡ true) }
-        ensures memory { result ≡ Err PubFault.Memory → (is_unknown self.now names.now ≡ false) × (conflicts (selected self.now names.now).publications ≡ false) }
+        ensures conflict { result ≡ Err PubFault.ListConflict →
+            (is_unknown self.now names.now ≡ false)
+            × (conflicts (selected self.now names.now).publications ≡ true) }
+        ensures memory { result ≡ Err PubFault.Memory →
+            (is_unknown self.now names.now ≡ false)
+            × (conflicts (selected self.now names.now).publications ≡ false) }
         ensures only { IfErr result IsOfSelect }
     {
         self.judge(names)?;

@@ -23,9 +23,13 @@ pub(crate) fn put_insertion(
     listed: &[bool],
     row: &RowRef<'_>,
 ) -> usize
-    requires room { FitsRoom 0 out.old (spell_logical (insert_message (chosen listed.now row.now) (narrowed listed.now table.now))) }
+    requires room { FitsRoom 0 out.old
+        (spell_logical
+        (insert_message (chosen listed.now row.now) (narrowed listed.now table.now))) }
     requires few { length row.now < 2 ^ 15 }
-    ensures { Writes 0 result out.old out.new (spell_logical (insert_message (chosen listed.now row.now) (narrowed listed.now table.now))) }
+    ensures { Writes 0 result out.old out.new
+        (spell_logical
+        (insert_message (chosen listed.now row.now) (narrowed listed.now table.now))) }
 {
     let kind = put_byte(out, 0, INSERT);
     let oid = put_int32(out, kind, table.oid);
@@ -43,11 +47,17 @@ pub(crate) fn put_update(
     old: &RowRef<'_>,
     new: &RowRef<'_>,
 ) -> Option<usize>
-    requires room { (m : Logical) → updated old_passes new_passes (Some (narrowed listed.now table.now)) (chosen listed.now old.now) (chosen listed.now new.now) ≡ Some m → FitsRoom 0 out.old (spell_logical m) }
+    requires room { (m : Logical) →
+        updated old_passes new_passes (Some (narrowed listed.now table.now))
+        (chosen listed.now old.now) (chosen listed.now new.now)
+        ≡ Some m →
+        FitsRoom 0 out.old (spell_logical m) }
     requires columns { length table.now.columns ≡ length old.now }
     requires rows { length old.now ≡ length new.now }
     requires few { length old.now < 2 ^ 15 }
-    ensures { IsWritten result out.old out.new (updated old_passes new_passes (Some (narrowed listed.now table.now)) (chosen listed.now old.now) (chosen listed.now new.now)) }
+    ensures { IsWritten result out.old out.new
+        (updated old_passes new_passes (Some (narrowed listed.now table.now))
+        (chosen listed.now old.now) (chosen listed.now new.now)) }
 {
     match (old_passes, new_passes) {
         (true, true) => Some(put_replacement(out, table, listed, old, new)),
@@ -64,11 +74,17 @@ fn put_replacement(
     old: &RowRef<'_>,
     new: &RowRef<'_>,
 ) -> usize
-    requires room { FitsRoom 0 out.old (spell_logical (update_message (chosen listed.now old.now) (chosen listed.now new.now) (narrowed listed.now table.now))) }
+    requires room { FitsRoom 0 out.old
+        (spell_logical
+        (update_message (chosen listed.now old.now) (chosen listed.now new.now)
+        (narrowed listed.now table.now))) }
     requires columns { length table.now.columns ≡ length old.now }
     requires rows { length old.now ≡ length new.now }
     requires few { length old.now < 2 ^ 15 }
-    ensures { Writes 0 result out.old out.new (spell_logical (update_message (chosen listed.now old.now) (chosen listed.now new.now) (narrowed listed.now table.now))) }
+    ensures { Writes 0 result out.old out.new
+        (spell_logical
+        (update_message (chosen listed.now old.now) (chosen listed.now new.now)
+        (narrowed listed.now table.now))) }
 {
     let kind = put_byte(out, 0, UPDATE);
     let oid = put_int32(out, kind, table.oid);
@@ -86,11 +102,17 @@ fn put_replaced(
     old: &RowRef<'_>,
     new: &RowRef<'_>,
 ) -> usize
-    requires room { FitsRoom at out.old (old_if_any (replaced_by table.now.identity (narrowed listed.now table.now) (chosen listed.now old.now) (chosen listed.now new.now))) }
+    requires room { FitsRoom at out.old
+        (old_if_any
+        (replaced_by table.now.identity (narrowed listed.now table.now)
+        (chosen listed.now old.now) (chosen listed.now new.now))) }
     requires columns { length table.now.columns ≡ length old.now }
     requires rows { length old.now ≡ length new.now }
     requires few { length old.now < 2 ^ 15 }
-    ensures { Writes at result out.old out.new (old_if_any (replaced_by table.now.identity (narrowed listed.now table.now) (chosen listed.now old.now) (chosen listed.now new.now))) }
+    ensures { Writes at result out.old out.new
+        (old_if_any
+        (replaced_by table.now.identity (narrowed listed.now table.now)
+        (chosen listed.now old.now) (chosen listed.now new.now))) }
 {
     let columns = table.columns.as_slice();
     match table.identity {
@@ -116,10 +138,13 @@ pub(crate) fn put_deletion(
     listed: &[bool],
     old: &RowRef<'_>,
 ) -> Option<usize>
-    requires room { (m : Logical) → delete_message (chosen listed.now old.now) (narrowed listed.now table.now) ≡ Some m → FitsRoom 0 out.old (spell_logical m) }
+    requires room { (m : Logical) →
+        delete_message (chosen listed.now old.now) (narrowed listed.now table.now) ≡ Some m →
+        FitsRoom 0 out.old (spell_logical m) }
     requires columns { length table.now.columns ≡ length old.now }
     requires few { length old.now < 2 ^ 15 }
-    ensures { IsWritten result out.old out.new (delete_message (chosen listed.now old.now) (narrowed listed.now table.now)) }
+    ensures { IsWritten result out.old out.new
+        (delete_message (chosen listed.now old.now) (narrowed listed.now table.now)) }
 {
     match table.identity {
         Identity::Default => {

@@ -24,8 +24,10 @@ impl Selection {
     /// have. It takes no memory.
     pub fn put(&self, position: u64, body: &[u8], out: &mut [u8]) -> Option<usize>
         requires { MAX_MESSAGE_LENGTH ≤ length out.old }
-        ensures message { (c : Changed) → SpellsBody body.now c → IsPut result out.new (change_message self.now position c) }
-        ensures fits { (c : Changed) (m : Logical) → SpellsBody body.now c → change_message self.now position c ≡ Some m → MessageFits self.now m }
+        ensures message { (c : Changed) → SpellsBody body.now c →
+            IsPut result out.new (change_message self.now position c) }
+        ensures fits { (c : Changed) (m : Logical) → SpellsBody body.now c →
+            change_message self.now position c ≡ Some m → MessageFits self.now m }
         ensures found { IfSome result (λ _. (c : Changed) × SpellsBody body.now c) }
         ensures same { length out.new ≡ length out.old }
     {
@@ -37,7 +39,8 @@ impl Selection {
 
     fn put_tagged(&self, position: u64, tag: u8, fields: &[u8], out: &mut [u8]) -> Option<usize>
         requires { HasRoom out.old }
-        ensures told { (c : Changed) → change_tagged tag fields.now ≡ Ok (c, []) → IsWritten result out.old out.new (change_message self.now position c) }
+        ensures told { (c : Changed) → change_tagged tag fields.now ≡ Ok (c, []) →
+            IsWritten result out.old out.new (change_message self.now position c) }
         ensures found { IfSome result (λ _. IsReadWhole (change_tagged tag fields.now)) }
         ensures same { length out.new ≡ length out.old }
     {
@@ -54,7 +57,8 @@ impl Selection {
     /// The message of an insert, of which these are the OID and the row.
     pub(crate) fn put_inserted(&self, fields: &[u8], out: &mut [u8]) -> Option<usize>
         requires { HasRoom out.old }
-        ensures told { (m : ℕ × List Datum) → insert_at fields.now ≡ Ok (m, []) → IsWritten result out.old out.new (message self.now (Changed.Insert m.0 m.1)) }
+        ensures told { (m : ℕ × List Datum) → insert_at fields.now ≡ Ok (m, []) →
+            IsWritten result out.old out.new (message self.now (Changed.Insert m.0 m.1)) }
         ensures found { IfSome result (λ _. IsReadWhole (insert_at fields.now)) }
         ensures same { length out.new ≡ length out.old }
     {
@@ -68,7 +72,8 @@ impl Selection {
     fn put_insert(&self, oid: u32, row: &RowRef<'_>, out: &mut [u8]) -> Option<usize>
         requires room { HasRoom out.old }
         requires short { IsShortRow row.now }
-        ensures told { IsWritten result out.old out.new (message self.now (Changed.Insert oid row.now)) }
+        ensures told { IsWritten result out.old out.new
+            (message self.now (Changed.Insert oid row.now)) }
         ensures same { length out.new ≡ length out.old }
     {
         let table = self.table(oid)?;
@@ -81,7 +86,8 @@ impl Selection {
     /// The message of an update, of which these are the OID, the old row and the new one.
     pub(crate) fn put_updated(&self, fields: &[u8], out: &mut [u8]) -> Option<usize>
         requires { HasRoom out.old }
-        ensures told { (m : (ℕ × List Datum) × List Datum) → update_at fields.now ≡ Ok (m, []) → IsWritten result out.old out.new (message self.now (Changed.Update m.0.0 m.0.1 m.1)) }
+        ensures told { (m : (ℕ × List Datum) × List Datum) → update_at fields.now ≡ Ok (m, []) →
+            IsWritten result out.old out.new (message self.now (Changed.Update m.0.0 m.0.1 m.1)) }
         ensures found { IfSome result (λ _. IsReadWhole (update_at fields.now)) }
         ensures same { length out.new ≡ length out.old }
     {
@@ -102,7 +108,8 @@ impl Selection {
         requires room { HasRoom out.old }
         requires old { IsShortRow old.now }
         requires new { IsShortRow new.now }
-        ensures told { IsWritten result out.old out.new (message self.now (Changed.Update oid old.now new.now)) }
+        ensures told { IsWritten result out.old out.new
+            (message self.now (Changed.Update oid old.now new.now)) }
         ensures same { length out.new ≡ length out.old }
     {
         let table = self.table(oid)?;
@@ -118,7 +125,8 @@ impl Selection {
     /// The message of a delete, of which these are the OID and the old row.
     pub(crate) fn put_deleted(&self, fields: &[u8], out: &mut [u8]) -> Option<usize>
         requires { HasRoom out.old }
-        ensures told { (m : ℕ × List Datum) → insert_at fields.now ≡ Ok (m, []) → IsWritten result out.old out.new (message self.now (Changed.Delete m.0 m.1)) }
+        ensures told { (m : ℕ × List Datum) → insert_at fields.now ≡ Ok (m, []) →
+            IsWritten result out.old out.new (message self.now (Changed.Delete m.0 m.1)) }
         ensures found { IfSome result (λ _. IsReadWhole (insert_at fields.now)) }
         ensures same { length out.new ≡ length out.old }
     {
@@ -131,7 +139,8 @@ impl Selection {
     fn put_delete(&self, oid: u32, old: &RowRef<'_>, out: &mut [u8]) -> Option<usize>
         requires room { HasRoom out.old }
         requires short { IsShortRow old.now }
-        ensures told { IsWritten result out.old out.new (message self.now (Changed.Delete oid old.now)) }
+        ensures told { IsWritten result out.old out.new
+            (message self.now (Changed.Delete oid old.now)) }
         ensures same { length out.new ≡ length out.old }
     {
         let table = self.table(oid)?;

@@ -46,7 +46,8 @@ fn columns(
     listed: &[bool],
     columns: &[tables::Column],
 ) -> Result<Items<Column>, AllocError>
-    ensures { IfOk result (λ cs. cs ≡ map (relation_column identity) (chosen listed.now columns.now)) }
+    ensures { IfOk result
+        (λ cs. cs ≡ map (relation_column identity) (chosen listed.now columns.now)) }
 {
     let mut told = Vec::with_capacity(alloc, columns.len())?;
     for (i, column) in columns.iter().enumerate() {

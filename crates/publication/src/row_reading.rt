@@ -14,7 +14,8 @@ use tables::RowRef;
 pub(crate) fn one_row<'a>(fields: &'a [u8], row: &mut RowRef<'a>) -> Option<u32>
     ensures found { IfSome result (λ oid. insert_at fields.now ≡ Ok ((oid, row.new), [])) }
     ensures short { OnSome result (IsShortRow row.new) }
-    ensures none { IfNone result ((m : ℕ × List Datum) → insert_at fields.now ≡ Ok (m, []) → IsLarge m.1) }
+    ensures none { IfNone result
+        ((m : ℕ × List Datum) → insert_at fields.now ≡ Ok (m, []) → IsLarge m.1) }
 {
     let (oid, rest) = oid_and_row(fields, row)?;
     if !rest.is_empty() {
@@ -30,9 +31,12 @@ pub(crate) fn two_rows<'a>(
     old: &mut RowRef<'a>,
     new: &mut RowRef<'a>,
 ) -> Option<u32>
-    ensures found { IfSome result (λ oid. update_at fields.now ≡ Ok (((oid, old.new), new.new), [])) }
+    ensures found { IfSome result
+        (λ oid. update_at fields.now ≡ Ok (((oid, old.new), new.new), [])) }
     ensures short { OnSome result (IsShortRow old.new × IsShortRow new.new) }
-    ensures none { IfNone result ((m : (ℕ × List Datum) × List Datum) → update_at fields.now ≡ Ok (m, []) → IsLarge m.0.1 ⊎ IsLarge m.1) }
+    ensures none { IfNone result
+        ((m : (ℕ × List Datum) × List Datum) → update_at fields.now ≡ Ok (m, []) →
+        IsLarge m.0.1 ⊎ IsLarge m.1) }
 {
     let (oid, behind) = oid_and_row(fields, old)?;
     let rest = new.read(behind)?;
@@ -45,9 +49,11 @@ pub(crate) fn two_rows<'a>(
 /// The OID and the row at the front, and what stands behind them.
 #[tactic(auto, unfolding(tables::specs::Reading::insert_at))]
 fn oid_and_row<'a>(fields: &'a [u8], row: &mut RowRef<'a>) -> Option<(u32, &'a [u8])>
-    ensures found { IfSome result (λ read. insert_at fields.now ≡ Ok ((read.0, row.new), read.1.now)) }
+    ensures found { IfSome result
+        (λ read. insert_at fields.now ≡ Ok ((read.0, row.new), read.1.now)) }
     ensures short { OnSome result (IsShortRow row.new) }
-    ensures none { IfNone result ((m : ℕ × List Datum) (rest : List ℕ) → insert_at fields.now ≡ Ok (m, rest) → IsLarge m.1) }
+    ensures none { IfNone result
+        ((m : ℕ × List Datum) (rest : List ℕ) → insert_at fields.now ≡ Ok (m, rest) → IsLarge m.1) }
 {
     let mut cursor = Cursor::new(fields);
     let oid = cursor.u32()?;

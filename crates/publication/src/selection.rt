@@ -80,7 +80,8 @@ impl Selection {
     ) -> Result<Self, AllocError>
         requires fit { AllByRecursion FitsTable tables }
         requires each_once { repeats (oids_of tables) ≡ false }
-        ensures { IfOk result (λ s. s ≡ record { tables = tables; publications = publications; messages = false }) }
+        ensures { IfOk result
+            (λ s. s ≡ record { tables = tables; publications = publications; messages = false }) }
     {
         let oids = oids_of(alloc, tables.as_slice(), publications.as_slice())?;
         Ok(Selection {
@@ -123,7 +124,8 @@ impl Selection {
 
     /// The message of a change whose record starts at the position, if it has one.
     pub fn project(&self, position: u64, change: &Change) -> Result<Projected, AllocError>
-        ensures value { IfOk result (λ p. p ≡ projected (change_message self.now position change.now)) }
+        ensures value { IfOk result
+            (λ p. p ≡ projected (change_message self.now position change.now)) }
         ensures fits { IfOk result (FitsProjected self.now) }
     {
         // All tables fit: here the prover learns it.
@@ -162,8 +164,10 @@ impl Selection {
     }
 
     fn updated(&self, oid: u32, old: &Row, new: &Row) -> Result<Option<Logical>, AllocError>
-        ensures value { IfOk result (λ o. o ≡ message self.now (Change.Update oid old.now new.now)) }
-        ensures in_range { IfOk result (λ o. OnSome o (AllByRecursion IsValue old.now × AllByRecursion IsValue new.now)) }
+        ensures value { IfOk result
+            (λ o. o ≡ message self.now (Change.Update oid old.now new.now)) }
+        ensures in_range { IfOk result
+            (λ o. OnSome o (AllByRecursion IsValue old.now × AllByRecursion IsValue new.now)) }
     {
         let Some(table) = self.table(oid) else {
             return Ok(None);
@@ -203,7 +207,8 @@ impl Selection {
 
     /// The tables among these of which truncates are published, in this order.
     fn published_among(&self, oids: &[u32]) -> Result<Items<u32>, AllocError>
-        ensures { IfOk result (λ kept. kept ≡ filter (is_published self.now Operation.Truncate) oids.now) }
+        ensures { IfOk result
+            (λ kept. kept ≡ filter (is_published self.now Operation.Truncate) oids.now) }
     {
         let mut kept = Vec::new(self.alloc);
         for oid in oids {
@@ -216,7 +221,10 @@ impl Selection {
 
     /// The Relation of a table; None for one outside the selection.
     pub fn relation(&self, oid: u32) -> Result<Option<Logical>, AllocError>
-        ensures value { IfOk result (λ o. o ≡ option_map (λ table. logical.Relation (relation_of table)) (selected_table self.now oid)) }
+        ensures value { IfOk result
+            (λ o. o
+            ≡ option_map (λ table. logical.Relation (relation_of table))
+            (selected_table self.now oid)) }
         ensures fits { IfOk result (λ o. IfSome o (λ m. FitsLogical m × IsShortMessage m)) }
     {
         let Some(table) = self.table(oid) else {
@@ -289,7 +297,14 @@ fn oids_of(
     tables: &[Table],
     publications: &[Publication],
 ) -> Result<Items<u32>, AllocError>
-    ensures { IfOk result (λ oids. oids ≡ selected_oids (record { tables = tables.now; publications = publications.now; messages = false })) }
+    ensures { IfOk result
+        (λ oids. oids
+        ≡ selected_oids
+        (record {
+          tables = tables.now;
+          publications = publications.now;
+          messages = false;
+        })) }
 {
     let mut oids = Vec::new(alloc);
     for table in tables {

@@ -22,7 +22,8 @@ impl Selection {
     /// The message of a truncate, of which these are the count and the OIDs.
     pub(crate) fn put_truncated(&self, fields: &[u8], out: &mut [u8]) -> Option<usize>
         requires { HasRoom out.old }
-        ensures told { (oids : List ℕ) → oids_at fields.now ≡ Ok (oids, []) → IsWritten result out.old out.new (message self.now (Changed.Truncate oids)) }
+        ensures told { (oids : List ℕ) → oids_at fields.now ≡ Ok (oids, []) →
+            IsWritten result out.old out.new (message self.now (Changed.Truncate oids)) }
         ensures found { IfSome result (λ _. IsReadWhole (oids_at fields.now)) }
         ensures same { length out.new ≡ length out.old }
     {
@@ -33,7 +34,8 @@ impl Selection {
 
     fn put_emptied(&self, oids: &[u32], out: &mut [u8]) -> Option<usize>
         requires { HasRoom out.old }
-        ensures told { IsWritten result out.old out.new (message self.now (Changed.Truncate oids.now)) }
+        ensures told { IsWritten result out.old out.new
+            (message self.now (Changed.Truncate oids.now)) }
         ensures same { length out.new ≡ length out.old }
     {
         if !may_be_emptied(self.tables.as_slice(), oids) {
@@ -50,7 +52,8 @@ impl Selection {
     /// The tables among these of which truncates are published, in this order, into the front of the room, and how many they are.
     fn keep_published(&self, oids: &[u32], kept: &mut [u32]) -> usize
         requires { length oids.now ≤ length kept.old }
-        ensures value { take result kept.new ≡ filter (is_published self.now Operation.Truncate) oids.now }
+        ensures value { take result kept.new
+            ≡ filter (is_published self.now Operation.Truncate) oids.now }
         ensures within { result ≤ length oids.now }
         ensures same { length kept.new ≡ length kept.old }
     {
@@ -67,8 +70,20 @@ impl Selection {
 
 /// The Truncate of these tables.
 fn put_truncation(out: &mut [u8], oids: &[u32]) -> usize
-    requires { FitsRoom 0 out.old (spell_logical (logical.Truncate (record { options = record { cascade = false; restart_identity = false }; oids = oids.now }))) }
-    ensures { Writes 0 result out.old out.new (spell_logical (logical.Truncate (record { options = record { cascade = false; restart_identity = false }; oids = oids.now }))) }
+    requires { FitsRoom 0 out.old
+        (spell_logical
+        (logical.Truncate
+        (record {
+          options = record { cascade = false; restart_identity = false };
+          oids = oids.now;
+        }))) }
+    ensures { Writes 0 result out.old out.new
+        (spell_logical
+        (logical.Truncate
+        (record {
+          options = record { cascade = false; restart_identity = false };
+          oids = oids.now;
+        }))) }
 {
     let kind = put_byte(out, 0, TRUNCATE);
     let counted = put_int32(out, kind, oids.len() as u32);

@@ -39,10 +39,12 @@ pub(crate) fn put_tuple_behind(
     old: &RowRef<'_>,
     new: &RowRef<'_>,
 ) -> usize
-    requires room { FitsRoom at out.old (tuple (tuple_behind (chosen listed.now old.now) (chosen listed.now new.now))) }
+    requires room { FitsRoom at out.old
+        (tuple (tuple_behind (chosen listed.now old.now) (chosen listed.now new.now))) }
     requires few { length old.now < 2 ^ 15 }
     requires same { length old.now ≡ length new.now }
-    ensures { Writes at result out.old out.new (tuple (tuple_behind (chosen listed.now old.now) (chosen listed.now new.now))) }
+    ensures { Writes at result out.old out.new
+        (tuple (tuple_behind (chosen listed.now old.now) (chosen listed.now new.now))) }
 {
     let mut end = put_int16(out, at, count_listed(listed, old) as u16);
     for i in 0..old.len() {
@@ -57,7 +59,8 @@ pub(crate) fn put_tuple_behind(
 
 fn put_cell_behind(out: &mut [u8], at: usize, old: ValueRef<'_>, new: ValueRef<'_>) -> usize
     requires { FitsRoom at out.old (cell (cell_behind (value_of old) (value_of new))) }
-    ensures { Writes at result out.old out.new (cell (cell_behind (value_of old.entry) (value_of new.entry))) }
+    ensures { Writes at result out.old out.new
+        (cell (cell_behind (value_of old.entry) (value_of new.entry))) }
 {
     if is_long(new) && is_same(old, new) {
         return put_byte(out, at, UNCHANGED);
@@ -73,10 +76,12 @@ pub(crate) fn put_key_tuple(
     listed: &[bool],
     row: &RowRef<'_>,
 ) -> usize
-    requires room { FitsRoom at out.old (tuple (key_tuple_of (chosen listed.now columns.now) (chosen listed.now row.now))) }
+    requires room { FitsRoom at out.old
+        (tuple (key_tuple_of (chosen listed.now columns.now) (chosen listed.now row.now))) }
     requires few { length columns.now < 2 ^ 15 }
     requires same { length columns.now ≡ length row.now }
-    ensures { Writes at result out.old out.new (tuple (key_tuple_of (chosen listed.now columns.now) (chosen listed.now row.now))) }
+    ensures { Writes at result out.old out.new
+        (tuple (key_tuple_of (chosen listed.now columns.now) (chosen listed.now row.now))) }
 {
     let mut end = put_int16(out, at, count_listed(listed, row) as u16);
     for i in 0..columns.len() {
@@ -91,8 +96,10 @@ pub(crate) fn put_key_tuple(
 
 /// The cell of a column of the key, null for another column.
 fn put_key_cell(out: &mut [u8], at: usize, column: &Column, value: ValueRef<'_>) -> usize
-    requires { FitsRoom at out.old (cell (if column.now.is_key then cell_of (value_of value) else cells.Null)) }
-    ensures { Writes at result out.old out.new (cell (if column.now.is_key then cell_of (value_of value.entry) else cells.Null)) }
+    requires { FitsRoom at out.old
+        (cell (if column.now.is_key then cell_of (value_of value) else cells.Null)) }
+    ensures { Writes at result out.old out.new
+        (cell (if column.now.is_key then cell_of (value_of value.entry) else cells.Null)) }
 {
     if !column.is_key {
         return put_byte(out, at, NULL);
@@ -109,7 +116,9 @@ pub(crate) fn changes_key_in(
 ) -> bool
     requires old { length columns.now ≡ length old.now }
     requires new { length old.now ≡ length new.now }
-    ensures { result ≡ changes_key (chosen listed.now columns.now) (chosen listed.now old.now) (chosen listed.now new.now) }
+    ensures { result
+        ≡ changes_key (chosen listed.now columns.now) (chosen listed.now old.now)
+        (chosen listed.now new.now) }
 {
     for i in 0..columns.len() {
         let column = &columns[i];
@@ -124,7 +133,8 @@ pub(crate) fn changes_key_in(
 
 /// Whether the column belongs to the key, and has another value.
 fn is_other_key(column: &Column, old: ValueRef<'_>, new: ValueRef<'_>) -> bool
-    ensures { result ≡ (column.now.is_key && not (same_value (value_of old.entry) (value_of new.entry))) }
+    ensures { result
+        ≡ (column.now.is_key && not (same_value (value_of old.entry) (value_of new.entry))) }
 {
     column.is_key && !is_same(old, new)
 }

@@ -36,7 +36,8 @@ pub fn publications_in(
     document: &Value,
     catalog: &Catalog,
 ) -> Result<Items<Publication>, PubFault>
-    ensures { ReadsPublications (set_over catalog.now result) (publications_in catalog.now (view document.now)) }
+    ensures { ReadsPublications (set_over catalog.now result)
+        (publications_in catalog.now (view document.now)) }
 {
     match publications_of(alloc, catalog, document.get("publication")) {
         Ok(publications) => Ok(publications),
@@ -51,7 +52,8 @@ fn publications_of(
     catalog: &Catalog,
     member: Option<&Value>,
 ) -> Result<Items<Publication>, Unread>
-    ensures { Reads result (publications_of catalog.now (option_map (λ v. view v.now) member.entry)) }
+    ensures { Reads result
+        (publications_of catalog.now (option_map (λ v. view v.now) member.entry)) }
 {
     let Some(value) = member else {
         return Ok(Items::new(Vec::new(alloc)));

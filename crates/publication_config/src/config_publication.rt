@@ -192,7 +192,8 @@ fn schemas_in<'v>(
     tables: &[Table],
     value: &'v Value,
 ) -> Result<Option<Reach<'v>>, AllocError>
-    ensures { IfOk result (λ reach. option_map seen_reach reach ≡ schemas_in tables.now (view value.now)) }
+    ensures { IfOk result
+        (λ reach. option_map seen_reach reach ≡ schemas_in tables.now (view value.now)) }
 {
     match names_in(alloc, value)? {
         Some(names) if are_schemas(tables, names.as_slice()) => Ok(Some(Reach::OfSchemas(names))),
@@ -247,7 +248,8 @@ fn published_behind(
     catalog: &Catalog,
     values: &[Value],
 ) -> Result<Items<PublishedTable>, Unread>
-    ensures { Reads result (published_behind number operations catalog.now [] (items_view values.now)) }
+    ensures { Reads result
+        (published_behind number operations catalog.now [] (items_view values.now)) }
 {
     let mut published = Vec::new(alloc);
     for value in values {
@@ -276,7 +278,8 @@ fn whole_behind(
     tables: &[Table],
     reach: &Reach<'_>,
 ) -> Result<Items<PublishedTable>, Unread>
-    ensures { Reads result (whole_behind number operations [] (filter (has_whole (seen_reach reach.now)) tables.now)) }
+    ensures { Reads result
+        (whole_behind number operations [] (filter (has_whole (seen_reach reach.now)) tables.now)) }
 {
     let mut published = Vec::new(alloc);
     for table in tables {

@@ -97,7 +97,8 @@ fn has_published(published: &[PublishedTable], oid: u32) -> bool
 
 /// The text of a filter, if the member is there; None where it is no text.
 fn text_in(member: Option<&Value>) -> Option<Option<&str>>
-    ensures { option_map option_copied result ≡ text_in (option_map (λ v. view v.now) member.entry) }
+    ensures { option_map option_copied result
+        ≡ text_in (option_map (λ v. view v.now) member.entry) }
 {
     match member {
         None => Some(None),
@@ -115,7 +116,8 @@ fn listed_in(
     table: &Table,
     member: Option<&Value>,
 ) -> Result<Option<Items<bool>>, AllocError>
-    ensures { IfOk result (λ listed. listed ≡ listed_in table.now (option_map (λ v. view v.now) member.entry)) }
+    ensures { IfOk result
+        (λ listed. listed ≡ listed_in table.now (option_map (λ v. view v.now) member.entry)) }
 {
     let columns = table.columns.as_slice();
     match member {
@@ -162,7 +164,8 @@ fn is_column(columns: &[Column], name: &str) -> bool
 }
 
 fn listed_by(alloc: Global, columns: &[Column], names: &[Text]) -> Result<Items<bool>, AllocError>
-    ensures { IfOk result (λ listed. listed ≡ map (λ c. list_any (bytes_eq c.name) names.now) columns.now) }
+    ensures { IfOk result
+        (λ listed. listed ≡ map (λ c. list_any (bytes_eq c.name) names.now) columns.now) }
 {
     let mut listed = Vec::with_capacity(alloc, columns.len())?;
     for column in columns {

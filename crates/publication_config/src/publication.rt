@@ -52,7 +52,8 @@ impl Publication {
 
     /// Whether one of the publications of these names has another column list for one of its tables.
     fn is_contradicted_by(&self, publications: &[Publication], names: &[Text]) -> bool
-        ensures { result ≡ list_any (is_listed_otherwise (named names.now publications.now)) self.now.tables }
+        ensures { result
+            ≡ list_any (is_listed_otherwise (named names.now publications.now)) self.now.tables }
     {
         let mut tables = self.tables.as_slice().iter();
         tables.any(|table| is_listed_otherwise(publications, names, table))
@@ -83,7 +84,11 @@ pub fn conflict(publications: &[Publication], names: &[Text]) -> bool
 
 /// The same, asked of all publications.
 fn has_contradicted(publications: &[Publication], names: &[Text]) -> bool
-    ensures { result ≡ list_any (λ p. is_among names.now p && list_any (is_listed_otherwise (named names.now publications.now)) p.tables) publications.now }
+    ensures { result
+        ≡ list_any
+        (λ p. is_among names.now p
+        && list_any (is_listed_otherwise (named names.now publications.now)) p.tables)
+        publications.now }
 {
     publications.iter().any(|p| p.is_among(names) && p.is_contradicted_by(publications, names))
 }
@@ -101,7 +106,8 @@ fn has_listing_otherwise(
     names: &[Text],
     table: &PublishedTable,
 ) -> bool
-    ensures { result ≡ list_any (λ p. is_among names.now p && lists_otherwise table.now p) publications.now }
+    ensures { result
+        ≡ list_any (λ p. is_among names.now p && lists_otherwise table.now p) publications.now }
 {
     publications
         .iter()

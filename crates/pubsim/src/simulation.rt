@@ -70,7 +70,8 @@ pub fn simulate<R: Wait, I: Read, W: Write>(
     input: &mut I,
     output: &mut W,
 ) -> Result<(), SimFault>
-    ensures silent { (fault : SimFault) → result ≡ Err fault → is_writing fault ≡ false → output.new ≡ output.old }
+    ensures silent { (fault : SimFault) → result ≡ Err fault → is_writing fault ≡ false →
+        output.new ≡ output.old }
 {
     let schedule = read_schedule(alloc, input)?;
     let slots = OpenedSlots::new(alloc).map_err(|_| SimFault::Memory)?;
@@ -99,7 +100,8 @@ fn report_run<L: LogName + SlotName, R: Wait, W: Write>(
 ) -> Result<(), SimFault>
     requires log { history.seen.book ≡ L.book }
     requires slots { slots.first.table_id ≡ L.table }
-    ensures silent { (fault : SimFault) → result ≡ Err fault → is_writing fault ≡ false → output.new ≡ output.old }
+    ensures silent { (fault : SimFault) → result ≡ Err fault → is_writing fault ≡ false →
+        output.new ≡ output.old }
 {
     match World::<L>::run(rt, alloc, history, slots, config, schedule.events()) {
         Ok(world) => {

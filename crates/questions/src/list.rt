@@ -11,7 +11,8 @@ use std::alloc::{AllocError, Global};
 /// What follows this text, where it stands at the front.
 #[tactic(auto, using(std::proofs::lemmas::Slice::Eq::strip_prefix_is))]
 pub(crate) fn behind<'a>(text: &'a [u8], front: &str) -> Option<&'a [u8]>
-    ensures { MatchOption result ((rest : List ℕ) → text.now ≢ front.now ++ rest) (λ rest. text.now ≡ front.now ++ rest.now) }
+    ensures { MatchOption result ((rest : List ℕ) → text.now ≢ front.now ++ rest)
+        (λ rest. text.now ≡ front.now ++ rest.now) }
 {
     text.strip_prefix(front.as_bytes())
 }
@@ -19,7 +20,8 @@ pub(crate) fn behind<'a>(text: &'a [u8], front: &str) -> Option<&'a [u8]>
 /// What stands before this text, where it stands at the end.
 #[tactic(auto, using(std::proofs::lemmas::Slice::Eq::strip_suffix_is))]
 pub(crate) fn before<'a>(text: &'a [u8], end: &str) -> Option<&'a [u8]>
-    ensures { MatchOption result ((front : List ℕ) → text.now ≢ front ++ end.now) (λ front. text.now ≡ front.now ++ end.now) }
+    ensures { MatchOption result ((front : List ℕ) → text.now ≢ front ++ end.now)
+        (λ front. text.now ≡ front.now ++ end.now) }
 {
     text.strip_suffix(end.as_bytes())
 }
@@ -27,7 +29,9 @@ pub(crate) fn before<'a>(text: &'a [u8], end: &str) -> Option<&'a [u8]>
 /// The names of a list of which the opening bracket was read, up to the closing one, with which the text ends.
 pub(crate) fn names_of(alloc: Global, text: &[u8]) -> Result<Option<Names>, AllocError>
     requires { IsUtf8 text.now }
-    ensures { IfOk result (λ found. MatchOption found ((names : List (List ℕ)) → SpellsNames text.now names → ⊥) (λ names. SpellsNames text.now names)) }
+    ensures { IfOk result
+        (λ found. MatchOption found ((names : List (List ℕ)) → SpellsNames text.now names → ⊥)
+        (λ names. SpellsNames text.now names)) }
 {
     let mut names = Vec::new(alloc);
     let mut place = text;

@@ -33,7 +33,9 @@ pub enum Question {
 /// The question that the text asks, all of it.
 pub fn question_of(alloc: Global, text: &str) -> Result<Option<Question>, AllocError>
     // What is read is asked so, and where nothing is read nothing is asked.
-    ensures { IfOk result (λ found. MatchOption found ((question : Question) → SpellsQuestion text.now question → ⊥) (λ question. SpellsQuestion text.now question)) }
+    ensures { IfOk result
+        (λ found. MatchOption found ((question : Question) → SpellsQuestion text.now question → ⊥)
+        (λ question. SpellsQuestion text.now question)) }
 {
     if let Some(question) = plain_of(text) {
         return Ok(Some(question));
@@ -55,7 +57,9 @@ pub fn question_of(alloc: Global, text: &str) -> Result<Option<Question>, AllocE
 
 /// A question without names.
 fn plain_of(text: &str) -> Option<Question>
-    ensures { MatchOption result ((question : Question) → IsPlain question → SpellsQuestion text.now question → ⊥) (λ question. SpellsQuestion text.now question) }
+    ensures { MatchOption result
+        ((question : Question) → IsPlain question → SpellsQuestion text.now question → ⊥)
+        (λ question. SpellsQuestion text.now question) }
 {
     match text {
         "SELECT pg_catalog.set_config('search_path', '', false);" => Some(Question::SearchPath),
@@ -68,7 +72,10 @@ fn plain_of(text: &str) -> Option<Question>
 /// The names of the list behind this text, where it stands at the front.
 fn names_behind(alloc: Global, text: &str, front: &str) -> Result<Option<Names>, AllocError>
     requires { list_all (λ b. nat_lt b 128) front.now ≡ true }
-    ensures { IfOk result (λ found. MatchOption found ((list : List ℕ) (names : List (List ℕ)) → text.now ≡ front.now ++ list → SpellsNames list names → ⊥)
+    ensures { IfOk result
+        (λ found. MatchOption found
+        ((list : List ℕ) (names : List (List ℕ)) → text.now ≡ front.now ++ list →
+        SpellsNames list names → ⊥)
         (λ names. (list : List ℕ) × (text.now ≡ front.now ++ list) × SpellsNames list names)) }
 {
     match behind(text.as_bytes(), front) {
@@ -80,7 +87,9 @@ fn names_behind(alloc: Global, text: &str, front: &str) -> Result<Option<Names>,
 /// The slot that is dropped once nobody holds it.
 fn slot_of(alloc: Global, text: &[u8]) -> Result<Option<Name>, AllocError>
     requires { IsUtf8 text.now }
-    ensures { IfOk result (λ found. MatchOption found ((slot : List ℕ) → SpellsDrop text.now slot → ⊥) (λ slot. SpellsDrop text.now slot)) }
+    ensures { IfOk result
+        (λ found. MatchOption found ((slot : List ℕ) → SpellsDrop text.now slot → ⊥)
+        (λ slot. SpellsDrop text.now slot)) }
 {
     let Some(rest) = behind(text, "DROP_REPLICATION_SLOT ") else {
         return Ok(None);
@@ -96,7 +105,9 @@ fn slot_of(alloc: Global, text: &[u8]) -> Result<Option<Name>, AllocError>
 
 /// The name of a slot that stands there without quotes.
 fn bare_of(alloc: Global, named: &[u8]) -> Result<Option<Name>, AllocError>
-    ensures { IfOk result (λ found. MatchOption found (is_slot_name named.now ≡ false) (λ slot. (slot ≡ named.now) × (is_slot_name named.now ≡ true))) }
+    ensures { IfOk result
+        (λ found. MatchOption found (is_slot_name named.now ≡ false)
+        (λ slot. (slot ≡ named.now) × (is_slot_name named.now ≡ true))) }
 {
     match std::str::from_utf8(named) {
         Ok(slot) if is_slot_name(slot) => Ok(Some(Name::new(String::from_str(alloc, slot)?))),
@@ -107,7 +118,9 @@ fn bare_of(alloc: Global, named: &[u8]) -> Result<Option<Name>, AllocError>
 /// The name of a slot that stands there in quotes.
 fn quoted_slot_of(alloc: Global, named: &[u8]) -> Result<Option<Name>, AllocError>
     requires { IsUtf8 named.now }
-    ensures { IfOk result (λ found. MatchOption found ((slot : List ℕ) → is_slot_name slot ≡ true → named.now ≢ quoted NAME_QUOTE slot)
+    ensures { IfOk result
+        (λ found. MatchOption found
+        ((slot : List ℕ) → is_slot_name slot ≡ true → named.now ≢ quoted NAME_QUOTE slot)
         (λ slot. (is_slot_name slot ≡ true) × (named.now ≡ quoted NAME_QUOTE slot))) }
 {
     let Some((slot, rest)) = quoted_of(alloc, NAME_QUOTE, named)? else {
@@ -121,5 +134,6 @@ fn quoted_slot_of(alloc: Global, named: &[u8]) -> Result<Option<Name>, AllocErro
 
 /// The law of questions: a text asks one at most.
 pub fn no_text_asks_two_questions()
-    ensures { (text : List ℕ) (a b : Question) → SpellsQuestion text a → SpellsQuestion text b → a ≡ b }
+    ensures { (text : List ℕ) (a b : Question) → SpellsQuestion text a → SpellsQuestion text b →
+        a ≡ b }
 {}

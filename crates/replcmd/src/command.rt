@@ -74,5 +74,6 @@ fn whole(alloc: Global, mut tokens: Tokens<'_>) -> Result<Command, CmdFault>
 
 /// The law of the grammar: a text spells one command at most.
 pub fn no_text_spells_two_commands()
-    ensures { (text : List ℕ) (c d : Command) → SpellsCommand text c → SpellsCommand text d → c ≡ d }
+    ensures { (text : List ℕ) (c d : Command) → SpellsCommand text c → SpellsCommand text d →
+        c ≡ d }
 {}

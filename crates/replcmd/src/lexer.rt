@@ -76,7 +76,8 @@ fn word_bytes(alloc: Global, text: &[u8]) -> Result<(Vec<u8>, &[u8]), AllocError
 /// Where a quoted text goes on behind this byte: a quote goes on behind the second of two, and else closes the text.
 fn goes_on(quote: u8, b: u8, tail: &[u8]) -> Option<&[u8]>
     ensures goes { MatchOption result (quoted_at false quote (b ∷ tail.now) ≡ Some ([], tail.now))
-        (λ more. quoted_at false quote (b ∷ tail.now) ≡ in_front (b ∷ []) (quoted_at false quote more.now)) }
+        (λ more. quoted_at false quote (b ∷ tail.now)
+        ≡ in_front (b ∷ []) (quoted_at false quote more.now)) }
     ensures shorter { IfSome result (λ more. length more.now ≤ length tail.now) }
 {
     if b != quote {
@@ -104,7 +105,8 @@ fn quoted_bytes(
     quote: u8,
     text: &[u8],
 ) -> Result<Option<(Vec<u8>, &[u8])>, AllocError>
-    ensures { IfOk result (λ x. option_map (λ y. (y.0.items, y.1.now)) x ≡ quoted_at false quote text.now) }
+    ensures { IfOk result
+        (λ x. option_map (λ y. (y.0.items, y.1.now)) x ≡ quoted_at false quote text.now) }
 {
     let mut found = Vec::new(alloc);
     let mut rest = text;
@@ -121,7 +123,8 @@ fn quoted_bytes(
 /// The token of a name in quotes, where its first quote was read.
 fn quoted_name(alloc: Global, text: &[u8]) -> Result<(Token, &[u8]), AllocError>
     requires { IsUtf8 text.now }
-    ensures { IfOk result (λ x. (x.0, x.1.now) ≡ closed (λ n. Quoted n) (quoted_at false NAME_QUOTE text.now)) }
+    ensures { IfOk result
+        (λ x. (x.0, x.1.now) ≡ closed (λ n. Quoted n) (quoted_at false NAME_QUOTE text.now)) }
 {
     let Some((name, rest)) = quoted_of(alloc, NAME_QUOTE, text)? else {
         return Ok((Token::Unclosed, nothing_of(text)));
@@ -132,7 +135,8 @@ fn quoted_name(alloc: Global, text: &[u8]) -> Result<(Token, &[u8]), AllocError>
 /// The token of a value in quotes, where its first quote was read.
 fn quoted_value(alloc: Global, text: &[u8]) -> Result<(Token, &[u8]), AllocError>
     requires { IsUtf8 text.now }
-    ensures { IfOk result (λ x. (x.0, x.1.now) ≡ closed (λ v. Value v) (quoted_at false VALUE_QUOTE text.now)) }
+    ensures { IfOk result
+        (λ x. (x.0, x.1.now) ≡ closed (λ v. Value v) (quoted_at false VALUE_QUOTE text.now)) }
 {
     let Some((value, rest)) = quoted_of(alloc, VALUE_QUOTE, text)? else {
         return Ok((Token::Unclosed, nothing_of(text)));

@@ -30,7 +30,8 @@ pub(crate) fn position_of(text: &str) -> Option<u64>
 
 /// The 32 bits that 1 to 8 hexadecimal digits spell.
 fn half(text: &str) -> Option<u32>
-    ensures { MatchOption result (¬ IsHalf text.now) (λ n. IsHalf text.now × (n ≡ digits_value 16 text.now)) }
+    ensures { MatchOption result (¬ IsHalf text.now)
+        (λ n. IsHalf text.now × (n ≡ digits_value 16 text.now)) }
 {
     if text.len() > 8 || text.starts_with('+') {
         return None;

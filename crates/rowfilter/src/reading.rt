@@ -36,7 +36,8 @@ pub fn parse(alloc: Global, text: &str, table: &Table) -> Result<Filter, FilterF
 
 /// The same, with one clause for both cases.
 fn filter_of(alloc: Global, text: &str, table: &Table) -> Result<Filter, FilterFault>
-    ensures { MatchResult result (λ f. SpellsFilter table.now text.now f) (λ e. IsRefused table.now text.now e) }
+    ensures { MatchResult result (λ f. SpellsFilter table.now text.now f)
+        (λ e. IsRefused table.now text.now e) }
 {
     let columns = table.columns.as_slice();
     let expression = condition_of(alloc, text, columns)?;
@@ -46,7 +47,8 @@ fn filter_of(alloc: Global, text: &str, table: &Table) -> Result<Filter, FilterF
 
 /// The tokens of a text that isn't too long.
 fn short_tokens(alloc: Global, text: &str) -> Result<Vec<Token>, FilterFault>
-    ensures found { IfOk result (λ tokens. (length text.now ≤ MOST_BYTES) × Spells text.now tokens.items) }
+    ensures found { IfOk result
+        (λ tokens. (length text.now ≤ MOST_BYTES) × Spells text.now tokens.items) }
     ensures fault { IfErr result (λ e. IsUnspelled text.now e) }
 {
     if text.len() > MOST_BYTES {
@@ -75,7 +77,8 @@ fn place_behind(
     token: &Token,
     columns: &[Column],
 ) -> Result<Place, FilterFault>
-    ensures { Moves result pending.new.items (step parts (state_of pending.old.items place) (word_at columns.now token.now)) }
+    ensures { Moves result pending.new.items
+        (step parts (state_of pending.old.items place) (word_at columns.now token.now)) }
 {
     let word = Word::of(alloc, token, columns)?;
     place.next(alloc, pending, word)
@@ -99,7 +102,8 @@ pub(crate) fn condition_of(
     text: &str,
     columns: &[Column],
 ) -> Result<Expression, FilterFault>
-    ensures { MatchResult result (λ e. SpellsCondition columns.now text.now (shape e)) (λ fault. IsUnread text.now fault) }
+    ensures { MatchResult result (λ e. SpellsCondition columns.now text.now (shape e))
+        (λ fault. IsUnread text.now fault) }
 {
     let tokens = short_tokens(alloc, text)?;
     expression_of(part_of(alloc, tokens.as_slice(), columns))

@@ -15,7 +15,8 @@ fn push_text_column(
     columns: &mut Vec<ColumnDescription>,
     name: &str,
 ) -> Result<(), AllocError>
-    ensures { OnOk result (columns.new.items ≡ columns.old.items ++ (shown text_type name.now ∷ [])) }
+    ensures { OnOk result
+        (columns.new.items ≡ columns.old.items ++ (shown text_type name.now ∷ [])) }
 {
     let column = text_column(alloc, name)?;
     columns.push(column)?;
@@ -27,7 +28,8 @@ fn push_int4_column(
     columns: &mut Vec<ColumnDescription>,
     name: &str,
 ) -> Result<(), AllocError>
-    ensures { OnOk result (columns.new.items ≡ columns.old.items ++ (shown int4_type name.now ∷ [])) }
+    ensures { OnOk result
+        (columns.new.items ≡ columns.old.items ++ (shown int4_type name.now ∷ [])) }
 {
     let column = int4_column(alloc, name)?;
     columns.push(column)?;
@@ -47,7 +49,8 @@ fn push_position(
     values: &mut Vec<DataValue>,
     position: u64,
 ) -> Result<(), AllocError>
-    ensures value { OnOk result (values.new.items ≡ values.old.items ++ (Bytes (printed position) ∷ [])) }
+    ensures value { OnOk result
+        (values.new.items ≡ values.old.items ++ (Bytes (printed position) ∷ [])) }
     ensures small { OnOk result (length (printed position) ≤ 17) }
 {
     let value = position_value(alloc, position)?;
@@ -56,7 +59,10 @@ fn push_position(
 }
 
 pub(crate) fn identity_columns(alloc: Global) -> Result<Items<ColumnDescription>, AllocError>
-    ensures { IfOk result (λ columns. columns ≡ shown text_type (codes "systemid") ∷ shown int4_type (codes "timeline") ∷ shown text_type (codes "xlogpos") ∷ shown text_type (codes "dbname") ∷ []) }
+    ensures { IfOk result
+        (λ columns. columns
+        ≡ shown text_type (codes "systemid") ∷ shown int4_type (codes "timeline")
+        ∷ shown text_type (codes "xlogpos") ∷ shown text_type (codes "dbname") ∷ []) }
 {
     let mut columns = Vec::new(alloc);
     push_text_column(alloc, &mut columns, "systemid")?;
@@ -72,7 +78,10 @@ pub(crate) fn identity_values(
     end: u64,
     database: &str,
 ) -> Result<Items<DataValue>, AllocError>
-    ensures value { IfOk result (λ values. values ≡ Bytes systemid.now ∷ Bytes (codes "1") ∷ Bytes (printed end) ∷ Bytes database.now ∷ []) }
+    ensures value { IfOk result
+        (λ values. values
+        ≡ Bytes systemid.now ∷ Bytes (codes "1") ∷ Bytes (printed end) ∷ Bytes database.now
+        ∷ []) }
     ensures small { IfOk result (λ _. length (printed end) ≤ 17) }
 {
     let mut values = Vec::new(alloc);
@@ -84,7 +93,11 @@ pub(crate) fn identity_values(
 }
 
 pub(crate) fn slot_columns(alloc: Global) -> Result<Items<ColumnDescription>, AllocError>
-    ensures { IfOk result (λ columns. columns ≡ shown text_type (codes "slot_name") ∷ shown text_type (codes "consistent_point") ∷ shown text_type (codes "snapshot_name") ∷ shown text_type (codes "output_plugin") ∷ []) }
+    ensures { IfOk result
+        (λ columns. columns
+        ≡ shown text_type (codes "slot_name") ∷ shown text_type (codes "consistent_point")
+        ∷ shown text_type (codes "snapshot_name") ∷ shown text_type (codes "output_plugin")
+        ∷ []) }
 {
     let mut columns = Vec::new(alloc);
     push_text_column(alloc, &mut columns, "slot_name")?;
@@ -99,7 +112,9 @@ pub(crate) fn slot_values(
     slot: &str,
     position: u64,
 ) -> Result<Items<DataValue>, AllocError>
-    ensures value { IfOk result (λ values. values ≡ Bytes slot.now ∷ Bytes (printed position) ∷ Null ∷ Bytes (codes "pgoutput") ∷ []) }
+    ensures value { IfOk result
+        (λ values. values
+        ≡ Bytes slot.now ∷ Bytes (printed position) ∷ Null ∷ Bytes (codes "pgoutput") ∷ []) }
     ensures small { IfOk result (λ _. length (printed position) ≤ 17) }
 {
     let mut values = Vec::new(alloc);

@@ -109,12 +109,18 @@ impl Connection {
     /// H1 is want of memory, and it closes the connection without a word: what stood in `out` stands there, and no more. H2: it
     /// is closed, and what has come is passed over.
     pub fn answer<D: Desk>(&mut self, desk: &mut D, out: &mut BytesMut) -> Result<bool, ConnFault>
-        ensures went { UnlessMemory result (Went D.told HasText [] self.old desk.old out.old.items self.new desk.new out.new.items) }
-        ensures less { IfOk result (λ more. more ≡ true → length self.new.pending.items < length self.old.pending.items) }
-        ensures waits { IfOk result (λ more. more ≡ false → Waits self.new.stage self.new.pending.items) }
+        ensures went { UnlessMemory result
+            (Went D.told HasText [] self.old desk.old out.old.items self.new desk.new
+            out.new.items) }
+        ensures less { IfOk result
+            (λ more. more ≡ true → length self.new.pending.items < length self.old.pending.items) }
+        ensures waits { IfOk result
+            (λ more. more ≡ false → Waits self.new.stage self.new.pending.items) }
         ensures unsaid { result ≡ Err ConnFault.Memory → out.new.items ≡ out.old.items }
         // Of the desk nothing is asked then, or all that the turn asks.
-        ensures asked { result ≡ Err ConnFault.Memory → Tried D.told (Asks self.old.service self.old.stage self.old.pending.items) desk.old desk.new }
+        ensures asked { result ≡ Err ConnFault.Memory →
+            Tried D.told (Asks self.old.service self.old.stage self.old.pending.items) desk.old
+            desk.new }
         ensures closed { OnErr result (self.new.stage ≡ Closed) }
         ensures ended { (result ≡ Err ConnFault.Closed) ↔ (self.old.stage ≡ Closed) }
     {
@@ -131,11 +137,17 @@ impl Connection {
 
     /// Takes one turn; false: what is pending has to wait for more. Refused, it says nothing.
     fn step<D: Desk>(&mut self, desk: &mut D, out: &mut BytesMut) -> Result<bool, AllocError>
-        ensures went { OnOk result (Went D.told HasText [] self.old desk.old out.old.items self.new desk.new out.new.items) }
-        ensures less { IfOk result (λ more. more ≡ true → length self.new.pending.items < length self.old.pending.items) }
-        ensures waits { IfOk result (λ more. more ≡ false → Waits self.new.stage self.new.pending.items) }
+        ensures went { OnOk result
+            (Went D.told HasText [] self.old desk.old out.old.items self.new desk.new
+            out.new.items) }
+        ensures less { IfOk result
+            (λ more. more ≡ true → length self.new.pending.items < length self.old.pending.items) }
+        ensures waits { IfOk result
+            (λ more. more ≡ false → Waits self.new.stage self.new.pending.items) }
         ensures unsaid { OnErr result (out.new.items ≡ out.old.items) }
-        ensures asked { OnErr result (Tried D.told (Asks self.old.service self.old.stage self.old.pending.items) desk.old desk.new) }
+        ensures asked { OnErr result
+            (Tried D.told (Asks self.old.service self.old.stage self.old.pending.items) desk.old
+            desk.new) }
     {
         let start = out.len();
         let stage = mem::replace(&mut self.stage, Stage::Closed);
@@ -163,9 +175,12 @@ impl Connection {
         desk: &mut D,
         out: &mut BytesMut,
     ) -> Result<(), AllocError>
-        ensures went { OnOk result (Went D.told HasText bytes.now self.old desk.old out.old.items self.new desk.new out.new.items) }
+        ensures went { OnOk result
+            (Went D.told HasText bytes.now self.old desk.old out.old.items self.new desk.new
+            out.new.items) }
         ensures waits { OnOk result (Waits self.new.stage self.new.pending.items) }
-        ensures broke { OnErr result (Broke D.told bytes.now self.old desk.old out.old.items desk.new out.new.items) }
+        ensures broke { OnErr result
+            (Broke D.told bytes.now self.old desk.old out.old.items desk.new out.new.items) }
     {
         self.pending.extend_from_slice(bytes)?;
         while self.step(desk, out)? {}
@@ -198,9 +213,12 @@ impl Connection {
         out: &mut BytesMut,
     ) -> Result<Phase, ConnFault>
         // The call carries the conversation on.
-        ensures went { UnlessMemory result (Went D.told HasText bytes.now self.old desk.old out.old.items self.new desk.new out.new.items) }
+        ensures went { UnlessMemory result
+            (Went D.told HasText bytes.now self.old desk.old out.old.items self.new desk.new
+            out.new.items) }
         // As far as memory goes, turn by turn.
-        ensures broke { result ≡ Err ConnFault.Memory → Broke D.told bytes.now self.old desk.old out.old.items desk.new out.new.items }
+        ensures broke { result ≡ Err ConnFault.Memory →
+            Broke D.told bytes.now self.old desk.old out.old.items desk.new out.new.items }
         // All that can be answered is.
         ensures waits { UnlessMemory result (Waits self.new.stage self.new.pending.items) }
         ensures phase { IfOk result (λ p. p ≡ phase_of self.new.stage) }

@@ -30,7 +30,9 @@ fn happen<D: Desk>(
     desk: &mut D,
     out: &mut BytesMut,
 ) -> Result<(), ConnFault>
-    ensures { UnlessMemory result (Happened D.told event.now connection.old desk.old out.old.items connection.new desk.new out.new.items) }
+    ensures { UnlessMemory result
+        (Happened D.told event.now connection.old desk.old out.old.items connection.new desk.new
+        out.new.items) }
 {
     match event {
         Event::Came(bytes) => {
@@ -64,7 +66,9 @@ pub fn converse<D: Desk>(
     desk: &mut D,
     out: &mut BytesMut,
 ) -> Result<(), AllocError>
-    ensures { OnOk result (Gave D.told (IsConversation service (flat_map heard events.now)) desk.old out.old.items desk.new out.new.items) }
+    ensures { OnOk result
+        (Gave D.told (IsConversation service (flat_map heard events.now)) desk.old out.old.items
+        desk.new out.new.items) }
 {
     let mut connection = Connection::served(alloc, service);
     for event in events {

@@ -42,7 +42,9 @@ fn asks_for_replication(parameters: &[Parameter]) -> bool
 
 /// The name of the database: that of `database`, or else of `user`, or else none.
 fn database_of(parameters: &[Parameter]) -> &str
-    ensures { result.now ≡ first_of (value_of (codes "database") parameters.now) (value_of (codes "user") parameters.now) }
+    ensures { result.now
+        ≡ first_of (value_of (codes "database") parameters.now)
+        (value_of (codes "user") parameters.now) }
 {
     match value_of(parameters, "database") {
         Some(name) => name,
@@ -77,7 +79,8 @@ pub(crate) fn open(
 ) -> Result<Option<Database>, AllocError>
     requires { length (closed parameter parameters.now) ≤ MOST_DATABASE_BYTES }
     ensures database { IfOk result (λ d. d ≡ opened parameters.now) }
-    ensures says { OnOk result (out.new.items ≡ out.old.items ++ greeted service (opened parameters.now)) }
+    ensures says { OnOk result
+        (out.new.items ≡ out.old.items ++ greeted service (opened parameters.now)) }
     ensures kept { OnErr result (Extends out.old.items out.new.items) }
 {
     if !asks_for_replication(parameters) {

@@ -19,7 +19,8 @@ fn identify<D: Desk>(
     desk: &mut D,
     out: &mut BytesMut,
 ) -> Result<(), AllocError>
-    ensures { Answered D.told result (λ _. Runs database.now Identify false) desk.old out.old.items desk.new out.new.items }
+    ensures { Answered D.told result (λ _. Runs database.now Identify false) desk.old out.old.items
+        desk.new out.new.items }
 {
     let end = desk.end();
     say_identified(alloc, out, desk.systemid(), end, database.as_str())
@@ -33,7 +34,8 @@ fn create<D: Desk>(
     out: &mut BytesMut,
 ) -> Result<(), AllocError>
     requires { length slot.now ≤ 63 }
-    ensures { Answered D.told result (λ _. Runs database.now (Create slot.now) false) desk.old out.old.items desk.new out.new.items }
+    ensures { Answered D.told result (λ _. Runs database.now (Create slot.now) false) desk.old
+        out.old.items desk.new out.new.items }
 {
     let answer = desk.create(slot.as_str());
     say_created(alloc, out, slot.as_str(), answer)
@@ -46,7 +48,8 @@ fn drop_slot<D: Desk>(
     desk: &mut D,
     out: &mut BytesMut,
 ) -> Result<(), AllocError>
-    ensures { Answered D.told result (λ _. Runs database.now (Drop slot.now) false) desk.old out.old.items desk.new out.new.items }
+    ensures { Answered D.told result (λ _. Runs database.now (Drop slot.now) false) desk.old
+        out.old.items desk.new out.new.items }
 {
     let answer = desk.drop_slot(slot.as_str());
     say_dropped(alloc, out, answer)
@@ -62,7 +65,9 @@ fn start<D: Desk>(
     desk: &mut D,
     out: &mut BytesMut,
 ) -> Result<bool, AllocError>
-    ensures { Answered D.told result (λ begun. Runs database.now (Start slot.now position options.now) begun) desk.old out.old.items desk.new out.new.items }
+    ensures { Answered D.told result
+        (λ begun. Runs database.now (Start slot.now position options.now) begun) desk.old
+        out.old.items desk.new out.new.items }
 {
     let answer = desk.start(slot.as_str(), position, options);
     let begun = has_begun(answer);
@@ -85,7 +90,8 @@ fn run<D: Desk>(
     out: &mut BytesMut,
 ) -> Result<bool, AllocError>
     requires { HasShortSlot command.now }
-    ensures { Answered D.told result (λ begun. Runs database.now command.now begun) desk.old out.old.items desk.new out.new.items }
+    ensures { Answered D.told result (λ begun. Runs database.now command.now begun) desk.old
+        out.old.items desk.new out.new.items }
 {
     match command {
         Command::Identify => {
@@ -118,7 +124,8 @@ pub(crate) fn reply<D: Desk>(
     desk: &mut D,
     out: &mut BytesMut,
 ) -> Result<bool, AllocError>
-    ensures { Answered D.told result (λ begun. Replies database.now query.now begun) desk.old out.old.items desk.new out.new.items }
+    ensures { Answered D.told result (λ begun. Replies database.now query.now begun) desk.old
+        out.old.items desk.new out.new.items }
 {
     match parse_command(alloc, query) {
         Ok(command) => {

@@ -22,7 +22,8 @@ fn tell_publications<D: Desk>(
     desk: &mut D,
     out: &mut BytesMut,
 ) -> Result<(), AllocError>
-    ensures { Answered D.told result (λ _. AnswersQuestion (Question.Publications names.now)) desk.old out.old.items desk.new out.new.items }
+    ensures { Answered D.told result (λ _. AnswersQuestion (Question.Publications names.now))
+        desk.old out.old.items desk.new out.new.items }
 {
     let answer = desk.publications(names);
     say_publications(alloc, out, answer)
@@ -34,7 +35,8 @@ fn tell_tables<D: Desk>(
     desk: &mut D,
     out: &mut BytesMut,
 ) -> Result<(), AllocError>
-    ensures { Answered D.told result (λ _. AnswersQuestion (Question.Tables names.now)) desk.old out.old.items desk.new out.new.items }
+    ensures { Answered D.told result (λ _. AnswersQuestion (Question.Tables names.now)) desk.old
+        out.old.items desk.new out.new.items }
 {
     let answer = desk.tables(names);
     say_found_tables(alloc, out, answer)
@@ -46,7 +48,8 @@ fn drop_when_free<D: Desk>(
     desk: &mut D,
     out: &mut BytesMut,
 ) -> Result<(), AllocError>
-    ensures { Answered D.told result (λ _. AnswersQuestion (Question.DropWhenFree slot.now)) desk.old out.old.items desk.new out.new.items }
+    ensures { Answered D.told result (λ _. AnswersQuestion (Question.DropWhenFree slot.now))
+        desk.old out.old.items desk.new out.new.items }
 {
     let answer = desk.drop_when_free(slot.as_str());
     say_dropped(alloc, out, answer)
@@ -59,7 +62,8 @@ fn answer_question<D: Desk>(
     desk: &mut D,
     out: &mut BytesMut,
 ) -> Result<(), AllocError>
-    ensures { Answered D.told result (λ _. AnswersQuestion question.now) desk.old out.old.items desk.new out.new.items }
+    ensures { Answered D.told result (λ _. AnswersQuestion question.now) desk.old out.old.items
+        desk.new out.new.items }
 {
     match question {
         Question::SearchPath => say_path_set(alloc, out),
@@ -79,7 +83,9 @@ fn reply_or_answer<D: Desk>(
     desk: &mut D,
     out: &mut BytesMut,
 ) -> Result<bool, AllocError>
-    ensures { Answered D.told result (λ begun. RepliesIn Dialect.Questions database.now query.now begun) desk.old out.old.items desk.new out.new.items }
+    ensures { Answered D.told result
+        (λ begun. RepliesIn Dialect.Questions database.now query.now begun) desk.old out.old.items
+        desk.new out.new.items }
 {
     match question_of(alloc, query)? {
         Some(question) => {
@@ -103,7 +109,8 @@ pub(crate) fn reply_in<D: Desk>(
     desk: &mut D,
     out: &mut BytesMut,
 ) -> Result<bool, AllocError>
-    ensures { Answered D.told result (λ begun. RepliesIn dialect database.now query.now begun) desk.old out.old.items desk.new out.new.items }
+    ensures { Answered D.told result (λ begun. RepliesIn dialect database.now query.now begun)
+        desk.old out.old.items desk.new out.new.items }
 {
     match dialect {
         Dialect::Commands => reply(alloc, database, query, desk, out),

@@ -69,7 +69,8 @@ fn push_field(
     code: u8,
     text: &str,
 ) -> Result<(), AllocError>
-    ensures { OnOk result (fields.new.items ≡ fields.old.items ++ (record { code = code; text = text.now } ∷ [])) }
+    ensures { OnOk result
+        (fields.new.items ≡ fields.old.items ++ (record { code = code; text = text.now } ∷ [])) }
 {
     let field = error_field(alloc, code, text)?;
     fields.push(field)?;
@@ -77,7 +78,8 @@ fn push_field(
 }
 
 fn error_fields(alloc: Global, code: &str, text: &str) -> Result<Items<ErrorField>, AllocError>
-    ensures { IfOk result (λ fields. ErrorFrame (record { fields = fields }) ≡ error_frame code.now text.now) }
+    ensures { IfOk result
+        (λ fields. ErrorFrame (record { fields = fields }) ≡ error_frame code.now text.now) }
 {
     let mut fields = Vec::new(alloc);
     push_field(alloc, &mut fields, b'S', "ERROR")?;
@@ -311,7 +313,8 @@ fn say_identity_values(
 ) -> Result<(), AllocError>
     requires systemid { length systemid.now ≤ 2 ^ 16 }
     requires database { length database.now ≤ 2 ^ 16 }
-    ensures { Puts result out.old.items out.new.items (said (identity_values systemid.now end database.now)) }
+    ensures { Puts result out.old.items out.new.items
+        (said (identity_values systemid.now end database.now)) }
 {
     let values = identity_values(alloc, systemid, end, database)?;
     say_values(out, values)

@@ -26,7 +26,10 @@ fn answer_query<D: Desk>(
     desk: &mut D,
     out: &mut BytesMut,
 ) -> Result<Stage, AllocError>
-    ensures { Answered D.told result (λ next asked said. Hears dialect database (Query (record { text = query.now })) asked said next) desk.old out.old.items desk.new out.new.items }
+    ensures { Answered D.told result
+        (λ next asked said. Hears dialect database (Query (record { text = query.now })) asked said
+        next)
+        desk.old out.old.items desk.new out.new.items }
 {
     if reply_in(alloc, dialect, &database, query, desk, out)? {
         Ok(Stage::Streaming(database))
@@ -43,7 +46,9 @@ fn answer_front<D: Desk>(
     desk: &mut D,
     out: &mut BytesMut,
 ) -> Result<Stage, AllocError>
-    ensures { Answered D.told result (λ next asked said. Hears dialect database front.now asked said next) desk.old out.old.items desk.new out.new.items }
+    ensures { Answered D.told result
+        (λ next asked said. Hears dialect database front.now asked said next) desk.old out.old.items
+        desk.new out.new.items }
 {
     match front {
         Front::Query(query) => answer_query(
@@ -71,7 +76,8 @@ pub(crate) fn turn_session<D: Desk>(
     desk: &mut D,
     out: &mut BytesMut,
 ) -> Result<Turned, AllocError>
-    ensures { TakesTurn D.told service (Idle database) pending.now result desk.old out.old.items desk.new out.new.items }
+    ensures { TakesTurn D.told service (Idle database) pending.now result desk.old out.old.items
+        desk.new out.new.items }
 {
     match read_front(alloc, pending) {
         Ok(None) => Ok(Turned {

@@ -42,7 +42,8 @@ pub(crate) fn refuse(
     out: &mut BytesMut,
 ) -> Result<Turned, AllocError>
     ensures readable { OnOk result (fault ≢ FrameFault.Memory) }
-    ensures closes { IfOk result (λ t. t ≡ record { stage = Stage.Closed; count = length pending.now }) }
+    ensures closes { IfOk result
+        (λ t. t ≡ record { stage = Stage.Closed; count = length pending.now }) }
     ensures says { OnOk result (out.new.items ≡ out.old.items ++ refused (refusal_of fault)) }
     ensures kept { OnErr result (Extends out.old.items out.new.items) }
 {

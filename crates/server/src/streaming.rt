@@ -34,7 +34,10 @@ fn answer_data<D: Desk>(
     desk: &mut D,
     out: &mut BytesMut,
 ) -> Result<Stage, AllocError>
-    ensures { Answered D.told result (λ next asked said. Streams database (CopyData (record { bytes = bytes.now })) asked said next) desk.old out.old.items desk.new out.new.items }
+    ensures { Answered D.told result
+        (λ next asked said. Streams database (CopyData (record { bytes = bytes.now })) asked said
+        next)
+        desk.old out.old.items desk.new out.new.items }
 {
     match read_client(bytes) {
         Ok(status) => {
@@ -55,7 +58,8 @@ fn answer_in_stream<D: Desk>(
     desk: &mut D,
     out: &mut BytesMut,
 ) -> Result<Stage, AllocError>
-    ensures { Answered D.told result (λ next asked said. Streams database front.now asked said next) desk.old out.old.items desk.new out.new.items }
+    ensures { Answered D.told result (λ next asked said. Streams database front.now asked said next)
+        desk.old out.old.items desk.new out.new.items }
 {
     match front {
         Front::CopyData(data) => answer_data(alloc, database, data.bytes.as_slice(), desk, out),
@@ -76,7 +80,9 @@ pub(crate) fn turn_stream<D: Desk>(
     desk: &mut D,
     out: &mut BytesMut,
 ) -> Result<Turned, AllocError>
-    ensures { (service : Service) → TakesTurn D.told service (Streaming database) pending.now result desk.old out.old.items desk.new out.new.items }
+    ensures { (service : Service) →
+        TakesTurn D.told service (Streaming database) pending.now result desk.old out.old.items
+        desk.new out.new.items }
 {
     match read_front(alloc, pending) {
         Ok(None) => Ok(Turned {

@@ -30,7 +30,9 @@ fn open_session(
     out: &mut BytesMut,
 ) -> Result<Stage, AllocError>
     requires { length (closed parameter parameters.now) ≤ MOST_DATABASE_BYTES }
-    ensures says { IfOk result (λ next. Said (λ asked said. Opens service (Session parameters.now) asked said next) out.old.items out.new.items) }
+    ensures says { IfOk result
+        (λ next. Said (λ asked said. Opens service (Session parameters.now) asked said next)
+        out.old.items out.new.items) }
     ensures kept { OnErr result (Extends out.old.items out.new.items) }
 {
     match open(alloc, service, parameters, out)? {
@@ -55,7 +57,9 @@ fn answer_startup(
     out: &mut BytesMut,
 ) -> Result<Stage, AllocError>
     requires { 8 + length (startup_body startup.now) ≤ STARTUP_LIMIT }
-    ensures says { IfOk result (λ next. Said (λ asked said. Opens service startup.now asked said next) out.old.items out.new.items) }
+    ensures says { IfOk result
+        (λ next. Said (λ asked said. Opens service startup.now asked said next) out.old.items
+        out.new.items) }
     ensures kept { OnErr result (Extends out.old.items out.new.items) }
 {
     match startup {
@@ -80,7 +84,9 @@ fn turn_startup(
     pending: &[u8],
     out: &mut BytesMut,
 ) -> Result<Turned, AllocError>
-    ensures turned { IfOk result (λ t. IsTurned service Fresh pending.now t (out.new.items ≡ out.old.items) (λ fact. Said fact out.old.items out.new.items)) }
+    ensures turned { IfOk result
+        (λ t. IsTurned service Fresh pending.now t (out.new.items ≡ out.old.items)
+        (λ fact. Said fact out.old.items out.new.items)) }
     ensures kept { OnErr result (Extends out.old.items out.new.items) }
 {
     match read_startup(alloc, pending) {
@@ -105,7 +111,8 @@ pub(crate) fn turn<D: Desk>(
     desk: &mut D,
     out: &mut BytesMut,
 ) -> Result<Turned, AllocError>
-    ensures { TakesTurn D.told service stage pending.now result desk.old out.old.items desk.new out.new.items }
+    ensures { TakesTurn D.told service stage pending.now result desk.old out.old.items desk.new
+        out.new.items }
 {
     match stage {
         Stage::Fresh => turn_startup(alloc, service, pending, out),

@@ -24,10 +24,19 @@ pub(crate) fn call<L: LogName, R: Wait>(
     name: &Text,
     step: &SessionStep,
 ) -> Result<(Answer, Option<Receipt<L>>), AllocError>
-    requires asks { is_some (step_ask name.now step.now publisher.old (map named_tx sessions.old.items)) ≡ true }
-    ensures calls { IfOk result (λ a. IsStepOf name.now step.now publisher.old sessions.old.items a.0 publisher.new sessions.new.items) }
-    ensures receipt { IfOk result (λ a. a.1 ≡ receipt_due (OfSession name.now step.now) (sessions_state publisher.old sessions.old.items) a.0) }
-    ensures err { OnErr result (sessions_state publisher.new sessions.new.items ≡ sessions_state publisher.old sessions.old.items) }
+    requires asks { is_some
+        (step_ask name.now step.now publisher.old (map named_tx sessions.old.items))
+        ≡ true }
+    ensures calls { IfOk result
+        (λ a. IsStepOf name.now step.now publisher.old sessions.old.items a.0 publisher.new
+        sessions.new.items) }
+    ensures receipt { IfOk result
+        (λ a. a.1
+        ≡ receipt_due (OfSession name.now step.now)
+        (sessions_state publisher.old sessions.old.items) a.0) }
+    ensures err { OnErr result
+        (sessions_state publisher.new sessions.new.items
+        ≡ sessions_state publisher.old sessions.old.items) }
     ensures memory { OnErr result (takes_memory step.now publisher.old ≡ true) }
     ensures grows { Grows publisher.old.log publisher.new.log }
 {
@@ -73,8 +82,12 @@ fn begin<L: LogName>(
     name: &Text,
 ) -> Result<Answer, AllocError>
     requires fresh { is_some (xid_of name.now (map named_tx sessions.old.items)) ≡ false }
-    ensures calls { IfOk result (λ a. IsStepOf name.now SessionStep.Begin publisher.old sessions.old.items a publisher.new sessions.new.items) }
-    ensures err { OnErr result (sessions_state publisher.new sessions.new.items ≡ sessions_state publisher.old sessions.old.items) }
+    ensures calls { IfOk result
+        (λ a. IsStepOf name.now SessionStep.Begin publisher.old sessions.old.items a publisher.new
+        sessions.new.items) }
+    ensures err { OnErr result
+        (sessions_state publisher.new sessions.new.items
+        ≡ sessions_state publisher.old sessions.old.items) }
     ensures grows { Grows publisher.old.log publisher.new.log }
 {
     sessions.reserve(1)?;
@@ -101,8 +114,12 @@ fn act<L: LogName, R: Wait>(
 ) -> Result<Answer, AllocError>
     requires known { is_some (xid_of name.now (map named_tx sessions.old.items)) ≡ true }
     requires within { is_within step.now ≡ true }
-    ensures calls { IfOk result (λ a. IsStepOf name.now step.now publisher.old sessions.old.items a publisher.new sessions.new.items) }
-    ensures err { OnErr result (sessions_state publisher.new sessions.new.items ≡ sessions_state publisher.old sessions.old.items) }
+    ensures calls { IfOk result
+        (λ a. IsStepOf name.now step.now publisher.old sessions.old.items a publisher.new
+        sessions.new.items) }
+    ensures err { OnErr result
+        (sessions_state publisher.new sessions.new.items
+        ≡ sessions_state publisher.old sessions.old.items) }
     ensures memory { OnErr result (takes_memory step.now publisher.old ≡ true) }
     ensures grows { Grows publisher.old.log publisher.new.log }
 {
@@ -119,8 +136,11 @@ fn commit<L: LogName, R: Wait>(
     time: i64,
 ) -> (Answer, Option<Receipt<L>>)
     requires known { is_some (xid_of name.now (map named_tx sessions.old.items)) ≡ true }
-    ensures calls { IsStepOf name.now (SessionStep.Commit time) publisher.old sessions.old.items result.0 publisher.new sessions.new.items }
-    ensures receipt { result.1 ≡ receipt_due (OfSession name.now (SessionStep.Commit time)) (sessions_state publisher.old sessions.old.items) result.0 }
+    ensures calls { IsStepOf name.now (SessionStep.Commit time) publisher.old sessions.old.items
+        result.0 publisher.new sessions.new.items }
+    ensures receipt { result.1
+        ≡ receipt_due (OfSession name.now (SessionStep.Commit time))
+        (sessions_state publisher.old sessions.old.items) result.0 }
     ensures grows { Grows publisher.old.log publisher.new.log }
 {
     let place = known_place(sessions.as_slice(), name);
@@ -142,7 +162,8 @@ fn abort<L: LogName, R: Wait>(
     name: &Text,
 ) -> Answer
     requires known { is_some (xid_of name.now (map named_tx sessions.old.items)) ≡ true }
-    ensures calls { IsStepOf name.now SessionStep.Abort publisher.old sessions.old.items result publisher.new sessions.new.items }
+    ensures calls { IsStepOf name.now SessionStep.Abort publisher.old sessions.old.items result
+        publisher.new sessions.new.items }
     ensures grows { Grows publisher.old.log publisher.new.log }
 {
     let place = known_place(sessions.as_slice(), name);
@@ -164,7 +185,8 @@ pub(crate) fn note<L: LogName, R: Wait>(
     prefix: &Text,
     content: &Text,
 ) -> Answer
-    ensures called { Called (note_refusal prefix.now content.now publisher.old) (noted prefix.now content.now publisher.old) publisher.old result publisher.new }
+    ensures called { Called (note_refusal prefix.now content.now publisher.old)
+        (noted prefix.now content.now publisher.old) publisher.old result publisher.new }
     ensures grows { Grows publisher.old.log publisher.new.log }
 {
     match publisher.note(rt, prefix.as_str(), content.as_str().as_bytes()) {

@@ -31,7 +31,9 @@ impl Session {
         step: &SessionStep,
     ) -> Result<Answer, AllocError>
         requires within { is_within step.now ≡ true }
-        ensures called { IfOk result (λ a. Called (step_refusal step.now self.old.tx publisher.old) (after_step step.now self.old.tx publisher.old) publisher.old a publisher.new) }
+        ensures called { IfOk result
+            (λ a. Called (step_refusal step.now self.old.tx publisher.old)
+            (after_step step.now self.old.tx publisher.old) publisher.old a publisher.new) }
         ensures same { self.new ≡ self.old }
         ensures err { OnErr result (publisher.new ≡ publisher.old) }
         ensures memory { OnErr result (takes_memory step.now publisher.old ≡ true) }
@@ -67,10 +69,17 @@ impl Session {
         table: &Text,
         row: &[Literal],
     ) -> Result<Answer, AllocError>
-        ensures called { IfOk result (λ a. Called (insert_refused (table_named table.now publisher.old.tables) self.old.tx row.now publisher.old) (inserted_in (table_named table.now publisher.old.tables) self.old.tx row.now publisher.old) publisher.old a publisher.new) }
+        ensures called { IfOk result
+            (λ a. Called
+            (insert_refused (table_named table.now publisher.old.tables) self.old.tx row.now
+            publisher.old)
+            (inserted_in (table_named table.now publisher.old.tables) self.old.tx row.now
+            publisher.old)
+            publisher.old a publisher.new) }
         ensures same { self.new ≡ self.old }
         ensures err { OnErr result (publisher.new ≡ publisher.old) }
-        ensures memory { OnErr result (is_some (table_named table.now publisher.old.tables) ≡ true) }
+        ensures memory { OnErr result
+            (is_some (table_named table.now publisher.old.tables) ≡ true) }
         ensures grows { Grows publisher.old.log publisher.new.log }
     {
         let Some(table) = publisher.catalog().named(table.as_str()) else {
@@ -94,10 +103,17 @@ impl Session {
         key: &[Literal],
         row: &[Literal],
     ) -> Result<Answer, AllocError>
-        ensures called { IfOk result (λ a. Called (update_refused (table_named table.now publisher.old.tables) self.old.tx key.now row.now publisher.old) (updated_in (table_named table.now publisher.old.tables) self.old.tx key.now row.now publisher.old) publisher.old a publisher.new) }
+        ensures called { IfOk result
+            (λ a. Called
+            (update_refused (table_named table.now publisher.old.tables) self.old.tx key.now
+            row.now publisher.old)
+            (updated_in (table_named table.now publisher.old.tables) self.old.tx key.now row.now
+            publisher.old)
+            publisher.old a publisher.new) }
         ensures same { self.new ≡ self.old }
         ensures err { OnErr result (publisher.new ≡ publisher.old) }
-        ensures memory { OnErr result (is_some (table_named table.now publisher.old.tables) ≡ true) }
+        ensures memory { OnErr result
+            (is_some (table_named table.now publisher.old.tables) ≡ true) }
         ensures grows { Grows publisher.old.log publisher.new.log }
     {
         let Some(table) = publisher.catalog().named(table.as_str()) else {
@@ -120,10 +136,17 @@ impl Session {
         table: &Text,
         key: &[Literal],
     ) -> Result<Answer, AllocError>
-        ensures called { IfOk result (λ a. Called (delete_refused (table_named table.now publisher.old.tables) self.old.tx key.now publisher.old) (deleted_in (table_named table.now publisher.old.tables) self.old.tx key.now publisher.old) publisher.old a publisher.new) }
+        ensures called { IfOk result
+            (λ a. Called
+            (delete_refused (table_named table.now publisher.old.tables) self.old.tx key.now
+            publisher.old)
+            (deleted_in (table_named table.now publisher.old.tables) self.old.tx key.now
+            publisher.old)
+            publisher.old a publisher.new) }
         ensures same { self.new ≡ self.old }
         ensures err { OnErr result (publisher.new ≡ publisher.old) }
-        ensures memory { OnErr result (is_some (table_named table.now publisher.old.tables) ≡ true) }
+        ensures memory { OnErr result
+            (is_some (table_named table.now publisher.old.tables) ≡ true) }
         ensures grows { Grows publisher.old.log publisher.new.log }
     {
         let Some(table) = publisher.catalog().named(table.as_str()) else {
@@ -144,7 +167,12 @@ impl Session {
         alloc: Global,
         names: &[Text],
     ) -> Result<Answer, AllocError>
-        ensures called { IfOk result (λ a. Called (truncate_refused (oids_named publisher.old.tables names.now) self.old.tx publisher.old) (truncated_in (oids_named publisher.old.tables names.now) self.old.tx publisher.old) publisher.old a publisher.new) }
+        ensures called { IfOk result
+            (λ a. Called
+            (truncate_refused (oids_named publisher.old.tables names.now) self.old.tx
+            publisher.old)
+            (truncated_in (oids_named publisher.old.tables names.now) self.old.tx publisher.old)
+            publisher.old a publisher.new) }
         ensures same { self.new ≡ self.old }
         ensures err { OnErr result (publisher.new ≡ publisher.old) }
         ensures grows { Grows publisher.old.log publisher.new.log }
@@ -165,7 +193,9 @@ impl Session {
         prefix: &Text,
         content: &Text,
     ) -> Answer
-        ensures called { Called (message_refusal self.old.tx prefix.now content.now publisher.old) (changed self.old.tx (message_with prefix.now content.now) publisher.old) publisher.old result publisher.new }
+        ensures called { Called (message_refusal self.old.tx prefix.now content.now publisher.old)
+            (changed self.old.tx (message_with prefix.now content.now) publisher.old) publisher.old
+            result publisher.new }
         ensures same { self.new ≡ self.old }
         ensures grows { Grows publisher.old.log publisher.new.log }
     {
@@ -177,7 +207,8 @@ impl Session {
     }
 
     fn savepoint<L: LogName, R: Wait>(&mut self, rt: &R, publisher: &mut Publisher<L>) -> Answer
-        ensures called { Called (savepoint_refusal self.old.tx publisher.old) (saved self.old.tx publisher.old) publisher.old result publisher.new }
+        ensures called { Called (savepoint_refusal self.old.tx publisher.old)
+            (saved self.old.tx publisher.old) publisher.old result publisher.new }
         ensures same { self.new ≡ self.old }
         ensures grows { Grows publisher.old.log publisher.new.log }
     {
@@ -193,7 +224,8 @@ impl Session {
         publisher: &mut Publisher<L>,
         depth: u32,
     ) -> Answer
-        ensures called { Called (rollback_refusal self.old.tx depth publisher.old) (rolled_back self.old.tx depth publisher.old) publisher.old result publisher.new }
+        ensures called { Called (rollback_refusal self.old.tx depth publisher.old)
+            (rolled_back self.old.tx depth publisher.old) publisher.old result publisher.new }
         ensures same { self.new ≡ self.old }
         ensures grows { Grows publisher.old.log publisher.new.log }
     {
@@ -204,7 +236,8 @@ impl Session {
     }
 
     fn release<L: LogName>(&mut self, publisher: &mut Publisher<L>, depth: u32) -> Answer
-        ensures called { Called (release_refusal self.old.tx depth publisher.old) (released self.old.tx depth publisher.old) publisher.old result publisher.new }
+        ensures called { Called (release_refusal self.old.tx depth publisher.old)
+            (released self.old.tx depth publisher.old) publisher.old result publisher.new }
         ensures same { self.new ≡ self.old }
         ensures grows { Grows publisher.old.log publisher.new.log }
     {
@@ -221,9 +254,13 @@ impl Session {
         publisher: &mut Publisher<L>,
         time: i64,
     ) -> Result<Receipt<L>, (Session, SessionFault)>
-        ensures ok { OnOk result ((end_refusal self.tx publisher.old ≡ None) × (publisher.new ≡ after_commit self.tx time publisher.old)) }
+        ensures ok { OnOk result
+            ((end_refusal self.tx publisher.old ≡ None)
+            × (publisher.new ≡ after_commit self.tx time publisher.old)) }
         ensures receipt { IfOk result (λ receipt. receipt ≡ receipt_of self.tx time publisher.old) }
-        ensures err { IfErr result (λ back. (back.0 ≡ self) × IsRefusalOrMemory (end_refusal self.tx publisher.old) back.1 × (publisher.new ≡ publisher.old)) }
+        ensures err { IfErr result
+            (λ back. (back.0 ≡ self) × IsRefusalOrMemory (end_refusal self.tx publisher.old) back.1
+            × (publisher.new ≡ publisher.old)) }
         ensures grows { Grows publisher.old.log publisher.new.log }
     {
         let Session { name, tx } = self;
@@ -239,8 +276,12 @@ impl Session {
         rt: &R,
         publisher: &mut Publisher<L>,
     ) -> Result<(), (Session, SessionFault)>
-        ensures ok { OnOk result ((end_refusal self.tx publisher.old ≡ None) × (publisher.new ≡ after_abort self.tx publisher.old)) }
-        ensures err { IfErr result (λ back. (back.0 ≡ self) × IsRefusalOrMemory (end_refusal self.tx publisher.old) back.1 × (publisher.new ≡ publisher.old)) }
+        ensures ok { OnOk result
+            ((end_refusal self.tx publisher.old ≡ None)
+            × (publisher.new ≡ after_abort self.tx publisher.old)) }
+        ensures err { IfErr result
+            (λ back. (back.0 ≡ self) × IsRefusalOrMemory (end_refusal self.tx publisher.old) back.1
+            × (publisher.new ≡ publisher.old)) }
         ensures grows { Grows publisher.old.log publisher.new.log }
     {
         let Session { name, tx } = self;

@@ -52,7 +52,8 @@ impl Sessions {
 
     /// Whether the step can't be done now: its transaction is unknown, or begins a second time.
     pub fn refuses(&self, name: &Text, step: &SessionStep) -> bool
-        ensures { (publisher : PublisherState) → result ≡ not (is_some (step_ask name.now step.now publisher self.now)) }
+        ensures { (publisher : PublisherState) →
+            result ≡ not (is_some (step_ask name.now step.now publisher self.now)) }
     {
         match step {
             SessionStep::Begin => self.has(name),
@@ -78,12 +79,18 @@ impl Sessions {
         publisher: &mut Publisher<L>,
         event: &Event,
     ) -> Result<(Answer, Option<Receipt<L>>), WorldFault>
-        ensures done { IfOk result (λ made. IsLine event.now (state_of publisher.old self.old) made.0 (state_of publisher.new self.new)) }
-        ensures receipt { IfOk result (λ made. made.1 ≡ receipt_due event.now (state_of publisher.old self.old) made.0) }
-        ensures bad { (result ≡ Err WorldFault.BadEvent) ↔ IsNone (ask_of event.now publisher.old self.old) }
+        ensures done { IfOk result
+            (λ made. IsLine event.now (state_of publisher.old self.old) made.0
+            (state_of publisher.new self.new)) }
+        ensures receipt { IfOk result
+            (λ made. made.1 ≡ receipt_due event.now (state_of publisher.old self.old) made.0) }
+        ensures bad { (result ≡ Err WorldFault.BadEvent)
+            ↔ IsNone (ask_of event.now publisher.old self.old) }
         ensures entered { result ≢ Err WorldFault.NoEntry }
-        ensures memory { result ≡ Err WorldFault.Memory → line_takes_memory event.now publisher.old ≡ true }
-        ensures err { OnErr result (state_of publisher.new self.new ≡ state_of publisher.old self.old) }
+        ensures memory { result ≡ Err WorldFault.Memory →
+            line_takes_memory event.now publisher.old ≡ true }
+        ensures err { OnErr result
+            (state_of publisher.new self.new ≡ state_of publisher.old self.old) }
         ensures grows { Grows publisher.old.log publisher.new.log }
     {
         match event {
@@ -100,12 +107,20 @@ impl Sessions {
         name: &Text,
         step: &SessionStep,
     ) -> Result<(Answer, Option<Receipt<L>>), WorldFault>
-        ensures done { IfOk result (λ made. IsCalled (step_ask name.now step.now publisher.old self.old) (state_of publisher.old self.old) made.0 (state_of publisher.new self.new)) }
-        ensures receipt { IfOk result (λ made. made.1 ≡ receipt_due (Event.Session name.now step.now) (state_of publisher.old self.old) made.0) }
-        ensures bad { (result ≡ Err WorldFault.BadEvent) ↔ IsNone (step_ask name.now step.now publisher.old self.old) }
+        ensures done { IfOk result
+            (λ made. IsCalled (step_ask name.now step.now publisher.old self.old)
+            (state_of publisher.old self.old) made.0 (state_of publisher.new self.new)) }
+        ensures receipt { IfOk result
+            (λ made. made.1
+            ≡ receipt_due (Event.Session name.now step.now) (state_of publisher.old self.old)
+            made.0) }
+        ensures bad { (result ≡ Err WorldFault.BadEvent)
+            ↔ IsNone (step_ask name.now step.now publisher.old self.old) }
         ensures entered { result ≢ Err WorldFault.NoEntry }
-        ensures memory { result ≡ Err WorldFault.Memory → takes_memory step.now publisher.old ≡ true }
-        ensures err { OnErr result (state_of publisher.new self.new ≡ state_of publisher.old self.old) }
+        ensures memory { result ≡ Err WorldFault.Memory →
+            takes_memory step.now publisher.old ≡ true }
+        ensures err { OnErr result
+            (state_of publisher.new self.new ≡ state_of publisher.old self.old) }
         ensures grows { Grows publisher.old.log publisher.new.log }
     {
         if self.refuses(name, step) {

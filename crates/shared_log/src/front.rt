@@ -59,7 +59,8 @@ impl<L: LogName> Front<L> {
     pub(crate) fn longer(&self, other: &Front<L>) -> Self
         ensures this { IsPrefix self.now result }
         ensures that { IsPrefix other.now result }
-        ensures ends { ends_confirmed self.now ≡ true → ends_confirmed other.now ≡ true → ends_confirmed result ≡ true }
+        ensures ends { ends_confirmed self.now ≡ true → ends_confirmed other.now ≡ true →
+            ends_confirmed result ≡ true }
     {
         let mut both = self.seen.again();
         both.learn(&other.seen);
@@ -73,7 +74,8 @@ impl<L: LogName> Front<L> {
     /// Offers a record behind all that was seen, and says whether it did. It did not where the history is longer.
     pub(crate) fn offer(&mut self, history: &History<L>, about: &Record) -> bool
         requires room { length self.old < 2 ^ 62 }
-        ensures { MatchBool result (self.new ≡ self.old ++ Offered about.now ∷ []) (IsLonger self.old self.new) }
+        ensures { MatchBool result (self.new ≡ self.old ++ Offered about.now ∷ [])
+            (IsLonger self.old self.new) }
     {
         let mut offer: Offer<Entry, u64, Law, Nothing> = self
             .seen
@@ -96,7 +98,8 @@ impl<L: LogName> Front<L> {
     /// Confirms what was offered last, and says whether it did. It did not where the history is longer.
     pub(crate) fn confirm(&mut self, history: &History<L>) -> bool
         requires room { length self.old < 2 ^ 62 }
-        ensures { MatchBool result (self.new ≡ self.old ++ Confirmed ∷ []) (IsLonger self.old self.new) }
+        ensures { MatchBool result (self.new ≡ self.old ++ Confirmed ∷ [])
+            (IsLonger self.old self.new) }
     {
         let mut offer: Offer<Entry, u64, Law, Nothing> = self
             .seen
@@ -121,7 +124,8 @@ impl<L: LogName> Front<L> {
         requires book { mark.now.seen.book ≡ L.book }
         requires ends { ends_confirmed self.now ≡ true }
         ensures held { result ≡ true → IsPrefix (settled self.now) (shown mark.now.seen.log) }
-        ensures behind { result ≡ false → IsPrefix mark.now.seen.log self.now × (length mark.now.seen.log + 1 < length self.now) }
+        ensures behind { result ≡ false →
+            IsPrefix mark.now.seen.log self.now × (length mark.now.seen.log + 1 < length self.now) }
     {
         let mut both = self.seen.again();
         both.learn(&mark.seen);

@@ -38,8 +38,12 @@ impl<L: LogName> LogReader<L> {
     pub fn fetch(&mut self, alloc: Global, max: usize) -> Result<Vec<Arc<Record>>, ReadFault>
         ensures grows { IsPrefix (seen_of self.old) (seen_of self.new) }
         ensures told { self.new.told ≡ self.old.told }
-        ensures gives { IfOk result (λ v. (shared v.items ≡ take max (drop self.old.place (seen_of self.new))) × (self.new.place ≡ self.old.place + vec_len v)) }
-        ensures holds { IfOk result (λ _. IsPrefix (settled self.new.told) (seen_of self.new) × IsWellFormedLog (seen_of self.new)) }
+        ensures gives { IfOk result
+            (λ v. (shared v.items ≡ take max (drop self.old.place (seen_of self.new)))
+            × (self.new.place ≡ self.old.place + vec_len v)) }
+        ensures holds { IfOk result
+            (λ _. IsPrefix (settled self.new.told) (seen_of self.new)
+            × IsWellFormedLog (seen_of self.new)) }
         ensures err { OnErr result (self.new.place ≡ self.old.place) }
         ensures why { IfErr result (λ fault. HasSeen fault self.old self.new) }
     {
@@ -76,8 +80,12 @@ impl<L: LogName> LogReader<L> {
     fn fetched(self, alloc: Global, max: usize) -> (Self, Result<Vec<Arc<Record>>, ReadFault>)
         ensures grows { IsPrefix (seen_of self) (seen_of result.0) }
         ensures told { result.0.told ≡ self.told }
-        ensures gives { IfOk result.1 (λ v. (shared v.items ≡ take max (drop self.place (seen_of result.0))) × (result.0.place ≡ self.place + vec_len v)) }
-        ensures holds { IfOk result.1 (λ _. IsPrefix (settled result.0.told) (seen_of result.0) × IsWellFormedLog (seen_of result.0)) }
+        ensures gives { IfOk result.1
+            (λ v. (shared v.items ≡ take max (drop self.place (seen_of result.0)))
+            × (result.0.place ≡ self.place + vec_len v)) }
+        ensures holds { IfOk result.1
+            (λ _. IsPrefix (settled result.0.told) (seen_of result.0)
+            × IsWellFormedLog (seen_of result.0)) }
         ensures err { OnErr result.1 (result.0.place ≡ self.place) }
         ensures why { IfErr result.1 (λ fault. HasSeen fault self result.0) }
     {

@@ -25,9 +25,13 @@ impl<L: LogName> LogReader<L> {
     pub fn resume(&mut self, start: u64, limit: usize) -> Result<u64, ReadFault>
         ensures grows { IsPrefix (seen_of self.old) (seen_of self.new) }
         ensures told { self.new.told ≡ self.old.told }
-        ensures place { OnOk result (self.new.place ≡ restart_place start (take limit (seen_of self.new))) }
-        ensures position { IfOk result (λ position. position ≡ restart start (take limit (seen_of self.new))) }
-        ensures holds { OnOk result (IsPrefix (settled self.new.told) (seen_of self.new) × IsWellFormedLog (seen_of self.new)) }
+        ensures place { OnOk result
+            (self.new.place ≡ restart_place start (take limit (seen_of self.new))) }
+        ensures position { IfOk result
+            (λ position. position ≡ restart start (take limit (seen_of self.new))) }
+        ensures holds { OnOk result
+            (IsPrefix (settled self.new.told) (seen_of self.new)
+            × IsWellFormedLog (seen_of self.new)) }
         ensures err { OnErr result (self.new.place ≡ self.old.place) }
         ensures why { IfErr result (λ fault. HasSeen fault self.old self.new) }
         ensures entry { result ≢ Err ReadFault.Memory }
@@ -40,9 +44,13 @@ impl<L: LogName> LogReader<L> {
     fn resumed(self, start: u64, limit: usize) -> (Self, Result<u64, ReadFault>)
         ensures grows { IsPrefix (seen_of self) (seen_of result.0) }
         ensures told { result.0.told ≡ self.told }
-        ensures place { OnOk result.1 (result.0.place ≡ restart_place start (take limit (seen_of result.0))) }
-        ensures position { IfOk result.1 (λ position. position ≡ restart start (take limit (seen_of result.0))) }
-        ensures holds { OnOk result.1 (IsPrefix (settled result.0.told) (seen_of result.0) × IsWellFormedLog (seen_of result.0)) }
+        ensures place { OnOk result.1
+            (result.0.place ≡ restart_place start (take limit (seen_of result.0))) }
+        ensures position { IfOk result.1
+            (λ position. position ≡ restart start (take limit (seen_of result.0))) }
+        ensures holds { OnOk result.1
+            (IsPrefix (settled result.0.told) (seen_of result.0)
+            × IsWellFormedLog (seen_of result.0)) }
         ensures err { OnErr result.1 (result.0.place ≡ self.place) }
         ensures why { IfErr result.1 (λ fault. HasSeen fault self result.0) }
         ensures entry { result.1 ≢ Err ReadFault.Memory }

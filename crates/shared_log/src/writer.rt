@@ -78,7 +78,8 @@ impl<L: LogName> LogWriter<L> {
         requires some { 0 < readers }
         requires few { readers ≤ 32 }
         ensures empty { IfOk result (λ r. r.0 ≡ []) }
-        ensures readers { IfOk result (λ r. (vec_len r.1 ≡ readers) × AllByRecursion (λ reader. reader.place ≡ 0) r.1.items) }
+        ensures readers { IfOk result
+            (λ r. (vec_len r.1 ≡ readers) × AllByRecursion (λ reader. reader.place ≡ 0) r.1.items) }
     {
         let (history, front) = opened.named::<L>();
         let mark = front.mark();
@@ -133,7 +134,8 @@ impl<L: LogName> LogWriter<L> {
         ensures same { self.new ≡ self.old }
         ensures kept { IsPrefix reader.old.told reader.new.told }
         ensures told { IsPrefix self.old (settled reader.new.told) }
-        ensures place { (seen_of reader.new ≡ seen_of reader.old) × (reader.new.place ≡ reader.old.place) }
+        ensures place { (seen_of reader.new ≡ seen_of reader.old)
+            × (reader.new.place ≡ reader.old.place) }
     {
         reader.told = reader.told.longer(&self.sure);
         self.count
@@ -161,7 +163,10 @@ impl<L: LogName> LogWriter<L> {
         requires good { IsWellFormedLog (self.old ++ record_after self.old body ∷ []) }
         requires top { top_of (self.old ++ record_after self.old body ∷ []) (xid_in body) ≡ top }
         requires own { is_note body ≡ false }
-        ensures ok { IfOk result (λ r. (self.new ≡ self.old ++ record_after self.old body ∷ []) × TellsOf (record_after self.old body) r.start r.end × (r.place ≡ length self.old) × (settled r.front ≡ self.new)) }
+        ensures ok { IfOk result
+            (λ r. (self.new ≡ self.old ++ record_after self.old body ∷ [])
+            × TellsOf (record_after self.old body) r.start r.end × (r.place ≡ length self.old)
+            × (settled r.front ≡ self.new)) }
         ensures err { OnErr result (self.new ≡ self.old) }
     {
         mem::replace_with(self, (rt, top, body), |writer, about: (&R, u32, Body)| {
@@ -176,8 +181,12 @@ impl<L: LogName> LogWriter<L> {
         message: LoggedChange,
     ) -> Result<Receipt<L>, AllocError>
         requires fits { end_of FIRST_POSITION self.old + size_of (Body.Note message) < 2 ^ 64 }
-        requires good { IsWellFormedLog (self.old ++ record_after self.old (Body.Note message) ∷ []) }
-        ensures ok { IfOk result (λ r. (self.new ≡ self.old ++ record_after self.old (Body.Note message) ∷ []) × TellsOf (record_after self.old (Body.Note message)) r.start r.end × (r.place ≡ length self.old) × (settled r.front ≡ self.new)) }
+        requires good { IsWellFormedLog
+            (self.old ++ record_after self.old (Body.Note message) ∷ []) }
+        ensures ok { IfOk result
+            (λ r. (self.new ≡ self.old ++ record_after self.old (Body.Note message) ∷ [])
+            × TellsOf (record_after self.old (Body.Note message)) r.start r.end
+            × (r.place ≡ length self.old) × (settled r.front ≡ self.new)) }
         ensures err { OnErr result (self.new ≡ self.old) }
     {
         mem::replace_with(self, (rt, message), |writer, about: (&R, LoggedChange)| {
@@ -193,8 +202,12 @@ impl<L: LogName> LogWriter<L> {
     ) -> (Self, Result<Receipt<L>, AllocError>)
         requires fits { end_of FIRST_POSITION self + size_of body < 2 ^ 64 }
         requires good { IsWellFormedLog (self ++ record_after self body ∷ []) }
-        requires top { owner_of (self ++ record_after self body ∷ []) (record_after self body) ≡ top }
-        ensures ok { IfOk result.1 (λ r. (result.0 ≡ self ++ record_after self body ∷ []) × TellsOf (record_after self body) r.start r.end × (r.place ≡ length self) × (settled r.front ≡ result.0)) }
+        requires top { owner_of (self ++ record_after self body ∷ []) (record_after self body)
+            ≡ top }
+        ensures ok { IfOk result.1
+            (λ r. (result.0 ≡ self ++ record_after self body ∷ [])
+            × TellsOf (record_after self body) r.start r.end × (r.place ≡ length self)
+            × (settled r.front ≡ result.0)) }
         ensures err { OnErr result.1 (result.0 ≡ self) }
     {
         let start = self.end;
@@ -218,7 +231,10 @@ impl<L: LogName> LogWriter<L> {
         requires good { IsWellFormedLog (self ++ arc_value entry ∷ []) }
         requires top { owner_of (self ++ arc_value entry ∷ []) (arc_value entry) ≡ about.0 }
         requires ends { is_end (arc_value entry).body ≡ about.1 }
-        ensures ok { IfOk result.1 (λ r. (result.0 ≡ self ++ arc_value entry ∷ []) × TellsOf (arc_value entry) r.start r.end × (r.place ≡ length self) × (settled r.front ≡ result.0)) }
+        ensures ok { IfOk result.1
+            (λ r. (result.0 ≡ self ++ arc_value entry ∷ [])
+            × TellsOf (arc_value entry) r.start r.end × (r.place ≡ length self)
+            × (settled r.front ≡ result.0)) }
         ensures err { OnErr result.1 (result.0 ≡ self) }
     {
         let LogWriter {
@@ -329,7 +345,9 @@ fn readers_of<L: LogName>(
     count: usize,
 ) -> Result<Vec<LogReader<L>>, AllocError>
     requires fresh { ends_confirmed front.now ≡ true }
-    ensures { IfOk result (λ readers. (vec_len readers ≡ count) × AllByRecursion (λ reader. reader.place ≡ 0) readers.items) }
+    ensures { IfOk result
+        (λ readers. (vec_len readers ≡ count)
+        × AllByRecursion (λ reader. reader.place ≡ 0) readers.items) }
 {
     let mut readers = Vec::new(alloc);
     for _ in 0..count {

@@ -42,7 +42,9 @@ impl OpenedSlots {
     ) -> Result<(SlotTable<L>, Vec<SlotSeat<L>>), AllocError>
         requires name { self.first.table_id ≡ L.table }
         requires seats { 0 < seats }
-        ensures { IfOk result (λ made. (vec_len made.1 ≡ seats) × All (IsFresh seats) made.1.items × ((others : List View) × (made.1.items ≡ others ++ first_of seats ∷ []))) }
+        ensures { IfOk result
+            (λ made. (vec_len made.1 ≡ seats) × All (IsFresh seats) made.1.items
+            × ((others : List View) × (made.1.items ≡ others ++ first_of seats ∷ []))) }
     {
         let OpenedSlots {
             alloc,

@@ -37,7 +37,8 @@ impl<L: SlotName> SlotTable<L> {
         requires { place < 16 }
         ensures { MatchOption result
             ((found : ℕ) × (found ≢ 0) × Did Create place found found seat.old seat.new)
-            (λ lease. (lease.place ≡ place) × Holds place seat.new × Did Create place 0 (held_by seat.old.number) seat.old seat.new) }
+            (λ lease. (lease.place ≡ place) × Holds place seat.new
+            × Did Create place 0 (held_by seat.old.number) seat.old seat.new) }
     {
         let never = Standing::Never.word();
         let mine = Standing::Held(seat.number).word();
@@ -74,7 +75,8 @@ impl<L: SlotName> SlotTable<L> {
     pub fn claim(&self, seat: &mut SlotSeat<L>, place: usize) -> Result<Lease<L>, SlotFault>
         requires { place < 16 }
         ensures { MatchResult result
-            (λ lease. (lease.place ≡ place) × Holds place seat.new × Did Claim place 1 (held_by seat.old.number) seat.old seat.new)
+            (λ lease. (lease.place ≡ place) × Holds place seat.new
+            × Did Claim place 1 (held_by seat.old.number) seat.old seat.new)
             (λ e. (found : ℕ) × IsRefusal e found × Did Claim place found found seat.old seat.new) }
     {
         let free = Standing::Free.word();
@@ -96,7 +98,8 @@ impl<L: SlotName> SlotTable<L> {
     /// Raises the confirmed position, and answers it: the greater of the old and the new.
     pub fn confirm(&self, seat: &mut SlotSeat<L>, lease: &mut Lease<L>, position: u64) -> u64
         requires { Holds lease.old.place seat.old }
-        ensures raised { (found : ℕ) × (result ≡ max found position) × DidAt Raise lease.old.place found result seat.old seat.new }
+        ensures raised { (found : ℕ) × (result ≡ max found position)
+            × DidAt Raise lease.old.place found result seat.old seat.new }
         ensures lease { (lease.new ≡ lease.old) × Holds lease.new.place seat.new }
     {
         let word = position_word(lease.place);
@@ -119,7 +122,8 @@ impl<L: SlotName> SlotTable<L> {
     /// Makes the place free.
     pub fn release(&self, seat: &mut SlotSeat<L>, lease: Lease<L>)
         requires { Holds lease.place seat.old }
-        ensures { seat.new ≡ with_step seat.old (slot_step Release lease.place (held_by seat.old.number) 1) }
+        ensures { seat.new
+            ≡ with_step seat.old (slot_step Release lease.place (held_by seat.old.number) 1) }
     {
         let Lease { place, of: _ } = lease;
         let free = Standing::Free.word();
@@ -131,9 +135,9 @@ impl<L: SlotName> SlotTable<L> {
     /// One compare and exchange, which drops a free place. A held one is L2, one that was never made or was dropped L1.
     pub fn drop_slot(&self, seat: &mut SlotSeat<L>, place: usize) -> Result<(), SlotFault>
         requires { place < 16 }
-        ensures { MatchResult result
-            (λ _. Did Retire place 1 2 seat.old seat.new)
-            (λ e. (found : ℕ) × IsRefusal e found × Did Retire place found found seat.old seat.new) }
+        ensures { MatchResult result (λ _. Did Retire place 1 2 seat.old seat.new)
+            (λ e. (found : ℕ) × IsRefusal e found
+            × Did Retire place found found seat.old seat.new) }
     {
         let free = Standing::Free.word();
         let dropped = Standing::Dropped.word();

@@ -23,7 +23,8 @@ pub fn resume<L: LogName>(
 ) -> Result<u64, ReadFault>
     ensures same { publisher.new ≡ publisher.old }
     ensures first { IfOk result (λ first. first ≡ restart start publisher.old.log) }
-    ensures begins { IfOk result (λ first. BeginsAt publisher.old.log start first reader.new.place) }
+    ensures begins { IfOk result
+        (λ first. BeginsAt publisher.old.log start first reader.new.place) }
     ensures entry { result ≢ Err ReadFault.Memory }
 {
     let count = publisher.tell(reader);
@@ -39,8 +40,11 @@ pub(crate) fn read_on<L: LogName>(
     clock: i64,
 ) -> Result<Result<(), SendFault>, ReadFault>
     ensures same { publisher.new ≡ publisher.old }
-    ensures reads { IfOk result (Reads clock walsender.old.sender walsender.new.sender (next_records max walsender.old.reader.place publisher.old.log)) }
-    ensures serves { (written : List ℕ) → Serves publisher.old.log written walsender.old → Serves publisher.old.log written walsender.new }
+    ensures reads { IfOk result
+        (Reads clock walsender.old.sender walsender.new.sender
+        (next_records max walsender.old.reader.place publisher.old.log)) }
+    ensures serves { (written : List ℕ) → Serves publisher.old.log written walsender.old →
+        Serves publisher.old.log written walsender.new }
     ensures unread { OnErr result (walsender.new.sender ≡ walsender.old.sender) }
     ensures why { IfErr result (λ fault. HasSeen fault walsender.old.reader walsender.new.reader) }
     ensures told { IsPrefix publisher.old.log (settled walsender.new.reader.told) }
@@ -55,7 +59,8 @@ fn unread_of<L: LogName>(publisher: &mut Publisher<L>, reader: &mut LogReader<L>
     ensures same { publisher.new ≡ publisher.old }
     ensures unread { result ≡ length publisher.old.log - reader.old.place }
     ensures told { IsPrefix publisher.old.log (settled reader.new.told) }
-    ensures place { (seen_of reader.new ≡ seen_of reader.old) × (reader.new.place ≡ reader.old.place) }
+    ensures place { (seen_of reader.new ≡ seen_of reader.old)
+        × (reader.new.place ≡ reader.old.place) }
     ensures publisher { IsPublisher publisher.old }
 {
     let count = publisher.tell(reader);

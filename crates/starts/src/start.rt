@@ -49,7 +49,8 @@ impl<L: LogName> Start<L> {
         arena: Arena,
     ) -> Self
         ensures fresh { start_state result ≡ new_start connection selection position first }
-        ensures served { (log : List Record) → BeginsAt log position first reader.place → IsServed log result }
+        ensures served { (log : List Record) → BeginsAt log position first reader.place →
+            IsServed log result }
     {
         Start {
             connection,
@@ -106,14 +107,16 @@ impl<L: LogName> Start<L> {
         requires served { IsServed publisher.old.log self.old }
         requires opened { is_open self.old.stage ≡ true }
         requires room { vec_len readers.old < vec_capacity readers.old }
-        ensures acts { IfOk result (λ a. Acts publisher.old.log action (start_state self.old) a (start_state self.new)) }
+        ensures acts { IfOk result
+            (λ a. Acts publisher.old.log action (start_state self.old) a (start_state self.new)) }
         ensures err { OnErr result (start_state self.new ≡ start_state self.old) }
         ensures happens { result ≢ Err WorldFault.BadEvent }
         ensures entry { result ≡ Err WorldFault.NoEntry → is_read action ≡ true }
         ensures memory { result ≡ Err WorldFault.Memory → takes_memory action ≡ true }
         ensures served { IsServed publisher.old.log self.new }
         ensures same { publisher.new ≡ publisher.old }
-        ensures readers { vec_len readers.new + running (start_state self.new ∷ []) ≡ vec_len readers.old + running (start_state self.old ∷ []) }
+        ensures readers { vec_len readers.new + running (start_state self.new ∷ [])
+            ≡ vec_len readers.old + running (start_state self.old ∷ []) }
         ensures capacity { vec_capacity readers.new ≡ vec_capacity readers.old }
     {
         match action {
@@ -133,10 +136,13 @@ impl<L: LogName> Start<L> {
     ) -> Result<Answer, WorldFault>
         requires served { IsServed publisher.old.log self.old }
         requires opened { is_open self.old.stage ≡ true }
-        ensures acts { IfOk result (λ a. Acts publisher.old.log (Action.Read max clock) (start_state self.old) a (start_state self.new)) }
+        ensures acts { IfOk result
+            (λ a. Acts publisher.old.log (Action.Read max clock) (start_state self.old) a
+            (start_state self.new)) }
         ensures err { OnErr result (start_state self.new ≡ start_state self.old) }
         ensures happens { result ≢ Err WorldFault.BadEvent }
-        ensures memory { result ≡ Err WorldFault.Memory → IsPrefix publisher.old.log (seen_at self.new.stage) }
+        ensures memory { result ≡ Err WorldFault.Memory →
+            IsPrefix publisher.old.log (seen_at self.new.stage) }
         ensures served { IsServed publisher.old.log self.new }
         ensures same { publisher.new ≡ publisher.old }
         ensures opened { is_open self.new.stage ≡ true }
@@ -155,7 +161,8 @@ impl<L: LogName> Start<L> {
     fn keepalive(&mut self, publisher: &Publisher<L>, clock: i64) -> Answer
         requires served { IsServed publisher.now.log self.old }
         requires opened { is_open self.old.stage ≡ true }
-        ensures acts { Acts publisher.now.log (Action.Keepalive clock) (start_state self.old) result (start_state self.new) }
+        ensures acts { Acts publisher.now.log (Action.Keepalive clock) (start_state self.old) result
+            (start_state self.new) }
         ensures served { IsServed publisher.now.log self.new }
         ensures opened { is_open self.new.stage ≡ true }
     {
@@ -171,7 +178,9 @@ impl<L: LogName> Start<L> {
     fn drain(&mut self, publisher: &Publisher<L>, max: u32) -> Result<Answer, WorldFault>
         requires served { IsServed publisher.now.log self.old }
         requires opened { is_open self.old.stage ≡ true }
-        ensures acts { IfOk result (λ a. Acts publisher.now.log (Action.Drain max) (start_state self.old) a (start_state self.new)) }
+        ensures acts { IfOk result
+            (λ a. Acts publisher.now.log (Action.Drain max) (start_state self.old) a
+            (start_state self.new)) }
         ensures err { OnErr result (start_state self.new ≡ start_state self.old) }
         ensures happens { result ≢ Err WorldFault.BadEvent }
         ensures entered { result ≢ Err WorldFault.NoEntry }
@@ -195,7 +204,8 @@ impl<L: LogName> Start<L> {
         requires served { IsServed publisher.now.log self.old }
         requires opened { is_open self.old.stage ≡ true }
         requires room { vec_len readers.old < vec_capacity readers.old }
-        ensures acts { Acts publisher.now.log Action.Cut (start_state self.old) result (start_state self.new) }
+        ensures acts { Acts publisher.now.log Action.Cut (start_state self.old) result
+            (start_state self.new) }
         ensures served { IsServed publisher.now.log self.new }
         ensures closed { is_open self.new.stage ≡ false }
         ensures readers { vec_len readers.new ≡ vec_len readers.old + 1 }

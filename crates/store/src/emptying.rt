@@ -21,7 +21,9 @@ impl Slots {
         top: u32,
         oids: &[u32],
     ) -> Result<Items<Undo>, AllocError>
-        ensures ok { OnOk result ((place : List ℕ) → slot_at self.new place ≡ emptied_at top oids.now place (slot_at self.old place)) }
+        ensures ok { OnOk result
+            ((place : List ℕ) →
+            slot_at self.new place ≡ emptied_at top oids.now place (slot_at self.old place)) }
         ensures noted { IfOk result (λ undos. AreNoted oids.now self.old self.new undos) }
         ensures err { OnErr result (SameSlots self.old self.new) }
     {
@@ -43,8 +45,14 @@ impl Slots {
         oids: &[u32],
         rows: &[Items<u8>],
     ) -> Result<(), AllocError>
-        ensures ok { OnOk result ((place : List ℕ) → slot_at self.new place ≡ put_at (Some top) (all_emptied oids.now) place (taken_at rows.now place (slot_at self.old place))) }
-        ensures noted { (start : Entries) → AllByRecursion (IsOf oids.now start) rows.now → AreNoted oids.now start self.old undos.old.items → AreNoted oids.now start self.new undos.new.items }
+        ensures ok { OnOk result
+            ((place : List ℕ) →
+            slot_at self.new place
+            ≡ put_at (Some top) (all_emptied oids.now) place
+            (taken_at rows.now place (slot_at self.old place))) }
+        ensures noted { (start : Entries) → AllByRecursion (IsOf oids.now start) rows.now →
+            AreNoted oids.now start self.old undos.old.items →
+            AreNoted oids.now start self.new undos.new.items }
     {
         self.take_rows(undos, rows)?;
         self.hold_tables(undos, top, oids)
@@ -52,8 +60,13 @@ impl Slots {
 
     /// Takes the rows at these places away. Their holders stay.
     fn take_rows(&mut self, undos: &mut Vec<Undo>, rows: &[Items<u8>]) -> Result<(), AllocError>
-        ensures ok { OnOk result ((place : List ℕ) → slot_at self.new place ≡ taken_at rows.now place (slot_at self.old place)) }
-        ensures noted { (oids : List ℕ) (start : Entries) → AllByRecursion (IsOf oids start) rows.now → AreNoted oids start self.old undos.old.items → AreNoted oids start self.new undos.new.items }
+        ensures ok { OnOk result
+            ((place : List ℕ) →
+            slot_at self.new place ≡ taken_at rows.now place (slot_at self.old place)) }
+        ensures noted { (oids : List ℕ) (start : Entries) →
+            AllByRecursion (IsOf oids start) rows.now →
+            AreNoted oids start self.old undos.old.items →
+            AreNoted oids start self.new undos.new.items }
     {
         for row in rows {
             let place = row.as_slice();
@@ -70,8 +83,12 @@ impl Slots {
         top: u32,
         oids: &[u32],
     ) -> Result<(), AllocError>
-        ensures ok { OnOk result ((place : List ℕ) → slot_at self.new place ≡ put_at (Some top) (all_emptied oids.now) place (slot_at self.old place)) }
-        ensures noted { (start : Entries) → AreNoted oids.now start self.old undos.old.items → AreNoted oids.now start self.new undos.new.items }
+        ensures ok { OnOk result
+            ((place : List ℕ) →
+            slot_at self.new place
+            ≡ put_at (Some top) (all_emptied oids.now) place (slot_at self.old place)) }
+        ensures noted { (start : Entries) → AreNoted oids.now start self.old undos.old.items →
+            AreNoted oids.now start self.new undos.new.items }
     {
         for oid in oids {
             let table = Place::of_table(*oid);

@@ -52,7 +52,8 @@ impl Journal {
     }
 
     pub fn pop(&mut self) -> Option<Items<Undo>>
-        ensures { MatchOption result ((self.old ≡ []) × (self.new ≡ [])) (λ undos. self.old ≡ self.new ++ undos ∷ []) }
+        ensures { MatchOption result ((self.old ≡ []) × (self.new ≡ []))
+            (λ undos. self.old ≡ self.new ++ undos ∷ []) }
     {
         self.changes.pop()
     }
@@ -107,8 +108,13 @@ impl Journals {
 
     /// Adds a change of a transaction, or gives it back where memory is refused.
     pub fn push(&mut self, top: u32, undos: Items<Undo>) -> Result<(), Items<Undo>>
-        ensures ok { OnOk result ((x : ℕ) → journal_of x self.new ≡ (if top == x then journal_of x self.old ++ undos ∷ [] else journal_of x self.old)) }
-        ensures err { IfErr result (λ back. (back ≡ undos) × ((x : ℕ) → journal_of x self.new ≡ journal_of x self.old)) }
+        ensures ok { OnOk result
+            ((x : ℕ) →
+            journal_of x self.new
+            ≡ (if top == x then journal_of x self.old ++ undos ∷ []
+            else journal_of x self.old)) }
+        ensures err { IfErr result
+            (λ back. (back ≡ undos) × ((x : ℕ) → journal_of x self.new ≡ journal_of x self.old)) }
     {
         if self.open(top).is_err() {
             return Err(undos);
@@ -121,9 +127,12 @@ impl Journals {
 
     /// Takes out the last change of a transaction, if it is behind the first `mark`.
     pub fn pop_behind(&mut self, top: u32, mark: usize) -> Option<Items<Undo>>
-        ensures behind { MatchOption result (length (journal_of top self.old) ≤ mark) (λ _. mark < length (journal_of top self.old)) }
-        ensures last { MatchOption result (journal_of top self.new ≡ journal_of top self.old) (λ undos. journal_of top self.old ≡ journal_of top self.new ++ undos ∷ []) }
-        ensures others { (x : ℕ) → nat_eq top x ≡ false → journal_of x self.new ≡ journal_of x self.old }
+        ensures behind { MatchOption result (length (journal_of top self.old) ≤ mark)
+            (λ _. mark < length (journal_of top self.old)) }
+        ensures last { MatchOption result (journal_of top self.new ≡ journal_of top self.old)
+            (λ undos. journal_of top self.old ≡ journal_of top self.new ++ undos ∷ []) }
+        ensures others { (x : ℕ) → nat_eq top x ≡ false →
+            journal_of x self.new ≡ journal_of x self.old }
     {
         if self.mark(top) <= mark {
             return None;
@@ -136,8 +145,10 @@ impl Journals {
 
     /// Takes out the journal of a transaction.
     pub fn remove(&mut self, top: u32) -> Option<Journal>
-        ensures journal { MatchOption result (journal_of top self.old ≡ []) (λ journal. journal ≡ journal_of top self.old) }
-        ensures others { (x : ℕ) → journal_of x self.new ≡ (if top == x then [] else journal_of x self.old) }
+        ensures journal { MatchOption result (journal_of top self.old ≡ [])
+            (λ journal. journal ≡ journal_of top self.old) }
+        ensures others { (x : ℕ) →
+            journal_of x self.new ≡ (if top == x then [] else journal_of x self.old) }
     {
         self.by_top.swap_remove(&top)
     }

@@ -17,7 +17,11 @@ use tables::{Change, MAX_TRUNCATED, Row, repeats};
 impl Store {
     /// The place of a row that may be inserted.
     pub(crate) fn judge_insert(&self, top: u32, oid: u32, row: &Row) -> Result<Place, StoreFault>
-        ensures refused { RefusedExactly (insert_fault self.now.tables oid row.now (key_held self.now top (key_of self.now.tables oid row.now)) (is_some (row_at self.now (key_of self.now.tables oid row.now)))) result }
+        ensures refused { RefusedExactly
+            (insert_fault self.now.tables oid row.now
+            (key_held self.now top (key_of self.now.tables oid row.now))
+            (is_some (row_at self.now (key_of self.now.tables oid row.now))))
+            result }
         ensures place { IfOk result (λ place. place ≡ row_place self.now.tables oid row.now) }
         ensures fits { OnOk result (FitsRow self.now.tables oid row.now) }
     {
@@ -46,11 +50,20 @@ impl Store {
         key: &Row,
         row: &Row,
     ) -> Result<(Place, Place), StoreFault>
-        ensures refused { AreShort self.now.slots → RefusedExactly (update_fault self.now.tables (record { oid = oid; values = key.now }) row.now
-            (key_held self.now top (record { oid = oid; values = key.now }) || key_held self.now top (key_of self.now.tables oid row.now))
+        ensures refused { AreShort self.now.slots →
+            RefusedExactly
+            (update_fault self.now.tables (record { oid = oid; values = key.now }) row.now
+            (key_held self.now top (record { oid = oid; values = key.now })
+            || key_held self.now top (key_of self.now.tables oid row.now))
             (is_some (row_at self.now (record { oid = oid; values = key.now })))
-            (not (same_key (key_text (record { oid = oid; values = key.now })) (row_place self.now.tables oid row.now)) && is_some (row_at self.now (key_of self.now.tables oid row.now)))) result }
-        ensures places { IfOk result (λ places. (places.0 ≡ key_text (record { oid = oid; values = key.now })) × (places.1 ≡ row_place self.now.tables oid row.now)) }
+            (not
+            (same_key (key_text (record { oid = oid; values = key.now }))
+            (row_place self.now.tables oid row.now))
+            && is_some (row_at self.now (key_of self.now.tables oid row.now))))
+            result }
+        ensures places { IfOk result
+            (λ places. (places.0 ≡ key_text (record { oid = oid; values = key.now }))
+            × (places.1 ≡ row_place self.now.tables oid row.now)) }
         ensures fits { OnOk result (FitsRow self.now.tables oid row.now) }
     {
         match self.catalog.table(oid) {
@@ -79,8 +92,12 @@ impl Store {
         key: &Row,
         to: Place,
     ) -> Result<(Place, Place), StoreFault>
-        ensures refused { AreShort self.now.slots → RefusedExactly (keys_fault self.now top (record { oid = oid; values = key.now }) to) result }
-        ensures places { IfOk result (λ places. (places.0 ≡ key_text (record { oid = oid; values = key.now })) × (places.1 ≡ to)) }
+        ensures refused { AreShort self.now.slots →
+            RefusedExactly (keys_fault self.now top (record { oid = oid; values = key.now }) to)
+            result }
+        ensures places { IfOk result
+            (λ places. (places.0 ≡ key_text (record { oid = oid; values = key.now }))
+            × (places.1 ≡ to)) }
     {
         let to_is_held = self.is_held(top, oid, &to);
         match Place::of_key(oid, key) {
@@ -115,9 +132,14 @@ impl Store {
 
     /// The place of a row that may be deleted.
     pub(crate) fn judge_delete(&self, top: u32, oid: u32, key: &Row) -> Result<Place, StoreFault>
-        ensures refused { AreShort self.now.slots → RefusedExactly (delete_fault self.now.tables (record { oid = oid; values = key.now })
-            (key_held self.now top (record { oid = oid; values = key.now })) (is_some (row_at self.now (record { oid = oid; values = key.now })))) result }
-        ensures place { IfOk result (λ place. place ≡ key_text (record { oid = oid; values = key.now })) }
+        ensures refused { AreShort self.now.slots →
+            RefusedExactly
+            (delete_fault self.now.tables (record { oid = oid; values = key.now })
+            (key_held self.now top (record { oid = oid; values = key.now }))
+            (is_some (row_at self.now (record { oid = oid; values = key.now }))))
+            result }
+        ensures place { IfOk result
+            (λ place. place ≡ key_text (record { oid = oid; values = key.now })) }
     {
         match self.catalog.table(oid) {
             Some(table) => {
@@ -132,7 +154,8 @@ impl Store {
 
     /// Whether tables may be emptied.
     pub(crate) fn judge_truncate(&self, top: u32, oids: &[u32]) -> Result<(), StoreFault>
-        ensures refused { (history : List Made) → Keeps self.now history → RefusedExactly (truncate_refusal self.now.tables history top oids.now) result }
+        ensures refused { (history : List Made) → Keeps self.now history →
+            RefusedExactly (truncate_refusal self.now.tables history top oids.now) result }
         ensures fits { OnOk result (FitsChange self.now.tables (Change.Truncate oids.now)) }
         ensures few { result ≡ Err StoreFault.TooLarge → MAX_TABLES < length self.now.tables }
     {
@@ -159,9 +182,16 @@ impl Store {
 
     /// The place of a key at which a row stands that no other transaction holds.
     fn judge_key(&self, top: u32, oid: u32, key: &Row) -> Result<Place, StoreFault>
-        ensures refused { AreShort self.now.slots → RefusedExactly (unless (key_held self.now top (record { oid = oid; values = key.now })) StoreFault.KeyHeld
-            (unless (not (is_some (row_at self.now (record { oid = oid; values = key.now })))) StoreFault.NoSuchRow None)) result }
-        ensures place { IfOk result (λ place. place ≡ key_text (record { oid = oid; values = key.now })) }
+        ensures refused { AreShort self.now.slots →
+            RefusedExactly
+            (unless (key_held self.now top (record { oid = oid; values = key.now }))
+            StoreFault.KeyHeld
+            (unless
+            (not (is_some (row_at self.now (record { oid = oid; values = key.now }))))
+            StoreFault.NoSuchRow None))
+            result }
+        ensures place { IfOk result
+            (λ place. place ≡ key_text (record { oid = oid; values = key.now })) }
     {
         match Place::of_key(oid, key) {
             Some(place) => {
@@ -179,7 +209,9 @@ impl Store {
 
     /// Why there is nothing at a key that is longer than that of any row.
     fn judge_long(&self, top: u32, oid: u32) -> StoreFault
-        ensures { result ≡ (if is_other top (slot_at self.now.slots (table_place oid)).owner then StoreFault.KeyHeld else StoreFault.NoSuchRow) }
+        ensures { result
+            ≡ (if is_other top (slot_at self.now.slots (table_place oid)).owner
+            then StoreFault.KeyHeld else StoreFault.NoSuchRow) }
     {
         if self.is_others(top, &Place::of_table(oid)) {
             StoreFault::KeyHeld
@@ -190,7 +222,9 @@ impl Store {
 
     /// Whether another transaction holds a place, or its table.
     fn is_held(&self, top: u32, oid: u32, place: &Place) -> bool
-        ensures { result ≡ (is_other top (slot_at self.now.slots (table_place oid)).owner || is_other top (slot_at self.now.slots place.now).owner) }
+        ensures { result
+            ≡ (is_other top (slot_at self.now.slots (table_place oid)).owner
+            || is_other top (slot_at self.now.slots place.now).owner) }
     {
         let table = Place::of_table(oid);
         self.is_others(top, &table) || self.is_others(top, place)

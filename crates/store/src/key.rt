@@ -139,7 +139,8 @@ impl Place {
     /// The place of a key, or None where it is longer than that of any row.
     #[tactic(auto, using(crate::proofs::Keys::key_length))]
     pub fn of_key(oid: u32, key: &Row) -> Option<Self>
-        ensures { MatchOption result (MAX_KEY_LENGTH < length (key_text (record { oid = oid; values = key.now })))
+        ensures { MatchOption result
+            (MAX_KEY_LENGTH < length (key_text (record { oid = oid; values = key.now })))
             (λ place. place ≡ key_text (record { oid = oid; values = key.now })) }
     {
         match key.coded_len() {
@@ -166,7 +167,8 @@ impl Place {
     pub fn of_row(oid: u32, columns: &[Column], row: &Row) -> Self
         requires short { row_length row.now ≤ MAX_ROW_LENGTH }
         requires whole { length columns.now ≡ length row.now }
-        ensures { result ≡ key_text (record { oid = oid; values = key_values columns.now row.now }) }
+        ensures { result
+            ≡ key_text (record { oid = oid; values = key_values columns.now row.now }) }
     {
         let values = row.values();
         let mut place = Place::new();

@@ -26,7 +26,8 @@ pub fn message_of(alloc: Global, prefix: &str, content: &[u8]) -> Result<Message
 
 #[tactic(auto, using(pqformat::proofs::Texts::valid_text))]
 fn judge(prefix: &str, content: &[u8]) -> Result<(), StoreFault>
-    ensures fits { OnOk result (FitsMessage (record { prefix = prefix.now; content = content.now })) }
+    ensures fits { OnOk result
+        (FitsMessage (record { prefix = prefix.now; content = content.now })) }
     ensures refused { RefusedExactly (message_fault prefix.now content.now) result }
 {
     if !is_prefix(prefix) {
@@ -41,11 +42,20 @@ fn judge(prefix: &str, content: &[u8]) -> Result<(), StoreFault>
 impl Store {
     /// Makes a message, which is undone with the changes behind which it stands. S13, S6, S11 in this order.
     pub fn message(&mut self, top: u32, prefix: &str, content: &[u8]) -> Result<Change, StoreFault>
-        ensures change { IfOk result (λ change. change ≡ Change.Message (record { prefix = prefix.now; content = content.now })) }
+        ensures change { IfOk result
+            (λ change. change
+            ≡ Change.Message (record { prefix = prefix.now; content = content.now })) }
         ensures fits { IfOk result (λ change. FitsChange self.old.tables change) }
         ensures short { IfOk result IsShort }
-        ensures ok { OnOk result ((history : List Made) → Keeps self.old history → Keeps self.new (history ++ made top (Change.Message (record { prefix = prefix.now; content = content.now })) ∷ [])) }
-        ensures err { OnErr result ((history : List Made) → Keeps self.old history → Keeps self.new history) }
+        ensures ok { OnOk result
+            ((history : List Made) → Keeps self.old history →
+            Keeps self.new
+            (history
+            ++ made top
+            (Change.Message (record { prefix = prefix.now; content = content.now }))
+            ∷ [])) }
+        ensures err { OnErr result
+            ((history : List Made) → Keeps self.old history → Keeps self.new history) }
         ensures refused { RefusedOrMemory (message_fault prefix.now content.now) result }
         ensures tables { self.new.tables ≡ self.old.tables }
     {

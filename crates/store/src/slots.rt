@@ -128,8 +128,12 @@ impl Slots {
         place: &[u8],
         row: Option<Row>,
     ) -> Result<(), AllocError>
-        ensures ok { OnOk result (self.new ≡ put place.now (record { row = row; owner = owner }) self.old) }
-        ensures noted { OnOk result (undos.new.items ≡ undos.old.items ++ record { key = place.now; before = slot_at self.old place.now } ∷ []) }
+        ensures ok { OnOk result
+            (self.new ≡ put place.now (record { row = row; owner = owner }) self.old) }
+        ensures noted { OnOk result
+            (undos.new.items
+            ≡ undos.old.items ++ record { key = place.now; before = slot_at self.old place.now }
+            ∷ []) }
         ensures err { OnErr result (self.new ≡ self.old) }
         ensures err_notes { OnErr result (undos.new.items ≡ undos.old.items) }
     {
@@ -150,7 +154,8 @@ impl Slots {
         row: Option<Row>,
     ) -> Result<Items<Undo>, AllocError>
         ensures ok { OnOk result (self.new ≡ put_all (Some top) ((place.now, row) ∷ []) self.old) }
-        ensures noted { IfOk result (λ undos. undos ≡ noted_of (Some top) ((place.now, row) ∷ []) self.old) }
+        ensures noted { IfOk result
+            (λ undos. undos ≡ noted_of (Some top) ((place.now, row) ∷ []) self.old) }
         ensures err { OnErr result (SameSlots self.old self.new) }
     {
         let mut undos = Vec::with_capacity(*self.by_place.allocator(), 1)?;
@@ -167,8 +172,11 @@ impl Slots {
         row: Row,
     ) -> Result<Items<Undo>, AllocError>
         requires { length from.now ≤ MAX_KEY_LENGTH }
-        ensures ok { OnOk result (self.new ≡ put_all (Some top) ((from.now, None) ∷ (to.now, Some row) ∷ []) self.old) }
-        ensures noted { IfOk result (λ undos. undos ≡ noted_of (Some top) ((from.now, None) ∷ (to.now, Some row) ∷ []) self.old) }
+        ensures ok { OnOk result
+            (self.new ≡ put_all (Some top) ((from.now, None) ∷ (to.now, Some row) ∷ []) self.old) }
+        ensures noted { IfOk result
+            (λ undos. undos
+            ≡ noted_of (Some top) ((from.now, None) ∷ (to.now, Some row) ∷ []) self.old) }
         ensures err { OnErr result (SameSlots self.old self.new) }
     {
         let mut undos = Vec::with_capacity(*self.by_place.allocator(), 2)?;
@@ -184,8 +192,12 @@ impl Slots {
 
     /// The places of all changes in a journal are no longer the transaction's. It takes no memory.
     pub fn free_all(&mut self, top: u32, journal: Journal)
-        ensures slots { (place : List ℕ) → slot_at self.new place ≡ (if is_in_journal place journal then freed top (slot_at self.old place) else slot_at self.old place) }
-        ensures places { (others : List Noted) → HavePlaces self.old others → HavePlaces self.new others }
+        ensures slots { (place : List ℕ) →
+            slot_at self.new place
+            ≡ (if is_in_journal place journal then freed top (slot_at self.old place)
+            else slot_at self.old place) }
+        ensures places { (others : List Noted) → HavePlaces self.old others →
+            HavePlaces self.new others }
         ensures short { AreShort self.old → AreShort self.new }
     {
         let mut journal = journal;
@@ -196,8 +208,12 @@ impl Slots {
 
     /// The places of a change are no longer the transaction's. It takes no memory.
     pub fn free(&mut self, top: u32, undos: Items<Undo>)
-        ensures slots { (place : List ℕ) → slot_at self.new place ≡ (if is_noted place undos then freed top (slot_at self.old place) else slot_at self.old place) }
-        ensures places { (others : List Noted) → HavePlaces self.old others → HavePlaces self.new others }
+        ensures slots { (place : List ℕ) →
+            slot_at self.new place
+            ≡ (if is_noted place undos then freed top (slot_at self.old place)
+            else slot_at self.old place) }
+        ensures places { (others : List Noted) → HavePlaces self.old others →
+            HavePlaces self.new others }
         ensures short { AreShort self.old → AreShort self.new }
     {
         let mut undos = undos.into_vec();
@@ -207,8 +223,12 @@ impl Slots {
     }
 
     fn free_place(&mut self, top: u32, place: &[u8])
-        ensures slots { (other : List ℕ) → slot_at self.new other ≡ (if same_key other place.now then freed top (slot_at self.old other) else slot_at self.old other) }
-        ensures places { (others : List Noted) → HavePlaces self.old others → HavePlaces self.new others }
+        ensures slots { (other : List ℕ) →
+            slot_at self.new other
+            ≡ (if same_key other place.now then freed top (slot_at self.old other)
+            else slot_at self.old other) }
+        ensures places { (others : List Noted) → HavePlaces self.old others →
+            HavePlaces self.new others }
         ensures short { AreShort self.old → AreShort self.new }
     {
         if let Some(slot) = self.by_place.get_mut(place) {

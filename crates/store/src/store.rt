@@ -64,7 +64,9 @@ impl Store {
 
     /// The row with this key. The key's values stand in table order.
     pub fn get(&self, oid: u32, key: &Row) -> Option<&Row>
-        ensures { (history : List Made) → Keeps self.now history → option_copied result ≡ rows_after self.now.tables history (record { oid = oid; values = key.now }) }
+        ensures { (history : List Made) → Keeps self.now history →
+            option_copied result
+            ≡ rows_after self.now.tables history (record { oid = oid; values = key.now }) }
     {
         match Place::of_key(oid, key) {
             Some(place) => self.slots.row(place.as_bytes()),
@@ -82,7 +84,8 @@ impl Store {
     /// Undoes a transaction's changes behind the mark, the last first. It takes no memory.
     pub fn undo_to(&mut self, top: u32, mark: usize)
         ensures tables { self.new.tables ≡ self.old.tables }
-        ensures keeps { (history : List Made) → Keeps self.old history → Keeps self.new (rolled_back top mark history) }
+        ensures keeps { (history : List Made) → Keeps self.old history →
+            Keeps self.new (rolled_back top mark history) }
     {
         while let Some(undos) = self.journals.pop_behind(top, mark) {
             self.slots.undo(undos);
@@ -92,7 +95,8 @@ impl Store {
     /// The transaction has ended, and holds nothing. It takes no memory.
     pub fn forget(&mut self, top: u32)
         ensures tables { self.new.tables ≡ self.old.tables }
-        ensures keeps { (history : List Made) → Keeps self.old history → Keeps self.new (forgotten top history) }
+        ensures keeps { (history : List Made) → Keeps self.old history →
+            Keeps self.new (forgotten top history) }
     {
         if let Some(journal) = self.journals.remove(top) {
             self.slots.free_all(top, journal);
@@ -104,9 +108,13 @@ impl Store {
         ensures change { IfOk result (λ change. change ≡ Change.Insert oid row) }
         ensures fits { IfOk result (λ change. FitsChange self.old.tables change) }
         ensures short { IfOk result IsShort }
-        ensures ok { OnOk result ((history : List Made) → Keeps self.old history → Keeps self.new (history ++ made top (Change.Insert oid row) ∷ [])) }
-        ensures err { OnErr result ((history : List Made) → Keeps self.old history → Keeps self.new history) }
-        ensures refused { (history : List Made) → Keeps self.old history → RefusedOrMemory (insert_refusal self.old.tables history top oid row) result }
+        ensures ok { OnOk result
+            ((history : List Made) → Keeps self.old history →
+            Keeps self.new (history ++ made top (Change.Insert oid row) ∷ [])) }
+        ensures err { OnErr result
+            ((history : List Made) → Keeps self.old history → Keeps self.new history) }
+        ensures refused { (history : List Made) → Keeps self.old history →
+            RefusedOrMemory (insert_refusal self.old.tables history top oid row) result }
         ensures tables { self.new.tables ≡ self.old.tables }
     {
         match self.judge_insert(top, oid, &row) {
@@ -135,12 +143,25 @@ impl Store {
 
     /// Puts a row in the place of the one with this key, whose key it may change. S1, S2, S6, S5, S4, S3, S11 in this order.
     pub fn update(&mut self, top: u32, oid: u32, key: &Row, row: Row) -> Result<Change, StoreFault>
-        ensures fits { IfOk result (λ change. (history : List Made) → Keeps self.old history → FitsChange self.old.tables change) }
-        ensures short { IfOk result (λ change. (history : List Made) → Keeps self.old history → IsShort change) }
-        ensures change { IfOk result (λ change. (history : List Made) → Keeps self.old history → Updates self.old.tables history (record { oid = oid; values = key.now }) row change) }
-        ensures ok { IfOk result (λ change. (history : List Made) → Keeps self.old history → Keeps self.new (history ++ made top change ∷ [])) }
-        ensures err { OnErr result ((history : List Made) → Keeps self.old history → Keeps self.new history) }
-        ensures refused { (history : List Made) → Keeps self.old history → RefusedOrMemory (update_refusal self.old.tables history top (record { oid = oid; values = key.now }) row) result }
+        ensures fits { IfOk result
+            (λ change. (history : List Made) → Keeps self.old history →
+            FitsChange self.old.tables change) }
+        ensures short { IfOk result
+            (λ change. (history : List Made) → Keeps self.old history → IsShort change) }
+        ensures change { IfOk result
+            (λ change. (history : List Made) → Keeps self.old history →
+            Updates self.old.tables history (record { oid = oid; values = key.now }) row
+            change) }
+        ensures ok { IfOk result
+            (λ change. (history : List Made) → Keeps self.old history →
+            Keeps self.new (history ++ made top change ∷ [])) }
+        ensures err { OnErr result
+            ((history : List Made) → Keeps self.old history → Keeps self.new history) }
+        ensures refused { (history : List Made) → Keeps self.old history →
+            RefusedOrMemory
+            (update_refusal self.old.tables history top (record { oid = oid; values = key.now })
+            row)
+            result }
         ensures tables { self.new.tables ≡ self.old.tables }
     {
         match self.judge_update(top, oid, key, &row) {
@@ -160,9 +181,12 @@ impl Store {
         requires from { length from.now ≤ MAX_KEY_LENGTH }
         requires to { length to.now ≤ MAX_KEY_LENGTH }
         ensures change { IfOk result (λ change. UpdatesAt self.old oid from.now row change) }
-        ensures ok { OnOk result (Makes top ((from.now, None) ∷ (to.now, Some row) ∷ []) self.old self.new) }
+        ensures ok { OnOk result
+            (Makes top ((from.now, None) ∷ (to.now, Some row) ∷ []) self.old self.new) }
         ensures err { OnErr result (IsSame self.old self.new) }
-        ensures memory { IfErr result (λ fault. IsTrue (is_some (slot_at self.old.slots from.now).row) → fault ≡ StoreFault.Memory) }
+        ensures memory { IfErr result
+            (λ fault. IsTrue (is_some (slot_at self.old.slots from.now).row) →
+            fault ≡ StoreFault.Memory) }
     {
         let old = self.old_row(from)?;
         let kept = row.copy(self.alloc)?;
@@ -172,12 +196,24 @@ impl Store {
 
     /// Deletes the row with this key. S1, S2, S5, S4, S11 in this order.
     pub fn delete(&mut self, top: u32, oid: u32, key: &Row) -> Result<Change, StoreFault>
-        ensures fits { IfOk result (λ change. (history : List Made) → Keeps self.old history → FitsChange self.old.tables change) }
-        ensures short { IfOk result (λ change. (history : List Made) → Keeps self.old history → IsShort change) }
-        ensures change { IfOk result (λ change. (history : List Made) → Keeps self.old history → Deletes self.old.tables history (record { oid = oid; values = key.now }) change) }
-        ensures ok { IfOk result (λ change. (history : List Made) → Keeps self.old history → Keeps self.new (history ++ made top change ∷ [])) }
-        ensures err { OnErr result ((history : List Made) → Keeps self.old history → Keeps self.new history) }
-        ensures refused { (history : List Made) → Keeps self.old history → RefusedOrMemory (delete_refusal self.old.tables history top (record { oid = oid; values = key.now })) result }
+        ensures fits { IfOk result
+            (λ change. (history : List Made) → Keeps self.old history →
+            FitsChange self.old.tables change) }
+        ensures short { IfOk result
+            (λ change. (history : List Made) → Keeps self.old history → IsShort change) }
+        ensures change { IfOk result
+            (λ change. (history : List Made) → Keeps self.old history →
+            Deletes self.old.tables history (record { oid = oid; values = key.now }) change) }
+        ensures ok { IfOk result
+            (λ change. (history : List Made) → Keeps self.old history →
+            Keeps self.new (history ++ made top change ∷ [])) }
+        ensures err { OnErr result
+            ((history : List Made) → Keeps self.old history → Keeps self.new history) }
+        ensures refused { (history : List Made) → Keeps self.old history →
+            RefusedOrMemory
+            (delete_refusal self.old.tables history top
+            (record { oid = oid; values = key.now }))
+            result }
         ensures tables { self.new.tables ≡ self.old.tables }
     {
         match self.judge_delete(top, oid, key) {
@@ -191,7 +227,9 @@ impl Store {
         ensures change { IfOk result (λ change. DeletesAt self.old oid place.now change) }
         ensures ok { OnOk result (Makes top ((place.now, None) ∷ []) self.old self.new) }
         ensures err { OnErr result (IsSame self.old self.new) }
-        ensures memory { IfErr result (λ fault. IsTrue (is_some (slot_at self.old.slots place.now).row) → fault ≡ StoreFault.Memory) }
+        ensures memory { IfErr result
+            (λ fault. IsTrue (is_some (slot_at self.old.slots place.now).row) →
+            fault ≡ StoreFault.Memory) }
     {
         let old = self.old_row(place)?;
         self.put_one(top, place, None)?;
@@ -203,9 +241,13 @@ impl Store {
         ensures change { IfOk result (λ change. change ≡ Change.Truncate oids.now) }
         ensures fits { IfOk result (λ change. FitsChange self.old.tables change) }
         ensures short { IfOk result IsShort }
-        ensures ok { OnOk result ((history : List Made) → Keeps self.old history → Keeps self.new (history ++ made top (Change.Truncate oids.now) ∷ [])) }
-        ensures err { OnErr result ((history : List Made) → Keeps self.old history → Keeps self.new history) }
-        ensures refused { (history : List Made) → Keeps self.old history → RefusedOrMemory (truncate_refusal self.old.tables history top oids.now) result }
+        ensures ok { OnOk result
+            ((history : List Made) → Keeps self.old history →
+            Keeps self.new (history ++ made top (Change.Truncate oids.now) ∷ [])) }
+        ensures err { OnErr result
+            ((history : List Made) → Keeps self.old history → Keeps self.new history) }
+        ensures refused { (history : List Made) → Keeps self.old history →
+            RefusedOrMemory (truncate_refusal self.old.tables history top oids.now) result }
         // S6 is of no catalogue that a configuration names.
         ensures few { result ≡ Err StoreFault.TooLarge → MAX_TABLES < length self.old.tables }
         ensures tables { self.new.tables ≡ self.old.tables }
@@ -231,7 +273,9 @@ impl Store {
     /// A copy of the row at a place.
     fn old_row(&self, place: &Place) -> Result<Row, StoreFault>
         ensures ok { IfOk result (λ row. (slot_at self.now.slots place.now).row ≡ Some row) }
-        ensures err { IfErr result (λ fault. IsTrue (is_some (slot_at self.now.slots place.now).row) → fault ≡ StoreFault.Memory) }
+        ensures err { IfErr result
+            (λ fault. IsTrue (is_some (slot_at self.now.slots place.now).row) →
+            fault ≡ StoreFault.Memory) }
     {
         match self.slots.row(place.as_bytes()) {
             Some(row) => Ok(row.copy(self.alloc)?),
@@ -253,7 +297,8 @@ impl Store {
     fn put_two(&mut self, top: u32, from: &Place, to: &Place, row: Row) -> Result<(), AllocError>
         requires from { length from.now ≤ MAX_KEY_LENGTH }
         requires to { length to.now ≤ MAX_KEY_LENGTH }
-        ensures ok { OnOk result (Makes top ((from.now, None) ∷ (to.now, Some row) ∷ []) self.old self.new) }
+        ensures ok { OnOk result
+            (Makes top ((from.now, None) ∷ (to.now, Some row) ∷ []) self.old self.new) }
         ensures err { OnErr result (IsSame self.old self.new) }
     {
         let undos = self
@@ -266,9 +311,15 @@ impl Store {
     pub(crate) fn note(&mut self, top: u32, undos: Items<Undo>) -> Result<(), AllocError>
         ensures tables { self.new.tables ≡ self.old.tables }
         ensures slots { OnOk result (self.new.slots ≡ self.old.slots) }
-        ensures journals { OnOk result ((x : ℕ) → journal_of x self.new.journals ≡ (if top == x then journal_of x self.old.journals ++ undos ∷ [] else journal_of x self.old.journals)) }
-        ensures undone { OnErr result (HavePlaces self.old.slots undos → self.new.slots ≡ undone self.old.slots undos) }
-        ensures same { OnErr result ((x : ℕ) → journal_of x self.new.journals ≡ journal_of x self.old.journals) }
+        ensures journals { OnOk result
+            ((x : ℕ) →
+            journal_of x self.new.journals
+            ≡ (if top == x then journal_of x self.old.journals ++ undos ∷ []
+            else journal_of x self.old.journals)) }
+        ensures undone { OnErr result
+            (HavePlaces self.old.slots undos → self.new.slots ≡ undone self.old.slots undos) }
+        ensures same { OnErr result
+            ((x : ℕ) → journal_of x self.new.journals ≡ journal_of x self.old.journals) }
     {
         match self.journals.push(top, undos) {
             Ok(()) => Ok(()),

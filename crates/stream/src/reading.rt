@@ -7,6 +7,7 @@ ghost use Rattle.stream.specs.Items.{Item, FitItems, spelled};
 /// A stream has one reading, and so has each beginning of one: items whose spelling begins the spelling of others are
 /// a beginning of those.
 pub fn a_stream_has_one_reading()
-    ensures { (relation : ℕ → Relation) (a b : List Item) (x : List ℕ) → FitItems relation a → FitItems relation b
-        → spelled relation [] a ++ x ≡ spelled relation [] b → (more : List Item) × (b ≡ a ++ more) }
+    ensures { (relation : ℕ → Relation) (a b : List Item) (x : List ℕ) → FitItems relation a →
+        FitItems relation b → spelled relation [] a ++ x ≡ spelled relation [] b →
+        (more : List Item) × (b ≡ a ++ more) }
 {}

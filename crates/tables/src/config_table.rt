@@ -85,7 +85,8 @@ fn name_at(alloc: Global, table: &Value, member: &str, which: Member) -> Result<
 }
 
 fn identity_at(table: &Value) -> Result<Identity, Unread>
-    ensures { Reads result (ok_or (identity_in (get (codes "identity") (view table.now))) members.Identity) }
+    ensures { Reads result
+        (ok_or (identity_in (get (codes "identity") (view table.now))) members.Identity) }
 {
     identity_in(table.get("identity")).ok_or(Unread::Wrong(Member::Identity))
 }
@@ -117,7 +118,8 @@ fn key_at(alloc: Global, table: &Value) -> Result<Items<Text>, Unread>
 
 /// The columns beside a key of these names.
 fn columns_beside(alloc: Global, key: &[Text], table: &Value) -> Result<Items<Column>, Unread>
-    ensures value { Reads result (told members.Columns (codes "columns") (columns_in key.now) (view table.now)) }
+    ensures value { Reads result
+        (told members.Columns (codes "columns") (columns_in key.now) (view table.now)) }
     ensures fits { IfOk result AreColumns }
 {
     let Some(value) = table.get("columns") else {
@@ -165,7 +167,8 @@ fn columns_of(
     key: &[Text],
     values: &[Value],
 ) -> Result<Option<Items<Column>>, AllocError>
-    ensures value { IfOk result (λ columns. columns ≡ columns_behind key.now [] (items_view values.now)) }
+    ensures value { IfOk result
+        (λ columns. columns ≡ columns_behind key.now [] (items_view values.now)) }
     ensures fits { IfOk result (λ columns. IfSome columns AreColumns) }
 {
     let mut columns = Vec::new(alloc);
@@ -186,7 +189,8 @@ fn next_column(
     columns: &[Column],
     value: &Value,
 ) -> Result<Option<Column>, AllocError>
-    ensures value { IfOk result (λ column. column ≡ next_column key.now columns.now (view value.now)) }
+    ensures value { IfOk result
+        (λ column. column ≡ next_column key.now columns.now (view value.now)) }
     ensures named { IfOk result (λ column. IfSome column (λ c. IsName c.name)) }
     ensures room { IfOk result (λ column. IfSome column (λ _. length columns.now < MAX_COLUMNS)) }
 {
@@ -203,7 +207,8 @@ fn another_column(
     columns: &[Column],
     value: &Value,
 ) -> Result<Option<Column>, AllocError>
-    ensures value { IfOk result (λ column. column ≡ another_column key.now columns.now (view value.now)) }
+    ensures value { IfOk result
+        (λ column. column ≡ another_column key.now columns.now (view value.now)) }
     ensures named { IfOk result (λ column. IfSome column (λ c. IsName c.name)) }
 {
     let Some((name, kind)) = pair_in(value) else {
@@ -228,7 +233,8 @@ fn another_column(
 /// The two values of a list of two.
 #[tactic(auto, unfolding(crate::specs::Config::pair_in))]
 fn pair_in(value: &Value) -> Option<(&Value, &Value)>
-    ensures { option_map (λ pair. (view pair.0.now, view pair.1.now)) result ≡ pair_in (view value.now) }
+    ensures { option_map (λ pair. (view pair.0.now, view pair.1.now)) result
+        ≡ pair_in (view value.now) }
 {
     let first = value.get(0)?;
     let second = value.get(1)?;

@@ -18,7 +18,9 @@ pub(crate) fn lend_values<'a>(
     count: usize,
 ) -> Result<(), BodyFault>
     requires { count ≤ length room.old }
-    ensures found { OnOk result (repeat_at value_at count cursor.old ≡ Ok (map value_of (take count room.new), cursor.new)) }
+    ensures found { OnOk result
+        (repeat_at value_at count cursor.old
+        ≡ Ok (map value_of (take count room.new), cursor.new)) }
     ensures none { OnErr result (IsErr (repeat_at value_at count cursor.old)) }
     ensures same { length room.new ≡ length room.old }
 {
@@ -34,7 +36,8 @@ pub(crate) fn lend_values<'a>(
 pub fn lend_oids(bytes: &[u8], room: &mut [u32]) -> Option<usize>
     ensures found { IfSome result (λ n. oids_at bytes.now ≡ Ok (take n room.new, [])) }
     ensures within { IfSome result (λ n. n ≤ length room.new) }
-    ensures none { IfNone result ((oids : List ℕ) → oids_at bytes.now ≡ Ok (oids, []) → length room.old < length oids) }
+    ensures none { IfNone result
+        ((oids : List ℕ) → oids_at bytes.now ≡ Ok (oids, []) → length room.old < length oids) }
 {
     let mut cursor = Cursor::new(bytes);
     let count = usize::from(cursor.u16()?);
@@ -52,7 +55,8 @@ pub fn lend_oids(bytes: &[u8], room: &mut [u32]) -> Option<usize>
 
 fn lend_each(cursor: &mut Cursor<'_>, room: &mut [u32], count: usize) -> Result<(), BodyFault>
     requires { count ≤ length room.old }
-    ensures found { OnOk result (repeat_at oid_at count cursor.old ≡ Ok (take count room.new, cursor.new)) }
+    ensures found { OnOk result
+        (repeat_at oid_at count cursor.old ≡ Ok (take count room.new, cursor.new)) }
     ensures none { OnErr result (IsErr (repeat_at oid_at count cursor.old)) }
     ensures same { length room.new ≡ length room.old }
 {

@@ -77,8 +77,10 @@ impl<'a> RowRef<'a> {
     #[tactic(auto, unfolding(crate::specs::Reading::row_at))]
     pub fn read(&mut self, bytes: &'a [u8]) -> Option<&'a [u8]>
         ensures found { IfSome result (λ rest. row_at bytes.now ≡ Ok (self.new, rest.now)) }
-        ensures coded { OnSome result (IsCodedRow self.new × (row_length self.new ≤ MAX_ROW_LENGTH)) }
-        ensures none { IfNone result ((row : List Datum) (rest : List ℕ) → row_at bytes.now ≡ Ok (row, rest) → IsLarge row) }
+        ensures coded { OnSome result
+            (IsCodedRow self.new × (row_length self.new ≤ MAX_ROW_LENGTH)) }
+        ensures none { IfNone result
+            ((row : List Datum) (rest : List ℕ) → row_at bytes.now ≡ Ok (row, rest) → IsLarge row) }
     {
         let mut cursor = Cursor::new(bytes);
         let count = usize::from(cursor.u16()?);

@@ -112,7 +112,9 @@ fn all_take_refs(columns: &[Column], row: &RowRef<'_>) -> bool
 }
 
 fn all_take_keys(columns: &[Column], values: &[Value]) -> bool
-    ensures { result ≡ list_all (λ p. fits_column p.0 p.1) (zip (filter (λ c. c.is_key) columns.now) values.now) }
+    ensures { result
+        ≡ list_all (λ p. fits_column p.0 p.1)
+        (zip (filter (λ c. c.is_key) columns.now) values.now) }
 {
     let mut pairs = columns.iter().filter(|column| column.is_key).zip(values);
     pairs.all(|(column, value)| column.takes(value))

@@ -48,7 +48,8 @@ fn add_back(
     bytes: &[u8],
     answer: &mut String,
 ) -> Result<(), AllocError>
-    requires { IfOk came.now (λ found. IfSome found (λ f. FitsLength (back_body f.0) × HasCounts f.0)) }
+    requires { IfOk came.now
+        (λ found. IfSome found (λ f. FitsLength (back_body f.0) × HasCounts f.0)) }
 {
     tell(answer, came)?;
     match came {

@@ -65,9 +65,11 @@ impl<L: LogName> Publisher<L> {
         key: &Row,
         row: Row,
     ) -> Result<(), SessionFault>
-        ensures ok { OnOk result (self.new ≡ updated tx.old (record { oid = oid; values = key.now }) row self.old) }
+        ensures ok { OnOk result
+            (self.new ≡ updated tx.old (record { oid = oid; values = key.now }) row self.old) }
         ensures err { OnErr result (self.new ≡ self.old) }
-        ensures refused { RefusedOrMemory (update_refusal tx.old (record { oid = oid; values = key.now }) row self.old) result }
+        ensures refused { RefusedOrMemory
+            (update_refusal tx.old (record { oid = oid; values = key.now }) row self.old) result }
         ensures tx { tx.new ≡ tx.old }
         ensures publisher { IsPublisher self.new }
     {
@@ -86,9 +88,11 @@ impl<L: LogName> Publisher<L> {
         oid: u32,
         key: &Row,
     ) -> Result<(), SessionFault>
-        ensures ok { OnOk result (self.new ≡ deleted tx.old (record { oid = oid; values = key.now }) self.old) }
+        ensures ok { OnOk result
+            (self.new ≡ deleted tx.old (record { oid = oid; values = key.now }) self.old) }
         ensures err { OnErr result (self.new ≡ self.old) }
-        ensures refused { RefusedOrMemory (delete_refusal tx.old (record { oid = oid; values = key.now }) self.old) result }
+        ensures refused { RefusedOrMemory
+            (delete_refusal tx.old (record { oid = oid; values = key.now }) self.old) result }
         ensures tx { tx.new ≡ tx.old }
         ensures publisher { IsPublisher self.new }
     {
@@ -127,9 +131,11 @@ impl<L: LogName> Publisher<L> {
         prefix: &str,
         content: &[u8],
     ) -> Result<(), SessionFault>
-        ensures ok { OnOk result (self.new ≡ changed tx.old (message_with prefix.now content.now) self.old) }
+        ensures ok { OnOk result
+            (self.new ≡ changed tx.old (message_with prefix.now content.now) self.old) }
         ensures err { OnErr result (self.new ≡ self.old) }
-        ensures refused { RefusedOrMemory (message_refusal tx.old prefix.now content.now self.old) result }
+        ensures refused { RefusedOrMemory (message_refusal tx.old prefix.now content.now self.old)
+            result }
         ensures tx { tx.new ≡ tx.old }
         ensures publisher { IsPublisher self.new }
     {
@@ -142,11 +148,14 @@ impl<L: LogName> Publisher<L> {
 
     /// What a change of a live transaction needs.
     fn changing(&self, tx: &Tx) -> Result<Changing, SessionFault>
-        ensures live { IfOk result (λ at. (at.xid ≡ tx.now) × (is_live tx.now self.now.live ≡ true)) }
+        ensures live { IfOk result
+            (λ at. (at.xid ≡ tx.now) × (is_live tx.now self.now.live ≡ true)) }
         ensures innermost { IfOk result (λ at. at.innermost ≡ innermost tx.now self.now.live) }
         ensures mark { IfOk result (λ at. at.mark ≡ count_of tx.now (history_of self.now.log)) }
         ensures room { IfOk result (λ at. at.room ≡ room self.now) }
-        ensures err { IfErr result (λ fault. (fault ≡ SessionFault.NoTransaction) × (is_live tx.now self.now.live ≡ false)) }
+        ensures err { IfErr result
+            (λ fault. (fault ≡ SessionFault.NoTransaction)
+            × (is_live tx.now self.now.live ≡ false)) }
     {
         let xid = tx.xid();
         if !self.live.contains(xid) {
@@ -173,12 +182,17 @@ fn write<L: LogName, R: Wait>(
     requires short { IsShort change }
     requires coded { IsCoded change }
     requires fits { end_of FIRST_POSITION log.old + 2 ^ 14 < 2 ^ 64 }
-    requires good { 0 < at.room → IsWellFormedLog (log.old ++ record_after log.old (Body.Change at.innermost change) ∷ []) }
+    requires good { 0 < at.room →
+        IsWellFormedLog (log.old ++ record_after log.old (Body.Change at.innermost change) ∷ []) }
     requires top { top_of log.old at.innermost ≡ at.xid }
-    ensures ok { OnOk result ((log.new ≡ log.old ++ record_after log.old (Body.Change at.innermost change) ∷ []) × (store.new ≡ store.old)) }
+    ensures ok { OnOk result
+        ((log.new ≡ log.old ++ record_after log.old (Body.Change at.innermost change) ∷ [])
+        × (store.new ≡ store.old)) }
     ensures room { OnOk result (0 < at.room) }
     ensures err { OnErr result (log.new ≡ log.old) }
-    ensures undone { OnErr result ((history : List Made) → Keeps store.old history → Keeps store.new (rolled_back at.xid at.mark history)) }
+    ensures undone { OnErr result
+        ((history : List Made) → Keeps store.old history →
+        Keeps store.new (rolled_back at.xid at.mark history)) }
     ensures refused { IfErr result (λ fault. fault ≡ fault_at at.room StoreFault.Memory) }
     ensures tables { store.new.tables ≡ store.old.tables }
 {
@@ -208,9 +222,11 @@ fn push<L: LogName, R: Wait>(
     requires short { IsShort change.now }
     requires coded { IsCoded change.now }
     requires fits { end_of FIRST_POSITION log.old + 2 ^ 14 < 2 ^ 64 }
-    requires good { IsWellFormedLog (log.old ++ record_after log.old (Body.Change at.innermost change.now) ∷ []) }
+    requires good { IsWellFormedLog
+        (log.old ++ record_after log.old (Body.Change at.innermost change.now) ∷ []) }
     requires top { top_of log.old at.innermost ≡ at.xid }
-    ensures ok { OnOk result (log.new ≡ log.old ++ record_after log.old (Body.Change at.innermost change.now) ∷ []) }
+    ensures ok { OnOk result
+        (log.new ≡ log.old ++ record_after log.old (Body.Change at.innermost change.now) ∷ []) }
     ensures err { OnErr result (log.new ≡ log.old) }
 {
     let logged = LoggedChange::of(at.alloc, change)?;

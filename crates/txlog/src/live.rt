@@ -68,7 +68,8 @@ impl Live {
     }
 
     pub(crate) fn push(&mut self, xid: u32) -> Result<(), AllocError>
-        ensures ok { OnOk result (self.new ≡ self.old ++ record { xid = xid; savepoints = [] } ∷ []) }
+        ensures ok { OnOk result
+            (self.new ≡ self.old ++ record { xid = xid; savepoints = [] } ∷ []) }
         ensures err { OnErr result (self.new ≡ self.old) }
     {
         let alloc = *self.running.allocator();
@@ -95,7 +96,9 @@ impl Live {
         xid: u32,
         savepoint: Savepoint,
     ) -> Result<(), AllocError>
-        ensures ok { OnOk result (self.new ≡ with_savepoints xid (savepoints_of xid self.old ++ savepoint ∷ []) self.old) }
+        ensures ok { OnOk result
+            (self.new
+            ≡ with_savepoints xid (savepoints_of xid self.old ++ savepoint ∷ []) self.old) }
         ensures err { OnErr result (self.new ≡ self.old) }
     {
         match self.place_of(xid) {
@@ -110,7 +113,8 @@ impl Live {
 
     /// Keeps the first `depth` savepoints of a transaction.
     pub(crate) fn truncate_savepoints(&mut self, xid: u32, depth: usize)
-        ensures { self.new ≡ with_savepoints xid (take depth (savepoints_of xid self.old)) self.old }
+        ensures { self.new
+            ≡ with_savepoints xid (take depth (savepoints_of xid self.old)) self.old }
     {
         if let Some(place) = self.place_of(xid) {
             let running = &mut self.running[place];

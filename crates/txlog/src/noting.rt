@@ -53,9 +53,11 @@ fn push<L: LogName, R: Wait>(
 ) -> Result<u64, AllocError>
     requires message { FitsMessage message }
     requires fits { end_of FIRST_POSITION log.old + 2 ^ 14 < 2 ^ 64 }
-    requires good { IsWellFormedLog (log.old ++ record_after log.old (Note (Change.Message message)) ∷ []) }
+    requires good { IsWellFormedLog
+        (log.old ++ record_after log.old (Note (Change.Message message)) ∷ []) }
     ensures start { IfOk result (λ start. start ≡ end_of FIRST_POSITION log.old) }
-    ensures ok { OnOk result (log.new ≡ log.old ++ record_after log.old (Note (Change.Message message)) ∷ []) }
+    ensures ok { OnOk result
+        (log.new ≡ log.old ++ record_after log.old (Note (Change.Message message)) ∷ []) }
     ensures err { OnErr result (log.new ≡ log.old) }
 {
     let change = Change::Message(message);

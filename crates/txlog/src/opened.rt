@@ -31,7 +31,8 @@ impl Opened {
     ) -> Result<Self, SessionFault>
         requires some { 1 ≤ records }
         requires few { records ≤ MAX_RECORDS }
-        ensures ok { IfOk result (λ o. (o.catalog ≡ catalog) × (o.capacity ≡ records) × (o.readers ≡ readers)) }
+        ensures ok { IfOk result
+            (λ o. (o.catalog ≡ catalog) × (o.capacity ≡ records) × (o.readers ≡ readers)) }
         ensures refused { RefusedExactly (new_refusal readers) result }
     {
         Opened::over(alloc, shared_log::Opened::new(), catalog, records, readers)
@@ -47,7 +48,9 @@ impl Opened {
     ) -> Result<Self, SessionFault>
         requires some { 1 ≤ records }
         requires few { records ≤ MAX_RECORDS }
-        ensures ok { IfOk result (λ o. (o.history ≡ history) × (o.catalog ≡ catalog) × (o.capacity ≡ records) × (o.readers ≡ readers)) }
+        ensures ok { IfOk result
+            (λ o. (o.history ≡ history) × (o.catalog ≡ catalog) × (o.capacity ≡ records)
+            × (o.readers ≡ readers)) }
         ensures refused { RefusedExactly (new_refusal readers) result }
     {
         if readers == 0 || readers > MAX_READERS {

@@ -61,7 +61,9 @@ impl<L: LogName> Publisher<L> {
     pub fn open<R: Wait>(rt: &R, opened: Opened) -> Result<(Self, Vec<LogReader<L>>), SessionFault>
         requires name { opened.history.seen.book ≡ L.book }
         ensures ok { IfOk result (λ made. made.0 ≡ new_publisher opened.catalog opened.capacity) }
-        ensures readers { IfOk result (λ made. (vec_len made.1 ≡ opened.readers) × AllByRecursion (λ reader. reader.place ≡ 0) made.1.items) }
+        ensures readers { IfOk result
+            (λ made. (vec_len made.1 ≡ opened.readers)
+            × AllByRecursion (λ reader. reader.place ≡ 0) made.1.items) }
         ensures err { IfErr result (λ e. e ≡ SessionFault.Memory) }
     {
         let Opened {
@@ -118,7 +120,8 @@ impl<L: LogName> Publisher<L> {
         ensures same { self.new ≡ self.old }
         ensures kept { IsPrefix reader.old.told reader.new.told }
         ensures told { IsPrefix self.old.log (settled reader.new.told) }
-        ensures place { (seen_of reader.new ≡ seen_of reader.old) × (reader.new.place ≡ reader.old.place) }
+        ensures place { (seen_of reader.new ≡ seen_of reader.old)
+            × (reader.new.place ≡ reader.old.place) }
         ensures publisher { IsPublisher self.new }
     {
         self.log.tell(reader)
@@ -126,7 +129,8 @@ impl<L: LogName> Publisher<L> {
 
     /// The row with this key, committed or not. The key's values stand in table order.
     pub fn get(&self, oid: u32, key: &Row) -> Option<&Row>
-        ensures row { option_copied result ≡ rows_of self.now.tables self.now.log (record { oid = oid; values = key.now }) }
+        ensures row { option_copied result
+            ≡ rows_of self.now.tables self.now.log (record { oid = oid; values = key.now }) }
         ensures publisher { IsPublisher self.now }
     {
         self.store.get(oid, key)
@@ -165,7 +169,9 @@ impl<L: LogName> Publisher<L> {
         tx: Tx,
         time: i64,
     ) -> Result<Receipt<L>, (Tx, SessionFault)>
-        ensures ok { IfOk result (λ receipt. (receipt ≡ receipt_of tx time self.old) × (self.new ≡ after_commit tx time self.old)) }
+        ensures ok { IfOk result
+            (λ receipt. (receipt ≡ receipt_of tx time self.old)
+            × (self.new ≡ after_commit tx time self.old)) }
         ensures err { IfErr result (λ back. (back.0 ≡ tx) × (self.new ≡ self.old)) }
         ensures refused { RefusedOrMemoryBack (end_refusal tx self.old) result }
         ensures publisher { IsPublisher self.new }
@@ -208,7 +214,8 @@ impl<L: LogName> Publisher<L> {
 
     /// Sets a savepoint, and answers its depth. S14, S9 at depth 16, S7, S11 in this order.
     pub fn savepoint<R: Wait>(&mut self, rt: &R, tx: &mut Tx) -> Result<u32, SessionFault>
-        ensures depth { IfOk result (λ depth. depth ≡ length (savepoints_of tx.old self.old.live) + 1) }
+        ensures depth { IfOk result
+            (λ depth. depth ≡ length (savepoints_of tx.old self.old.live) + 1) }
         ensures ok { OnOk result (self.new ≡ saved tx.old self.old) }
         ensures err { OnErr result (self.new ≡ self.old) }
         ensures refused { RefusedOrMemory (savepoint_refusal tx.old self.old) result }
@@ -241,7 +248,8 @@ impl<L: LogName> Publisher<L> {
         ensures refused { RefusedExactly (savepoint_refusal xid self.now) result }
         ensures live { OnOk result (is_live xid self.now.live ≡ true) }
         ensures room { OnOk result (0 < room self.now) }
-        ensures depth { IfOk result (λ depth. (depth ≡ length (savepoints_of xid self.now.live)) × (depth < MAX_DEPTH)) }
+        ensures depth { IfOk result
+            (λ depth. (depth ≡ length (savepoints_of xid self.now.live)) × (depth < MAX_DEPTH)) }
     {
         if !self.live.contains(xid) {
             return Err(SessionFault::NoTransaction);
@@ -282,8 +290,10 @@ impl<L: LogName> Publisher<L> {
         ensures refused { RefusedExactly (rollback_refusal xid depth self.now) result }
         ensures live { OnOk result (is_live xid self.now.live ≡ true) }
         ensures room { OnOk result (0 < room self.now) }
-        ensures depth { OnOk result ((0 < depth) × (depth ≤ length (savepoints_of xid self.now.live))) }
-        ensures value { IfOk result (λ s. slice_get (savepoints_of xid self.now.live) (depth - 1) ≡ Some s) }
+        ensures depth { OnOk result
+            ((0 < depth) × (depth ≤ length (savepoints_of xid self.now.live))) }
+        ensures value { IfOk result
+            (λ s. slice_get (savepoints_of xid self.now.live) (depth - 1) ≡ Some s) }
     {
         if !self.live.contains(xid) {
             return Err(SessionFault::NoTransaction);

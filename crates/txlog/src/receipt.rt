@@ -29,8 +29,11 @@ impl<L: LogName> Model for Receipt<L> {
 
 impl<L: LogName> Receipt<L> {
     pub(crate) fn new(told: shared_log::Receipt<L>, xid: u32) -> Self
-        requires { has_commit (settled told.front) (record { place = told.place; start = told.start; end = told.end; xid = xid }) ≡ true }
-        ensures { result ≡ record { place = told.place; start = told.start; end = told.end; xid = xid } }
+        requires { has_commit (settled told.front)
+            (record { place = told.place; start = told.start; end = told.end; xid = xid })
+            ≡ true }
+        ensures { result
+            ≡ record { place = told.place; start = told.start; end = told.end; xid = xid } }
     {
         Receipt { told, xid }
     }

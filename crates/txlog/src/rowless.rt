@@ -7,6 +7,10 @@ ghost use Rattle.txlog.specs.Rows.{rows_of};
 
 /// What stands in the tables is the same behind a message, in a transaction or outside of all.
 pub fn a_message_changes_no_row()
-    ensures message { (s : PublisherState) (xid : ℕ) (prefix content : List ℕ) → IsPublisher s → is_live xid s.live ≡ true → rows_of s.tables (changed xid (message_with prefix content) s).log ≡ rows_of s.tables s.log }
-    ensures note { (s : PublisherState) (prefix content : List ℕ) → rows_of s.tables (noted prefix content s).log ≡ rows_of s.tables s.log }
+    ensures message { (s : PublisherState) (xid : ℕ) (prefix content : List ℕ) → IsPublisher s →
+        is_live xid s.live ≡ true →
+        rows_of s.tables (changed xid (message_with prefix content) s).log
+        ≡ rows_of s.tables s.log }
+    ensures note { (s : PublisherState) (prefix content : List ℕ) →
+        rows_of s.tables (noted prefix content s).log ≡ rows_of s.tables s.log }
 {}

@@ -44,7 +44,8 @@ impl Running {
     }
 
     pub(crate) fn push(&mut self, savepoint: Savepoint) -> Result<(), AllocError>
-        ensures ok { OnOk result (self.new ≡ record self.old { savepoints = self.old.savepoints ++ savepoint ∷ [] }) }
+        ensures ok { OnOk result
+            (self.new ≡ record self.old { savepoints = self.old.savepoints ++ savepoint ∷ [] }) }
         ensures err { OnErr result (self.new ≡ self.old) }
     {
         self.savepoints.push(savepoint)?;

@@ -49,9 +49,11 @@ impl<L: LogName> Walsender<L> {
         first: u64,
         arena: Arena,
     ) -> Self
-        ensures serves { (log : List Record) → BeginsAt log start first reader.place → Serves log [] result }
+        ensures serves { (log : List Record) → BeginsAt log start first reader.place →
+            Serves log [] result }
         ensures asked { (result.sender.selection ≡ selection) × (result.sender.start ≡ start) }
-        ensures fresh { (result.sender.position ≡ first) × (result.sender.failed ≡ false) × (result.sender.held ≡ []) }
+        ensures fresh { (result.sender.position ≡ first) × (result.sender.failed ≡ false)
+            × (result.sender.held ≡ []) }
         ensures reader { result.reader ≡ reader }
     {
         let Ok(sender) = Sender::start(alloc, selection, start, first, arena) else {
@@ -77,7 +79,8 @@ impl<L: LogName> Walsender<L> {
     /// How many chunks of its arena are free: all but those that changes of transactions in progress fill, savepoints that were rolled
     /// back left out.
     pub fn free_chunks(&self) -> usize
-        ensures { (rs : List Record) (count : ℕ) → HasRead self.now.sender rs → HasChunks self.now.sender count → result + live_chunks rs ≡ count }
+        ensures { (rs : List Record) (count : ℕ) → HasRead self.now.sender rs →
+            HasChunks self.now.sender count → result + live_chunks rs ≡ count }
     {
         self.sender.free_chunks()
     }
@@ -99,12 +102,23 @@ impl<L: LogName> Walsender<L> {
     ) -> Result<Result<(), SendFault>, ReadFault>
         ensures grows { IsPrefix (seen_of self.old.reader) (seen_of self.new.reader) }
         ensures told { self.new.reader.told ≡ self.old.reader.told }
-        ensures sees { OnOk result (IsPrefix (settled self.new.reader.told) (seen_of self.new.reader) × IsWellFormedLog (seen_of self.new.reader)) }
-        ensures moved { OnOk result (self.new.reader.place ≡ self.old.reader.place + length (next_records max self.old.reader.place (seen_of self.new.reader))) }
-        ensures reads { IfOk result (Reads clock self.old.sender self.new.sender (next_records max self.old.reader.place (seen_of self.new.reader))) }
-        ensures serves { OnOk result (ReadsOn (next_records max self.old.reader.place (seen_of self.new.reader)) self.old self.new) }
+        ensures sees { OnOk result
+            (IsPrefix (settled self.new.reader.told) (seen_of self.new.reader)
+            × IsWellFormedLog (seen_of self.new.reader)) }
+        ensures moved { OnOk result
+            (self.new.reader.place
+            ≡ self.old.reader.place
+            + length (next_records max self.old.reader.place (seen_of self.new.reader))) }
+        ensures reads { IfOk result
+            (Reads clock self.old.sender self.new.sender
+            (next_records max self.old.reader.place (seen_of self.new.reader))) }
+        ensures serves { OnOk result
+            (ReadsOn (next_records max self.old.reader.place (seen_of self.new.reader)) self.old
+            self.new) }
         ensures why { IfErr result (λ fault. HasSeen fault self.old.reader self.new.reader) }
-        ensures unread { OnErr result ((self.new.sender ≡ self.old.sender) × (self.new.reader.place ≡ self.old.reader.place)) }
+        ensures unread { OnErr result
+            ((self.new.sender ≡ self.old.sender)
+            × (self.new.reader.place ≡ self.old.reader.place)) }
     {
         let records = self.reader.fetch(alloc, max)?;
         Ok(self.sender.feed(records.as_slice(), clock))
@@ -119,14 +133,23 @@ impl<L: LogName> Walsender<L> {
     ) -> Result<usize, TurnFault>
         ensures grows { IsPrefix (seen_of self.old.reader) (seen_of self.new.reader) }
         ensures told { self.new.reader.told ≡ self.old.reader.told }
-        ensures why { (fault : ReadFault) → result ≡ Err (fault_of_fetch fault) → HasSeen fault self.old.reader self.new.reader }
-        ensures sees { has_fetched result ≡ true → IsPrefix (settled self.new.reader.told) (seen_of self.new.reader) }
-        ensures count { IfOk result (λ n. n ≡ length (fetched_from self.old.reader.place (seen_of self.new.reader))) }
-        ensures reads { OnOk result (ReadsAndWrites clock self.old.sender self.new.sender (fetched_from self.old.reader.place (seen_of self.new.reader)) (W.contents to.old) (W.contents to.new)) }
-        ensures serves { (given : List ℕ) × GoesOn given self.old self.new × Appends (W.contents to.old) (W.contents to.new) given }
+        ensures why { (fault : ReadFault) → result ≡ Err (fault_of_fetch fault) →
+            HasSeen fault self.old.reader self.new.reader }
+        ensures sees { has_fetched result ≡ true →
+            IsPrefix (settled self.new.reader.told) (seen_of self.new.reader) }
+        ensures count { IfOk result
+            (λ n. n ≡ length (fetched_from self.old.reader.place (seen_of self.new.reader))) }
+        ensures reads { OnOk result
+            (ReadsAndWrites clock self.old.sender self.new.sender
+            (fetched_from self.old.reader.place (seen_of self.new.reader)) (W.contents to.old)
+            (W.contents to.new)) }
+        ensures serves { (given : List ℕ) × GoesOn given self.old self.new
+            × Appends (W.contents to.old) (W.contents to.new) given }
         ensures sent { OnOk result (self.new.sender.held ≡ []) }
-        ensures first { OnOk result (WritesFirst self.old.sender.held self.old (W.contents to.old) (W.contents to.new)) }
-        ensures broken { (e : Error) → result ≡ Err (TurnFault.Write e) → 0 < length self.new.sender.held }
+        ensures first { OnOk result
+            (WritesFirst self.old.sender.held self.old (W.contents to.old) (W.contents to.new)) }
+        ensures broken { (e : Error) → result ≡ Err (TurnFault.Write e) →
+            0 < length self.new.sender.held }
         ensures silent { has_written result ≡ false → to.new ≡ to.old }
     {
         turn(alloc, &mut self.sender, &mut self.reader, clock, to)
@@ -134,7 +157,12 @@ impl<L: LogName> Walsender<L> {
 
     /// Holds a keepalive with the position up to which was read, behind all that is held.
     pub fn keepalive(&mut self, clock: i64, ask: bool) -> Result<(), SendFault>
-        ensures ok { OnOk result (self.new.sender ≡ record self.old.sender { held = self.old.sender.held ++ word_bytes (keepalive_word self.old.sender.position clock ask) }) }
+        ensures ok { OnOk result
+            (self.new.sender
+            ≡ record self.old.sender {
+              held = self.old.sender.held
+                  ++ word_bytes (keepalive_word self.old.sender.position clock ask);
+            }) }
         ensures err { OnErr result (self.new.sender ≡ self.old.sender) }
         ensures failed { (result ≡ Err SendFault.Failed) ↔ (self.old.sender.failed ≡ true) }
         ensures gap { result ≢ Err SendFault.Gap }
@@ -149,7 +177,9 @@ impl<L: LogName> Walsender<L> {
     pub fn write_held<W: Write>(&mut self, to: &mut W) -> io::Result<()>
         ensures ok { OnOk result (self.new.sender.held ≡ []) }
         ensures err { OnErr result (0 < length self.new.sender.held) }
-        ensures serves { (given : List ℕ) × (self.old.sender.held ≡ given ++ self.new.sender.held) × Gives given self.old self.new × Appends (W.contents to.old) (W.contents to.new) given }
+        ensures serves { (given : List ℕ) × (self.old.sender.held ≡ given ++ self.new.sender.held)
+            × Gives given self.old self.new
+            × Appends (W.contents to.old) (W.contents to.new) given }
         ensures rest { self.new.sender ≡ record self.old.sender { held = self.new.sender.held } }
         ensures reader { self.new.reader ≡ self.old.reader }
     {
@@ -158,9 +188,12 @@ impl<L: LogName> Walsender<L> {
 
     /// Moves up to `max` held bytes to the end of `out`, or, where there is no memory for them, nothing.
     pub fn drain_into(&mut self, max: usize, out: &mut BytesMut) -> Result<(), AllocError>
-        ensures moved { OnOk result (out.new.items ≡ out.old.items ++ take max self.old.sender.held) }
-        ensures rest { OnOk result (self.new.sender ≡ record self.old.sender { held = drop max self.old.sender.held }) }
-        ensures err { OnErr result ((self.new.sender ≡ self.old.sender) × (out.new.items ≡ out.old.items)) }
+        ensures moved { OnOk result
+            (out.new.items ≡ out.old.items ++ take max self.old.sender.held) }
+        ensures rest { OnOk result
+            (self.new.sender ≡ record self.old.sender { held = drop max self.old.sender.held }) }
+        ensures err { OnErr result
+            ((self.new.sender ≡ self.old.sender) × (out.new.items ≡ out.old.items)) }
         ensures reader { self.new.reader ≡ self.old.reader }
         ensures serves { OnOk result (Gives (take max self.old.sender.held) self.old self.new) }
     {
@@ -169,7 +202,12 @@ impl<L: LogName> Walsender<L> {
 
     /// Ends the stream: what was held is lost, and the reader can serve another.
     pub fn end(self) -> (Ended, LogReader<L>)
-        ensures ended { result.0 ≡ record { selection = self.sender.selection; start = self.sender.start; position = self.sender.position } }
+        ensures ended { result.0
+            ≡ record {
+              selection = self.sender.selection;
+              start = self.sender.start;
+              position = self.sender.position;
+            } }
         ensures reader { result.1 ≡ self.reader }
     {
         let Walsender { sender, reader } = self;

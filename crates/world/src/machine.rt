@@ -144,7 +144,8 @@ impl<L: LogName + SlotName> Machine<L> {
         ensures step { IfOk result (λ a. IsStep (shown self.old) event.now a (shown self.new)) }
         ensures bad { result ≡ Err WorldFault.BadEvent → is_bad event.now (shown self.old) ≡ true }
         ensures entry { result ≡ Err WorldFault.NoEntry → is_read event.now ≡ true }
-        ensures memory { result ≡ Err WorldFault.Memory → takes_memory event.now (shown self.old) ≡ true }
+        ensures memory { result ≡ Err WorldFault.Memory →
+            takes_memory event.now (shown self.old) ≡ true }
         ensures err { OnErr result (shown self.new ≡ shown self.old) }
         ensures machine { IsMachine self.new }
     {
@@ -158,10 +159,13 @@ impl<L: LogName + SlotName> Machine<L> {
     /// Does the line of a connection.
     fn step_at(&mut self, name: &Text, step: &ConnectionStep) -> Result<Answer, WorldFault>
         requires machine { IsMachine self.old }
-        ensures step { IfOk result (λ a. IsStepAt name.now step.now (shown self.old) a (shown self.new)) }
-        ensures bad { result ≡ Err WorldFault.BadEvent → is_bad_at name.now step.now (shown self.old) ≡ true }
+        ensures step { IfOk result
+            (λ a. IsStepAt name.now step.now (shown self.old) a (shown self.new)) }
+        ensures bad { result ≡ Err WorldFault.BadEvent →
+            is_bad_at name.now step.now (shown self.old) ≡ true }
         ensures entry { result ≡ Err WorldFault.NoEntry → is_read_at step.now ≡ true }
-        ensures memory { result ≡ Err WorldFault.Memory → takes_memory_at step.now (shown self.old) ≡ true }
+        ensures memory { result ≡ Err WorldFault.Memory →
+            takes_memory_at step.now (shown self.old) ≡ true }
         ensures err { OnErr result (shown self.new ≡ shown self.old) }
         ensures machine { IsMachine self.new }
     {
@@ -184,11 +188,19 @@ impl<L: LogName + SlotName> Machine<L> {
     /// Does a session's line. What a commit tells nobody waits for.
     fn call<R: Wait>(&mut self, rt: &R, event: &Event) -> Result<Answer, WorldFault>
         requires machine { IsMachine self.old }
-        ensures done { IfOk result (λ a. IsLine event.now (session_state (shown self.old)) a (session_state (shown self.new))) }
-        ensures rest { shown self.new ≡ record (shown self.old) { publisher = (shown self.new).publisher; transactions = (shown self.new).transactions } }
-        ensures bad { result ≡ Err WorldFault.BadEvent → IsNone (ask_of event.now (shown self.old).publisher (shown self.old).transactions) }
+        ensures done { IfOk result
+            (λ a. IsLine event.now (session_state (shown self.old)) a
+            (session_state (shown self.new))) }
+        ensures rest { shown self.new
+            ≡ record (shown self.old) {
+              publisher = (shown self.new).publisher;
+              transactions = (shown self.new).transactions;
+            } }
+        ensures bad { result ≡ Err WorldFault.BadEvent →
+            IsNone (ask_of event.now (shown self.old).publisher (shown self.old).transactions) }
         ensures entered { result ≢ Err WorldFault.NoEntry }
-        ensures memory { result ≡ Err WorldFault.Memory → line_takes_memory event.now (shown self.old).publisher ≡ true }
+        ensures memory { result ≡ Err WorldFault.Memory →
+            line_takes_memory event.now (shown self.old).publisher ≡ true }
         ensures err { OnErr result (shown self.new ≡ shown self.old) }
         ensures machine { IsMachine self.new }
     {
@@ -199,8 +211,10 @@ impl<L: LogName + SlotName> Machine<L> {
     /// Does what a line asks of the connection's sender. V1 where it has none.
     fn act(&mut self, alloc: Global, name: &Text, action: Action) -> Result<Answer, WorldFault>
         requires machine { IsMachine self.old }
-        ensures acts { IfOk result (λ a. ActsAt name.now action (shown self.old) a (shown self.new)) }
-        ensures bad { result ≡ Err WorldFault.BadEvent → IsNone (open_start name.now (shown self.old).starts) }
+        ensures acts { IfOk result
+            (λ a. ActsAt name.now action (shown self.old) a (shown self.new)) }
+        ensures bad { result ≡ Err WorldFault.BadEvent →
+            IsNone (open_start name.now (shown self.old).starts) }
         ensures entry { result ≡ Err WorldFault.NoEntry → reads_log action ≡ true }
         ensures memory { result ≡ Err WorldFault.Memory → takes_memory_of action ≡ true }
         ensures err { OnErr result (shown self.new ≡ shown self.old) }
@@ -232,8 +246,10 @@ impl<L: LogName + SlotName> Machine<L> {
     /// Hands bytes of the connection's sender to its subscriber. V1 where it has no sender.
     fn deliver(&mut self, name: &Text, max: u32) -> Result<Answer, WorldFault>
         requires machine { IsMachine self.old }
-        ensures delivers { IfOk result (λ a. Delivers name.now max (shown self.old) a (shown self.new)) }
-        ensures bad { result ≡ Err WorldFault.BadEvent → IsNone (open_start name.now (shown self.old).starts) }
+        ensures delivers { IfOk result
+            (λ a. Delivers name.now max (shown self.old) a (shown self.new)) }
+        ensures bad { result ≡ Err WorldFault.BadEvent →
+            IsNone (open_start name.now (shown self.old).starts) }
         ensures entered { result ≢ Err WorldFault.NoEntry }
         ensures memory { result ≢ Err WorldFault.Memory }
         ensures err { OnErr result (shown self.new ≡ shown self.old) }
@@ -251,7 +267,8 @@ impl<L: LogName + SlotName> Machine<L> {
         requires machine { IsMachine self.now }
         ensures none { result ≡ None → IsNone (open_start name.now (shown self.now).starts) }
         ensures start { IfSome result (λ p. IsOpenStartAt name.now p.0 self.now.starts.items) }
-        ensures subscriber { IfSome result (λ p. subscriber_place 0 name.now (shown self.now).subscribers ≡ Some p.1) }
+        ensures subscriber { IfSome result
+            (λ p. subscriber_place 0 name.now (shown self.now).subscribers ≡ Some p.1) }
     {
         let found = place_among(self.starts.as_slice(), self.opened.as_slice(), name);
         let Some(place) = found else {
@@ -300,14 +317,17 @@ fn act_at<L: LogName>(
     requires opened { IsOpenAt place starts.old.items }
     requires all { AllByRecursion (IsServed publisher.old.log) starts.old.items }
     requires room { vec_len readers.old < vec_capacity readers.old }
-    ensures acts { IfOk result (λ a. ActsIn publisher.old.log place action starts.old.items a starts.new.items) }
+    ensures acts { IfOk result
+        (λ a. ActsIn publisher.old.log place action starts.old.items a starts.new.items) }
     ensures entry { result ≡ Err WorldFault.NoEntry → reads_log action ≡ true }
     ensures memory { result ≡ Err WorldFault.Memory → takes_memory_of action ≡ true }
-    ensures err { OnErr result (map start_state starts.new.items ≡ map start_state starts.old.items) }
+    ensures err { OnErr result
+        (map start_state starts.new.items ≡ map start_state starts.old.items) }
     ensures happens { result ≢ Err WorldFault.BadEvent }
     ensures all { AllByRecursion (IsServed publisher.old.log) starts.new.items }
     ensures same { publisher.new ≡ publisher.old }
-    ensures readers { vec_len readers.new + running (map start_state starts.new.items) ≡ vec_len readers.old + running (map start_state starts.old.items) }
+    ensures readers { vec_len readers.new + running (map start_state starts.new.items)
+        ≡ vec_len readers.old + running (map start_state starts.old.items) }
     ensures capacity { vec_capacity readers.new ≡ vec_capacity readers.old }
 {
     starts[place].act(alloc, publisher, readers, action)

@@ -66,7 +66,8 @@ impl PipeBack {
 
     /// Reads the status at the front, and takes its frame away. It takes no memory.
     pub(crate) fn receive(&mut self) -> Option<Status>
-        ensures { MatchOption result ((self.old ≡ []) × (self.new ≡ self.old)) (λ status. self.old ≡ status ∷ self.new) }
+        ensures { MatchOption result ((self.old ≡ []) × (self.new ≡ self.old))
+            (λ status. self.old ≡ status ∷ self.new) }
     {
         let status = read_status(self.bytes.as_slice())?;
         self.bytes.advance(FRAME);

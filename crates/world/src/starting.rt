@@ -34,9 +34,14 @@ impl<L: LogName + SlotName> Machine<L> {
         options: &StartOptions,
     ) -> Result<Answer, WorldFault>
         requires machine { IsMachine self.old }
-        ensures start { IfOk result (λ a. IsNone (open_start name.now (shown self.old).starts) × IsStart name.now (slot_named slot.now) position options.now (shown self.old) a (shown self.new)) }
-        ensures bad { result ≡ Err WorldFault.BadEvent → IsSome (open_start name.now (shown self.old).starts) }
-        ensures memory { result ≡ Err WorldFault.Memory → start_refusal (slot_named slot.now) options.now.publications (shown self.old) ≡ None }
+        ensures start { IfOk result
+            (λ a. IsNone (open_start name.now (shown self.old).starts)
+            × IsStart name.now (slot_named slot.now) position options.now (shown self.old) a
+            (shown self.new)) }
+        ensures bad { result ≡ Err WorldFault.BadEvent →
+            IsSome (open_start name.now (shown self.old).starts) }
+        ensures memory { result ≡ Err WorldFault.Memory →
+            start_refusal (slot_named slot.now) options.now.publications (shown self.old) ≡ None }
         ensures err { OnErr result (shown self.new ≡ shown self.old) }
         ensures machine { IsMachine self.new }
     {
@@ -90,7 +95,11 @@ impl<L: LogName + SlotName> Machine<L> {
         requires slot { is_missing (slot_named slot.now) (shown self.old).slots ≡ false }
         requires free { is_held (slot_named slot.now) (shown self.old).slots ≡ false }
         requires reader { 0 < vec_len self.old.readers }
-        ensures done { IfOk result (λ a. (a ≡ Answer.Done) × (shown self.new ≡ started_with name.now (slot_named slot.now) position selection (shown self.old))) }
+        ensures done { IfOk result
+            (λ a. (a ≡ Answer.Done)
+            × (shown self.new
+            ≡ started_with name.now (slot_named slot.now) position selection
+            (shown self.old))) }
         ensures happens { result ≢ Err WorldFault.BadEvent }
         ensures err { OnErr result (shown self.new ≡ shown self.old) }
         ensures machine { IsMachine self.new }
@@ -136,7 +145,8 @@ impl<L: LogName + SlotName> Machine<L> {
     fn resume(&mut self, start: u64) -> Result<u64, WorldFault>
         requires reader { 0 < vec_len self.old.readers }
         ensures same { shown self.new ≡ shown self.old }
-        ensures first { IfOk result (λ first. first ≡ restart start (shown self.old).publisher.log) }
+        ensures first { IfOk result
+            (λ first. first ≡ restart start (shown self.old).publisher.log) }
         ensures resumed { IfOk result (λ first. IsResumed start first self.new) }
         ensures room { HasRoom self.old → HasRoom self.new }
         ensures readers { vec_len self.new.readers ≡ vec_len self.old.readers }
@@ -161,9 +171,12 @@ impl<L: LogName + SlotName> Machine<L> {
         ensures room { OnOk result (HasRoom self.new) }
         ensures readers { vec_len self.new.readers ≡ vec_len self.old.readers }
         ensures machine { IsMachine self.old → IsMachine self.new }
-        ensures subscriber { IfOk result (λ means. subscriber_state means.subscriber ≡ new_subscriber name.now (slot_named slot.now)) }
+        ensures subscriber { IfOk result
+            (λ means. subscriber_state means.subscriber
+            ≡ new_subscriber name.now (slot_named slot.now)) }
         ensures slot { IfOk result (λ means. means.subscriber.slot ≡ slot_named slot.now) }
-        ensures connection { IfOk result (λ means. (means.connection ≡ name.now) × (means.key ≡ name.now)) }
+        ensures connection { IfOk result
+            (λ means. (means.connection ≡ name.now) × (means.key ≡ name.now)) }
     {
         self.make_room()?;
         let key = name.copy(alloc)?;
@@ -212,7 +225,8 @@ impl<L: LogName + SlotName> Machine<L> {
         requires room { HasRoom self.old }
         requires reader { 0 < vec_len self.old.readers }
         requires resumed { IsResumed position first self.old }
-        requires subscriber { subscriber_state subscriber ≡ new_subscriber connection subscriber.slot }
+        requires subscriber { subscriber_state subscriber
+            ≡ new_subscriber connection subscriber.slot }
         requires key { key ≡ connection }
         ensures added { shown self.new ≡ record (shown self.old) {
           starts = (shown self.old).starts ++ new_start connection selection position first ∷ [];
@@ -243,7 +257,8 @@ struct StartMeans {
 
 /// A connection's subscriber that has applied nothing.
 fn subscriber_of(alloc: Global, name: &Text, slot: &Text) -> Result<Subscriber, AllocError>
-    ensures subscriber { IfOk result (λ made. subscriber_state made ≡ new_subscriber name.now (slot_named slot.now)) }
+    ensures subscriber { IfOk result
+        (λ made. subscriber_state made ≡ new_subscriber name.now (slot_named slot.now)) }
     ensures slot { IfOk result (λ made. made.slot ≡ slot_named slot.now) }
 {
     let slot = slot_named(alloc, slot)?;

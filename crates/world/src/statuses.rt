@@ -30,7 +30,9 @@ impl<L: LogName + SlotName> Machine<L> {
     /// Whether the connection has a sender, and a status of its subscriber waits.
     pub(crate) fn has_status(&self, name: &Text) -> bool
         requires machine { IsMachine self.now }
-        ensures { result ≡ (is_some (open_start name.now (shown self.now).starts) && has_status (subscriber_of name.now (shown self.now).subscribers)) }
+        ensures { result
+            ≡ (is_some (open_start name.now (shown self.now).starts)
+            && has_status (subscriber_of name.now (shown self.now).subscribers)) }
     {
         self.is_connected(name) && has_status(&self.names, self.subscribers.as_slice(), name)
     }
@@ -43,8 +45,11 @@ impl<L: LogName + SlotName> Machine<L> {
         clock: i64,
     ) -> Result<Answer, WorldFault>
         requires machine { IsMachine self.old }
-        ensures puts { IfOk result (λ a. PutsBack name.now (status_with flushed clock) (shown self.old) a (shown self.new)) }
-        ensures bad { result ≡ Err WorldFault.BadEvent → IsNone (open_start name.now (shown self.old).starts) }
+        ensures puts { IfOk result
+            (λ a. PutsBack name.now (status_with flushed clock) (shown self.old) a
+            (shown self.new)) }
+        ensures bad { result ≡ Err WorldFault.BadEvent →
+            IsNone (open_start name.now (shown self.old).starts) }
         ensures entered { result ≢ Err WorldFault.NoEntry }
         ensures err { OnErr result (shown self.new ≡ shown self.old) }
         ensures machine { IsMachine self.new }
@@ -60,8 +65,12 @@ impl<L: LogName + SlotName> Machine<L> {
     /// has read. V1 where there is no sender or no status waits.
     pub(crate) fn acknowledge(&mut self, name: &Text) -> Result<Answer, WorldFault>
         requires machine { IsMachine self.old }
-        ensures acknowledges { IfOk result (λ a. Acknowledges name.now (shown self.old) a (shown self.new)) }
-        ensures bad { result ≡ Err WorldFault.BadEvent → (is_some (open_start name.now (shown self.old).starts) && has_status (subscriber_of name.now (shown self.old).subscribers)) ≡ false }
+        ensures acknowledges { IfOk result
+            (λ a. Acknowledges name.now (shown self.old) a (shown self.new)) }
+        ensures bad { result ≡ Err WorldFault.BadEvent →
+            (is_some (open_start name.now (shown self.old).starts)
+            && has_status (subscriber_of name.now (shown self.old).subscribers))
+            ≡ false }
         ensures entered { result ≢ Err WorldFault.NoEntry }
         ensures memory { result ≢ Err WorldFault.Memory }
         ensures err { OnErr result (shown self.new ≡ shown self.old) }

@@ -77,7 +77,8 @@ impl Subscriber {
 
     /// Takes up to `max` bytes of those that the start has produced and that were not delivered yet.
     pub(crate) fn take(&mut self, produced: &[u8], max: u32) -> Answer
-        ensures { Gets (take max (drop self.old.delivered produced.now)) (subscriber_state self.old) result (subscriber_state self.new) }
+        ensures { Gets (take max (drop self.old.delivered produced.now)) (subscriber_state self.old)
+            result (subscriber_state self.new) }
     {
         let bytes = part(produced, self.delivered, max as usize);
         self.delivered += bytes.len();
@@ -90,7 +91,14 @@ impl Subscriber {
 
     /// Puts a status into the pipe back, with this number as what it has flushed, if there is one.
     pub(crate) fn put_back(&mut self, flushed: Option<u64>, clock: i64) -> Result<(), AllocError>
-        ensures ok { OnOk result (subscriber_state self.new ≡ record (subscriber_state self.old) { back = (subscriber_state self.old).back ++ status_with flushed clock (subscriber_state self.old).applier.subscriber.position ∷ [] }) }
+        ensures ok { OnOk result
+            (subscriber_state self.new
+            ≡ record (subscriber_state self.old) {
+              back = (subscriber_state self.old).back
+                  ++ status_with flushed clock
+                  (subscriber_state self.old).applier.subscriber.position
+                  ∷ [];
+            }) }
         ensures err { OnErr result (subscriber_state self.new ≡ subscriber_state self.old) }
     {
         let position = self.applier.position();
@@ -112,9 +120,15 @@ impl Subscriber {
     /// Reads the next status of the pipe back, and takes it out.
     pub(crate) fn next_status(&mut self) -> Option<Status>
         ensures { MatchOption result
-            ((subscriber_state self.old).back ≡ [] × subscriber_state self.new ≡ subscriber_state self.old)
-            (λ status. ((subscriber_state self.old).back ≡ status ∷ (subscriber_state self.new).back)
-            × (subscriber_state self.new ≡ record (subscriber_state self.old) { back = (subscriber_state self.new).back })) }
+            ((subscriber_state self.old).back ≡ []
+            × subscriber_state self.new ≡ subscriber_state self.old)
+            (λ status. ((subscriber_state self.old).back
+            ≡ status ∷ (subscriber_state self.new).back)
+            × (subscriber_state self.new
+            ≡ record (subscriber_state self.old) {
+              back =
+                  (subscriber_state self.new).back;
+            })) }
     {
         self.back.receive()
     }
@@ -146,7 +160,8 @@ impl Subscriber {
 
 /// The place of the connection's subscriber, by the names of all, in their order.
 pub(crate) fn place_of(names: &IndexSet<String>, connection: &Text) -> Option<usize>
-    ensures { (subscribers : List Subscriber) → AreNames names.now subscribers → result ≡ subscriber_place 0 connection.now (map subscriber_state subscribers) }
+    ensures { (subscribers : List Subscriber) → AreNames names.now subscribers →
+        result ≡ subscriber_place 0 connection.now (map subscriber_state subscribers) }
 {
     names.get_index_of(connection.as_str())
 }
@@ -158,7 +173,8 @@ pub(crate) fn has_status(
     connection: &Text,
 ) -> bool
     requires { AreNames names.now subscribers.now }
-    ensures { result ≡ has_status (subscriber_of connection.now (map subscriber_state subscribers.now)) }
+    ensures { result
+        ≡ has_status (subscriber_of connection.now (map subscriber_state subscribers.now)) }
 {
     match place_of(names, connection) {
         Some(place) => subscribers[place].is_waiting(),
@@ -178,7 +194,8 @@ pub(crate) fn subscribe(
     requires room_for_name { 0 < spare names.old }
     requires fresh { subscriber_state new ≡ new_subscriber new.connection new.slot }
     requires name { name ≡ new.connection }
-    ensures joined { map subscriber_state subscribers.new.items ≡ with_one_for new.connection new.slot (map subscriber_state subscribers.old.items) }
+    ensures joined { map subscriber_state subscribers.new.items
+        ≡ with_one_for new.connection new.slot (map subscriber_state subscribers.old.items) }
     ensures named { AreNames names.new subscribers.new.items }
 {
     match place_of(names, &new.connection) {
@@ -209,9 +226,11 @@ pub(crate) fn reconnect(
     connection: &Text,
 ) -> Option<Text>
     requires { AreNames names.now subscribers.old.items }
-    ensures again { map subscriber_state subscribers.new.items ≡ reconnected connection.now (map subscriber_state subscribers.old.items) }
+    ensures again { map subscriber_state subscribers.new.items
+        ≡ reconnected connection.now (map subscriber_state subscribers.old.items) }
     ensures named { AreNames names.now subscribers.new.items }
-    ensures slot { result ≡ slot_of_connection connection.now (map subscriber_state subscribers.old.items) }
+    ensures slot { result
+        ≡ slot_of_connection connection.now (map subscriber_state subscribers.old.items) }
 {
     match place_of(names, connection) {
         Some(place) => subscribers[place].reconnect(),

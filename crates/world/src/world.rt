@@ -81,7 +81,8 @@ impl<L: LogName + SlotName> World<L> {
     pub fn step<R: Wait>(&mut self, rt: &R, event: &Event) -> Result<Answer, WorldFault>
         ensures step { IfOk result (λ a. IsStep self.old.state event.now a self.new.state) }
         ensures kept { IfOk result (λ a. self.new.answers ≡ self.old.answers ++ a ∷ []) }
-        ensures bad { (result ≡ Err WorldFault.BadEvent) ↔ (is_bad event.now self.old.state ≡ true) }
+        ensures bad { (result ≡ Err WorldFault.BadEvent)
+            ↔ (is_bad event.now self.old.state ≡ true) }
         ensures entry { result ≡ Err WorldFault.NoEntry → is_read event.now ≡ true }
         ensures err { OnErr result (self.new ≡ self.old) }
         ensures headline { Headline self.new.state }
@@ -111,8 +112,11 @@ impl<L: LogName + SlotName> World<L> {
         ensures run { IfOk result (λ w. IsRun (new_world config) events.now w.answers w.state) }
         ensures headline { IfOk result (λ w. Headline w.state) }
         ensures log { IfOk result (λ w. IsWellFormedLog w.state.publisher.log) }
-        ensures confirmed { IfOk result (λ w. (name : List ℕ) (run : IsRun (new_world config) events.now w.answers w.state)
-            → confirmed_at name w.state.slots ≡ confirmed_through name (new_world config) events.now w.answers w.state run None) }
+        ensures confirmed { IfOk result
+            (λ w. (name : List ℕ) (run : IsRun (new_world config) events.now w.answers w.state) →
+            confirmed_at name w.state.slots
+            ≡ confirmed_through name (new_world config) events.now w.answers w.state run
+            None) }
         ensures once { IfOk result (λ w. RunsOnce (new_world config) events.now w.answers w.state) }
         ensures stops { IfErr result (λ fault. HasStopped (new_world config) events.now fault) }
     {
@@ -180,10 +184,13 @@ fn step_in<L: LogName + SlotName, R: Wait>(
     requires room { vec_len answers.old < vec_capacity answers.old }
     ensures step { IfOk result (λ a. IsStep (shown machine.old) event.now a (shown machine.new)) }
     ensures kept { IfOk result (λ a. answers.new.items ≡ answers.old.items ++ a ∷ []) }
-    ensures bad { (result ≡ Err WorldFault.BadEvent) ↔ (is_bad event.now (shown machine.old) ≡ true) }
+    ensures bad { (result ≡ Err WorldFault.BadEvent)
+        ↔ (is_bad event.now (shown machine.old) ≡ true) }
     ensures entry { result ≡ Err WorldFault.NoEntry → is_read event.now ≡ true }
-    ensures memory { result ≡ Err WorldFault.Memory → takes_memory event.now (shown machine.old) ≡ true }
-    ensures err { OnErr result ((shown machine.new ≡ shown machine.old) × (answers.new ≡ answers.old)) }
+    ensures memory { result ≡ Err WorldFault.Memory →
+        takes_memory event.now (shown machine.old) ≡ true }
+    ensures err { OnErr result
+        ((shown machine.new ≡ shown machine.old) × (answers.new ≡ answers.old)) }
     ensures capacity { OnOk result (vec_capacity answers.new ≡ vec_capacity answers.old) }
     ensures machine { IsMachine machine.new }
 {
