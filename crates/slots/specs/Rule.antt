@@ -1,4 +1,4 @@
--- The rule of slots, which holds between any two steps of any seats, and what each kind of step tells its seat.
+-- What holds of slots between any two steps of any seats, and what each kind of step tells its seat.
 use Rattle.std.specs.Prelude.{◌≡◌, ℕ, ◌+◌, ◌*◌, ◌/◌, ◌<◌, ◌≤◌, ◌==◌, true, cond, List, [], ◌∷◌, ◌++◌, length, slice_index, Some, max}
 use mathlib.Core.Option.{some}
 use lib.ListN.{get_elem?}
@@ -20,13 +20,19 @@ position_word p = p * 8 + 1
 abbrev pub place_of_word : ℕ → ℕ
 place_of_word w = w / 8
 
--- the two words of a place agree with what one seat's steps say of it
+-- The two words of a place agree with what the steps of one seat say of it.
 pub record Agrees (state position seat : ℕ) (f : Facts) : Type 0 where
+  -- if it holds the place by its steps, the state word names it
   pub named : f.held ≡ true → state ≡ held_by seat
+  -- and only then
   pub held : state ≡ held_by seat → f.held ≡ true
+  -- the position is no lower than any that it saw
   pub above : f.top ≤ position
+  -- of a place that it holds, it is the one that it last saw since it took the place
   pub last : f.held ≡ true → (x : ℕ) → f.known ≡ Some x → position ≡ x
+  -- a place that it saw dropped is dropped still
   pub stays : f.gone ≡ true → state ≡ 2
+  -- the positions that it saw never fell
   pub rises : f.rising ≡ true
 
 -- the two words of a place are what the last steps of this seat left
@@ -39,12 +45,19 @@ Slots = State (Unit {0}) View
 abbrev Seated : Type 0
 Seated = Me (Unit {0}) View
 
+-- The rule of slots, which each step of each seat keeps.
 pub record Kept (s : Slots) : Type 0 where
+  -- eight words for each of 16 places
   pub wide : length s.words ≡ 128
+  -- a seat knows its number, and one that may make more knows how many there are
   pub numbered : (seat : ℕ) (v : View) → get_elem? s.views seat ≡ some v → (v.number ≡ seat) × (0 < v.seats → length s.views ≡ v.seats)
+  -- that is the first seat alone
   pub first : (seat : ℕ) (v : View) → get_elem? s.views seat ≡ some v → 0 < v.seats → seat ≡ 0
+  -- a state word names no seat that there isn't
   pub names : (p : ℕ) → p < 16 → slice_index s.words (state_word p) < 3 + length s.views
+  -- the words of each place agree with the steps of each seat
   pub places : (p seat : ℕ) (v : View) → p < 16 → get_elem? s.views seat ≡ some v → Agrees (slice_index s.words (state_word p)) (slice_index s.words (position_word p)) seat (facts p v.steps)
+  -- where there is one seat, they are what its last steps left
   pub alone : length s.views ≡ 1 → (p seat : ℕ) (v : View) → p < 16 → get_elem? s.views seat ≡ some v → Leaves s.words p v
 
 abbrev pub slot_step : SlotKind → ℕ → ℕ → ℕ → SlotStep
@@ -54,23 +67,31 @@ slot_step kind place found left = record { kind = kind; place = place; found = f
 abbrev pub with_step : View → SlotStep → View
 with_step v s = record { number = v.number; seats = v.seats; steps = v.steps ++ s ∷ [] }
 
--- what a seat knows of a state word that it finds
+-- What a seat knows of a state word that it finds.
 pub record StandsAs (v : View) (p found : ℕ) : Type 0 where
+  -- its own number, if and only if it holds the place by its steps
   pub named : (facts p v.steps).held ≡ true → found ≡ held_by v.number
   pub held : found ≡ held_by v.number → (facts p v.steps).held ≡ true
+  -- "dropped", if it saw that before
   pub stays : (facts p v.steps).gone ≡ true → found ≡ 2
+  -- what its last step left, if no other seat was ever made
   pub alone : v.seats ≡ 1 → found ≡ (facts p v.steps).state
 
--- what a seat knows of a position that it finds: it is no lower than any that it saw; of a place that it held all the time, it is the last one that it saw
+-- What a seat knows of a position that it finds.
 pub record FollowsOn (v : View) (p found : ℕ) : Type 0 where
+  -- it is no lower than any that it saw
   pub above : (facts p v.steps).top ≤ found
+  -- of a place that it holds, it is the one that it last saw since it took the place
   pub last : (facts p v.steps).held ≡ true → (x : ℕ) → (facts p v.steps).known ≡ Some x → found ≡ x
+  -- and if no other seat was ever made, what its last step left
   pub alone : v.seats ≡ 1 → found ≡ (facts p v.steps).position
 
 abbrev pub steps_by : Seated → SlotStep → Seated → Type 0
 steps_by m s m' = m' ≡ (with_step m.0 s, m.1)
 
--- the six kinds of step: the word was found, and the step stands in the view with what it left
+-- The six kinds of step. Each finds a word of the place, and stands in the view with what it found and what it left: a create leaves its
+-- seat's number where the place was never made, a claim where it is free, and a retire "dropped" where it is free; a release leaves "free"
+-- in its own place; a raise leaves the greater of two positions; a read leaves all as it is.
 abbrev pub creates : Step (Unit {0}) → Seated → ℕ → Seated → Type 0
 creates st m found m' = steps_by m (slot_step Create (place_of_word st.word) found (cond (found == 0) st.second found)) m' × StandsAs m.0 (place_of_word st.word) found
 
