@@ -9,3 +9,6 @@ pub mod Fitting
 pub mod Spelled
 pub mod Due
 pub mod Adding
+pub mod Queueing
+pub mod Growing
+pub mod Heads
