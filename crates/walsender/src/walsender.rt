@@ -6,14 +6,13 @@ ghost use mathlib.Core.List.{IsPrefix};
 ghost use Rattle.std.specs.declared.io.Error.{Error};
 ghost use Rattle.wal.specs.declared.record.Record.{Record};
 ghost use Rattle.wal.specs.Log.{IsWellFormedLog};
-ghost use Rattle.reorder.specs.Chunks.{live_chunks};
 ghost use Rattle.stream.specs.Words.{word_bytes};
 ghost use Rattle.stream.specs.Items.{keepalive_word};
 ghost use Rattle.shared_log.specs.Fronts.{settled};
 ghost use Rattle.shared_log.specs.Readers.{HasSeen, seen_of};
 ghost use Rattle.shared_log.specs.declared.fault.ReadFault.{ReadFault};
 ghost use Rattle.sender.specs.Faults.{fault_of_fetch, has_fetched, has_written};
-ghost use Rattle.sender.specs.Sending.{HasChunks, HasRead};
+ghost use Rattle.sender.specs.Sending.{HasChunks, HasRead, LeavesChunks};
 ghost use Rattle.sender.specs.Turning.{fetched_from};
 ghost use Rattle.walsender.specs.Serving.{BeginsAt, Gives, GoesOn, Reads, ReadsAndWrites, ReadsOn, Serves, StaysOn, WritesFirst, next_records};
 
@@ -75,9 +74,10 @@ impl<L: LogName> Walsender<L> {
     }
 
     /// How many chunks of its arena are free: all but those that changes of transactions in progress fill, savepoints that were rolled
-    /// back left out.
+    /// back left out, and those of committed transactions of which bytes are held.
     pub fn free_chunks(&self) -> usize
-        ensures { (rs : List Record) (count : ℕ) → HasRead self.now.sender rs → HasChunks self.now.sender count → result + live_chunks rs ≡ count }
+        ensures { (rs : List Record) (count : ℕ) → HasRead self.now.sender rs → HasChunks self.now.sender count →
+            LeavesChunks self.now.sender.held count rs result }
     {
         self.sender.free_chunks()
     }
