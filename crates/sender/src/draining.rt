@@ -81,6 +81,25 @@ impl Outgoing {
         Ok(())
     }
 
+    /// Makes frames ahead, into memory, where the arena is full, until a chunk of it is free or no transaction waits. So what waits
+    /// never keeps a change from coming.
+    pub(crate) fn give_way(
+        &mut self,
+        selection: &Selection,
+        reorder: &mut Reorder,
+    ) -> Result<(), AllocError>
+        requires { IsOutgoing selection.now reorder.old self.old }
+        ensures same { HoldsSame selection.now reorder.old reorder.new self.old self.new }
+        ensures free { OnOk result ((self.new.waiting.items ≡ []) ⊎ HasFreeChunk reorder.new) }
+    {
+        while !self.waiting.is_empty() && reorder.free_chunks() == 0 {
+            self.fill(selection, reorder);
+            self.front.put_slice(&self.frames[self.from..self.to])?;
+            self.from = self.to;
+        }
+        Ok(())
+    }
+
     /// Gathers so many bytes at the front, or all where there are fewer. Where memory is refused, there may be less.
     fn gather(
         &mut self,

@@ -43,6 +43,7 @@ impl Sender {
         ensures chunks { OnOk result ((count : ℕ) → HasChunks self.old count → HasChunks self.new count) }
         ensures failed { self.new.failed ≡ self.old.failed }
     {
+        self.outgoing.give_way(&self.selection, &mut self.reorder)?;
         match self.reorder.take(next) {
             Err(ReorderFault::Full) => return Err(SendFault::ArenaFull),
             Err(_) => return Err(SendFault::Memory),

@@ -20,6 +20,9 @@ impl Outgoing {
         if self.from < self.to {
             return true;
         }
+        if self.made.is_empty() {
+            return false;
+        }
         self.from = 0;
         self.to = 0;
         self.make(selection, reorder)
