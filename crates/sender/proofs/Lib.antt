@@ -10,5 +10,6 @@ pub mod Spelled
 pub mod Due
 pub mod Adding
 pub mod Queueing
+pub mod GivingWay
 pub mod Growing
 pub mod Heads

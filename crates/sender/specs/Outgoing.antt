@@ -10,8 +10,10 @@ use Rattle.reorder.specs.Ready.{ReadyState}
 use Rattle.sender.specs.Spelled.{begin_with, commit_with}
 use Rattle.sender.specs.declared.header.Header.{Header}
 use Rattle.sender.specs.declared.waiting.Waiting.{Waiting}
-use Rattle.reorder.specs.Settled.{AreLentIn, settled}
-use Rattle.reorder.specs.Taking.{ReorderState}
+use Rattle.reorder.specs.Chunks.{IsTidy, live_chunks}
+use Rattle.reorder.specs.Settled.{AreLentIn, lent_chunks, settled}
+use Rattle.reorder.specs.Taking.{HasTaken, ReorderState}
+use Rattle.wal.specs.declared.record.Record.{Record}
 use Rattle.sender.specs.Waiting.{AreSelected, AreWithin, bytes_behind, places, readies, sent_behind}
 use Rattle.sender.specs.declared.outgoing.Outgoing.{Outgoing}
 use Rattle.sender.specs.declared.outgoing.TheConstants.{FRAMES_LENGTH}
@@ -126,3 +128,8 @@ pub record MovesOut (selection : PublicationSet) (count : ℕ) (s s' : ReorderSt
   pub held : held_of selection s' o' ≡ drop count (held_of selection s o)
   pub sent : sent_of selection s' o' ≡ sent_of selection s o
   pub settled : settled_of s' o' ≡ settled_of s o
+
+-- Whatever was taken, a chunk is free beside those of the transactions in progress and of what is lent.
+abbrev pub HasFreeChunk : ReorderState → Type 0
+HasFreeChunk s =
+    (rs : List Record) (ws : List ReadyState) (count : ℕ) → HasTaken s rs → AreLentIn s ws → IsTidy count [] (settled s ws).strands → live_chunks rs + lent_chunks s ws < count

@@ -7,8 +7,7 @@ use Rattle.wal.specs.declared.record.Record.{Record}
 use Rattle.wal.specs.declared.record.Body.{Body}
 use Rattle.wal.specs.declared.record.Body.TheVariants.{Commit, Note}
 use Rattle.wal.specs.Log.{Entry, Transaction, end_of}
-use Rattle.reorder.specs.Chunks.{IsTidy, live_chunks}
-use Rattle.reorder.specs.Settled.{LeavesNoRoomBeside}
+use Rattle.reorder.specs.Chunks.{IsTidy, LeavesNoRoom, live_chunks}
 use Rattle.reorder.specs.Taking.{ReorderState, HasTaken, MayCome, StartsBehind, Takes}
 use Rattle.publication.specs.Selection.{relation}
 use Rattle.stream.specs.declared.published.Published.{Published}
@@ -83,19 +82,13 @@ pub record LeavesChunks (held : List ℕ) (chunks : ℕ) (rs : List Record) (fre
   pub none : held ≡ [] → waiting ≡ 0
   pub all : free + live_chunks rs + waiting ≡ chunks
 
--- By these records no chunk is left for a change but those of transactions of which bytes are held: so many, and none where nothing is held.
-pub record HasNoRoomBeside (held : List ℕ) (chunks : ℕ) (rs : List Record) (r : Record) : Type 0 where
-  pub waiting : ℕ
-  pub none : held ≡ [] → waiting ≡ 0
-  pub room : LeavesNoRoomBeside waiting chunks rs r
-
 -- Behind those of these records that were read, which the position tells, stands a change for which no chunk was left.
 pub record LacksRoom (old new : SenderState) (rs : List Record) : Type 0 where
   pub count : ℕ
   pub next : Record
   pub is : slice_get rs count ≡ Some next
   pub position : new.position ≡ end_of old.position (take count rs)
-  pub room : (before : List Record) (chunks : ℕ) → HasRead old before → MayFollow before rs → HasChunks old chunks → HasNoRoomBeside new.held chunks (before ++ take count rs) next
+  pub room : (before : List Record) (chunks : ℕ) → HasRead old before → MayFollow before rs → HasChunks old chunks → LeavesNoRoom chunks (before ++ take count rs) next
 
 -- ONE RECORD, NOT NEEDED BY A READER OF `feed`
 
