@@ -17,6 +17,7 @@ use Rattle.wal.specs.declared.record.Body.TheVariants.{Assign, Change as Changed
 use Rattle.tables.specs.declared.change.Change.{Change}
 use Rattle.wal.specs.Log.{noted, committed_at, committed_from, end_of}
 use Rattle.wal.proofs.Laws.{end_of-append, committed_from-append}
+use Rattle.reorder.specs.Chunks.{LeavesNoRoom}
 use Rattle.reorder.specs.Taking.{HasTaken, MayCome, promised}
 use Rattle.publication.specs.Selection.{relation}
 use Rattle.pgoutput.specs.declared.relation.Relation.{Relation}
@@ -24,7 +25,7 @@ use Rattle.stream.specs.declared.published.Published.{Published}
 use Rattle.stream.specs.Words.{word_bytes, frames_of}
 use Rattle.stream.specs.Items.{Block, FitsPublished, words_of, item_words, spelled, relations_sent_by_all, relations_sent_through}
 use Rattle.sender.specs.Published.{published, published_as, published_from, published_note, has_message}
-use Rattle.sender.specs.Sending.{SenderState, MayFollow, HasChunks, HasNoRoomBeside, HasRead, LacksRoom, blocks, published_bytes, published_by_record, ReadOne, ReadAll, RanOut, OutputUnchanged, AddsPublished}
+use Rattle.sender.specs.Sending.{SenderState, MayFollow, HasChunks, HasRead, LacksRoom, blocks, published_bytes, published_by_record, ReadOne, ReadAll, RanOut, OutputUnchanged, AddsPublished}
 
 -- ---- items behind items
 
@@ -201,9 +202,9 @@ parted (q ∷ rs) (suc i) r is = let more = parted rs i r is in (more.0, ap (λ 
 
 -- a batch that stops at a record for which no chunk is left
 pub lacks_room : (clock : ℤ) (old mid stopped new : SenderState) (records : List (Arc Record Global)) (i : ℕ) (r : Record) → i < length records → slice_get (shared records) i ≡ Some r →
-    ReadAll clock old mid (shared (take i records)) → OutputUnchanged mid stopped → new.position ≡ stopped.position → new.held ≡ stopped.held → ((count : ℕ) → HasChunks old count → HasChunks mid count) →
-    ((rs : List Record) (count : ℕ) → HasTaken mid.reorder rs → MayCome rs r.body → HasChunks mid count → HasNoRoomBeside mid.held count rs r) → LacksRoom old new (shared records)
-lacks_room clock old mid stopped new records i r lt at front same position held_is chunks none =
+    ReadAll clock old mid (shared (take i records)) → OutputUnchanged mid stopped → new.position ≡ stopped.position → ((count : ℕ) → HasChunks old count → HasChunks mid count) →
+    ((rs : List Record) (count : ℕ) → HasTaken mid.reorder rs → MayCome rs r.body → HasChunks mid count → LeavesNoRoom count rs r) → LacksRoom old new (shared records)
+lacks_room clock old mid stopped new records i r lt at front same position chunks none =
     let taken = shared_take records i in
     let parts = parted (shared records) i r at in
     record {
@@ -218,6 +219,5 @@ lacks_room clock old mid stopped new records i r lt at front same position held_
           let Front : List Record → Type 0 = λ l. MayFollow before l in
           let read : HasRead mid (before ++ take i (shared records)) =
           subst Q taken (front.after before has (subst Front (sym taken) (MayFollow-front before (take i (shared records)) (r ∷ parts.0) all))).0 in
-          let R : List ℕ → Type 0 = λ h. HasNoRoomBeside h count (before ++ take i (shared records)) r in
-          subst R (sym (held_is ∙ same.held)) (none (before ++ take i (shared records)) count read.taken (MayFollow-back before (take i (shared records)) (r ∷ parts.0) all).0 (chunks count held));
+          none (before ++ take i (shared records)) count read.taken (MayFollow-back before (take i (shared records)) (r ∷ parts.0) all).0 (chunks count held);
     }
