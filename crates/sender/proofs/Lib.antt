@@ -12,3 +12,5 @@ pub mod Adding
 pub mod Queueing
 pub mod Growing
 pub mod Heads
+pub mod OnceEach
+pub mod Framed
