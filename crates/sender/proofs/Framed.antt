@@ -1,5 +1,5 @@
 -- A frame that is made at once, a head and a message behind it, is the frame of a word; and what it is of the changes' bytes.
-use Rattle.std.proofs.Common.{◌≡◌, ◌<◌, ◌≤◌, ◌+◌, ℕ, ℤ, Bool, true, false, cond, eqb, List, [], ◌∷◌, ◌++◌, length, take, reverse, refl, sym, ap, subst, ◌∙◌, append_assoc, arith}
+use Rattle.std.proofs.Common.{◌≡◌, ◌<◌, ◌≤◌, ◌+◌, ℕ, suc, ℤ, Bool, true, false, cond, eqb, List, [], ◌∷◌, ◌++◌, length, take, reverse, refl, sym, ap, subst, ◌∙◌, append_assoc, arith}
 use Rattle.std.specs.Prelude.{◌==◌, ◌||◌}
 use Rattle.std.specs.List.{AllByRecursion, list_any}
 use Rattle.std.specs.Int.{w64, cast_unsigned}
@@ -61,7 +61,7 @@ take_behind [] room n size is = ap (λ (k : ℕ). take k room) (is_of is)
     is_of : n ≡ 0 + size → n ≡ size
     is_of e = omega arith
 take_behind (x ∷ head) room n size is =
-    let more : n ≡ (length head + size) + 1 = omega (arith, is) in
+    let more : n ≡ suc (length head + size) = omega (arith, is) in
     ap (λ (k : ℕ). take k (x ∷ (head ++ room))) more ∙ ap (λ (l : List ℕ). x ∷ l) (take_behind head room (length head + size) size refl)
 
 pub frame_made : (head room out : List ℕ) (n size position : ℕ) (clock : ℤ) (m : Logical) → out ≡ head ++ room → head ≡ frame_head position clock size → size ≤ length room → n ≡ 30 + size → take size room ≡ spell_logical m
@@ -101,7 +101,7 @@ module _ (rel : ℕ → Relation) (clock : ℤ) (sent : List ℕ) (c : Published
 
   -- a Relation is due
   module _ (oid : ℕ) (rest : List ℕ) (is : due ≡ oid ∷ rest) where
-    word : Word
+    abbrev pub word : Word
     word = xlogdata_word c.position clock (logical.Relation (rel oid))
 
     after : relations_due (oid ∷ sent) (tables_of c.message) ≡ rest
@@ -112,7 +112,7 @@ module _ (rel : ℕ → Relation) (clock : ℤ) (sent : List ℕ) (c : Published
         ap (λ (l : List ℕ). reverse l ++ sent) is ∙ ap (λ (l : List ℕ). l ++ sent) (reverse_onto rest oid []) ∙ append_assoc (reverse rest) (oid ∷ []) sent
         ∙ ap (λ (l : List ℕ). reverse l ++ (oid ∷ sent)) (sym after)
 
-    pub with_due : List ℕ → List Word
+    abbrev pub with_due : List ℕ → List Word
     with_due oids = relation_words rel c.position clock oids ++ (xlogdata_word c.position clock c.message ∷ [])
 
     words_due : changes_words rel sent clock (c ∷ cs) ≡ word ∷ changes_words rel (oid ∷ sent) clock (c ∷ cs)
@@ -172,8 +172,8 @@ makes_nothing selection clock here next sent same = record {
 -- what holds of all holds of each that is among them
 pub all_any : (P : ℕ → Type 0) (oids : List ℕ) (oid : ℕ) → AllByRecursion P oids → list_any (λ n. n == oid) oids ≡ true → P oid
 all_any P [] oid all e = absurd cc
-all_any P (x ∷ oids) oid all e = by_test (x == oid) refl e
+all_any P (x ∷ oids) oid all e = by_test (x == oid) refl e (all_any P oids oid all.1)
   where
-    by_test : (b : Bool) → (x == oid) ≡ b → (b || list_any (λ n. n == oid) oids) ≡ true → P oid
-    by_test true is e = subst P (eqb-true x oid is) all.0
-    by_test false is e = all_any P oids oid all.1 e
+    by_test : (b : Bool) → (x == oid) ≡ b → (b || list_any (λ n. n == oid) oids) ≡ true → (list_any (λ n. n == oid) oids ≡ true → P oid) → P oid
+    by_test true is e go = subst P (eqb-true x oid is) all.0
+    by_test false is e go = go e
