@@ -162,13 +162,6 @@ module _ (selection : PublicationSet) (clock : ℤ) (here next : List PublishedC
     names = ap (relations_sent_by_all sent) first ∙ ap (λ (l : List ℕ). relations_sent_by_all l next) (names_none rel clock sent c next due);
   }
 
--- nothing, where the change has no message
-pub makes_nothing : (selection : PublicationSet) (clock : ℤ) (here next : List PublishedChange) (sent : List ℕ) → here ≡ next → Makes selection clock here next sent sent []
-makes_nothing selection clock here next sent same = record {
-  bytes = ap (λ (cs : List PublishedChange). changes_bytes selection sent clock cs) same;
-  names = ap (relations_sent_by_all sent) same;
-}
-
 -- what holds of all holds of each that is among them
 pub all_any : (P : ℕ → Type 0) (oids : List ℕ) (oid : ℕ) → AllByRecursion P oids → list_any (λ n. n == oid) oids ≡ true → P oid
 all_any P [] oid all e = absurd cc

@@ -1,4 +1,4 @@
-use Rattle.std.proofs.Common.{length, reverse, arith}
+use Rattle.std.proofs.Common.{reverse, arith}
 use Rattle.std.proofs.lemmas.List.{length-reverse}
 use Rattle.sender.proofs.OnceEach.{one_more_fits}
 use Rattle.sender.proofs.making.put_due.Goals as goal
