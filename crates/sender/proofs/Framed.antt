@@ -1,5 +1,5 @@
 -- A frame that is made at once, a head and a message behind it, is the frame of a word; and what it is of the changes' bytes.
-use Rattle.std.proofs.Common.{◌≡◌, ◌<◌, ◌≤◌, ◌+◌, ℕ, suc, ℤ, Bool, true, false, cond, eqb, List, [], ◌∷◌, ◌++◌, length, take, reverse, refl, sym, ap, subst, ◌∙◌, append_assoc, arith}
+use Rattle.std.proofs.Common.{◌≡◌, ◌≤◌, ◌+◌, ℕ, ℤ, Bool, true, false, cond, List, [], ◌∷◌, ◌++◌, length, take, reverse, refl, sym, ap, subst, ◌∙◌, append_assoc, arith}
 use Rattle.std.specs.Prelude.{◌==◌, ◌||◌}
 use Rattle.std.specs.List.{AllByRecursion, list_any}
 use Rattle.std.specs.Int.{w64, cast_unsigned}
@@ -7,6 +7,7 @@ use Rattle.std.proofs.lemmas.Bool.{eq-eqb, eqb-true}
 use Rattle.std.proofs.lemmas.Grind.{reverse_onto}
 use Rattle.std.proofs.lemmas.List.{length-append, length-take-le}
 use Rattle.std.proofs.lemmas.List.Concat.{flat_map-cons}
+use Rattle.std.proofs.Math.Seq.{take-append-add}
 use Rattle.pqformat.specs.Fields.{int32, int64}
 use Rattle.pqformat.proofs.Numbers.{length-int32, length-int64}
 use Rattle.frames.specs.Frame.{frame}
@@ -22,7 +23,7 @@ use Rattle.publication.specs.Selection.{relation}
 use Rattle.stream.specs.declared.published.PublishedChange.{PublishedChange}
 use Rattle.stream.specs.declared.word.Word.{Word}
 use Rattle.stream.specs.Words.{frames_of, word_bytes}
-use Rattle.stream.specs.Items.{change_words, changes_words, is_relation_sent, relation_words, relations_due, relations_sent_by, relations_sent_by_all, tables_of, xlogdata_word}
+use Rattle.stream.specs.Items.{changes_words, is_relation_sent, relation_words, relations_due, relations_sent_by, relations_sent_by_all, tables_of, xlogdata_word}
 use Rattle.sender.specs.Waiting.{Makes, changes_bytes, frame_head}
 use Rattle.sender.proofs.Heads.{either}
 use Rattle.sender.proofs.Framing.{xlogdata_whole}
@@ -54,21 +55,11 @@ frame_whole position clock size message is =
     xlogdata_whole [] headed (frame_head position clock size ++ message) message position clock (ap (λ (n : ℕ). COPY_DATA ∷ int32 n) same)
     (regroup COPY_DATA XLOGDATA (int32 (29 + size)) (int64 position) (int64 (cast_unsigned w64 clock)) message)
 
--- so many bytes of a head and the room behind it
-take_behind : (head room : List ℕ) (n size : ℕ) → n ≡ length head + size → take n (head ++ room) ≡ head ++ take size room
-take_behind [] room n size is = ap (λ (k : ℕ). take k room) (is_of is)
-  where
-    is_of : n ≡ 0 + size → n ≡ size
-    is_of e = omega arith
-take_behind (x ∷ head) room n size is =
-    let more : n ≡ suc (length head + size) = omega (arith, is) in
-    ap (λ (k : ℕ). take k (x ∷ (head ++ room))) more ∙ ap (λ (l : List ℕ). x ∷ l) (take_behind head room (length head + size) size refl)
-
 pub frame_made : (head room out : List ℕ) (n size position : ℕ) (clock : ℤ) (m : Logical) → out ≡ head ++ room → head ≡ frame_head position clock size → size ≤ length room → n ≡ 30 + size → take size room ≡ spell_logical m
     → take n out ≡ word_bytes (xlogdata_word position clock m)
 frame_made head room out n size position clock m both is_head within is text =
     let long : n ≡ length head + size = omega (arith, is, ap (length {A = ℕ}) is_head, length-head position clock size) in
-    ap (take n) both ∙ take_behind head room n size long ∙ ap (λ (l : List ℕ). l ++ take size room) is_head
+    ap (take n) both ∙ ap (λ (k : ℕ). take k (head ++ room)) long ∙ take-append-add head room size ∙ ap (λ (l : List ℕ). l ++ take size room) is_head
     ∙ frame_whole position clock size (take size room) (sym (length-take-le size room within)) ∙ ap (λ (l : List ℕ). frame COPY_DATA (xlogdata position position clock l)) text
 
 -- ---- THE FIRST OF THE CHANGES' BYTES
@@ -133,8 +124,8 @@ module _ (rel : ℕ → Relation) (clock : ℤ) (sent : List ℕ) (c : Published
     frames_none =
         let own = xlogdata_word c.position clock c.message in
         ap frames_of (
-          ap (λ (l : List ℕ). (relation_words rel c.position clock l ++ (own ∷ [])) ++ changes_words rel (relations_sent_by sent c) clock cs) is
-          ∙ ap (λ (l : List ℕ). own ∷ changes_words rel l clock cs) names_none
+        ap (λ (l : List ℕ). (relation_words rel c.position clock l ++ (own ∷ [])) ++ changes_words rel (relations_sent_by sent c) clock cs) is
+        ∙ ap (λ (l : List ℕ). own ∷ changes_words rel l clock cs) names_none
         ) ∙ flat_map-cons word_bytes own (changes_words rel sent clock cs)
 
 -- ---- WHAT A FRAME MAKES

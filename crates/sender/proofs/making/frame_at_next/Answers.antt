@@ -46,15 +46,17 @@ returns-clause-makes c =
     let room = c.match-first_due.room in
     let pool = c.args.reorder.now.strands.pool in
     let told = told_at c.in-Some.position bytes in
+    let due_as = ap (relations_due sent) (sym named) ∙ ap (λ (l : List ℕ). relations_due (reverse l) (oids_in c.named_in-named.result)) (sym c.as_slice.ensures.value) in
+    let clock_fits = to_z-of_z w64 clock (record { sfits = c.fits-waiting.1.1.0.1 }) in
     elim c.match-first_due.branch [
-      in-Some-first_due w ↦
+      | in-Some-first_due w ↦
           let oid = w.in-Some-first_due.oid in
           let put = w.put_due-length.ensures in
           let due = w.in-Some-first_due.ensures.due in
-          let due_is : relations_due sent (tables_of m) ≡ oid ∷ due.0 = ap (relations_due sent) (sym named) ∙ ap (λ (l : List ℕ). relations_due (reverse l) (oids_in c.named_in-named.result)) (sym c.as_slice.ensures.value) ∙ due.1 in
+          let due_is : relations_due sent (tables_of m) ≡ oid ∷ due.0 = due_as ∙ due.1 in
           let sent' = reverse c.match-first_due.relations_sent.items in
           let noted : sent' ≡ oid ∷ sent = ap (λ r. reverse r.items) w.relations_sent-is ∙ put.noted in
-          let clock_is = ap (λ v. to_z w64 (of_z w64 v.clock)) w.waiting-is ∙ to_z-of_z w64 clock (record { sfits = c.fits-waiting.1.1.0.1 }) in
+          let clock_is = ap (λ v. to_z w64 (of_z w64 v.clock)) w.waiting-is ∙ clock_fits in
           let head : c.put_head.new.head ≡ frame_head c.in-Some.position clock size = c.put_head.ensures ∙ ap (λ k. frame_head c.in-Some.position k size) clock_is in
           let within : size ≤ length room =
           omega (arith, w.length-is, ap (length {A = ℕ}) w.room-is, put.short, put.same, c.put_entry.ensures.same, c.split_at_mut-head.ensures.back_len, c.requires.room) in
@@ -63,8 +65,8 @@ returns-clause-makes c =
           let here_is : left_of selection pool c.match-first_due.waiting ≡ here = ap (left_of selection pool) w.waiting-is in
           subst (λ l. Makes selection clock here l sent sent' made) (sym here_is) (makes_relation selection clock here next sent made told y.2 oid due.0 sent' due_is noted frame)
       | in-None w ↦
-          let none : relations_due sent (tables_of m) ≡ [] = ap (relations_due sent) (sym named) ∙ ap (λ (l : List ℕ). relations_due (reverse l) (oids_in c.named_in-named.result)) (sym c.as_slice.ensures.value) ∙ w.in-None.ensures.none refl in
-          let clock_is = ap (λ v. to_z w64 (of_z w64 v.clock)) w.waiting-is ∙ to_z-of_z w64 clock (record { sfits = c.fits-waiting.1.1.0.1 }) in
+          let none : relations_due sent (tables_of m) ≡ [] = due_as ∙ w.in-None.ensures.none refl in
+          let clock_is = ap (λ v. to_z w64 (of_z w64 v.clock)) w.waiting-is ∙ clock_fits in
           let head : c.put_head.new.head ≡ frame_head c.in-Some.position clock size = c.put_head.ensures ∙ ap (λ k. frame_head c.in-Some.position k size) clock_is in
           let within : size ≤ length room = omega (arith, w.length-is, ap (length {A = ℕ}) w.room-is, y.0) in
           let text : take size room ≡ spell_logical m = ap (λ n. take n room) w.length-is ∙ ap (take c.in-Some.length) w.room-is ∙ t.text in
