@@ -13,3 +13,5 @@ pub mod Queueing
 pub mod GivingWay
 pub mod Growing
 pub mod Heads
+pub mod OnceEach
+pub mod Framed

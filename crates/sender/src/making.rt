@@ -1,7 +1,7 @@
 //! The frames of changes, made one by one into a slice that has room for them (PostgreSQL 15, 55.4).
 #![tactic(auto, using(publication::proofs::Written::sizes))]
 
-ghost use Rattle.std.specs.Prelude.{◌≡◌, ◌==◌, ℕ, true, ◌+◌, ◌<◌, ◌≤◌, [], ◌∷◌, List, None, IfSome, IsSome, false, length, reverse, take, vec_capacity};
+ghost use Rattle.std.specs.Prelude.{◌≡◌, ◌==◌, ℕ, true, ◌+◌, ◌<◌, ◌≤◌, ◌^◌, [], ◌∷◌, List, None, IfSome, IsSome, false, length, reverse, take, vec_capacity};
 ghost use Rattle.std.specs.List.{list_any};
 ghost use Rattle.pgoutput.specs.Logical.{spell_logical};
 ghost use Rattle.pgoutput.specs.declared.logical.Logical.TheVariants as logical;
@@ -67,6 +67,7 @@ fn frame_at_next(
 ) -> usize
     requires held { IsReadyIn reorder.now.strands.pool waiting.old.ready }
     requires next { waiting.old.next < length waiting.old.ready.spots }
+    requires counted { length waiting.old.ready.spots < 2 ^ 64 }
     requires room { length out.old ≡ MAX_FRAME_LENGTH }
     requires sent { AreSelected selection.now (reverse relations_sent.old.items) }
     requires capacity { length (selected_oids selection.now) ≤ vec_capacity relations_sent.old }

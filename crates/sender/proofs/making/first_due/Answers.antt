@@ -1,4 +1,4 @@
-use Rattle.std.proofs.Common.{◌≡◌, ◌==◌, ℕ, Bool, true, false, cond, List, ◌∷◌, reverse, sym, ap, ◌∙◌}
+use Rattle.std.proofs.Common.{◌≡◌, ◌==◌, Bool, true, cond, ◌∷◌, reverse, sym, ap, ◌∙◌}
 use Rattle.std.specs.List.{list_any}
 use Rattle.stream.specs.Items.{is_relation_sent, relations_due}
 use Rattle.sender.specs.Spelled.{oids_in}
