@@ -12,10 +12,10 @@ pub none_left : (s : ReorderState) (ws : List ReadyState) (rs : List Record) (co
     → LeavesNoRoomBeside (lent_chunks s ws) count rs r → LeavesNoRoom count rs r
 none_left s ws rs count r way taken are tidy full =
     ⊎_elim
-      (λ (none : ws ≡ []).
-          let lent : lent_chunks s ws ≡ 0 = ap (lent_chunks s) none in
-          subst (λ (n : ℕ). LeavesNoRoom n rs r) (let split = full.split in omega (arith, split, lent)) full.full)
-      (λ (free : HasFreeChunk s).
-          let low = free rs ws count taken are tidy in
-          absurd (let split = full.split in let all = full.full.all in omega (arith, low, split, all)))
-      way
+    (λ (none : ws ≡ []).
+    let lent : lent_chunks s ws ≡ 0 = ap (lent_chunks s) none in
+    subst (λ (n : ℕ). LeavesNoRoom n rs r) (let split = full.split in omega (arith, split, lent)) full.full)
+    (λ (free : HasFreeChunk s).
+    let low = free rs ws count taken are tidy in
+    absurd (let split = full.split in let all = full.full.all in omega (arith, low, split, all)))
+    way

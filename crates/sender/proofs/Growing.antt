@@ -35,9 +35,9 @@ pub frames_same : (o o' : Outgoing) → o.from ≤ o.to → o.to ≤ length o.fr
 frames_same o o' low high sized from to =
     ap (λ (n : ℕ). take (n - o'.from) (drop o'.from o'.frames.items)) to ∙ ap (λ (n : ℕ). take (o.to - n) (drop n o'.frames.items)) from
     ∙ ⊎_elim (λ (e : o'.frames.items ≡ o.frames.items). ap (λ (l : List ℕ). take (o.to - o.from) (drop o.from l)) e)
-      (λ (p : (length o.frames.items ≡ 0) × (length o'.frames.items ≡ FRAMES_LENGTH)).
-          let none : o.to - o.from ≡ 0 = omega (arith, none_there o low high p.0) in
-          ap (λ (n : ℕ). take n (drop o.from o'.frames.items)) none ∙ sym (ap (λ (n : ℕ). take n (drop o.from o.frames.items)) none)) sized
+    (λ (p : (length o.frames.items ≡ 0) × (length o'.frames.items ≡ FRAMES_LENGTH)).
+    let none : o.to - o.from ≡ 0 = omega (arith, none_there o low high p.0) in
+    ap (λ (n : ℕ). take n (drop o.from o'.frames.items)) none ∙ sym (ap (λ (n : ℕ). take n (drop o.from o.frames.items)) none)) sized
 
 module _ (o o' : Outgoing) (low : o.from ≤ o.to) (high : o.to ≤ length o.frames.items) (sized : IsSized o o') where
   size_kept : o.to ≤ length o'.frames.items
@@ -48,14 +48,14 @@ module _ (o o' : Outgoing) (low : o.from ≤ o.to) (high : o.to ≤ length o.fra
   room_made : (length o.frames.items ≡ FRAMES_LENGTH) ⊎ ((length o.frames.items ≡ 0) × (o.made.items ≡ [])) → 0 < length o'.frames.items → length o'.frames.items ≡ FRAMES_LENGTH
   room_made room some =
       ⊎_elim (λ (e : o'.frames.items ≡ o.frames.items). ⊎_elim (λ (f : length o.frames.items ≡ FRAMES_LENGTH). ap (length {A = ℕ}) e ∙ f)
-          (λ (p : (length o.frames.items ≡ 0) × (o.made.items ≡ [])). absurd (omega (arith, some, ap (length {A = ℕ}) e, p.0))) room)
+      (λ (p : (length o.frames.items ≡ 0) × (o.made.items ≡ [])). absurd (omega (arith, some, ap (length {A = ℕ}) e, p.0))) room)
       (λ (p : (length o.frames.items ≡ 0) × (length o'.frames.items ≡ FRAMES_LENGTH)). p.1) sized
 
   room_kept : (length o.frames.items ≡ FRAMES_LENGTH) ⊎ ((length o.frames.items ≡ 0) × (o.made.items ≡ [])) → o'.made.items ≡ o.made.items
       → (length o'.frames.items ≡ FRAMES_LENGTH) ⊎ ((length o'.frames.items ≡ 0) × (o'.made.items ≡ []))
   room_kept room made =
       ⊎_elim (λ (e : o'.frames.items ≡ o.frames.items). ⊎_elim (λ (f : length o.frames.items ≡ FRAMES_LENGTH). inl (ap (length {A = ℕ}) e ∙ f))
-          (λ (p : (length o.frames.items ≡ 0) × (o.made.items ≡ [])). inr (ap (length {A = ℕ}) e ∙ p.0, made ∙ p.1)) room)
+      (λ (p : (length o.frames.items ≡ 0) × (o.made.items ≡ [])). inr (ap (length {A = ℕ}) e ∙ p.0, made ∙ p.1)) room)
       (λ (p : (length o.frames.items ≡ 0) × (length o'.frames.items ≡ FRAMES_LENGTH)). inl p.1) sized
 
 -- ---- bytes that are added
@@ -98,11 +98,10 @@ module _ (selection : PublicationSet) (s : ReorderState) (o o' : Outgoing) (good
   pub adds : (bytes : List ℕ) → o'.made.items ≡ o.made.items ++ bytes → 0 < length o'.frames.items → IsOutgoing selection s o' × (held_of selection s o' ≡ held_of selection s o ++ bytes)
   adds bytes made some =
       let size : length o'.made.items ≡ length o.made.items + length bytes = ap (length {A = ℕ}) made ∙ length-append o.made.items bytes in
-      let more : behind (o.made.items ++ bytes) ≡ behind o.made.items ++ bytes = bytes_more selection s.strands.pool (reverse o.relations_sent.items) o.made.items bytes o.waiting.items good.within in
-      (
+      let more : behind (o.made.items ++ bytes) ≡ behind o.made.items ++ bytes = bytes_more selection s.strands.pool (reverse o.relations_sent.items) o.made.items bytes o.waiting.items good.within in (
         good_as (subst (λ (n : ℕ). AreWithin n o.waiting.items) (sym size) (within_more (length o.made.items) (length bytes) o.waiting.items good.within)) (inl (room_made o o' good.from good.to sized good.room some)),
         held_as (o.made.items ++ bytes) made ∙ ap (λ (l : List ℕ). o.front.items ++ (frames_left o ++ l)) more
-        ∙ ap (λ (l : List ℕ). o.front.items ++ l) (sym (append_assoc (frames_left o) (behind o.made.items) bytes)) ∙ sym (append_assoc o.front.items (frames_left o ++ behind o.made.items) bytes),
+            ∙ ap (λ (l : List ℕ). o.front.items ++ l) (sym (append_assoc (frames_left o) (behind o.made.items) bytes)) ∙ sym (append_assoc o.front.items (frames_left o ++ behind o.made.items) bytes),
       )
 
 -- a keepalive, or the message of a note

@@ -1,7 +1,7 @@
 //! Bytes of what is held, moved out.
 
-ghost use Rattle.std.specs.Prelude.{◌≡◌, ◌-◌, ◌+◌, ◌≤◌, ◌++◌, OnErr, OnOk, drop, length, min, take};
-ghost use Rattle.sender.specs.Outgoing.{HoldsSame, IsOutgoing, MovesOut, frames_left, held_of};
+ghost use Rattle.std.specs.Prelude.{◌≡◌, ◌⊎◌, ◌-◌, ◌+◌, ◌<◌, ◌≤◌, ◌++◌, [], IfOk, MatchBool, OnErr, OnOk, drop, length, min, take};
+ghost use Rattle.sender.specs.Outgoing.{HasFreeChunk, HoldsSame, IsOutgoing, MovesOut, frames_left, held_of};
 
 use crate::outgoing::Outgoing;
 use bytes::{BufMut, BytesMut};
@@ -93,9 +93,7 @@ impl Outgoing {
         ensures free { OnOk result ((self.new.waiting.items ≡ []) ⊎ HasFreeChunk reorder.new) }
     {
         while !self.waiting.is_empty() && reorder.free_chunks() == 0 {
-            self.fill(selection, reorder);
-            self.front.put_slice(&self.frames[self.from..self.to])?;
-            self.from = self.to;
+            self.gather_frames(selection, reorder)?;
         }
         Ok(())
     }
@@ -112,11 +110,30 @@ impl Outgoing {
         ensures gathered { OnOk result (take max self.new.front.items ≡ take max (held_of selection.now reorder.old self.old)) }
         ensures behind { OnOk result (held_of selection.now reorder.new (record self.new { front = record self.new.front { items = drop max self.new.front.items } }) ≡ drop max (held_of selection.now reorder.old self.old)) }
     {
-        while self.front.len() < max && self.fill(selection, reorder) {
-            self.front.put_slice(&self.frames[self.from..self.to])?;
-            self.from = self.to;
+        while self.front.len() < max {
+            if !self.gather_frames(selection, reorder)? {
+                return Ok(());
+            }
         }
         Ok(())
+    }
+
+    /// Moves frames behind the front, and answers whether there were any. Where memory is refused, they stay.
+    fn gather_frames(
+        &mut self,
+        selection: &Selection,
+        reorder: &mut Reorder,
+    ) -> Result<bool, AllocError>
+        requires { IsOutgoing selection.now reorder.old self.old }
+        ensures same { HoldsSame selection.now reorder.old reorder.new self.old self.new }
+        ensures more { IfOk result (λ b. MatchBool b (length self.old.front.items < length self.new.front.items) (held_of selection.now reorder.new self.new ≡ self.new.front.items)) }
+    {
+        if !self.fill(selection, reorder) {
+            return Ok(false);
+        }
+        self.front.put_slice(&self.frames[self.from..self.to])?;
+        self.from = self.to;
+        Ok(true)
     }
 }
 

@@ -47,13 +47,9 @@ impl Sender {
         match self.reorder.take(next) {
             Err(ReorderFault::Full) => return Err(SendFault::ArenaFull),
             Err(_) => return Err(SendFault::Memory),
-            Ok(Step::Quiet) => self.outgoing.add_note(
-                &self.selection,
-                self.start,
-                next,
-                clock,
-                &mut self.room,
-            )?,
+            Ok(Step::Quiet) => self
+                .outgoing
+                .add_note(&self.selection, self.start, next, clock, &mut self.room)?,
             Ok(Step::Ready(ready)) => self.outgoing.publish(
                 &self.selection,
                 self.start,

@@ -141,14 +141,7 @@ fn judge(
 {
     make_room(room)?;
     selection.messages_fit();
-    Ok(header_of(
-        selection,
-        start,
-        next,
-        reorder,
-        ready,
-        room.as_mut_slice(),
-    ))
+    Ok(header_of(selection, start, next, reorder, ready, room.as_mut_slice()))
 }
 
 /// Room for the message of any change.

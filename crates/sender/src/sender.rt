@@ -144,8 +144,7 @@ impl Sender {
         ensures others { drop result out.new ≡ drop result out.old }
         ensures rest { self.new ≡ record self.old { held = drop result self.old.held } }
     {
-        self.outgoing
-            .drain(&self.selection, &mut self.reorder, out)
+        self.outgoing.drain(&self.selection, &mut self.reorder, out)
     }
 
     /// Moves up to `max` held bytes to the end of `out`, or, where there is no memory for them, nothing.

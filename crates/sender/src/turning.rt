@@ -65,8 +65,7 @@ impl Sender {
         ensures given { (given : List ℕ) × (self.old.held ≡ given ++ self.new.held) × Appends (W.contents out.old) (W.contents out.new) given }
         ensures rest { self.new ≡ record self.old { held = self.new.held } }
     {
-        self.outgoing
-            .write(&self.selection, &mut self.reorder, out)
+        self.outgoing.write(&self.selection, &mut self.reorder, out)
     }
 }
 
