@@ -11,3 +11,4 @@ pub mod Rows
 pub mod Standing
 pub mod Worked
 pub mod Written
+pub mod RelationParts

@@ -28,7 +28,7 @@ use Rattle.publication.specs.Selection.{chosen}
 use Rattle.publication.specs.Spelling.{FitsRoom, IsPut, IsWritten, Writes}
 use Rattle.publication.proofs.Choosing.{beside, next_by, none_left, paired, zip_chosen}
 
-length_front : (n : ℕ) (xs : List ℕ) → n ≤ length xs → length (take n xs) ≡ n
+pub length_front : (n : ℕ) (xs : List ℕ) → n ≤ length xs → length (take n xs) ≡ n
 length_front zero xs low = refl
 length_front (suc n) [] low = absurd (omega arith)
 length_front (suc n) (x ∷ xs) low = ap suc (length_front n xs (omega arith))

@@ -1,6 +1,6 @@
 //! The message of a change, written straight from the body that the log keeps.
 
-ghost use Rattle.std.specs.Prelude.{◌≡◌, ◌≤◌, [], ℕ, List, IfSome, Ok, Some, length};
+ghost use Rattle.std.specs.Prelude.{◌≡◌, ◌<◌, ◌≤◌, ◌^◌, [], ℕ, List, IfSome, Ok, Some, length};
 ghost use Rattle.tables.specs.Reading.{SpellsBody, change_tagged, insert_at, update_at};
 ghost use Rattle.tables.specs.declared.change.Change.{Change as Changed};
 ghost use Rattle.tables.specs.declared.value.Value.{Value as Datum};
@@ -35,6 +35,15 @@ impl Selection {
         let _ = &self.tables;
         let (tag, fields) = body.split_first()?;
         self.put_tagged(position, *tag, fields, &mut out[..MAX_MESSAGE_LENGTH])
+    }
+
+    /// A law: the message of each change whose record starts at a position of 64 bits fits its fields and a frame, and names tables of
+    /// the selection.
+    pub fn messages_fit(&self)
+        ensures { (position : ℕ) (body : List ℕ) (c : Changed) (m : Logical) → position < 2 ^ 64 → SpellsBody body c → change_message self.now position c ≡ Some m → MessageFits self.now m }
+    {
+        // All tables fit: here the prover learns it.
+        let _ = &self.tables;
     }
 
     fn put_tagged(&self, position: u64, tag: u8, fields: &[u8], out: &mut [u8]) -> Option<usize>

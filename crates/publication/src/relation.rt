@@ -83,7 +83,7 @@ fn identity(identity: tables::Identity) -> Identity
     }
 }
 
-fn oid_of(kind: Kind) -> u32
+pub(crate) fn oid_of(kind: Kind) -> u32
     ensures { result ≡ type_oid kind }
 {
     match kind {

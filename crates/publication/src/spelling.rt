@@ -22,7 +22,8 @@ pub(crate) fn put_bytes(out: &mut [u8], at: usize, bytes: &[u8]) -> usize
     end
 }
 
-pub(crate) fn put_byte(out: &mut [u8], at: usize, byte: u8) -> usize
+/// Writes a byte at a place, and answers where it ends.
+pub fn put_byte(out: &mut [u8], at: usize, byte: u8) -> usize
     requires { at < length out.old }
     ensures { Writes at result out.old out.new (byte ∷ []) }
 {
@@ -38,16 +39,18 @@ pub(crate) fn put_int16(out: &mut [u8], at: usize, n: u16) -> usize
     put_bytes(out, at, &n.to_be_bytes())
 }
 
+/// The same of a number in four bytes, the highest first.
 #[tactic(auto, unfolding(pqformat::specs::Fields::int32))]
-pub(crate) fn put_int32(out: &mut [u8], at: usize, n: u32) -> usize
+pub fn put_int32(out: &mut [u8], at: usize, n: u32) -> usize
     requires { at + 4 ≤ length out.old }
     ensures { Writes at result out.old out.new (int32 n) }
 {
     put_bytes(out, at, &n.to_be_bytes())
 }
 
+/// The same of a number in eight bytes.
 #[tactic(auto, unfolding(pqformat::specs::Fields::int64))]
-pub(crate) fn put_int64(out: &mut [u8], at: usize, n: u64) -> usize
+pub fn put_int64(out: &mut [u8], at: usize, n: u64) -> usize
     requires { at + 8 ≤ length out.old }
     ensures { Writes at result out.old out.new (int64 n) }
 {

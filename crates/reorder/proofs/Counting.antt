@@ -27,7 +27,7 @@ use Rattle.reorder.proofs.Opening.{no_some}
 
 -- SUMS
 
-sum_same : {X : Type 0} (f g : X → ℕ) (xs : List X) → AllByRecursion (λ x. f x ≡ g x) xs → sum_by f xs ≡ sum_by g xs
+pub sum_same : {X : Type 0} (f g : X → ℕ) (xs : List X) → AllByRecursion (λ x. f x ≡ g x) xs → sum_by f xs ≡ sum_by g xs
 sum_same f g [] same = refl
 sum_same f g (x ∷ xs) same =
     let first : f x ≡ g x = same.0 in
@@ -43,13 +43,13 @@ sum_none f (x ∷ xs) d none =
 
 -- THE CHUNKS OF EACH STRAND
 
-abbrev place_fill : Option (List (List ℕ)) → ℕ
+abbrev pub place_fill : Option (List (List ℕ)) → ℕ
 place_fill strand = fill (sizes (entries_in_place strand))
 
-abbrev strand_fill : Arena → Option ℕ → ℕ
+abbrev pub strand_fill : Arena → Option ℕ → ℕ
 strand_fill arena head = fill (sizes (entries_of arena head))
 
-fills_cleared : (arena : Arena) (head : ℕ) → head < length arena → fills (set arena head None) + strand_fill arena (Some head) ≡ fills arena
+pub fills_cleared : (arena : Arena) (head : ℕ) → head < length arena → fills (set arena head None) + strand_fill arena (Some head) ≡ fills arena
 fills_cleared arena head low =
     let moved : sum_by place_fill (set arena head None) + place_fill (get_or arena head None) ≡ sum_by place_fill arena + place_fill None = sum_by-set place_fill arena head None None low in
     omega arith
@@ -234,14 +234,14 @@ chunks_taken s rs count pool hold book tidy =
       owned = λ head lt entries at. by_owner head (tidy.owned head lt entries at);
     }
 
--- the chunks are full by the records too, if the xid has a strand and isn't dropped
-pub no_room_left : (s : StrandsState) (rs : List Record) (count size : ℕ) (r : Record) (xid : ℕ) (change : Change) → AreStrandsOf (by_xid s) rs → IsTidy count [] s → r.body ≡ Changed xid change → size ≡ 8 + body_length change →
+-- the chunks are full by the records too, where those of the live xids are so many, if the xid has a strand and isn't dropped
+pub no_room_of : (s : StrandsState) (rs : List Record) (count size : ℕ) (r : Record) (xid : ℕ) (change : Change) → AreStrandsOf (by_xid s) rs → live_chunks rs ≡ count → r.body ≡ Changed xid change → size ≡ 8 + body_length change →
     is_dropped rs xid ≡ false → IsSome ((by_xid s).strand xid) → HasNoRoom s.pool xid size → LeavesNoRoom count rs r
-no_room_left s rs count size r xid change book tidy is long live some none = record {
+no_room_of s rs count size r xid change book all is long live some none = record {
   xid = xid;
   change = change;
   is = is;
-  all = sym (chunks_taken s rs count none.pool none.hold book tidy) ∙ none.fills ∙ tidy.chunks;
+  all = all;
   room = rw (← by_option ((by_xid s).strand xid) refl some, ← sizes_are xid (entries_at s.pool xid) (none.hold xid), ← long) none.room;
 }
   where
@@ -255,3 +255,9 @@ no_room_left s rs count size r xid change book tidy is long live some none = rec
             let both : Some (with_changes s.pool xid st) ≡ Some t = sym (ap (option_map (with_changes s.pool xid)) found) ∙ at in
             let same : with_changes s.pool xid st ≡ t = cc in
             ap (λ (v : StrandState). v.changes) same ∙ o.changes live
+
+-- the same where nothing is ready
+pub no_room_left : (s : StrandsState) (rs : List Record) (count size : ℕ) (r : Record) (xid : ℕ) (change : Change) → AreStrandsOf (by_xid s) rs → IsTidy count [] s → r.body ≡ Changed xid change → size ≡ 8 + body_length change →
+    is_dropped rs xid ≡ false → IsSome ((by_xid s).strand xid) → HasNoRoom s.pool xid size → LeavesNoRoom count rs r
+no_room_left s rs count size r xid change book tidy is long live some none =
+    no_room_of s rs count size r xid change book (sym (chunks_taken s rs count none.pool none.hold book tidy) ∙ none.fills ∙ tidy.chunks) is long live some none

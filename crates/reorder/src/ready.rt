@@ -26,6 +26,7 @@ impl Model for Spot {
 
 /// The changes that a committed transaction keeps, in log order, those of rolled-back subtransactions left out. There are
 /// `count()` of them, maybe none; `Reorder::entry` lends each by its place, and `Reorder::finish` takes them back.
+#[derive(Drop)]
 pub struct Ready {
     xids: Vec<u32>,
     /// The strands of those that have changes, which nobody else has.

@@ -6,6 +6,7 @@ ghost use Rattle.wal.specs.declared.record.Record.{Record as Logged};
 ghost use Rattle.reorder.specs.Chunks.{IsTidy, LeavesNoRoom, held_with, live_chunks};
 ghost use Rattle.reorder.specs.Pool.{AreApart, IsLent, Lasts, StaysLent};
 ghost use Rattle.reorder.specs.Ready.{IsEntryAt, IsReadyIn, ReadyState, ready_entries};
+ghost use Rattle.reorder.specs.Settled.{AreLentIn, LeavesNoRoomBeside, given_back, lent_chunks, settled};
 ghost use Rattle.reorder.specs.Taking.{HasTaken, IsHeld, IsStepApart, IsStepHeld, IsSameTaken, MayCome, Takes, readied};
 
 use crate::entry::{body_of, write_entry};
@@ -64,6 +65,7 @@ impl Reorder {
     pub fn free_chunks(&self) -> usize
         ensures free { result + fills self.now.strands.pool.arena ≡ length self.now.strands.pool.arena }
         ensures exact { (rs : List Logged) (count : ℕ) → HasTaken self.now rs → IsTidy count [] self.now.strands → result + live_chunks rs ≡ count }
+        ensures exact_beside { (rs : List Logged) (ws : List ReadyState) (count : ℕ) → HasTaken self.now rs → AreLentIn self.now ws → IsTidy count [] (settled self.now ws).strands → result + live_chunks rs + lent_chunks self.now ws ≡ count }
     {
         self.strands.free()
     }
@@ -76,6 +78,7 @@ impl Reorder {
         ensures fails { OnErr result (self.new.failed ≡ true) }
         ensures failed { result ≡ Err ReorderFault.Failed → (self.old.failed ≡ true) × (self.new ≡ self.old) }
         ensures full { result ≡ Err ReorderFault.Full → (self.old.failed ≡ false) × ((rs : List Logged) (count : ℕ) → HasTaken self.old rs → MayCome rs next.now.body → IsTidy count [] self.old.strands → LeavesNoRoom count rs next.now) }
+        ensures full_beside { result ≡ Err ReorderFault.Full → (rs : List Logged) (ws : List ReadyState) (count : ℕ) → HasTaken self.old rs → MayCome rs next.now.body → AreLentIn self.old ws → IsTidy count [] (settled self.old ws).strands → LeavesNoRoomBeside (lent_chunks self.old ws) count rs next.now }
         ensures tidy { IfOk result (λ step. (count : ℕ) (held : List ReadyState) → IsTidy count held self.old.strands → IsTidy count (held_with held step) self.new.strands) }
         ensures memory { result ≡ Err ReorderFault.Memory → self.old.failed ≡ false }
         ensures lent { StaysLent self.old.strands.pool self.new.strands.pool }
@@ -96,6 +99,7 @@ impl Reorder {
         ensures held { IfOk result (λ step. IsStepHeld self.new step) }
         ensures failed { self.new.failed ≡ self.old.failed }
         ensures full { result ≡ Err ReorderFault.Full → (rs : List Logged) (count : ℕ) → HasTaken self.old rs → MayCome rs next.now.body → IsTidy count [] self.old.strands → LeavesNoRoom count rs next.now }
+        ensures full_beside { result ≡ Err ReorderFault.Full → (rs : List Logged) (ws : List ReadyState) (count : ℕ) → HasTaken self.old rs → MayCome rs next.now.body → AreLentIn self.old ws → IsTidy count [] (settled self.old ws).strands → LeavesNoRoomBeside (lent_chunks self.old ws) count rs next.now }
         ensures tidy { IfOk result (λ step. (count : ℕ) (held : List ReadyState) → IsTidy count held self.old.strands → IsTidy count (held_with held step) self.new.strands) }
         ensures running { result ≢ Err ReorderFault.Failed }
         ensures lent { StaysLent self.old.strands.pool self.new.strands.pool }
@@ -133,6 +137,7 @@ impl Reorder {
     pub fn finish(&mut self, ready: Ready)
         requires { IsHeld self.old ready }
         ensures same { IsSameTaken self.old self.new }
+        ensures exact { self.new ≡ given_back self.old ready }
         ensures tidy { (count : ℕ) (held : List ReadyState) → IsTidy count (ready ∷ held) self.old.strands → IsTidy count held self.new.strands }
         ensures lent { (lent : List (ℕ × Option ℕ)) → IsLent self.old.strands.pool lent → AreApart ready.strands lent → Lasts self.old.strands.pool self.new.strands.pool lent }
     {

@@ -16,6 +16,7 @@ ghost use Rattle.chgarena.specs.Strands.{fills};
 ghost use Rattle.reorder.specs.Chunks.{HasNoRoom, IsTidy, IsWhole, StaysTidy, StaysWhole, strands_alone};
 ghost use Rattle.reorder.specs.Pool.{AreApart, HoldEntries, IsLent, IsPool, Lasts, StaysLent, entries_at, put, strand_of};
 ghost use Rattle.reorder.specs.Ready.{IsReadyIn, IsSpot, ReadyState, bytes_at, lent_from, ready_entries, spots_from};
+ghost use Rattle.reorder.specs.Settled.{heads_of, ready_heads, without_all};
 ghost use Rattle.reorder.specs.Strands.{IsSame, above_of, above_standing, all_in, assigned, back_in, behind, ended, is_in, by_xid, joined, kept_spots, pushed, spots_of, started, undone, with_member};
 
 use crate::entry::position_of;
@@ -254,6 +255,7 @@ impl Strands {
         ensures members { self.new.members ≡ self.old.members }
         ensures entries { (x : ℕ) → entries_at self.new.pool x ≡ entries_at self.old.pool x }
         ensures own { self.new.pool.strands ≡ self.old.pool.strands }
+        ensures arena { self.new.pool.arena ≡ without_all self.old.pool.arena (ready_heads ready) }
         ensures tidy { (count : ℕ) (held : List ReadyState) → IsTidy count (ready ∷ held) self.old → IsTidy count held self.new }
         ensures lent { (lent : List (ℕ × Option ℕ)) → IsLent self.old.pool lent → AreApart ready.strands lent → Lasts self.old.pool self.new.pool lent }
     {
@@ -317,6 +319,7 @@ fn give_back_all(pool: &mut Pool, xids: &[u32])
 fn take_back_all(pool: &mut Pool, mut lent: HashMap<u32, ArenaStrand>, xids: &[u32])
     requires { IsLent pool.old lent.entries }
     ensures strands { pool.new.strands ≡ pool.old.strands }
+    ensures arena { pool.new.arena ≡ without_all pool.old.arena (heads_of (strand_of lent.entries) xids.now) }
     ensures entries { (x : ℕ) → entries_at pool.new x ≡ entries_at pool.old x }
     ensures others { (others : List (ℕ × Option ℕ)) → IsLent pool.old others → AreApart lent.entries others → Lasts pool.old pool.new others }
     ensures chunks { length pool.new.arena ≡ length pool.old.arena }

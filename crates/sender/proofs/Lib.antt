@@ -9,3 +9,9 @@ pub mod Fitting
 pub mod Spelled
 pub mod Due
 pub mod Adding
+pub mod Queueing
+pub mod GivingWay
+pub mod Growing
+pub mod Heads
+pub mod OnceEach
+pub mod Framed

@@ -1,5 +1,7 @@
 pub mod Published
 pub mod Spelled
+pub mod Waiting
+pub mod Outgoing
 pub mod Sending
 pub mod Turning
 pub mod Faults

@@ -1,13 +1,13 @@
 -- A sender between its calls, and what reading records does to it. The records may be those of a whole log or of a section of
 -- one, which begins behind earlier records of its transactions.
-use Rattle.std.specs.Prelude.{◌≡◌, ◌⊎◌, ◌<◌, ℕ, ℤ, Bool, true, false, List, [], ◌∷◌, ◌++◌, length, take, map, filter, nat_le, slice_get, Option, Some, None, if◌then◌else◌}
+use Rattle.std.specs.Prelude.{◌≡◌, ◌⊎◌, ◌+◌, ◌<◌, ℕ, ℤ, Bool, true, false, List, [], ◌∷◌, ◌++◌, length, take, map, filter, nat_le, slice_get, Option, Some, None, if◌then◌else◌}
 use Rattle.std.specs.List.{AllByRecursion}
 use Rattle.publication.specs.Publications.{PublicationSet}
 use Rattle.wal.specs.declared.record.Record.{Record}
 use Rattle.wal.specs.declared.record.Body.{Body}
 use Rattle.wal.specs.declared.record.Body.TheVariants.{Commit, Note}
 use Rattle.wal.specs.Log.{Entry, Transaction, end_of}
-use Rattle.reorder.specs.Chunks.{IsTidy, LeavesNoRoom}
+use Rattle.reorder.specs.Chunks.{IsTidy, LeavesNoRoom, live_chunks}
 use Rattle.reorder.specs.Taking.{ReorderState, HasTaken, MayCome, StartsBehind, Takes}
 use Rattle.publication.specs.Selection.{relation}
 use Rattle.stream.specs.declared.published.Published.{Published}
@@ -74,6 +74,13 @@ pub record RanOut (clock : ℤ) (old new : SenderState) (rs : List Record) : Typ
 -- the arena has so many chunks, and nothing lies in it but what transactions in progress changed
 abbrev pub HasChunks : SenderState → ℕ → Type 0
 HasChunks s count = IsTidy count [] s.reorder.strands
+
+-- So many chunks are free: all but those of live xids, by these records, and those of transactions of which bytes are held, of which there
+-- are none where nothing is held.
+pub record LeavesChunks (held : List ℕ) (chunks : ℕ) (rs : List Record) (free : ℕ) : Type 0 where
+  pub waiting : ℕ
+  pub none : held ≡ [] → waiting ≡ 0
+  pub all : free + live_chunks rs + waiting ≡ chunks
 
 -- Behind those of these records that were read, which the position tells, stands a change for which no chunk was left.
 pub record LacksRoom (old new : SenderState) (rs : List Record) : Type 0 where

@@ -1,11 +1,14 @@
 //! The walsender's core: from records of the log to the bytes of a stream.
 #![tactic(auto)]
 
+mod draining;
 mod ended;
 mod fault;
 mod feeding;
+mod filling;
 mod header;
 mod limits;
+mod making;
 mod named;
 mod outgoing;
 mod publishing;
@@ -13,6 +16,7 @@ mod section;
 mod sender;
 mod turn_fault;
 mod turning;
+mod waiting;
 mod word;
 
 pub use ended::Ended;

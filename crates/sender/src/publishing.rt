@@ -1,17 +1,148 @@
 //! What a commit publishes, change by change, straight from where the changes lie.
 
-ghost use Rattle.std.specs.Prelude.{◌≡◌, ◌+◌, ◌<◌, ◌≤◌, ◌==◌, ◌^◌, FitsSigned, IfSome, OnOk, Some, drop, length, not, option_map, option_to_list, vec_len};
+ghost use Rattle.std.specs.Prelude.{◌≡◌, ℕ, ◌+◌, ◌<◌, ◌≤◌, ◌==◌, ◌^◌, ◌++◌, ◌∷◌, [], List, None, FitsSigned, IfOk, IfSome, OnOk, Some, drop, length, not, option_map, option_to_list, vec_len};
 ghost use Rattle.std.specs.Int.{w64};
+ghost use Rattle.std.specs.List.{AllByRecursion};
+ghost use Rattle.wal.specs.declared.record.Record.{Record as Logged};
+ghost use Rattle.publication.specs.Selection.{relation};
+ghost use Rattle.stream.specs.Items.{FitsPublished};
+ghost use Rattle.reorder.specs.Chunks.{IsTidy};
 ghost use Rattle.reorder.specs.Ready.{IsReadyIn, ready_entries};
-ghost use Rattle.sender.specs.Published.{published_changes, published_with};
+ghost use Rattle.reorder.specs.Settled.{AreLentIn, settled};
+ghost use Rattle.reorder.specs.Taking.{HasTaken, ReorderState};
+ghost use Rattle.sender.specs.Published.{published_changes, published_note, published_with};
 ghost use Rattle.sender.specs.Sending.{published_by_record};
 ghost use Rattle.sender.specs.Spelled.{Yields};
+ghost use Rattle.sender.specs.Waiting.{readies};
+ghost use Rattle.sender.specs.Outgoing.{Grows, IsOutgoing, settled_of};
 
 use crate::header::Header;
+use crate::outgoing::Outgoing;
 use publication::{MAX_MESSAGE_LENGTH, Selection};
 use reorder::{Ready, Reorder};
 use std::alloc::AllocError;
-use wal::{Body, Record};
+use wal::{Body, LoggedChange, Record};
+
+impl Outgoing {
+    /// Adds what a record publishes that makes nothing ready: the message of a note that starts at the start position or later. Where
+    /// memory is refused, it adds nothing.
+    pub(crate) fn add_note(
+        &mut self,
+        selection: &Selection,
+        start: u64,
+        next: &Record,
+        clock: i64,
+        room: &mut Vec<u8>,
+    ) -> Result<(), AllocError>
+        ensures grows { (s : ReorderState) → IsOutgoing selection.now s self.old → Grows selection.now clock (published_by_record selection.now start next.now None) result s s self.old self.new }
+        ensures fit { OnOk result (AllByRecursion (FitsPublished (relation selection.now)) (published_by_record selection.now start next.now None)) }
+        ensures waiting { self.new.waiting.items ≡ self.old.waiting.items }
+    {
+        let Body::Note(note) = &next.body else {
+            return Ok(());
+        };
+        if next.start < start {
+            return Ok(());
+        }
+        self.put_note(selection, next.start, next.end, note, clock, room)
+    }
+
+    fn put_note(
+        &mut self,
+        selection: &Selection,
+        start: u64,
+        end: u64,
+        note: &LoggedChange,
+        clock: i64,
+        room: &mut Vec<u8>,
+    ) -> Result<(), AllocError>
+        ensures grows { (s : ReorderState) → IsOutgoing selection.now s self.old → Grows selection.now clock (published_note selection.now start end note.now) result s s self.old self.new }
+        ensures fit { OnOk result (AllByRecursion (FitsPublished (relation selection.now)) (published_note selection.now start end note.now)) }
+        ensures waiting { self.new.waiting.items ≡ self.old.waiting.items }
+    {
+        make_room(room)?;
+        let body = note.body();
+        let Some(length) = selection.put_note(start, body, room.as_mut_slice()) else {
+            return Ok(());
+        };
+        self.note(end, clock, &room[..length])
+    }
+
+    /// Adds the block of the transaction that a record commits, if it is to have one; else what is ready goes back. Where memory is
+    /// refused, it adds nothing.
+    pub(crate) fn publish(
+        &mut self,
+        selection: &Selection,
+        start: u64,
+        reorder: &mut Reorder,
+        next: &Record,
+        ready: Ready,
+        clock: i64,
+        room: &mut Vec<u8>,
+    ) -> Result<(), AllocError>
+        requires good { IsOutgoing selection.now reorder.old self.old }
+        requires lent { AreLentIn reorder.old (readies self.old.waiting.items ++ ready ∷ []) }
+        ensures grows { Grows selection.now clock (published_by_record selection.now start next.now (Some (ready_entries reorder.old.strands.pool ready))) result reorder.old reorder.new self.old self.new }
+        ensures fit { OnOk result (AllByRecursion (FitsPublished (relation selection.now)) (published_by_record selection.now start next.now (Some (ready_entries reorder.old.strands.pool ready)))) }
+        ensures taken { (rs : List Logged) → HasTaken reorder.old rs → HasTaken (settled_of reorder.new self.new) rs }
+        ensures tidy { (count : ℕ) → IsTidy count [] (settled reorder.old (readies self.old.waiting.items ++ ready ∷ [])).strands → IsTidy count [] (settled_of reorder.new self.new).strands }
+    {
+        match judge(selection, start, next, reorder, &ready, room) {
+            Ok(Some(header)) => self.queue(selection, reorder, ready, &header, clock),
+            Ok(None) => {
+                reorder.finish(ready);
+                Ok(())
+            }
+            Err(fault) => {
+                reorder.finish(ready);
+                Err(fault)
+            }
+        }
+    }
+
+    /// Adds the block of a transaction. Where memory is refused, it adds nothing, and what is ready goes back.
+    fn queue(
+        &mut self,
+        selection: &Selection,
+        reorder: &mut Reorder,
+        ready: Ready,
+        header: &Header,
+        clock: i64,
+    ) -> Result<(), AllocError>
+        requires good { IsOutgoing selection.now reorder.old self.old }
+        requires lent { AreLentIn reorder.old (readies self.old.waiting.items ++ ready ∷ []) }
+        ensures grows { Grows selection.now clock (published_with selection.now (ready_entries reorder.old.strands.pool ready) header.now ∷ []) result reorder.old reorder.new self.old self.new }
+        ensures taken { (rs : List Logged) → HasTaken reorder.old rs → HasTaken (settled_of reorder.new self.new) rs }
+        ensures tidy { (count : ℕ) → IsTidy count [] (settled reorder.old (readies self.old.waiting.items ++ ready ∷ [])).strands → IsTidy count [] (settled_of reorder.new self.new).strands }
+    {
+        match self.commit(selection, ready, header, clock) {
+            Ok(()) => Ok(()),
+            Err(ready) => {
+                reorder.finish(ready);
+                Err(AllocError)
+            }
+        }
+    }
+}
+
+/// What the record commits, if the stream is to have it.
+fn judge(
+    selection: &Selection,
+    start: u64,
+    next: &Record,
+    reorder: &Reorder,
+    ready: &Ready,
+    room: &mut Vec<u8>,
+) -> Result<Option<Header>, AllocError>
+    requires held { IsReadyIn reorder.now.strands.pool ready.now }
+    ensures value { IfOk result (λ o. option_to_list (option_map (published_with selection.now (ready_entries reorder.now.strands.pool ready.now)) o)
+        ≡ published_by_record selection.now start next.now (Some (ready_entries reorder.now.strands.pool ready.now))) }
+    ensures fit { OnOk result (AllByRecursion (FitsPublished (relation selection.now)) (published_by_record selection.now start next.now (Some (ready_entries reorder.now.strands.pool ready.now)))) }
+{
+    make_room(room)?;
+    selection.messages_fit();
+    Ok(header_of(selection, start, next, reorder, ready, room.as_mut_slice()))
+}
 
 /// Room for the message of any change.
 pub(crate) fn make_room(room: &mut Vec<u8>) -> Result<(), AllocError>

@@ -5,14 +5,12 @@ ghost use Rattle.wal.specs.Log.{follows};
 ghost use Rattle.wal.specs.Records.{shared};
 ghost use Rattle.stream.specs.Words.{word_bytes};
 ghost use Rattle.stream.specs.Items.{keepalive_word};
-ghost use Rattle.sender.specs.Sending.{HasChunks, HasRead, LacksRoom, ReadAll, RanOut};
+ghost use Rattle.sender.specs.Sending.{HasChunks, HasRead, LacksRoom, LeavesChunks, ReadAll, RanOut};
 ghost use Rattle.wal.specs.declared.record.Record.{Record as Logged};
-ghost use Rattle.reorder.specs.Chunks.{live_chunks};
 
 use crate::ended::Ended;
 use crate::fault::SendFault;
 use crate::outgoing::Outgoing;
-use crate::word::put_keepalive;
 use bytes::BytesMut;
 use chgarena::Arena;
 use publication::Selection;
@@ -46,7 +44,7 @@ pub struct Sender {
 impl Model for Sender {
     ghost use Rattle.std.specs.Coded.{codes};
     ghost use Rattle.publication.specs.Publications.{condition_code};
-    ghost use Rattle.std.specs.Prelude.{reverse};
+    ghost use Rattle.sender.specs.Outgoing.{IsOutgoing, held_of, sent_of, settled_of};
     ghost use Rattle.sender.specs.Sending.{SenderState};
 
     ghost Value = { SenderState };
@@ -58,10 +56,12 @@ impl Model for Sender {
       start = s.start;
       position = s.position;
       failed = s.failed;
-      held = s.outgoing.held.items;
-      relations_sent = reverse s.outgoing.relations_sent.items;
-      reorder = s.reorder;
+      held = held_of s.selection s.reorder s.outgoing;
+      relations_sent = sent_of s.selection s.reorder s.outgoing;
+      reorder = settled_of s.reorder s.outgoing;
     } };
+
+    ghost invariant = { λ s. IsOutgoing s.selection s.reorder s.outgoing };
 }
 
 impl Sender {
@@ -144,7 +144,7 @@ impl Sender {
         ensures others { drop result out.new ≡ drop result out.old }
         ensures rest { self.new ≡ record self.old { held = drop result self.old.held } }
     {
-        self.outgoing.drain(out)
+        self.outgoing.drain(&self.selection, &mut self.reorder, out)
     }
 
     /// Moves up to `max` held bytes to the end of `out`, or, where there is no memory for them, nothing.
@@ -153,13 +153,14 @@ impl Sender {
         ensures rest { OnOk result (self.new ≡ record self.old { held = drop max self.old.held }) }
         ensures err { OnErr result ((self.new ≡ self.old) × (out.new.items ≡ out.old.items)) }
     {
-        self.outgoing.drain_into(max, out)
+        self.outgoing
+            .drain_into(&self.selection, &mut self.reorder, max, out)
     }
 
     /// How many chunks of the arena are free: all but those that changes of transactions in progress fill, savepoints that were rolled
-    /// back left out.
+    /// back left out, and those of committed transactions of which bytes are held.
     pub fn free_chunks(&self) -> usize
-        ensures { (rs : List Logged) (count : ℕ) → HasRead self.now rs → HasChunks self.now count → result + live_chunks rs ≡ count }
+        ensures { (rs : List Logged) (count : ℕ) → HasRead self.now rs → HasChunks self.now count → LeavesChunks self.now.held count rs result }
     {
         self.reorder.free_chunks()
     }
@@ -168,7 +169,7 @@ impl Sender {
     pub fn holds_bytes(&self) -> bool
         ensures { result ≡ not (length self.now.held == 0) }
     {
-        !self.outgoing.held.is_empty()
+        self.outgoing.holds_bytes()
     }
 
     /// Ends the sender: what it held is lost.

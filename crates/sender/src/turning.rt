@@ -11,10 +11,14 @@ ghost use Rattle.shared_log.specs.declared.fault.ReadFault.{ReadFault};
 ghost use Rattle.sender.specs.declared.fault.SendFault.{SendFault};
 ghost use Rattle.sender.specs.Faults.{fault_of_fetch, has_fetched, has_written};
 ghost use Rattle.sender.specs.Turning.{IsRefused, ReadAndGave, fetched_from};
+ghost use Rattle.sender.specs.Outgoing.{IsOutgoing, MovesOut, held_of};
 
 use crate::limits::TURN_RECORDS;
+use crate::outgoing::Outgoing;
 use crate::sender::Sender;
 use crate::turn_fault::TurnFault;
+use publication::Selection;
+use reorder::Reorder;
 use shared_log::{LogName, LogReader};
 use std::alloc::Global;
 use std::io;
@@ -61,9 +65,33 @@ impl Sender {
         ensures given { (given : List ℕ) × (self.old.held ≡ given ++ self.new.held) × Appends (W.contents out.old) (W.contents out.new) given }
         ensures rest { self.new ≡ record self.old { held = self.new.held } }
     {
-        let (taken, written) = write_front(out, self.outgoing.held.as_slice());
-        self.outgoing.held.advance(taken);
-        written
+        self.outgoing.write(&self.selection, &mut self.reorder, out)
+    }
+}
+
+impl Outgoing {
+    /// Writes all bytes that are held, many frames at once. Where the writer fails or takes no bytes, the rest is held still.
+    fn write<W: Write>(
+        &mut self,
+        selection: &Selection,
+        reorder: &mut Reorder,
+        out: &mut W,
+    ) -> io::Result<()>
+        requires { IsOutgoing selection.now reorder.old self.old }
+        ensures ok { OnOk result (held_of selection.now reorder.new self.new ≡ []) }
+        ensures err { OnErr result (0 < length (held_of selection.now reorder.new self.new)) }
+        ensures given { (count : ℕ) × (count ≤ length (held_of selection.now reorder.old self.old)) × MovesOut selection.now count reorder.old reorder.new self.old self.new
+            × Appends (W.contents out.old) (W.contents out.new) (take count (held_of selection.now reorder.old self.old)) }
+    {
+        let (taken, written) = write_front(out, self.front.as_slice());
+        self.front.advance(taken);
+        written?;
+        while self.fill_up(selection, reorder) {
+            let (taken, written) = write_front(out, &self.frames[self.from..self.to]);
+            self.from += taken;
+            written?;
+        }
+        Ok(())
     }
 }
 

@@ -1,4 +1,4 @@
-use Rattle.std.proofs.Common.{rules, ◌≡◌, [], length, List, Option, ◌∙◌, sym, ap, subst, Some, None}
+use Rattle.std.proofs.Common.{rules, ◌≡◌, ℕ, [], length, List, Option, ◌∙◌, sym, ap, subst, Some, None}
 use Rattle.wal.specs.declared.record.Record.{Record}
 use Rattle.wal.specs.declared.record.Body.{Body}
 use Rattle.wal.specs.Log.{Entry, IsOpen}
@@ -8,11 +8,14 @@ use Rattle.reorder.specs.Strands.{IsSame, by_xid, pushed}
 use Rattle.reorder.specs.Taking.{MayCome, ReorderState, Takes}
 use Rattle.reorder.specs.Bookkeeping.{IsBookkeeping}
 use Rattle.reorder.specs.Chunks.{IsTidy}
+use Rattle.reorder.specs.Settled.{AreLentIn, LeavesNoRoomBeside, lent_chunks, settled}
 use Rattle.reorder.specs.Pool.{IsLent, StaysLent}
 use Rattle.reorder.proofs.Lending.{stays_itself, stays_lent}
 use Rattle.reorder.proofs.Coding.{entry_length, kept_again}
 use Rattle.reorder.proofs.Counting.{no_room_left}
+use Rattle.reorder.proofs.Filling.{chunks_lent, no_room_beside, tidy_settled}
 use Rattle.reorder.proofs.Opening.{Opened, opened}
+use Rattle.reorder.proofs.Settling.{entries_lent}
 use Rattle.reorder.proofs.Steps.{state, taken_assign, taken_change, taken_rollback, taken_abort, taken_commit, taken_note}
 use Rattle.reorder.proofs.reorder.Reorder.regroup.Goals as goal
 use Rattle.reorder.proofs.reorder.Reorder.regroup.Goals.{in-Assign+in_ok-open-in-Assign+in_ok-assign-in-Assign, in-Change+in_ok-open-in-Change+in_ok-write_entry-in-Change+in_ok-push-in-Change, in-AbortSub, in-Abort, in-Note}
@@ -62,6 +65,23 @@ returns-in_err-push-in-Change-clause-full c = λ is rs count taken next tidy.
     (c.in_ok-open-in-Change.ensures.tidy count [] (subst (λ (s : ReorderState). IsTidy count [] s.strands) (sym c.self.view_is) tidy)) c.in-Change.is
     (ap length (c.as_slice.ensures ∙ c.in_ok-write_entry-in-Change.ensures.text) ∙ entry_length c.args.next.now.start c.in-Change.change) body.undropped o.some
     (c.in_err-push-in-Change.ensures.full (search rules))
+
+pub returns-in_err-push-in-Change-clause-full_beside : goal.returns-in_err-push-in-Change-clause-full_beside
+returns-in_err-push-in-Change-clause-full_beside c = λ is rs ws count taken next are tidy.
+    let body : IsOpen rs c.in-Change.xid = subst (λ (b : Body). MayCome rs b) c.in-Change.is next in
+    let before : IsBookkeeping (by_xid c.self.inside.strands) rs = subst (λ (s : ReorderState). IsBookkeeping (by_xid s.strands) rs) (sym c.self.view_is) taken.ready in
+    let o : Opened (by_xid c.open-in-Change.new.self) (by_xid c.self.inside.strands) rs c.in-Change.xid =
+    opened c.self.inside.strands c.open-in-Change.new.self rs c.in-Change.xid before.strands body c.in_ok-open-in-Change.ensures.known c.in_ok-open-in-Change.ensures.fresh in
+    let old : ReorderState = state c.self.inside.strands c.self.inside.failed in
+    let mid : ReorderState = state c.open-in-Change.new.self c.self.inside.failed in
+    let lent : AreLentIn old ws = subst (λ (s : ReorderState). AreLentIn s ws) (sym c.self.view_is) are in
+    let whole : IsTidy count ws c.open-in-Change.new.self =
+    c.in_ok-open-in-Change.ensures.tidy count ws (tidy_settled old ws count lent (subst (λ (s : ReorderState). IsTidy count [] (settled s ws).strands) (sym c.self.view_is) tidy)) in
+    let same : lent_chunks mid ws ≡ lent_chunks c.args.self.now ws = chunks_lent old mid ws lent c.open-in-Change.ensures.lent ∙ ap (λ (s : ReorderState). lent_chunks s ws) c.self.view_is in
+    subst (λ (n : ℕ). LeavesNoRoomBeside n count rs c.args.next.now) same
+    (no_room_beside mid rs ws count (length c.as_slice.result.now) c.args.next.now c.in-Change.xid c.in-Change.change o.kept (entries_lent old mid ws lent c.open-in-Change.ensures.lent).0 whole c.in-Change.is
+    (ap length (c.as_slice.ensures ∙ c.in_ok-write_entry-in-Change.ensures.text) ∙ entry_length c.args.next.now.start c.in-Change.change) body.undropped o.some
+    (c.in_err-push-in-Change.ensures.full (search rules)))
 
 pub returns-in-Commit-clause-tidy : goal.returns-in-Commit-clause-tidy
 returns-in-Commit-clause-tidy c = λ count held tidy. c.in_ok-make_ready-in-Commit.ensures.tidy count held (subst (λ (s : ReorderState). IsTidy count held s.strands) (sym c.self.view_is) tidy)

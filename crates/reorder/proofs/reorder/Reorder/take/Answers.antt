@@ -1,9 +1,22 @@
-use Rattle.std.proofs.Common.{sym, subst}
+use Rattle.std.proofs.Common.{rules, [], true, sym, subst}
 use Rattle.reorder.specs.Chunks.{IsTidy, held_with}
-use Rattle.reorder.specs.Taking.{ReorderState}
+use Rattle.reorder.specs.Settled.{AreLentIn, LeavesNoRoomBeside, lent_chunks, settled}
+use Rattle.reorder.specs.Strands.{StrandsState}
+use Rattle.reorder.specs.Taking.{HasTaken, ReorderState}
+use Rattle.reorder.proofs.Settling.{lent_as, settled_as}
+use Rattle.reorder.proofs.Steps.{has_taken}
 use Rattle.reorder.proofs.reorder.Reorder.take.Goals as goal
 
 pub returns-clause-tidy : goal.returns-clause-tidy
 returns-clause-tidy c = λ count held tidy.
     subst (λ (s : ReorderState). IsTidy count (held_with held c.in_ok-step.step) s.strands) (sym c.self-2.view_is)
     (c.in_ok-step.ensures.tidy count held (subst (λ (s : ReorderState). IsTidy count held s.strands) (sym c.self.view_is) tidy))
+
+pub returns-in_err-step-clause-full_beside : goal.returns-in_err-step-clause-full_beside
+returns-in_err-step-clause-full_beside c = λ is rs ws count taken next are tidy.
+    let strands : StrandsState = c.self.inside.strands in
+    let before : HasTaken (record { strands = strands; failed = c.self.inside.failed }) rs = subst (λ (s : ReorderState). HasTaken s rs) (sym c.self.view_is) taken in
+    subst (λ (s : ReorderState). LeavesNoRoomBeside (lent_chunks s ws) count rs c.args.next.now) c.self.view_is
+    (c.in_err-step.ensures.full_beside (search rules) rs ws count (has_taken strands true rs before.ready) next
+    (lent_as strands c.self.inside.failed true ws (subst (λ (s : ReorderState). AreLentIn s ws) (sym c.self.view_is) are))
+    (subst (λ (s : StrandsState). IsTidy count [] s) (settled_as strands c.self.inside.failed true ws) (subst (λ (s : ReorderState). IsTidy count [] (settled s ws).strands) (sym c.self.view_is) tidy)))
