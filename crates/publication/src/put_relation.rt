@@ -28,7 +28,8 @@ impl Selection {
     /// selection doesn't have. It takes no memory.
     pub fn put_relation(&self, oid: u32, out: &mut [u8]) -> Option<usize>
         requires { MAX_MESSAGE_LENGTH ≤ length out.old }
-        ensures message { IsPut result out.new (option_map (λ t. logical.Relation (relation_of t)) (selected_table self.now oid)) }
+        ensures message { IsPut result out.new
+            (option_map (λ t. logical.Relation (relation_of t)) (selected_table self.now oid)) }
         ensures same { length out.new ≡ length out.old }
     {
         let table = self.table(oid)?;
@@ -40,7 +41,8 @@ impl Selection {
 fn put_table(out: &mut [u8], table: &Table, listed: &[bool]) -> usize
     requires room { HasRoom out.old }
     requires fits { FitsTable table.now }
-    ensures { Writes 0 result out.old out.new (spell_logical (logical.Relation (relation_of (narrowed listed.now table.now)))) }
+    ensures { Writes 0 result out.old out.new
+        (spell_logical (logical.Relation (relation_of (narrowed listed.now table.now)))) }
 {
     let schema = table.schema.as_str();
     let name = table.name.as_str();
@@ -96,7 +98,8 @@ fn put_columns(
 ) -> usize
     requires room { at + 73 * length columns.now ≤ length out.old }
     requires names { AllByRecursion (λ c. length c.name ≤ 63) columns.now }
-    ensures { Writes at result out.old out.new (flat_map column (map (relation_column identity) (chosen listed.now columns.now))) }
+    ensures { Writes at result out.old out.new
+        (flat_map column (map (relation_column identity) (chosen listed.now columns.now))) }
 {
     let mut end = at;
     for i in 0..columns.len() {
@@ -110,7 +113,8 @@ fn put_columns(
 fn put_column(out: &mut [u8], at: usize, identity: Identity, told: &Column) -> usize
     requires room { at + MAX_COLUMN_LENGTH ≤ length out.old }
     requires name { length told.now.name ≤ 63 }
-    ensures written { Writes at result out.old out.new (column (relation_column identity told.now)) }
+    ensures written { Writes at result out.old out.new
+        (column (relation_column identity told.now)) }
     ensures short { result ≤ at + MAX_COLUMN_LENGTH }
 {
     let flags = put_byte(out, at, flags_of(identity, told.is_key));

@@ -40,7 +40,9 @@ impl Selection {
     /// A law: the message of each change whose record starts at a position of 64 bits fits its fields and a frame, and names tables of
     /// the selection.
     pub fn messages_fit(&self)
-        ensures { (position : ℕ) (body : List ℕ) (c : Changed) (m : Logical) → position < 2 ^ 64 → SpellsBody body c → change_message self.now position c ≡ Some m → MessageFits self.now m }
+        ensures { (position : ℕ) (body : List ℕ) (c : Changed) (m : Logical) → position < 2 ^ 64 →
+            SpellsBody body c → change_message self.now position c ≡ Some m →
+            MessageFits self.now m }
     {
         // All tables fit: here the prover learns it.
         let _ = &self.tables;

@@ -7,6 +7,7 @@ mod members;
 mod pool;
 mod ready;
 mod reorder;
+mod spots;
 mod strand;
 mod strands;
 

@@ -56,7 +56,10 @@ impl Pool {
     pub(crate) fn push(&mut self, xid: u32, entry: &[u8]) -> Result<(), ReorderFault>
         requires entry { IsEntry entry.now }
         requires fits { length entry.now ≤ 16380 }
-        ensures ok { OnOk result ((x : ℕ) → entries_at self.new x ≡ with_entries self.old xid (entries_at self.old xid ++ entry.now ∷ []) x) }
+        ensures ok { OnOk result
+            ((x : ℕ) →
+            entries_at self.new x
+            ≡ with_entries self.old xid (entries_at self.old xid ++ entry.now ∷ []) x) }
         ensures whole { OnOk result (StaysWhole self.old self.new) }
         ensures lent { StaysLent self.old self.new }
         ensures full { result ≡ Err ReorderFault.Full → HasNoRoom self.old xid (length entry.now) }
@@ -99,7 +102,8 @@ impl Pool {
     /// Lends the strand of an xid, if it has one.
     pub(crate) fn lend(&mut self, xid: u32) -> Option<Strand>
         ensures strand { result ≡ strand_of self.old.strands xid }
-        ensures others { (x : ℕ) → strand_of self.new.strands x ≡ put xid None (strand_of self.old.strands) x }
+        ensures others { (x : ℕ) →
+            strand_of self.new.strands x ≡ put xid None (strand_of self.old.strands) x }
         ensures arena { self.new.arena ≡ self.old.arena }
         ensures lent { StaysLent self.old self.new }
         ensures pool { IsPool self.old.arena self.old.strands }
@@ -114,8 +118,14 @@ impl Pool {
         alloc: Global,
         xids: &[u32],
     ) -> Result<HashMap<u32, Strand>, AllocError>
-        ensures strands { IfOk result (λ lent. (x : ℕ) → strand_of lent.entries x ≡ (if is_in x xids.now then strand_of self.old.strands x else None)) }
-        ensures left { OnOk result ((x : ℕ) → strand_of self.new.strands x ≡ (if is_in x xids.now then None else strand_of self.old.strands x)) }
+        ensures strands { IfOk result
+            (λ lent. (x : ℕ) →
+            strand_of lent.entries x
+            ≡ (if is_in x xids.now then strand_of self.old.strands x else None)) }
+        ensures left { OnOk result
+            ((x : ℕ) →
+            strand_of self.new.strands x
+            ≡ (if is_in x xids.now then None else strand_of self.old.strands x)) }
         ensures arena { self.new.arena ≡ self.old.arena }
         ensures lent { StaysLent self.old self.new }
         ensures pool { IsPool self.old.arena self.old.strands }
@@ -135,7 +145,8 @@ impl Pool {
     /// Gives back a strand that was lent.
     pub(crate) fn take_back(&mut self, strand: Strand)
         requires of { IsOf self.old.arena strand }
-        requires apart { (x head : ℕ) → strand_of self.old.strands x ≡ Some (Some head) → strand ≡ Some head → ⊥ }
+        requires apart { (x head : ℕ) → strand_of self.old.strands x ≡ Some (Some head) →
+            strand ≡ Some head → ⊥ }
         ensures arena { self.new.arena ≡ without self.old.arena strand }
         ensures strands { self.new.strands ≡ self.old.strands }
         ensures pool { IsPool self.old.arena self.old.strands }
@@ -153,7 +164,8 @@ impl Pool {
     ) -> &[u8]
         requires lent { IsLent self.now lent.now.entries }
         requires within { k < length (entries_by self.now.arena (strand_of lent.now.entries xid)) }
-        ensures value { result.now ≡ get_or (entries_by self.now.arena (strand_of lent.now.entries xid)) k [] }
+        ensures value { result.now
+            ≡ get_or (entries_by self.now.arena (strand_of lent.now.entries xid)) k [] }
         ensures entry { IsEntry result.now }
     {
         match lent.get(&xid) {
@@ -184,9 +196,14 @@ fn push_at(
     requires pool { IsPool arena.old strands.old.entries }
     requires place { IsSome (strand_of strands.old.entries xid) }
     requires fits { length entry.now ≤ 16380 }
-    ensures ok { OnOk result (PushesAt xid entry.now arena.old strands.old.entries arena.new strands.new.entries) }
-    ensures err { OnErr result ((arena.new ≡ arena.old) × IsSameAt xid strands.old.entries strands.new.entries) }
-    ensures full { OnErr result ((has_room (entries_by arena.old (strand_of strands.old.entries xid)) (length entry.now) ≡ false) × (fills arena.old ≡ length arena.old)) }
+    ensures ok { OnOk result
+        (PushesAt xid entry.now arena.old strands.old.entries arena.new strands.new.entries) }
+    ensures err { OnErr result
+        ((arena.new ≡ arena.old) × IsSameAt xid strands.old.entries strands.new.entries) }
+    ensures full { OnErr result
+        ((has_room (entries_by arena.old (strand_of strands.old.entries xid)) (length entry.now)
+        ≡ false)
+        × (fills arena.old ≡ length arena.old)) }
 {
     match strands.get_mut(&xid) {
         Some(strand) => arena.push(strand, entry),

@@ -63,7 +63,8 @@ impl Ready {
     }
 
     pub(crate) fn new(xids: Vec<u32>, strands: HashMap<u32, Strand>, spots: Vec<Spot>) -> Ready
-        ensures { result ≡ record { xids = xids.items; strands = strands.entries; spots = spots.items } }
+        ensures { result
+            ≡ record { xids = xids.items; strands = strands.entries; spots = spots.items } }
     {
         Ready {
             xids,

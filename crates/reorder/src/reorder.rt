@@ -63,26 +63,45 @@ impl Reorder {
     /// How many chunks of the arena are free: all but those that changes of transactions in progress fill, unless rolled back, and those
     /// of what is ready.
     pub fn free_chunks(&self) -> usize
-        ensures free { result + fills self.now.strands.pool.arena ≡ length self.now.strands.pool.arena }
-        ensures exact { (rs : List Logged) (count : ℕ) → HasTaken self.now rs → IsTidy count [] self.now.strands → result + live_chunks rs ≡ count }
-        ensures exact_beside { (rs : List Logged) (ws : List ReadyState) (count : ℕ) → HasTaken self.now rs → AreLentIn self.now ws → IsTidy count [] (settled self.now ws).strands → result + live_chunks rs + lent_chunks self.now ws ≡ count }
+        ensures free { result + fills self.now.strands.pool.arena
+            ≡ length self.now.strands.pool.arena }
+        ensures exact { (rs : List Logged) (count : ℕ) → HasTaken self.now rs →
+            IsTidy count [] self.now.strands → result + live_chunks rs ≡ count }
+        ensures exact_beside { (rs : List Logged) (ws : List ReadyState) (count : ℕ) →
+            HasTaken self.now rs → AreLentIn self.now ws →
+            IsTidy count [] (settled self.now ws).strands →
+            result + live_chunks rs + lent_chunks self.now ws ≡ count }
     {
         self.strands.free()
     }
 
     /// Takes the next record of a log, and answers what it makes ready.
     pub fn take(&mut self, next: &Record) -> Result<Step, ReorderFault>
-        ensures ok { IfOk result (λ step. Takes self.old self.new next.now (readied self.new step)) }
+        ensures ok { IfOk result
+            (λ step. Takes self.old self.new next.now (readied self.new step)) }
         ensures held { IfOk result (λ step. IsStepHeld self.new step) }
         ensures running { OnOk result ((self.old.failed ≡ false) × (self.new.failed ≡ false)) }
         ensures fails { OnErr result (self.new.failed ≡ true) }
-        ensures failed { result ≡ Err ReorderFault.Failed → (self.old.failed ≡ true) × (self.new ≡ self.old) }
-        ensures full { result ≡ Err ReorderFault.Full → (self.old.failed ≡ false) × ((rs : List Logged) (count : ℕ) → HasTaken self.old rs → MayCome rs next.now.body → IsTidy count [] self.old.strands → LeavesNoRoom count rs next.now) }
-        ensures full_beside { result ≡ Err ReorderFault.Full → (rs : List Logged) (ws : List ReadyState) (count : ℕ) → HasTaken self.old rs → MayCome rs next.now.body → AreLentIn self.old ws → IsTidy count [] (settled self.old ws).strands → LeavesNoRoomBeside (lent_chunks self.old ws) count rs next.now }
-        ensures tidy { IfOk result (λ step. (count : ℕ) (held : List ReadyState) → IsTidy count held self.old.strands → IsTidy count (held_with held step) self.new.strands) }
+        ensures failed { result ≡ Err ReorderFault.Failed →
+            (self.old.failed ≡ true) × (self.new ≡ self.old) }
+        ensures full { result ≡ Err ReorderFault.Full →
+            (self.old.failed ≡ false)
+            × ((rs : List Logged) (count : ℕ) → HasTaken self.old rs →
+            MayCome rs next.now.body → IsTidy count [] self.old.strands →
+            LeavesNoRoom count rs next.now) }
+        ensures full_beside { result ≡ Err ReorderFault.Full →
+            (rs : List Logged) (ws : List ReadyState) (count : ℕ) → HasTaken self.old rs →
+            MayCome rs next.now.body → AreLentIn self.old ws →
+            IsTidy count [] (settled self.old ws).strands →
+            LeavesNoRoomBeside (lent_chunks self.old ws) count rs next.now }
+        ensures tidy { IfOk result
+            (λ step. (count : ℕ) (held : List ReadyState) → IsTidy count held self.old.strands →
+            IsTidy count (held_with held step) self.new.strands) }
         ensures memory { result ≡ Err ReorderFault.Memory → self.old.failed ≡ false }
         ensures lent { StaysLent self.old.strands.pool self.new.strands.pool }
-        ensures apart { IfOk result (λ step. (lent : List (ℕ × Option ℕ)) → IsLent self.old.strands.pool lent → IsStepApart step lent) }
+        ensures apart { IfOk result
+            (λ step. (lent : List (ℕ × Option ℕ)) → IsLent self.old.strands.pool lent →
+            IsStepApart step lent) }
     {
         if self.failed {
             return Err(ReorderFault::Failed);
@@ -95,15 +114,26 @@ impl Reorder {
 
     /// What the record does to the strands, and what it makes ready of them.
     fn regroup(&mut self, next: &Record) -> Result<Step, ReorderFault>
-        ensures takes { IfOk result (λ step. Takes self.old self.new next.now (readied self.new step)) }
+        ensures takes { IfOk result
+            (λ step. Takes self.old self.new next.now (readied self.new step)) }
         ensures held { IfOk result (λ step. IsStepHeld self.new step) }
         ensures failed { self.new.failed ≡ self.old.failed }
-        ensures full { result ≡ Err ReorderFault.Full → (rs : List Logged) (count : ℕ) → HasTaken self.old rs → MayCome rs next.now.body → IsTidy count [] self.old.strands → LeavesNoRoom count rs next.now }
-        ensures full_beside { result ≡ Err ReorderFault.Full → (rs : List Logged) (ws : List ReadyState) (count : ℕ) → HasTaken self.old rs → MayCome rs next.now.body → AreLentIn self.old ws → IsTidy count [] (settled self.old ws).strands → LeavesNoRoomBeside (lent_chunks self.old ws) count rs next.now }
-        ensures tidy { IfOk result (λ step. (count : ℕ) (held : List ReadyState) → IsTidy count held self.old.strands → IsTidy count (held_with held step) self.new.strands) }
+        ensures full { result ≡ Err ReorderFault.Full → (rs : List Logged) (count : ℕ) →
+            HasTaken self.old rs → MayCome rs next.now.body → IsTidy count [] self.old.strands →
+            LeavesNoRoom count rs next.now }
+        ensures full_beside { result ≡ Err ReorderFault.Full →
+            (rs : List Logged) (ws : List ReadyState) (count : ℕ) → HasTaken self.old rs →
+            MayCome rs next.now.body → AreLentIn self.old ws →
+            IsTidy count [] (settled self.old ws).strands →
+            LeavesNoRoomBeside (lent_chunks self.old ws) count rs next.now }
+        ensures tidy { IfOk result
+            (λ step. (count : ℕ) (held : List ReadyState) → IsTidy count held self.old.strands →
+            IsTidy count (held_with held step) self.new.strands) }
         ensures running { result ≢ Err ReorderFault.Failed }
         ensures lent { StaysLent self.old.strands.pool self.new.strands.pool }
-        ensures apart { IfOk result (λ step. (lent : List (ℕ × Option ℕ)) → IsLent self.old.strands.pool lent → IsStepApart step lent) }
+        ensures apart { IfOk result
+            (λ step. (lent : List (ℕ × Option ℕ)) → IsLent self.old.strands.pool lent →
+            IsStepApart step lent) }
     {
         match &next.body {
             Body::Assign(sub, parent) => {
@@ -127,7 +157,8 @@ impl Reorder {
     pub fn entry<'a>(&'a self, ready: &Ready, k: usize) -> (u64, &'a [u8])
         requires held { IsReadyIn self.now.strands.pool ready.now }
         requires within { k < length ready.now.spots }
-        ensures { IsEntryAt (ready_entries self.now.strands.pool ready.now) k result.0 result.1.now }
+        ensures { IsEntryAt (ready_entries self.now.strands.pool ready.now) k result.0
+            result.1.now }
     {
         let spot = &ready.spots()[k];
         (spot.position, body_of(self.strands.entry(ready, spot)))
@@ -138,8 +169,10 @@ impl Reorder {
         requires { IsHeld self.old ready }
         ensures same { IsSameTaken self.old self.new }
         ensures exact { self.new ≡ given_back self.old ready }
-        ensures tidy { (count : ℕ) (held : List ReadyState) → IsTidy count (ready ∷ held) self.old.strands → IsTidy count held self.new.strands }
-        ensures lent { (lent : List (ℕ × Option ℕ)) → IsLent self.old.strands.pool lent → AreApart ready.strands lent → Lasts self.old.strands.pool self.new.strands.pool lent }
+        ensures tidy { (count : ℕ) (held : List ReadyState) →
+            IsTidy count (ready ∷ held) self.old.strands → IsTidy count held self.new.strands }
+        ensures lent { (lent : List (ℕ × Option ℕ)) → IsLent self.old.strands.pool lent →
+            AreApart ready.strands lent → Lasts self.old.strands.pool self.new.strands.pool lent }
     {
         self.strands.give_back(ready);
     }

@@ -3,10 +3,10 @@
 //! A record costs a look-up or two, whatever the length of the log. Only the end of a transaction goes over its xids,
 //! and then nothing of them is left but the changes that are ready.
 
-ghost use Rattle.std.specs.Prelude.{◌≡◌, ◌≢◌, ◌==◌, Err, Option, true, ℕ, ◌+◌, ◌≤◌, [], ◌∷◌, ◌++◌, List, Some, None, false, IsSome, IfOk, OnOk, length, nat_eq, reverse, if◌then◌else◌, ◌&&◌, ◌||◌};
+ghost use Rattle.std.specs.Prelude.{◌≡◌, ◌≢◌, ◌==◌, Err, Option, true, ℕ, ◌+◌, ◌≤◌, [], ◌∷◌, List, Some, None, false, IsSome, IfOk, OnOk, length, nat_eq, reverse, if◌then◌else◌, ◌&&◌};
 ghost use Rattle.std.specs.Map.{lookup};
 ghost use Rattle.std.specs.HashMap.{get};
-ghost use Rattle.std.specs.List.{All, AllByRecursion, flat_map};
+ghost use Rattle.std.specs.List.{All, AllByRecursion};
 ghost use Rattle.std.specs.List.Sorted.{IsNonDecreasingBy, IsStableByKey};
 ghost use Rattle.std.specs.Option.{option_map};
 ghost use Rattle.std.specs.Ordering.{nat_cmp};
@@ -15,17 +15,17 @@ ghost use Rattle.reorder.specs.Entries.{IsEntry, entry_in};
 ghost use Rattle.chgarena.specs.Strands.{fills};
 ghost use Rattle.reorder.specs.Chunks.{HasNoRoom, IsTidy, IsWhole, StaysTidy, StaysWhole, strands_alone};
 ghost use Rattle.reorder.specs.Pool.{AreApart, HoldEntries, IsLent, IsPool, Lasts, StaysLent, entries_at, put, strand_of};
-ghost use Rattle.reorder.specs.Ready.{IsReadyIn, IsSpot, ReadyState, bytes_at, lent_from, ready_entries, spots_from};
+ghost use Rattle.reorder.specs.Ready.{IsReadyIn, IsSpot, ReadyState, bytes_at, lent_from, ready_entries};
 ghost use Rattle.reorder.specs.Settled.{heads_of, ready_heads, without_all};
-ghost use Rattle.reorder.specs.Strands.{IsSame, above_of, above_standing, all_in, assigned, back_in, behind, ended, is_in, by_xid, joined, kept_spots, pushed, spots_of, started, undone, with_member};
+ghost use Rattle.reorder.specs.Strands.{IsSame, above_of, above_standing, all_in, assigned, back_in, behind, ended, is_in, by_xid, joined, pushed, spots_of, started, undone, with_member};
 
-use crate::entry::position_of;
 use crate::fault::ReorderFault;
 use crate::members::Members;
 use crate::pool::Pool;
 use crate::ready::{Ready, Spot};
+use crate::spots::joined_spots;
 use crate::strand::Strand;
-use chgarena::{Arena, Entries, Strand as ArenaStrand};
+use chgarena::{Arena, Strand as ArenaStrand};
 use std::alloc::{AllocError, Global};
 use std::collections::HashMap;
 use std::marker::Model;
@@ -78,7 +78,9 @@ impl Strands {
     /// Makes the xid a transaction, unless it has a strand.
     pub(crate) fn open(&mut self, xid: u32) -> Result<(), AllocError>
         ensures known { OnOk result (IsSome ((by_xid self.old).strand xid) → self.new ≡ self.old) }
-        ensures fresh { OnOk result ((by_xid self.old).strand xid ≡ None → IsSame (by_xid self.new) (started xid (by_xid self.old))) }
+        ensures fresh { OnOk result
+            ((by_xid self.old).strand xid ≡ None →
+            IsSame (by_xid self.new) (started xid (by_xid self.old))) }
         ensures there { OnOk result (IsSome (lookup (λ k. xid == k) self.new.strands)) }
         ensures tidy { OnOk result (StaysTidy self.old self.new) }
         ensures lent { StaysLent self.old.pool self.new.pool }
@@ -108,10 +110,13 @@ impl Strands {
     pub(crate) fn push(&mut self, xid: u32, entry: &[u8]) -> Result<(), ReorderFault>
         requires entry { IsEntry entry.now }
         requires fits { length entry.now ≤ 16380 }
-        ensures ok { OnOk result (IsSame (by_xid self.new) (pushed xid (entry_in xid entry.now) (by_xid self.old))) }
-        ensures tidy { OnOk result (IsSome (lookup (λ k. xid == k) self.old.strands) → StaysTidy self.old self.new) }
+        ensures ok { OnOk result
+            (IsSame (by_xid self.new) (pushed xid (entry_in xid entry.now) (by_xid self.old))) }
+        ensures tidy { OnOk result
+            (IsSome (lookup (λ k. xid == k) self.old.strands) → StaysTidy self.old self.new) }
         ensures lent { StaysLent self.old.pool self.new.pool }
-        ensures full { result ≡ Err ReorderFault.Full → HasNoRoom self.old.pool xid (length entry.now) }
+        ensures full { result ≡ Err ReorderFault.Full →
+            HasNoRoom self.old.pool xid (length entry.now) }
         ensures running { result ≢ Err ReorderFault.Failed }
     {
         self.pool.push(xid, entry)
@@ -141,8 +146,11 @@ impl Strands {
     fn give_back_under(&mut self, xid: u32)
         ensures strands { self.new.strands ≡ self.old.strands }
         ensures members { self.new.members ≡ self.old.members }
-        ensures pool { (x : ℕ) → entries_at self.new.pool x
-            ≡ (if is_in x (behind xid (back_in self.old xid)) && is_in xid (above_standing (lookup (λ k. x == k) self.old.strands)) then [] else entries_at self.old.pool x) }
+        ensures pool { (x : ℕ) →
+            entries_at self.new.pool x
+            ≡ (if is_in x (behind xid (back_in self.old xid))
+            && is_in xid (above_standing (lookup (λ k. x == k) self.old.strands))
+            then [] else entries_at self.old.pool x) }
         ensures whole { StaysWhole self.old.pool self.new.pool }
         ensures lent { StaysLent self.old.pool self.new.pool }
     {
@@ -154,7 +162,8 @@ impl Strands {
 
     /// Puts an xid without a strand under another that has one.
     pub(crate) fn assign(&mut self, sub: u32, parent: u32) -> Result<(), AllocError>
-        ensures assigned { OnOk result (IsSame (by_xid self.new) (assigned sub parent (by_xid self.old))) }
+        ensures assigned { OnOk result
+            (IsSame (by_xid self.new) (assigned sub parent (by_xid self.old))) }
         ensures tidy { OnOk result (StaysTidy self.old self.new) }
         ensures lent { StaysLent self.old.pool self.new.pool }
     {
@@ -193,11 +202,18 @@ impl Strands {
     /// Gives up all xids of a transaction, but for their changes: those that it keeps are ready, and lie where nobody else comes.
     pub(crate) fn make_ready(&mut self, top: u32) -> Result<Ready, AllocError>
         ensures ended { OnOk result (IsSame (by_xid self.new) (ended top (by_xid self.old))) }
-        ensures rising { IfOk result (λ r. IsNonDecreasingBy (λ e. e.position) (ready_entries self.new.pool r)) }
-        ensures same { IfOk result (λ r. IsStableByKey (λ e. e.position) nat_cmp (joined (by_xid self.old) top) (ready_entries self.new.pool r)) }
+        ensures rising { IfOk result
+            (λ r. IsNonDecreasingBy (λ e. e.position) (ready_entries self.new.pool r)) }
+        ensures same { IfOk result
+            (λ r. IsStableByKey (λ e. e.position) nat_cmp (joined (by_xid self.old) top)
+            (ready_entries self.new.pool r)) }
         ensures ready { IfOk result (λ r. IsReadyIn self.new.pool r) }
-        ensures apart { IfOk result (λ r. (lent : List (ℕ × Option ℕ)) → IsLent self.old.pool lent → AreApart r.strands lent) }
-        ensures tidy { IfOk result (λ r. (count : ℕ) (held : List ReadyState) → IsTidy count held self.old → IsTidy count (r ∷ held) self.new) }
+        ensures apart { IfOk result
+            (λ r. (lent : List (ℕ × Option ℕ)) → IsLent self.old.pool lent →
+            AreApart r.strands lent) }
+        ensures tidy { IfOk result
+            (λ r. (count : ℕ) (held : List ReadyState) → IsTidy count held self.old →
+            IsTidy count (r ∷ held) self.new) }
         ensures lent { StaysLent self.old.pool self.new.pool }
     {
         let spots = self.spots(top)?;
@@ -210,9 +226,13 @@ impl Strands {
     /// Where the changes lie that a transaction keeps, in the order of their positions.
     fn spots(&self, top: u32) -> Result<Vec<Spot>, AllocError>
         ensures rising { IfOk result (λ v. IsNonDecreasingBy (λ s. s.position) v.items) }
-        ensures same { IfOk result (λ v. IsStableByKey (λ s. s.position) nat_cmp (spots_of self.now top) v.items) }
+        ensures same { IfOk result
+            (λ v. IsStableByKey (λ s. s.position) nat_cmp (spots_of self.now top) v.items) }
         ensures there { IfOk result (λ v. All (IsSpot self.now.pool) v.items) }
-        ensures own { IfOk result (λ v. All (λ spot. is_in spot.xid (all_in (lookup (λ k. top == k) self.now.members)) ≡ true) v.items) }
+        ensures own { IfOk result
+            (λ v. All
+            (λ spot. is_in spot.xid (all_in (lookup (λ k. top == k) self.now.members)) ≡ true)
+            v.items) }
     {
         let mut spots = self.joined(top)?;
         spots.sort_by_key(|spot| spot.position)?;
@@ -256,8 +276,10 @@ impl Strands {
         ensures entries { (x : ℕ) → entries_at self.new.pool x ≡ entries_at self.old.pool x }
         ensures own { self.new.pool.strands ≡ self.old.pool.strands }
         ensures arena { self.new.pool.arena ≡ without_all self.old.pool.arena (ready_heads ready) }
-        ensures tidy { (count : ℕ) (held : List ReadyState) → IsTidy count (ready ∷ held) self.old → IsTidy count held self.new }
-        ensures lent { (lent : List (ℕ × Option ℕ)) → IsLent self.old.pool lent → AreApart ready.strands lent → Lasts self.old.pool self.new.pool lent }
+        ensures tidy { (count : ℕ) (held : List ReadyState) → IsTidy count (ready ∷ held) self.old →
+            IsTidy count held self.new }
+        ensures lent { (lent : List (ℕ × Option ℕ)) → IsLent self.old.pool lent →
+            AreApart ready.strands lent → Lasts self.old.pool self.new.pool lent }
     {
         let (xids, strands) = ready.into_parts();
         take_back_all(&mut self.pool, strands, xids.as_slice());
@@ -276,7 +298,11 @@ fn last_or(xid: u32, xids: &[u32]) -> u32
 
 /// Adds an xid to those of a transaction.
 fn add_member(members: &mut HashMap<u32, Members>, top: u32, sub: u32) -> Result<(), AllocError>
-    ensures { OnOk result ((t : ℕ) → get nat_eq members.new t ≡ put top (option_map (with_member sub) (get nat_eq members.old top)) (get nat_eq members.old) t) }
+    ensures { OnOk result
+        ((t : ℕ) →
+        get nat_eq members.new t
+        ≡ put top (option_map (with_member sub) (get nat_eq members.old top))
+        (get nat_eq members.old) t) }
 {
     if let Some(xids) = members.get_mut(&top) {
         xids.push(sub)?;
@@ -297,7 +323,8 @@ fn remove_members(alloc: Global, members: &mut HashMap<u32, Members>, top: u32) 
 
 /// Gives up the strands of these xids.
 fn remove_all(strands: &mut HashMap<u32, Strand>, xids: &[u32])
-    ensures { (x : ℕ) → get nat_eq strands.new x ≡ (if is_in x xids.now then None else get nat_eq strands.old x) }
+    ensures { (x : ℕ) →
+        get nat_eq strands.new x ≡ (if is_in x xids.now then None else get nat_eq strands.old x) }
 {
     for xid in xids {
         strands.remove(xid);
@@ -306,7 +333,8 @@ fn remove_all(strands: &mut HashMap<u32, Strand>, xids: &[u32])
 
 /// Gives back the entries of these xids.
 fn give_back_all(pool: &mut Pool, xids: &[u32])
-    ensures entries { (x : ℕ) → entries_at pool.new x ≡ (if is_in x xids.now then [] else entries_at pool.old x) }
+    ensures entries { (x : ℕ) →
+        entries_at pool.new x ≡ (if is_in x xids.now then [] else entries_at pool.old x) }
     ensures whole { StaysWhole pool.old pool.new }
     ensures lent { StaysLent pool.old pool.new }
 {
@@ -319,11 +347,15 @@ fn give_back_all(pool: &mut Pool, xids: &[u32])
 fn take_back_all(pool: &mut Pool, mut lent: HashMap<u32, ArenaStrand>, xids: &[u32])
     requires { IsLent pool.old lent.entries }
     ensures strands { pool.new.strands ≡ pool.old.strands }
-    ensures arena { pool.new.arena ≡ without_all pool.old.arena (heads_of (strand_of lent.entries) xids.now) }
+    ensures arena { pool.new.arena
+        ≡ without_all pool.old.arena (heads_of (strand_of lent.entries) xids.now) }
     ensures entries { (x : ℕ) → entries_at pool.new x ≡ entries_at pool.old x }
-    ensures others { (others : List (ℕ × Option ℕ)) → IsLent pool.old others → AreApart lent.entries others → Lasts pool.old pool.new others }
+    ensures others { (others : List (ℕ × Option ℕ)) → IsLent pool.old others →
+        AreApart lent.entries others → Lasts pool.old pool.new others }
     ensures chunks { length pool.new.arena ≡ length pool.old.arena }
-    ensures whole { ((x : ℕ) → IsSome (strand_of lent.entries x) → is_in x xids.now ≡ true) → (held : List ReadyState) → IsWhole (strands_alone lent.entries ∷ held) pool.old → IsWhole held pool.new }
+    ensures whole { ((x : ℕ) → IsSome (strand_of lent.entries x) → is_in x xids.now ≡ true) →
+        (held : List ReadyState) → IsWhole (strands_alone lent.entries ∷ held) pool.old →
+        IsWhole held pool.new }
 {
     for xid in xids {
         if let Some(strand) = lent.remove(xid) {
@@ -336,8 +368,11 @@ fn take_back_all(pool: &mut Pool, mut lent: HashMap<u32, ArenaStrand>, xids: &[u
 fn give_back_behind(pool: &mut Pool, strands: &HashMap<u32, Strand>, xids: &[u32], xid: u32)
     ensures whole { StaysWhole pool.old pool.new }
     ensures lent { StaysLent pool.old pool.new }
-    ensures entries { (x : ℕ) → entries_at pool.new x
-        ≡ (if is_in x (behind xid (reverse xids.now)) && is_in xid (above_standing (get nat_eq strands.now x)) then [] else entries_at pool.old x) }
+    ensures entries { (x : ℕ) →
+        entries_at pool.new x
+        ≡ (if is_in x (behind xid (reverse xids.now))
+        && is_in xid (above_standing (get nat_eq strands.now x))
+        then [] else entries_at pool.old x) }
 {
     let mut left = xids.len();
     while left > 0 && xids[left - 1] != xid {
@@ -356,48 +391,4 @@ fn is_under(strands: &HashMap<u32, Strand>, xid: u32, other: u32) -> bool
         Some(strand) => strand.above().contains(&other),
         None => false,
     }
-}
-
-/// Where the changes lie that these xids keep, xid after xid.
-fn joined_spots(
-    alloc: Global,
-    strands: &HashMap<u32, Strand>,
-    pool: &Pool,
-    xids: &[u32],
-) -> Result<Vec<Spot>, AllocError>
-    ensures { IfOk result (λ v. v.items ≡ flat_map (kept_spots pool.now (get nat_eq strands.now)) xids.now) }
-{
-    let mut joined = Vec::new(alloc);
-    for xid in xids {
-        if strands.contains_key(xid) {
-            add_spots(&mut joined, pool, *xid)?;
-        }
-    }
-    Ok(joined)
-}
-
-/// Adds where the changes of an xid lie.
-fn add_spots(joined: &mut Vec<Spot>, pool: &Pool, xid: u32) -> Result<(), AllocError>
-    ensures { OnOk result (joined.new.items ≡ joined.old.items ++ spots_from xid 0 (entries_at pool.now xid)) }
-{
-    match pool.entries(xid) {
-        Some(entries) => add_entries(joined, xid, entries),
-        None => Ok(()),
-    }
-}
-
-fn add_entries(joined: &mut Vec<Spot>, xid: u32, mut entries: Entries<'_>) -> Result<(), AllocError>
-    requires { AllByRecursion IsEntry entries }
-    ensures { OnOk result (joined.new.items ≡ joined.old.items ++ spots_from xid 0 entries.entry) }
-{
-    let before = joined.len();
-    while let Some(entry) = entries.next() {
-        joined.push(Spot {
-            position: position_of(entry),
-            xid,
-            place: joined.len() - before,
-            near: entries.chunk(),
-        })?;
-    }
-    Ok(())
 }

@@ -18,8 +18,10 @@ impl Outgoing {
         out: &mut [u8],
     ) -> usize
         requires { IsOutgoing selection.now reorder.old self.old }
-        ensures count { result ≡ min (length out.old) (length (held_of selection.now reorder.old self.old)) }
-        ensures moved { take result out.new ≡ take result (held_of selection.now reorder.old self.old) }
+        ensures count { result
+            ≡ min (length out.old) (length (held_of selection.now reorder.old self.old)) }
+        ensures moved { take result out.new
+            ≡ take result (held_of selection.now reorder.old self.old) }
         ensures others { drop result out.new ≡ drop result out.old }
         ensures rest { MovesOut selection.now result reorder.old reorder.new self.old self.new }
     {
@@ -69,9 +71,14 @@ impl Outgoing {
         out: &mut BytesMut,
     ) -> Result<(), AllocError>
         requires { IsOutgoing selection.now reorder.old self.old }
-        ensures moved { OnOk result (out.new.items ≡ out.old.items ++ take max (held_of selection.now reorder.old self.old)) }
-        ensures rest { OnOk result (MovesOut selection.now max reorder.old reorder.new self.old self.new) }
-        ensures err { OnErr result (HoldsSame selection.now reorder.old reorder.new self.old self.new × (out.new.items ≡ out.old.items)) }
+        ensures moved { OnOk result
+            (out.new.items
+            ≡ out.old.items ++ take max (held_of selection.now reorder.old self.old)) }
+        ensures rest { OnOk result
+            (MovesOut selection.now max reorder.old reorder.new self.old self.new) }
+        ensures err { OnErr result
+            (HoldsSame selection.now reorder.old reorder.new self.old self.new
+            × (out.new.items ≡ out.old.items)) }
     {
         self.gather(selection, reorder, max)?;
         let front = front_of(self.front.as_slice(), max);
@@ -107,8 +114,16 @@ impl Outgoing {
     ) -> Result<(), AllocError>
         requires { IsOutgoing selection.now reorder.old self.old }
         ensures same { HoldsSame selection.now reorder.old reorder.new self.old self.new }
-        ensures gathered { OnOk result (take max self.new.front.items ≡ take max (held_of selection.now reorder.old self.old)) }
-        ensures behind { OnOk result (held_of selection.now reorder.new (record self.new { front = record self.new.front { items = drop max self.new.front.items } }) ≡ drop max (held_of selection.now reorder.old self.old)) }
+        ensures gathered { OnOk result
+            (take max self.new.front.items
+            ≡ take max (held_of selection.now reorder.old self.old)) }
+        ensures behind { OnOk result
+            (held_of selection.now reorder.new
+            (record self.new {
+              front =
+                  record self.new.front { items = drop max self.new.front.items };
+            })
+            ≡ drop max (held_of selection.now reorder.old self.old)) }
     {
         while self.front.len() < max {
             if !self.gather_frames(selection, reorder)? {
@@ -126,7 +141,9 @@ impl Outgoing {
     ) -> Result<bool, AllocError>
         requires { IsOutgoing selection.now reorder.old self.old }
         ensures same { HoldsSame selection.now reorder.old reorder.new self.old self.new }
-        ensures more { IfOk result (λ b. MatchBool b (length self.old.front.items < length self.new.front.items) (held_of selection.now reorder.new self.new ≡ self.new.front.items)) }
+        ensures more { IfOk result
+            (λ b. MatchBool b (length self.old.front.items < length self.new.front.items)
+            (held_of selection.now reorder.new self.new ≡ self.new.front.items)) }
     {
         if !self.fill(selection, reorder) {
             return Ok(false);

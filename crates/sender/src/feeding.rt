@@ -19,8 +19,10 @@ impl Sender {
         ensures running { OnOk result (self.new.failed ≡ false) }
         ensures out { OnErr result (RanOut clock self.old self.new (shared records.now)) }
         ensures err { IfErr result IsOut }
-        ensures room { result ≡ Err SendFault.ArenaFull → LacksRoom self.old self.new (shared records.now) }
-        ensures chunks { OnOk result ((count : ℕ) → HasChunks self.old count → HasChunks self.new count) }
+        ensures room { result ≡ Err SendFault.ArenaFull →
+            LacksRoom self.old self.new (shared records.now) }
+        ensures chunks { OnOk result
+            ((count : ℕ) → HasChunks self.old count → HasChunks self.new count) }
     {
         for record in records {
             match self.take(record, clock) {
@@ -38,9 +40,11 @@ impl Sender {
         ensures ok { OnOk result (ReadOne clock self.old self.new next.now.value) }
         ensures err { OnErr result (OutputUnchanged self.old self.new) }
         ensures out { IfErr result IsOut }
-        ensures room { result ≡ Err SendFault.ArenaFull →
-            (rs : List Logged) (count : ℕ) → HasTaken self.old.reorder rs → MayCome rs next.now.value.body → HasChunks self.old count → HasNoRoomBeside self.old.held count rs next.now.value }
-        ensures chunks { OnOk result ((count : ℕ) → HasChunks self.old count → HasChunks self.new count) }
+        ensures room { result ≡ Err SendFault.ArenaFull → (rs : List Logged) (count : ℕ) →
+            HasTaken self.old.reorder rs → MayCome rs next.now.value.body →
+            HasChunks self.old count → HasNoRoomBeside self.old.held count rs next.now.value }
+        ensures chunks { OnOk result
+            ((count : ℕ) → HasChunks self.old count → HasChunks self.new count) }
         ensures failed { self.new.failed ≡ self.old.failed }
     {
         self.outgoing.give_way(&self.selection, &mut self.reorder)?;

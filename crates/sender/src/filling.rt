@@ -15,7 +15,8 @@ impl Outgoing {
         requires good { IsOutgoing selection.now reorder.old self.old }
         ensures same { HoldsSame selection.now reorder.old reorder.new self.old self.new }
         ensures front { self.new.front ≡ self.old.front }
-        ensures more { MatchBool result (self.new.from < self.new.to) (held_of selection.now reorder.new self.new ≡ self.new.front.items) }
+        ensures more { MatchBool result (self.new.from < self.new.to)
+            (held_of selection.now reorder.new self.new ≡ self.new.front.items) }
     {
         if self.from < self.to {
             return true;
@@ -33,7 +34,8 @@ impl Outgoing {
         requires good { IsOutgoing selection.now reorder.old self.old }
         ensures same { HoldsSame selection.now reorder.old reorder.new self.old self.new }
         ensures front { self.new.front ≡ self.old.front }
-        ensures more { MatchBool result (self.new.from < self.new.to) (held_of selection.now reorder.new self.new ≡ self.new.front.items) }
+        ensures more { MatchBool result (self.new.from < self.new.to)
+            (held_of selection.now reorder.new self.new ≡ self.new.front.items) }
     {
         if !self.fill(selection, reorder) {
             return false;
@@ -49,7 +51,9 @@ impl Outgoing {
         requires room { self.old.to + MAX_FRAME_LENGTH ≤ length self.old.frames.items }
         ensures same { HoldsSame selection.now reorder.old reorder.new self.old self.new }
         ensures frames { IsFilled self.old self.new }
-        ensures more { MatchBool result (self.old.to < self.new.to) ((self.new.to ≡ self.old.to) × (self.new.made.items ≡ []) × (self.new.waiting.items ≡ [])) }
+        ensures more { MatchBool result (self.old.to < self.new.to)
+            ((self.new.to ≡ self.old.to) × (self.new.made.items ≡ [])
+            × (self.new.waiting.items ≡ [])) }
     {
         while !self.waiting.is_empty() {
             if self.make_first(selection, reorder) {
@@ -68,7 +72,9 @@ impl Outgoing {
         requires waits { 0 < length self.old.waiting.items }
         ensures same { HoldsSame selection.now reorder.old reorder.new self.old self.new }
         ensures frames { IsFilled self.old self.new }
-        ensures more { MatchBool result (self.old.to < self.new.to) ((self.new.to ≡ self.old.to) × (length self.new.waiting.items + 1 ≡ length self.old.waiting.items)) }
+        ensures more { MatchBool result (self.old.to < self.new.to)
+            ((self.new.to ≡ self.old.to)
+            × (length self.new.waiting.items + 1 ≡ length self.old.waiting.items)) }
     {
         let Some(waiting) = self.waiting.front_mut() else {
             return false;
@@ -98,7 +104,8 @@ impl Outgoing {
     /// Gives back what was ready of the first transaction that waits, which waits no more.
     fn finish_first(&mut self, selection: &Selection, reorder: &mut Reorder)
         requires good { IsOutgoing selection.now reorder.old self.old }
-        requires over { (w : Waiting) (ws : List Waiting) → self.old.waiting.items ≡ w ∷ ws → (w.before ≡ 0) × (length w.ready.spots ≤ w.next) }
+        requires over { (w : Waiting) (ws : List Waiting) → self.old.waiting.items ≡ w ∷ ws →
+            (w.before ≡ 0) × (length w.ready.spots ≤ w.next) }
         requires waits { 0 < length self.old.waiting.items }
         ensures same { HoldsSame selection.now reorder.old reorder.new self.old self.new }
         ensures one { length self.new.waiting.items + 1 ≡ length self.old.waiting.items }
@@ -113,11 +120,13 @@ impl Outgoing {
     fn move_made(&mut self, count: usize)
         requires enough { count ≤ length self.old.made.items }
         requires room { self.old.to + count ≤ length self.old.frames.items }
-        ensures frames { take self.new.to self.new.frames.items ≡ take self.old.to self.old.frames.items ++ take count self.old.made.items }
+        ensures frames { take self.new.to self.new.frames.items
+            ≡ take self.old.to self.old.frames.items ++ take count self.old.made.items }
         ensures size { length self.new.frames.items ≡ length self.old.frames.items }
         ensures to { self.new.to ≡ self.old.to + count }
         ensures made { self.new.made.items ≡ drop count self.old.made.items }
-        ensures rest { self.new ≡ record self.old { frames = self.new.frames; made = self.new.made; to = self.new.to } }
+        ensures rest { self.new
+            ≡ record self.old { frames = self.new.frames; made = self.new.made; to = self.new.to } }
     {
         let end = self.to + count;
         self.frames[self.to..end].copy_from_slice(&self.made.as_slice()[..count]);

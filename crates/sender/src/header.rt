@@ -15,7 +15,8 @@ pub(crate) struct Header {
 impl Header {
     pub(crate) fn new(start: u64, end: u64, time: i64, xid: u32) -> Header
         ensures value { result ≡ record { start = start; end = end; time = time; xid = xid } }
-        ensures numbers { (result.start < 2 ^ 64) × (result.end < 2 ^ 64) × FitsSigned w64 result.time × (result.xid < 2 ^ 32) }
+        ensures numbers { (result.start < 2 ^ 64) × (result.end < 2 ^ 64)
+            × FitsSigned w64 result.time × (result.xid < 2 ^ 32) }
     {
         Header {
             start,

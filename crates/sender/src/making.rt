@@ -39,8 +39,11 @@ pub(crate) fn next_frame(
     requires room { length out.old ≡ MAX_FRAME_LENGTH }
     requires sent { AreSelected selection.now (reverse relations_sent.old.items) }
     requires capacity { length (selected_oids selection.now) ≤ vec_capacity relations_sent.old }
-    ensures makes { Makes selection.now waiting.old.clock (left_of selection.now reorder.now.strands.pool waiting.old) (left_of selection.now reorder.now.strands.pool waiting.new)
-        (reverse relations_sent.old.items) (reverse relations_sent.new.items) (take result out.new) }
+    ensures makes { Makes selection.now waiting.old.clock
+        (left_of selection.now reorder.now.strands.pool waiting.old)
+        (left_of selection.now reorder.now.strands.pool waiting.new)
+        (reverse relations_sent.old.items) (reverse relations_sent.new.items)
+        (take result out.new) }
     ensures within { result ≤ MAX_FRAME_LENGTH }
     ensures over { result ≡ 0 → length waiting.new.ready.spots ≤ waiting.new.next }
     ensures same { length out.new ≡ length out.old }
@@ -71,8 +74,11 @@ fn frame_at_next(
     requires room { length out.old ≡ MAX_FRAME_LENGTH }
     requires sent { AreSelected selection.now (reverse relations_sent.old.items) }
     requires capacity { length (selected_oids selection.now) ≤ vec_capacity relations_sent.old }
-    ensures makes { Makes selection.now waiting.old.clock (left_of selection.now reorder.now.strands.pool waiting.old) (left_of selection.now reorder.now.strands.pool waiting.new)
-        (reverse relations_sent.old.items) (reverse relations_sent.new.items) (take result out.new) }
+    ensures makes { Makes selection.now waiting.old.clock
+        (left_of selection.now reorder.now.strands.pool waiting.old)
+        (left_of selection.now reorder.now.strands.pool waiting.new)
+        (reverse relations_sent.old.items) (reverse relations_sent.new.items)
+        (take result out.new) }
     ensures within { result ≤ MAX_FRAME_LENGTH }
     ensures moves { result ≡ 0 → waiting.new.next ≡ waiting.old.next + 1 }
     ensures next { waiting.new.next ≤ length waiting.new.ready.spots }
@@ -106,7 +112,8 @@ fn put_due(selection: &Selection, oid: u32, relations_sent: &mut Vec<u32>, room:
     requires due { is_relation_sent (reverse relations_sent.old.items) oid ≡ false }
     requires sent { AreSelected selection.now (reverse relations_sent.old.items) }
     requires capacity { length (selected_oids selection.now) ≤ vec_capacity relations_sent.old }
-    ensures relation { take result room.new ≡ spell_logical (logical.Relation (relation selection.now oid)) }
+    ensures relation { take result room.new
+        ≡ spell_logical (logical.Relation (relation selection.now oid)) }
     ensures short { result ≤ MAX_MESSAGE_LENGTH }
     ensures same { length room.new ≡ length room.old }
     ensures noted { reverse relations_sent.new.items ≡ oid ∷ reverse relations_sent.old.items }
@@ -122,9 +129,13 @@ fn put_due(selection: &Selection, oid: u32, relations_sent: &mut Vec<u32>, room:
 
 /// The first of these tables whose Relation wasn't sent yet.
 fn first_due(relations_sent: &[u32], mut oids: Cursor<'_>) -> Option<u32>
-    ensures none { result ≡ None → relations_due (reverse relations_sent.now) (oids_in oids.entry) ≡ [] }
-    ensures due { IfSome result (λ oid. (rest : List ℕ) × (relations_due (reverse relations_sent.now) (oids_in oids.entry) ≡ oid ∷ rest)) }
-    ensures unsent { IfSome result (λ oid. is_relation_sent (reverse relations_sent.now) oid ≡ false) }
+    ensures none { result ≡ None →
+        relations_due (reverse relations_sent.now) (oids_in oids.entry) ≡ [] }
+    ensures due { IfSome result
+        (λ oid. (rest : List ℕ)
+        × (relations_due (reverse relations_sent.now) (oids_in oids.entry) ≡ oid ∷ rest)) }
+    ensures unsent { IfSome result
+        (λ oid. is_relation_sent (reverse relations_sent.now) oid ≡ false) }
     ensures among { IfSome result (λ oid. list_any (λ n. n == oid) (oids_in oids.entry) ≡ true) }
 {
     while let Some(oid) = oids.u32() {

@@ -75,7 +75,11 @@ impl Outgoing {
 
     /// Whether any bytes are held.
     pub(crate) fn holds_bytes(&self) -> bool
-        ensures { result ≡ not ((length self.now.front.items == 0) && (not (nat_lt self.now.from self.now.to) && (length self.now.made.items == 0))) }
+        ensures { result
+            ≡ not
+            ((length self.now.front.items == 0)
+            && (not (nat_lt self.now.from self.now.to)
+            && (length self.now.made.items == 0))) }
     {
         !self.front.is_empty() || self.from < self.to || !self.made.is_empty()
     }
@@ -99,7 +103,8 @@ impl Outgoing {
         clock: i64,
         ask: bool,
     ) -> Result<(), AllocError>
-        ensures adds { AddsBytes (word_bytes (keepalive_word position clock ask)) result self.old self.new }
+        ensures adds { AddsBytes (word_bytes (keepalive_word position clock ask)) result self.old
+            self.new }
         ensures fits { position < 2 ^ 64 }
     {
         self.reserve()?;
@@ -119,7 +124,8 @@ impl Outgoing {
         message: &[u8],
     ) -> Result<(), AllocError>
         requires { 29 + length message.now ≤ FRAME_LIMIT }
-        ensures { AddsBytes (frame COPY_DATA (xlogdata position position clock message.now)) result self.old self.new }
+        ensures { AddsBytes (frame COPY_DATA (xlogdata position position clock message.now)) result
+            self.old self.new }
     {
         self.reserve()?;
         let length = self.made.len();
@@ -139,7 +145,9 @@ impl Outgoing {
         clock: i64,
     ) -> Result<(), Ready>
         requires { self.old.placed ≤ length self.old.made.items }
-        ensures ok { OnOk result (Queues selection.now ready clock (begin_bytes clock header.now) (commit_bytes clock header.now) self.old self.new) }
+        ensures ok { OnOk result
+            (Queues selection.now ready clock (begin_bytes clock header.now)
+            (commit_bytes clock header.now) self.old self.new) }
         ensures err { IfErr result (λ r. (r ≡ ready) × StaysQueued self.old self.new) }
     {
         let Ok(()) = self.waiting.reserve(1) else {
@@ -169,9 +177,14 @@ impl Outgoing {
         clock: i64,
     ) -> Result<usize, AllocError>
         requires { self.old.placed ≤ length self.old.made.items }
-        ensures ok { IfOk result (λ before. (before + self.old.placed ≡ length (self.old.made.items ++ begin_bytes clock header.now))
-            × (self.new.made.items ≡ (self.old.made.items ++ begin_bytes clock header.now) ++ commit_bytes clock header.now)
-            × (0 < length self.new.frames.items) × (length (selected_oids selection.now) ≤ vec_capacity self.new.relations_sent)) }
+        ensures ok { IfOk result
+            (λ before. (before + self.old.placed
+            ≡ length (self.old.made.items ++ begin_bytes clock header.now))
+            × (self.new.made.items
+            ≡ (self.old.made.items ++ begin_bytes clock header.now)
+            ++ commit_bytes clock header.now)
+            × (0 < length self.new.frames.items)
+            × (length (selected_oids selection.now) ≤ vec_capacity self.new.relations_sent)) }
         ensures err { OnErr result (self.new.made.items ≡ self.old.made.items) }
         ensures frames { IsSized self.old self.new }
         ensures waiting { self.new.waiting ≡ self.old.waiting }
@@ -189,10 +202,15 @@ impl Outgoing {
 
     fn add_both(&mut self, header: &Header, clock: i64) -> Result<usize, AllocError>
         requires { self.old.placed ≤ length self.old.made.items }
-        ensures ok { IfOk result (λ before. (before + self.old.placed ≡ length (self.old.made.items ++ begin_bytes clock header.now))
-            × (self.new.made.items ≡ (self.old.made.items ++ begin_bytes clock header.now) ++ commit_bytes clock header.now)) }
+        ensures ok { IfOk result
+            (λ before. (before + self.old.placed
+            ≡ length (self.old.made.items ++ begin_bytes clock header.now))
+            × (self.new.made.items
+            ≡ (self.old.made.items ++ begin_bytes clock header.now)
+            ++ commit_bytes clock header.now)) }
         ensures front { Extends self.old.made.items self.new.made.items }
-        ensures rest { self.new ≡ record self.old { made = self.new.made; message = self.new.message } }
+        ensures rest { self.new
+            ≡ record self.old { made = self.new.made; message = self.new.message } }
     {
         self.add(header.start, clock, &begin_of(header))?;
         let before = self.made.len() - self.placed;
@@ -204,8 +222,10 @@ impl Outgoing {
     fn add(&mut self, position: u64, clock: i64, message: &Logical) -> Result<(), AllocError>
         requires counts { IsShort message.now }
         requires fits { IsShortMessage message.now }
-        ensures made { Puts result self.old.made.items self.new.made.items (word_bytes (xlogdata_word position clock message.now)) }
-        ensures rest { self.new ≡ record self.old { made = self.new.made; message = self.new.message } }
+        ensures made { Puts result self.old.made.items self.new.made.items
+            (word_bytes (xlogdata_word position clock message.now)) }
+        ensures rest { self.new
+            ≡ record self.old { made = self.new.made; message = self.new.message } }
     {
         put_xlogdata(&mut self.made, &mut self.message, position, clock, message)
     }

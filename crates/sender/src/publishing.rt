@@ -34,8 +34,12 @@ impl Outgoing {
         clock: i64,
         room: &mut Vec<u8>,
     ) -> Result<(), AllocError>
-        ensures grows { (s : ReorderState) → IsOutgoing selection.now s self.old → Grows selection.now clock (published_by_record selection.now start next.now None) result s s self.old self.new }
-        ensures fit { OnOk result (AllByRecursion (FitsPublished (relation selection.now)) (published_by_record selection.now start next.now None)) }
+        ensures grows { (s : ReorderState) → IsOutgoing selection.now s self.old →
+            Grows selection.now clock (published_by_record selection.now start next.now None) result
+            s s self.old self.new }
+        ensures fit { OnOk result
+            (AllByRecursion (FitsPublished (relation selection.now))
+            (published_by_record selection.now start next.now None)) }
         ensures waiting { self.new.waiting.items ≡ self.old.waiting.items }
     {
         let Body::Note(note) = &next.body else {
@@ -56,8 +60,12 @@ impl Outgoing {
         clock: i64,
         room: &mut Vec<u8>,
     ) -> Result<(), AllocError>
-        ensures grows { (s : ReorderState) → IsOutgoing selection.now s self.old → Grows selection.now clock (published_note selection.now start end note.now) result s s self.old self.new }
-        ensures fit { OnOk result (AllByRecursion (FitsPublished (relation selection.now)) (published_note selection.now start end note.now)) }
+        ensures grows { (s : ReorderState) → IsOutgoing selection.now s self.old →
+            Grows selection.now clock (published_note selection.now start end note.now) result s s
+            self.old self.new }
+        ensures fit { OnOk result
+            (AllByRecursion (FitsPublished (relation selection.now))
+            (published_note selection.now start end note.now)) }
         ensures waiting { self.new.waiting.items ≡ self.old.waiting.items }
     {
         make_room(room)?;
@@ -82,10 +90,20 @@ impl Outgoing {
     ) -> Result<(), AllocError>
         requires good { IsOutgoing selection.now reorder.old self.old }
         requires lent { AreLentIn reorder.old (readies self.old.waiting.items ++ ready ∷ []) }
-        ensures grows { Grows selection.now clock (published_by_record selection.now start next.now (Some (ready_entries reorder.old.strands.pool ready))) result reorder.old reorder.new self.old self.new }
-        ensures fit { OnOk result (AllByRecursion (FitsPublished (relation selection.now)) (published_by_record selection.now start next.now (Some (ready_entries reorder.old.strands.pool ready)))) }
-        ensures taken { (rs : List Logged) → HasTaken reorder.old rs → HasTaken (settled_of reorder.new self.new) rs }
-        ensures tidy { (count : ℕ) → IsTidy count [] (settled reorder.old (readies self.old.waiting.items ++ ready ∷ [])).strands → IsTidy count [] (settled_of reorder.new self.new).strands }
+        ensures grows { Grows selection.now clock
+            (published_by_record selection.now start next.now
+            (Some (ready_entries reorder.old.strands.pool ready)))
+            result reorder.old reorder.new self.old self.new }
+        ensures fit { OnOk result
+            (AllByRecursion (FitsPublished (relation selection.now))
+            (published_by_record selection.now start next.now
+            (Some (ready_entries reorder.old.strands.pool ready)))) }
+        ensures taken { (rs : List Logged) → HasTaken reorder.old rs →
+            HasTaken (settled_of reorder.new self.new) rs }
+        ensures tidy { (count : ℕ) →
+            IsTidy count []
+            (settled reorder.old (readies self.old.waiting.items ++ ready ∷ [])).strands →
+            IsTidy count [] (settled_of reorder.new self.new).strands }
     {
         match judge(selection, start, next, reorder, &ready, room) {
             Ok(Some(header)) => self.queue(selection, reorder, ready, &header, clock),
@@ -111,9 +129,16 @@ impl Outgoing {
     ) -> Result<(), AllocError>
         requires good { IsOutgoing selection.now reorder.old self.old }
         requires lent { AreLentIn reorder.old (readies self.old.waiting.items ++ ready ∷ []) }
-        ensures grows { Grows selection.now clock (published_with selection.now (ready_entries reorder.old.strands.pool ready) header.now ∷ []) result reorder.old reorder.new self.old self.new }
-        ensures taken { (rs : List Logged) → HasTaken reorder.old rs → HasTaken (settled_of reorder.new self.new) rs }
-        ensures tidy { (count : ℕ) → IsTidy count [] (settled reorder.old (readies self.old.waiting.items ++ ready ∷ [])).strands → IsTidy count [] (settled_of reorder.new self.new).strands }
+        ensures grows { Grows selection.now clock
+            (published_with selection.now (ready_entries reorder.old.strands.pool ready) header.now
+            ∷ [])
+            result reorder.old reorder.new self.old self.new }
+        ensures taken { (rs : List Logged) → HasTaken reorder.old rs →
+            HasTaken (settled_of reorder.new self.new) rs }
+        ensures tidy { (count : ℕ) →
+            IsTidy count []
+            (settled reorder.old (readies self.old.waiting.items ++ ready ∷ [])).strands →
+            IsTidy count [] (settled_of reorder.new self.new).strands }
     {
         match self.commit(selection, ready, header, clock) {
             Ok(()) => Ok(()),
@@ -135,9 +160,18 @@ fn judge(
     room: &mut Vec<u8>,
 ) -> Result<Option<Header>, AllocError>
     requires held { IsReadyIn reorder.now.strands.pool ready.now }
-    ensures value { IfOk result (λ o. option_to_list (option_map (published_with selection.now (ready_entries reorder.now.strands.pool ready.now)) o)
-        ≡ published_by_record selection.now start next.now (Some (ready_entries reorder.now.strands.pool ready.now))) }
-    ensures fit { OnOk result (AllByRecursion (FitsPublished (relation selection.now)) (published_by_record selection.now start next.now (Some (ready_entries reorder.now.strands.pool ready.now)))) }
+    ensures value { IfOk result
+        (λ o. option_to_list
+        (option_map
+        (published_with selection.now
+        (ready_entries reorder.now.strands.pool ready.now))
+        o)
+        ≡ published_by_record selection.now start next.now
+        (Some (ready_entries reorder.now.strands.pool ready.now))) }
+    ensures fit { OnOk result
+        (AllByRecursion (FitsPublished (relation selection.now))
+        (published_by_record selection.now start next.now
+        (Some (ready_entries reorder.now.strands.pool ready.now)))) }
 {
     make_room(room)?;
     selection.messages_fit();
@@ -165,9 +199,14 @@ pub(crate) fn header_of(
 ) -> Option<Header>
     requires held { IsReadyIn reorder.now.strands.pool ready.now }
     requires room { MAX_MESSAGE_LENGTH ≤ length room.old }
-    ensures value { option_to_list (option_map (published_with selection.now (ready_entries reorder.now.strands.pool ready.now)) result)
-        ≡ published_by_record selection.now start next.now (Some (ready_entries reorder.now.strands.pool ready.now)) }
-    ensures numbers { IfSome result (λ h. (h.start < 2 ^ 64) × (h.end < 2 ^ 64) × FitsSigned w64 h.time × (h.xid < 2 ^ 32)) }
+    ensures value { option_to_list
+        (option_map
+        (published_with selection.now (ready_entries reorder.now.strands.pool ready.now))
+        result)
+        ≡ published_by_record selection.now start next.now
+        (Some (ready_entries reorder.now.strands.pool ready.now)) }
+    ensures numbers { IfSome result
+        (λ h. (h.start < 2 ^ 64) × (h.end < 2 ^ 64) × FitsSigned w64 h.time × (h.xid < 2 ^ 32)) }
     ensures same { length room.new ≡ length room.old }
 {
     let Body::Commit(xid, time) = next.body else {
@@ -186,7 +225,11 @@ pub(crate) fn header_of(
 fn has_message(selection: &Selection, reorder: &Reorder, ready: &Ready, room: &mut [u8]) -> bool
     requires held { IsReadyIn reorder.now.strands.pool ready.now }
     requires room { MAX_MESSAGE_LENGTH ≤ length room.old }
-    ensures value { result ≡ not (length (published_changes selection.now (ready_entries reorder.now.strands.pool ready.now)) == 0) }
+    ensures value { result
+        ≡ not
+        (length
+        (published_changes selection.now (ready_entries reorder.now.strands.pool ready.now))
+        == 0) }
     ensures same { length room.new ≡ length room.old }
 {
     for k in 0..ready.count() {
@@ -209,8 +252,12 @@ pub(crate) fn put_entry(
     requires held { IsReadyIn reorder.now.strands.pool ready.now }
     requires within { k < length ready.now.spots }
     requires room { MAX_MESSAGE_LENGTH ≤ length room.old }
-    ensures yields { Yields selection.now (published_changes selection.now (drop k (ready_entries reorder.now.strands.pool ready.now)))
-        (published_changes selection.now (drop (k + 1) (ready_entries reorder.now.strands.pool ready.now))) result room.new }
+    ensures yields { Yields selection.now
+        (published_changes selection.now
+        (drop k (ready_entries reorder.now.strands.pool ready.now)))
+        (published_changes selection.now
+        (drop (k + 1) (ready_entries reorder.now.strands.pool ready.now)))
+        result room.new }
     ensures same { length room.new ≡ length room.old }
 {
     let (position, body) = reorder.entry(ready, k);

@@ -8,5 +8,6 @@ ghost use Rattle.sender.specs.Sending.{MayFollow};
 /// Of a well-formed log, some records of which were skipped and the next ones read: those behind them may follow. So what `feed`
 /// promises of records that may follow holds of every log, from wherever in it a sender begins, and however they come.
 pub fn a_section_may_be_fed()
-    ensures { (log skipped before records rest : List Record) → IsWellFormedLog log → log ≡ skipped ++ ((before ++ records) ++ rest) → MayFollow before records }
+    ensures { (log skipped before records rest : List Record) → IsWellFormedLog log →
+        log ≡ skipped ++ ((before ++ records) ++ rest) → MayFollow before records }
 {}

@@ -84,7 +84,8 @@ impl Sender {
         ensures running { IfOk result (λ s. s.failed ≡ false) }
         ensures empty { IfOk result (λ s. s.held ≡ []) }
         ensures unread { IfOk result (λ s. HasRead s []) }
-        ensures chunks { IfOk result (λ s. (count : ℕ) → arena ≡ replicate count None → HasChunks s count) }
+        ensures chunks { IfOk result
+            (λ s. (count : ℕ) → arena ≡ replicate count None → HasChunks s count) }
         ensures ok { IsOk result }
     {
         Ok(Sender {
@@ -103,12 +104,18 @@ impl Sender {
         ensures ok { OnOk result (ReadAll clock self.old self.new (shared records.now)) }
         ensures running { OnOk result (self.new.failed ≡ false) }
         ensures follow { OnOk result (follows self.old.position (shared records.now) ≡ true) }
-        ensures full { result ≡ Err SendFault.ArenaFull → RanOut clock self.old self.new (shared records.now) }
-        ensures room { result ≡ Err SendFault.ArenaFull → LacksRoom self.old self.new (shared records.now) }
-        ensures chunks { OnOk result ((count : ℕ) → HasChunks self.old count → HasChunks self.new count) }
-        ensures memory { result ≡ Err SendFault.Memory → RanOut clock self.old self.new (shared records.now) }
+        ensures full { result ≡ Err SendFault.ArenaFull →
+            RanOut clock self.old self.new (shared records.now) }
+        ensures room { result ≡ Err SendFault.ArenaFull →
+            LacksRoom self.old self.new (shared records.now) }
+        ensures chunks { OnOk result
+            ((count : ℕ) → HasChunks self.old count → HasChunks self.new count) }
+        ensures memory { result ≡ Err SendFault.Memory →
+            RanOut clock self.old self.new (shared records.now) }
         ensures failed { (result ≡ Err SendFault.Failed) ↔ (self.old.failed ≡ true) }
-        ensures gap { (result ≡ Err SendFault.Gap) ↔ ((self.old.failed ≡ false) × (follows self.old.position (shared records.now) ≡ false)) }
+        ensures gap { (result ≡ Err SendFault.Gap)
+            ↔ ((self.old.failed ≡ false)
+            × (follows self.old.position (shared records.now) ≡ false)) }
         ensures unchanged { self.old.failed ≡ true → self.new ≡ self.old }
         ensures unread { result ≡ Err SendFault.Gap → self.new ≡ self.old }
     {
@@ -123,7 +130,12 @@ impl Sender {
 
     /// Holds a keepalive with the sender's position behind all that is held.
     pub fn keepalive(&mut self, clock: i64, ask: bool) -> Result<(), SendFault>
-        ensures ok { OnOk result (self.new ≡ record self.old { held = self.old.held ++ word_bytes (keepalive_word self.old.position clock ask) }) }
+        ensures ok { OnOk result
+            (self.new
+            ≡ record self.old {
+              held = self.old.held
+                  ++ word_bytes (keepalive_word self.old.position clock ask);
+            }) }
         ensures err { OnErr result (self.new ≡ self.old) }
         ensures failed { (result ≡ Err SendFault.Failed) ↔ (self.old.failed ≡ true) }
         ensures gap { result ≢ Err SendFault.Gap }
@@ -160,7 +172,8 @@ impl Sender {
     /// How many chunks of the arena are free: all but those that changes of transactions in progress fill, savepoints that were rolled
     /// back left out, and those of committed transactions of which bytes are held.
     pub fn free_chunks(&self) -> usize
-        ensures { (rs : List Logged) (count : ℕ) → HasRead self.now rs → HasChunks self.now count → LeavesChunks self.now.held count rs result }
+        ensures { (rs : List Logged) (count : ℕ) → HasRead self.now rs → HasChunks self.now count →
+            LeavesChunks self.now.held count rs result }
     {
         self.reorder.free_chunks()
     }
@@ -174,7 +187,8 @@ impl Sender {
 
     /// Ends the sender: what it held is lost.
     pub fn end(self) -> Ended
-        ensures { result ≡ record { selection = self.selection; start = self.start; position = self.position } }
+        ensures { result
+            ≡ record { selection = self.selection; start = self.start; position = self.position } }
     {
         let Sender {
             selection,

@@ -39,16 +39,32 @@ pub fn turn<L: LogName, W: Write>(
 ) -> Result<usize, TurnFault>
     ensures grows { IsPrefix (seen_of reader.old) (seen_of reader.new) }
     ensures told { reader.new.told ≡ reader.old.told }
-    ensures count { IfOk result (λ n. n ≡ length (fetched_from reader.old.place (seen_of reader.new))) }
-    ensures moved { has_fetched result ≡ true → reader.new.place ≡ reader.old.place + length (fetched_from reader.old.place (seen_of reader.new)) }
-    ensures fresh { has_fetched result ≡ true → IsPrefix (settled reader.new.told) (seen_of reader.new) × IsWellFormedLog (seen_of reader.new) }
-    ensures why { (fault : ReadFault) → result ≡ Err (fault_of_fetch fault) → HasSeen fault reader.old reader.new }
-    ensures unfetched { has_fetched result ≡ false → (reader.new.place ≡ reader.old.place) × (sender.new ≡ sender.old) }
-    ensures sent { OnOk result ((given : List ℕ) × ReadAndGave clock sender.old sender.new (fetched_from reader.old.place (seen_of reader.new)) given
+    ensures count { IfOk result
+        (λ n. n ≡ length (fetched_from reader.old.place (seen_of reader.new))) }
+    ensures moved { has_fetched result ≡ true →
+        reader.new.place
+        ≡ reader.old.place + length (fetched_from reader.old.place (seen_of reader.new)) }
+    ensures fresh { has_fetched result ≡ true →
+        IsPrefix (settled reader.new.told) (seen_of reader.new)
+        × IsWellFormedLog (seen_of reader.new) }
+    ensures why { (fault : ReadFault) → result ≡ Err (fault_of_fetch fault) →
+        HasSeen fault reader.old reader.new }
+    ensures unfetched { has_fetched result ≡ false →
+        (reader.new.place ≡ reader.old.place) × (sender.new ≡ sender.old) }
+    ensures sent { OnOk result
+        ((given : List ℕ)
+        × ReadAndGave clock sender.old sender.new
+        (fetched_from reader.old.place (seen_of reader.new)) given
         × (sender.new.held ≡ []) × Appends (W.contents out.old) (W.contents out.new) given) }
-    ensures broken { (e : Error) → result ≡ Err (TurnFault.Write e) → (given : List ℕ) × ReadAndGave clock sender.old sender.new (fetched_from reader.old.place (seen_of reader.new)) given
-        × (0 < length sender.new.held) × Appends (W.contents out.old) (W.contents out.new) given }
-    ensures refused { (e : SendFault) → result ≡ Err (TurnFault.Sender e) → IsRefused clock sender.old sender.new (fetched_from reader.old.place (seen_of reader.new)) e }
+    ensures broken { (e : Error) → result ≡ Err (TurnFault.Write e) →
+        (given : List ℕ)
+        × ReadAndGave clock sender.old sender.new
+        (fetched_from reader.old.place (seen_of reader.new)) given
+        × (0 < length sender.new.held)
+        × Appends (W.contents out.old) (W.contents out.new) given }
+    ensures refused { (e : SendFault) → result ≡ Err (TurnFault.Sender e) →
+        IsRefused clock sender.old sender.new (fetched_from reader.old.place (seen_of reader.new))
+        e }
     ensures silent { has_written result ≡ false → out.new ≡ out.old }
 {
     let records = reader.fetch(alloc, TURN_RECORDS)?;
@@ -62,7 +78,8 @@ impl Sender {
     pub fn write_held<W: Write>(&mut self, out: &mut W) -> io::Result<()>
         ensures ok { OnOk result (self.new.held ≡ []) }
         ensures err { OnErr result (0 < length self.new.held) }
-        ensures given { (given : List ℕ) × (self.old.held ≡ given ++ self.new.held) × Appends (W.contents out.old) (W.contents out.new) given }
+        ensures given { (given : List ℕ) × (self.old.held ≡ given ++ self.new.held)
+            × Appends (W.contents out.old) (W.contents out.new) given }
         ensures rest { self.new ≡ record self.old { held = self.new.held } }
     {
         self.outgoing.write(&self.selection, &mut self.reorder, out)
@@ -80,8 +97,10 @@ impl Outgoing {
         requires { IsOutgoing selection.now reorder.old self.old }
         ensures ok { OnOk result (held_of selection.now reorder.new self.new ≡ []) }
         ensures err { OnErr result (0 < length (held_of selection.now reorder.new self.new)) }
-        ensures given { (count : ℕ) × (count ≤ length (held_of selection.now reorder.old self.old)) × MovesOut selection.now count reorder.old reorder.new self.old self.new
-            × Appends (W.contents out.old) (W.contents out.new) (take count (held_of selection.now reorder.old self.old)) }
+        ensures given { (count : ℕ) × (count ≤ length (held_of selection.now reorder.old self.old))
+            × MovesOut selection.now count reorder.old reorder.new self.old self.new
+            × Appends (W.contents out.old) (W.contents out.new)
+            (take count (held_of selection.now reorder.old self.old)) }
     {
         let (taken, written) = write_front(out, self.front.as_slice());
         self.front.advance(taken);

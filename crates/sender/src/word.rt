@@ -35,7 +35,8 @@ pub(crate) fn put_xlogdata(
 ) -> Result<(), AllocError>
     requires counts { IsShort message.now }
     requires fits { IsShortMessage message.now }
-    ensures { Puts result out.old.items out.new.items (word_bytes (xlogdata_word position clock message.now)) }
+    ensures { Puts result out.old.items out.new.items
+        (word_bytes (xlogdata_word position clock message.now)) }
 {
     scratch.clear();
     write_logical(message, scratch)?;
@@ -50,7 +51,8 @@ pub(crate) fn put_spelled(
     message: &[u8],
 ) -> Result<(), AllocError>
     requires { 29 + length message.now ≤ FRAME_LIMIT }
-    ensures { Puts result out.old.items out.new.items (frame COPY_DATA (xlogdata position position clock message.now)) }
+    ensures { Puts result out.old.items out.new.items
+        (frame COPY_DATA (xlogdata position position clock message.now)) }
 {
     put_head(out, XLOGDATA_HEAD + message.len() as u32)?;
     write_xlogdata(position, position, clock, message, out)?;
@@ -64,7 +66,8 @@ pub(crate) fn put_keepalive(
     clock: i64,
     ask: bool,
 ) -> Result<(), AllocError>
-    ensures { Puts result out.old.items out.new.items (word_bytes (keepalive_word position clock ask)) }
+    ensures { Puts result out.old.items out.new.items
+        (word_bytes (keepalive_word position clock ask)) }
 {
     put_head(out, KEEPALIVE_SIZE)?;
     write_keepalive(position, clock, ask, out)?;

@@ -103,21 +103,21 @@ impl<L: LogName> Walsender<L> {
         ensures told { self.new.reader.told ≡ self.old.reader.told }
         ensures sees { OnOk result
             (IsPrefix (settled self.new.reader.told) (seen_of self.new.reader)
-                × IsWellFormedLog (seen_of self.new.reader)) }
+            × IsWellFormedLog (seen_of self.new.reader)) }
         ensures moved { OnOk result
             (self.new.reader.place
-                ≡ self.old.reader.place
-                    + length (next_records max self.old.reader.place (seen_of self.new.reader))) }
+            ≡ self.old.reader.place
+            + length (next_records max self.old.reader.place (seen_of self.new.reader))) }
         ensures reads { IfOk result
             (Reads clock self.old.sender self.new.sender
-                (next_records max self.old.reader.place (seen_of self.new.reader))) }
+            (next_records max self.old.reader.place (seen_of self.new.reader))) }
         ensures serves { OnOk result
             (ReadsOn (next_records max self.old.reader.place (seen_of self.new.reader)) self.old
-                self.new) }
+            self.new) }
         ensures why { IfErr result (λ fault. HasSeen fault self.old.reader self.new.reader) }
         ensures unread { OnErr result
             ((self.new.sender ≡ self.old.sender)
-                × (self.new.reader.place ≡ self.old.reader.place)) }
+            × (self.new.reader.place ≡ self.old.reader.place)) }
     {
         let records = self.reader.fetch(alloc, max)?;
         Ok(self.sender.feed(records.as_slice(), clock))
@@ -140,8 +140,8 @@ impl<L: LogName> Walsender<L> {
             (λ n. n ≡ length (fetched_from self.old.reader.place (seen_of self.new.reader))) }
         ensures reads { OnOk result
             (ReadsAndWrites clock self.old.sender self.new.sender
-                (fetched_from self.old.reader.place (seen_of self.new.reader)) (W.contents to.old)
-                (W.contents to.new)) }
+            (fetched_from self.old.reader.place (seen_of self.new.reader)) (W.contents to.old)
+            (W.contents to.new)) }
         ensures serves { (given : List ℕ) × GoesOn given self.old self.new
             × Appends (W.contents to.old) (W.contents to.new) given }
         ensures sent { OnOk result (self.new.sender.held ≡ []) }
@@ -158,8 +158,10 @@ impl<L: LogName> Walsender<L> {
     pub fn keepalive(&mut self, clock: i64, ask: bool) -> Result<(), SendFault>
         ensures ok { OnOk result
             (self.new.sender
-                ≡ record self.old.sender { held = self.old.sender.held
-                    ++ word_bytes (keepalive_word self.old.sender.position clock ask) }) }
+            ≡ record self.old.sender {
+              held = self.old.sender.held
+                  ++ word_bytes (keepalive_word self.old.sender.position clock ask);
+            }) }
         ensures err { OnErr result (self.new.sender ≡ self.old.sender) }
         ensures failed { (result ≡ Err SendFault.Failed) ↔ (self.old.sender.failed ≡ true) }
         ensures gap { result ≢ Err SendFault.Gap }
@@ -200,8 +202,11 @@ impl<L: LogName> Walsender<L> {
     /// Ends the stream: what was held is lost, and the reader can serve another.
     pub fn end(self) -> (Ended, LogReader<L>)
         ensures ended { result.0
-            ≡ record { selection = self.sender.selection; start = self.sender.start;
-                position = self.sender.position } }
+            ≡ record {
+              selection = self.sender.selection;
+              start = self.sender.start;
+              position = self.sender.position;
+            } }
         ensures reader { result.1 ≡ self.reader }
     {
         let Walsender { sender, reader } = self;

@@ -3,7 +3,7 @@ use Rattle.std.specs.HashMap.{get}
 use Rattle.std.specs.List.{flat_map}
 use Rattle.std.proofs.lemmas.List.{append-nil, drop_all}
 use Rattle.reorder.specs.Strands.{kept_spots}
-use Rattle.reorder.proofs.strands.joined_spots.Goals as goal
+use Rattle.reorder.proofs.spots.joined_spots.Goals as goal
 
 pub returns : goal.returns
 returns c =

@@ -2,7 +2,7 @@ use Rattle.std.proofs.Common.{◌≡◌, ◌++◌, nat_eq, drop}
 use Rattle.std.specs.HashMap.{get}
 use Rattle.std.specs.List.{flat_map}
 use Rattle.reorder.specs.Strands.{kept_spots}
-use Rattle.reorder.proofs.strands.joined_spots.Given as goal
+use Rattle.reorder.proofs.spots.joined_spots.Given as goal
 
 -- what is joined so far, and what the xids that are left keep, is all
 abbrev pub invariant-loop-xid : goal.invariant-loop-xid
