@@ -40,12 +40,12 @@ frames_same o o' low high sized from to =
     ap (λ (n : ℕ). take n (drop o.from o'.frames.items)) none ∙ sym (ap (λ (n : ℕ). take n (drop o.from o.frames.items)) none)) sized
 
 module _ (o o' : Outgoing) (low : o.from ≤ o.to) (high : o.to ≤ length o.frames.items) (sized : IsSized o o') where
-  size_kept : o.to ≤ length o'.frames.items
+  pub size_kept : o.to ≤ length o'.frames.items
   size_kept =
       ⊎_elim (λ (e : o'.frames.items ≡ o.frames.items). omega (arith, high, ap (length {A = ℕ}) e))
       (λ (p : (length o.frames.items ≡ 0) × (length o'.frames.items ≡ FRAMES_LENGTH)). omega (arith, none_there o low high p.0)) sized
 
-  room_made : (length o.frames.items ≡ FRAMES_LENGTH) ⊎ ((length o.frames.items ≡ 0) × (o.made.items ≡ [])) → 0 < length o'.frames.items → length o'.frames.items ≡ FRAMES_LENGTH
+  pub room_made : (length o.frames.items ≡ FRAMES_LENGTH) ⊎ ((length o.frames.items ≡ 0) × (o.made.items ≡ [])) → 0 < length o'.frames.items → length o'.frames.items ≡ FRAMES_LENGTH
   room_made room some =
       ⊎_elim (λ (e : o'.frames.items ≡ o.frames.items). ⊎_elim (λ (f : length o.frames.items ≡ FRAMES_LENGTH). ap (length {A = ℕ}) e ∙ f)
       (λ (p : (length o.frames.items ≡ 0) × (o.made.items ≡ [])). absurd (omega (arith, some, ap (length {A = ℕ}) e, p.0))) room)
@@ -106,6 +106,6 @@ module _ (selection : PublicationSet) (s : ReorderState) (o o' : Outgoing) (good
 
 -- a keepalive, or the message of a note
 pub bytes_added : (selection : PublicationSet) (s : ReorderState) (o o' : Outgoing) (bytes : List ℕ) (result : Result (Unit {0}) AllocError) → IsOutgoing selection s o → AddsBytes bytes result o o'
-    → IsOutgoing selection s o' × (OnOk result (held_of selection s o' ≡ held_of selection s o ++ bytes) × OnErr result (held_of selection s o' ≡ held_of selection s o))
+    → IsOutgoing selection s o' × OnOk result (held_of selection s o' ≡ held_of selection s o ++ bytes) × OnErr result (held_of selection s o' ≡ held_of selection s o)
 bytes_added selection s o o' bytes (Ok u) good a = let g = adds selection s o o' good a.frames a.rest bytes a.ok.0 a.ok.1 in (g.0, g.1, tt)
 bytes_added selection s o o' bytes (Err e) good a = let g = stays selection s o o' good a.frames a.rest a.err in (g.0, tt, g.1)

@@ -15,3 +15,9 @@ pub mod Growing
 pub mod Heads
 pub mod OnceEach
 pub mod Framed
+pub mod Lent
+pub mod Committing
+pub mod Noted
+pub mod Told
+pub mod Taken
+pub mod States

@@ -1,6 +1,6 @@
 -- What a note publishes fits a stream.
 use Rattle.std.proofs.Common.{◌≡◌, ℕ, ◌<◌, ◌^◌, List, [], ◌∷◌, ◌++◌, Option, Some, None, Result, Ok, Err, filter, refl, ap, subst, arith}
-use Rattle.std.specs.Prelude.{pos, true, OnOk}
+use Rattle.std.specs.Prelude.{pos, true, OnErr, OnOk}
 use Rattle.std.specs.List.{AllByRecursion}
 use Rattle.pgoutput.specs.declared.logical.Logical.{Logical}
 use Rattle.pgoutput.specs.declared.logical.Logical.TheVariants as logical
@@ -14,11 +14,11 @@ use Rattle.stream.specs.Items.{FitsPublished, IsShortMessage}
 use Rattle.sender.specs.Published.{has_message, published_at, published_note}
 
 -- the note with this message
-abbrev told : (start end : ℕ) → Logical → Published
+abbrev pub told : (start end : ℕ) → Logical → Published
 told start end m = record { is_note = true; start = start; end = end; time = pos 0; xid = 0; changes = record { position = start; message = m } ∷ [] }
 
 -- what a note publishes whose message this is
-abbrev by_message : (start end : ℕ) → Option Logical → List Published
+abbrev pub by_message : (start end : ℕ) → Option Logical → List Published
 by_message start end o = filter has_message (record { is_note = true; start = start; end = end; time = pos 0; xid = 0; changes = published_at start o ++ [] } ∷ [])
 
 told_fits : (selection : PublicationSet) (start end : ℕ) (m : Logical) → start < 2 ^ 64 → end < 2 ^ 64 → IsNoteAt start m → FitsPublished (relation selection) (told start end m)
@@ -50,3 +50,7 @@ note_fits selection start end change low_start low_end fits = by_option (note_me
 pub on_ok : {A E : Type 0} (r : Result A E) (P : Type 0) → P → OnOk r P
 on_ok (Ok x) P p = p
 on_ok (Err e) P p = tt
+
+pub on_err : {A E : Type 0} (r : Result A E) (P : Type 0) → P → OnErr r P
+on_err (Ok x) P p = tt
+on_err (Err e) P p = p

@@ -1,6 +1,6 @@
 -- What is added to what is on its way out comes behind it.
 use Rattle.std.proofs.Common.{◌≡◌, ◌<◌, ◌≤◌, ℕ, ℤ, ◌+◌, ◌-◌, zero, suc, List, [], ◌∷◌, ◌++◌, drop, length, map, take, refl, sym, ap, subst, ◌∙◌, append_assoc, append-nil, arith}
-use Rattle.std.proofs.lemmas.List.{length-append, length-drop, take-append-le}
+use Rattle.std.proofs.lemmas.List.{length-append, length-drop, length-take}
 use Rattle.publication.specs.Publications.{PublicationSet}
 use Rattle.reorder.specs.Pool.{PoolState}
 use Rattle.reorder.specs.Ready.{ready_entries}
@@ -42,23 +42,51 @@ pub places_low : (made : ℕ) (ws : List Waiting) → AreWithin made ws → plac
 places_low made [] w = omega arith
 places_low made (x ∷ ws) w = let rest = places_low (made - x.before) ws w.1 in let low = w.0 in omega arith
 
+-- Of so many bytes that are made, each one's changes have at most all behind the changes before them.
+abbrev pub AreUpTo : ℕ → List Waiting → Type 0
+AreUpTo made [] = Unit {0}
+AreUpTo made (w ∷ ws) = (w.before ≤ made) × AreUpTo (made - w.before) ws
+
+up_to : (made : ℕ) (ws : List Waiting) → AreWithin made ws → AreUpTo made ws
+up_to made [] a = tt
+up_to made (w ∷ ws) a = (let low = a.0 in omega arith, up_to (made - w.before) ws a.1)
+
+pub up_to_last : (made : ℕ) (ws : List Waiting) (w : Waiting) → AreWithin made ws → places ws + w.before ≤ made → AreUpTo made (ws ++ w ∷ [])
+up_to_last made [] w a low = (omega arith, tt)
+up_to_last made (x ∷ ws) w a low = (let l = a.0 in omega arith, up_to_last (made - x.before) ws w a.1 (let l = a.0 in omega arith))
+
 -- ---- bytes behind bytes
 
 module _ (selection : PublicationSet) (pool : PoolState) where
   -- bytes more come behind all
-  pub bytes_more : (sent made more : List ℕ) (ws : List Waiting) → AreWithin (length made) ws → bytes_behind selection pool sent (made ++ more) ws ≡ bytes_behind selection pool sent made ws ++ more
-  bytes_more sent made more [] w = refl
-  bytes_more sent made more (x ∷ ws) w =
-      let low : x.before ≤ length made = let l = w.0 in omega arith in
+  pub bytes_behind_more : (sent made more : List ℕ) (ws : List Waiting) → AreUpTo (length made) ws → bytes_behind selection pool sent (made ++ more) ws ≡ bytes_behind selection pool sent made ws ++ more
+  bytes_behind_more sent made more [] w = refl
+  bytes_behind_more sent made more (x ∷ ws) w =
+      let low : x.before ≤ length made = w.0 in
       let changes = changes_bytes selection sent x.clock (left_of selection pool x) in
       let next = relations_sent_by_all sent (left_of selection pool x) in
       let behind = bytes_behind selection pool next (drop x.before made) ws in
-      let rest = bytes_more next (drop x.before made) more ws (subst (λ (n : ℕ). AreWithin n ws) (sym (length-drop x.before made)) w.1) in
+      let rest = bytes_behind_more next (drop x.before made) more ws (subst (λ (n : ℕ). AreUpTo n ws) (sym (length-drop x.before made)) w.1) in
       ap (λ (l : List ℕ). l ++ (changes ++ bytes_behind selection pool next (drop x.before (made ++ more)) ws)) (take_front x.before made more low)
       ∙ ap (λ (l : List ℕ). take x.before made ++ (changes ++ bytes_behind selection pool next l ws)) (drop_front x.before made more low)
       ∙ ap (λ (l : List ℕ). take x.before made ++ (changes ++ l)) rest
       ∙ ap (λ (l : List ℕ). take x.before made ++ l) (sym (append_assoc changes behind more))
       ∙ sym (append_assoc (take x.before made) (changes ++ behind) more)
+
+  pub bytes_more : (sent made more : List ℕ) (ws : List Waiting) → AreWithin (length made) ws → bytes_behind selection pool sent (made ++ more) ws ≡ bytes_behind selection pool sent made ws ++ more
+  bytes_more sent made more ws within = bytes_behind_more sent made more ws (up_to (length made) ws within)
+
+  -- at least all that is made
+  pub bytes_low : (sent made : List ℕ) (ws : List Waiting) → AreWithin (length made) ws → length made ≤ length (bytes_behind selection pool sent made ws)
+  bytes_low sent made [] w = omega arith
+  bytes_low sent made (x ∷ ws) w =
+      let low : x.before < length made = w.0 in
+      let changes = changes_bytes selection sent x.clock (left_of selection pool x) in
+      let next = relations_sent_by_all sent (left_of selection pool x) in
+      let behind = bytes_behind selection pool next (drop x.before made) ws in
+      let size = length-drop x.before made in
+      let rest : length (drop x.before made) ≤ length behind = bytes_low next (drop x.before made) ws (subst (λ (n : ℕ). AreWithin n ws) (sym size) w.1) in
+      omega (arith, length-append (take x.before made) (changes ++ behind), length-append changes behind, length-take x.before made)
 
   -- a transaction that waits behind all, where all that is made stands before it
   pub bytes_last : (sent made : List ℕ) (ws : List Waiting) (w : Waiting) → AreWithin (length made) ws → places ws + w.before ≡ length made

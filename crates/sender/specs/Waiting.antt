@@ -12,6 +12,8 @@ use Rattle.stream.specs.Words.{frames_of}
 use Rattle.stream.specs.Items.{changes_words, is_relation_sent, relations_sent_by_all}
 use Rattle.reorder.specs.Pool.{PoolState}
 use Rattle.reorder.specs.Ready.{ReadyState, ready_entries}
+use Rattle.reorder.specs.declared.ready.Step.{Step}
+use Rattle.reorder.specs.declared.ready.Step.TheVariants as steps
 use Rattle.reorder.specs.Settled.{AreLentIn}
 use Rattle.reorder.specs.Taking.{ReorderState}
 use Rattle.sender.specs.Published.{published_changes}
@@ -50,6 +52,11 @@ places (w ∷ ws) = w.before + places ws
 -- what is ready of those that wait
 abbrev pub readies : List Waiting → List ReadyState
 readies ws = map (λ w. w.ready) ws
+
+-- what is ready, with what a record made ready behind it
+abbrev pub readies_with : List ReadyState → Step → List ReadyState
+readies_with rs steps.Quiet = rs
+readies_with rs (steps.Ready ready) = rs ++ ready ∷ []
 
 -- no table stands twice
 abbrev pub AreEach : List ℕ → Type 0

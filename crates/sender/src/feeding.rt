@@ -2,13 +2,14 @@
 
 ghost use Rattle.std.specs.Prelude.{◌≡◌, ℕ, List, false, Err, IfErr, OnErr, OnOk};
 ghost use Rattle.wal.specs.Records.{shared};
+ghost use Rattle.reorder.specs.Chunks.{LeavesNoRoom};
 ghost use Rattle.reorder.specs.Taking.{HasTaken, MayCome};
 ghost use Rattle.wal.specs.declared.record.Record.{Record as Logged};
-ghost use Rattle.sender.specs.Sending.{HasChunks, HasNoRoomBeside, IsOut, LacksRoom, ReadAll, RanOut, OutputUnchanged, ReadOne};
+ghost use Rattle.sender.specs.Sending.{HasChunks, IsOut, LacksRoom, ReadAll, RanOut, OutputUnchanged, ReadOne};
 
 use crate::fault::SendFault;
 use crate::sender::Sender;
-use reorder::{ReorderFault, Step};
+use reorder::ReorderFault;
 use std::sync::Arc;
 use wal::Record;
 
@@ -42,7 +43,7 @@ impl Sender {
         ensures out { IfErr result IsOut }
         ensures room { result ≡ Err SendFault.ArenaFull → (rs : List Logged) (count : ℕ) →
             HasTaken self.old.reorder rs → MayCome rs next.now.value.body →
-            HasChunks self.old count → HasNoRoomBeside self.old.held count rs next.now.value }
+            HasChunks self.old count → LeavesNoRoom count rs next.now.value }
         ensures chunks { OnOk result
             ((count : ℕ) → HasChunks self.old count → HasChunks self.new count) }
         ensures failed { self.new.failed ≡ self.old.failed }
@@ -51,15 +52,12 @@ impl Sender {
         match self.reorder.take(next) {
             Err(ReorderFault::Full) => return Err(SendFault::ArenaFull),
             Err(_) => return Err(SendFault::Memory),
-            Ok(Step::Quiet) => self
-                .outgoing
-                .add_note(&self.selection, self.start, next, clock, &mut self.room)?,
-            Ok(Step::Ready(ready)) => self.outgoing.publish(
+            Ok(step) => self.outgoing.add_record(
                 &self.selection,
                 self.start,
                 &mut self.reorder,
                 next,
-                ready,
+                step,
                 clock,
                 &mut self.room,
             )?,

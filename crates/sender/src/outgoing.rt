@@ -20,7 +20,7 @@ use crate::word::{put_keepalive, put_spelled, put_xlogdata};
 use bytes::BytesMut;
 use pgoutput::{Begin, Commit, Logical};
 use publication::Selection;
-use reorder::{Ready, Reorder};
+use reorder::Ready;
 use std::alloc::{AllocError, Global};
 use std::collections::VecDeque;
 
@@ -185,6 +185,7 @@ impl Outgoing {
             ++ commit_bytes clock header.now)
             × (0 < length self.new.frames.items)
             × (length (selected_oids selection.now) ≤ vec_capacity self.new.relations_sent)) }
+        ensures fits { IfOk result (λ before. before + self.old.placed < 2 ^ 64) }
         ensures err { OnErr result (self.new.made.items ≡ self.old.made.items) }
         ensures frames { IsSized self.old self.new }
         ensures waiting { self.new.waiting ≡ self.old.waiting }
@@ -208,6 +209,7 @@ impl Outgoing {
             × (self.new.made.items
             ≡ (self.old.made.items ++ begin_bytes clock header.now)
             ++ commit_bytes clock header.now)) }
+        ensures fits { IfOk result (λ before. before + self.old.placed < 2 ^ 64) }
         ensures front { Extends self.old.made.items self.new.made.items }
         ensures rest { self.new
             ≡ record self.old { made = self.new.made; message = self.new.message } }

@@ -9,24 +9,58 @@ ghost use Rattle.stream.specs.Items.{FitsPublished};
 ghost use Rattle.reorder.specs.Chunks.{IsTidy};
 ghost use Rattle.reorder.specs.Ready.{IsReadyIn, ready_entries};
 ghost use Rattle.reorder.specs.Settled.{AreLentIn, settled};
-ghost use Rattle.reorder.specs.Taking.{HasTaken, ReorderState};
+ghost use Rattle.reorder.specs.Taking.{HasTaken, ReorderState, readied};
 ghost use Rattle.sender.specs.Published.{published_changes, published_note, published_with};
 ghost use Rattle.sender.specs.Sending.{published_by_record};
 ghost use Rattle.sender.specs.Spelled.{Yields};
-ghost use Rattle.sender.specs.Waiting.{readies};
+ghost use Rattle.sender.specs.Waiting.{readies, readies_with};
 ghost use Rattle.sender.specs.Outgoing.{Grows, IsOutgoing, settled_of};
 
 use crate::header::Header;
 use crate::outgoing::Outgoing;
 use publication::{MAX_MESSAGE_LENGTH, Selection};
-use reorder::{Ready, Reorder};
+use reorder::{Ready, Reorder, Step};
 use std::alloc::AllocError;
 use wal::{Body, LoggedChange, Record};
 
 impl Outgoing {
+    /// Adds what a record publishes, by what it made ready. Where memory is refused, it adds nothing. What isn't to wait goes back.
+    pub(crate) fn add_record(
+        &mut self,
+        selection: &Selection,
+        start: u64,
+        reorder: &mut Reorder,
+        next: &Record,
+        step: Step,
+        clock: i64,
+        room: &mut Vec<u8>,
+    ) -> Result<(), AllocError>
+        requires good { IsOutgoing selection.now reorder.old self.old }
+        requires lent { AreLentIn reorder.old (readies_with (readies self.old.waiting.items) step) }
+        ensures grows { Grows selection.now clock
+            (published_by_record selection.now start next.now (readied reorder.old step)) result
+            reorder.old reorder.new self.old self.new }
+        ensures fit { OnOk result
+            (AllByRecursion (FitsPublished (relation selection.now))
+            (published_by_record selection.now start next.now (readied reorder.old step))) }
+        ensures taken { (rs : List Logged) → HasTaken reorder.old rs →
+            HasTaken (settled_of reorder.new self.new) rs }
+        ensures tidy { (count : ℕ) →
+            IsTidy count []
+            (settled reorder.old (readies_with (readies self.old.waiting.items) step)).strands →
+            IsTidy count [] (settled_of reorder.new self.new).strands }
+    {
+        match step {
+            Step::Quiet => self.add_note(selection, start, next, clock, room),
+            Step::Ready(ready) => {
+                self.publish(selection, start, reorder, next, ready, clock, room)
+            }
+        }
+    }
+
     /// Adds what a record publishes that makes nothing ready: the message of a note that starts at the start position or later. Where
     /// memory is refused, it adds nothing.
-    pub(crate) fn add_note(
+    fn add_note(
         &mut self,
         selection: &Selection,
         start: u64,
@@ -78,7 +112,7 @@ impl Outgoing {
 
     /// Adds the block of the transaction that a record commits, if it is to have one; else what is ready goes back. Where memory is
     /// refused, it adds nothing.
-    pub(crate) fn publish(
+    fn publish(
         &mut self,
         selection: &Selection,
         start: u64,

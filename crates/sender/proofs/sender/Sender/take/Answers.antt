@@ -1,68 +1,96 @@
-use Rattle.std.proofs.Common.{◌≡◌, ◌∷◌, ◌++◌, [], Some, ap, reverse, sym, subst, ◌∙◌}
+use Rattle.std.proofs.Common.{◌≡◌, ◌⊎◌, ⊎_elim, inl, inr, Err, [], List, ap, refl, sym, subst, ◌∙◌}
 use Rattle.std.specs.Int.{w64}
 use Rattle.std.proofs.lemmas.Int.{to_z-of_z}
 use Rattle.wal.specs.declared.record.Record.{Record}
-use Rattle.reorder.specs.Chunks.{IsTidy}
-use Rattle.reorder.specs.Ready.{ready_entries}
-use Rattle.reorder.specs.Taking.{IsSameTaken, ReorderState, Takes}
-use Rattle.reorder.proofs.Steps.{takes_same}
-use Rattle.sender.specs.Sending.{SenderState, HasChunks, ReadOne}
+use Rattle.reorder.specs.Chunks.{LeavesNoRoom}
+use Rattle.reorder.specs.Ready.{ReadyState}
+use Rattle.reorder.specs.Settled.{LeavesNoRoomBeside, lent_chunks}
+use Rattle.reorder.specs.Taking.{MayCome, Takes, readied}
+use Rattle.reorder.specs.declared.fault.ReorderFault.{ReorderFault}
+use Rattle.sender.specs.Outgoing.{HasFreeChunk}
+use Rattle.sender.specs.Waiting.{readies}
+use Rattle.sender.specs.declared.waiting.Waiting.{Waiting}
+use Rattle.sender.proofs.GivingWay.{lacks_room_alone, read_behind, tidy_then}
+use Rattle.sender.proofs.Lent.{keeps_lent}
+use Rattle.sender.proofs.Noting.{on_err}
+use Rattle.sender.proofs.Taken.{lent_step, read_one, tidy_step}
 use Rattle.sender.proofs.sender.Sender.take.Goals as goal
 
-pub returns-in-Ok-Ready-clause-ok : goal.returns-in-Ok-Ready-clause-ok
-returns-in-Ok-Ready-clause-ok c =
+-- what waits has given way
+
+pub invariant_of-self : goal.invariant_of-self
+invariant_of-self c = c.give_way.ensures.same.good
+
+-- the regrouping has taken the record, and what waits still stays in it
+
+pub invariant_of-self-in-Err-Full : goal.invariant_of-self-in-Err-Full
+invariant_of-self-in-Err-Full c = (keeps_lent c.self.inside.selection c.give_way.new.reorder c.take.new.self c.give_way.new.self c.give_way.ensures.same.good c.take.ensures.lent).good
+
+pub invariant_of-self-in-Err : goal.invariant_of-self-in-Err
+invariant_of-self-in-Err c = (keeps_lent c.self.inside.selection c.give_way.new.reorder c.take.new.self c.give_way.new.self c.give_way.ensures.same.good c.take.ensures.lent).good
+
+pub add_record-requires-clause-good : goal.add_record-requires-clause-good
+add_record-requires-clause-good c = (keeps_lent c.self.inside.selection c.give_way.new.reorder c.take.new.self c.give_way.new.self c.give_way.ensures.same.good c.take.ensures.lent).good
+
+pub add_record-requires-clause-lent : goal.add_record-requires-clause-lent
+add_record-requires-clause-lent c =
+    lent_step c.give_way.new.reorder c.take.new.self (readies c.give_way.new.self.waiting.items) c.in-Ok.step c.give_way.ensures.same.good.lent c.take.ensures.lent c.in-Ok.ensures.held c.in-Ok.ensures.apart
+
+-- refused
+
+pub returns-in-Err-Full-clause-err : goal.returns-in-Err-Full-clause-err
+returns-in-Err-Full-clause-err c =
     let i = c.self.inside in
-    let old : SenderState = record {
-      selection = i.selection;
-      start = i.start;
-      position = i.position;
-      failed = i.failed;
-      held = i.outgoing.held.items;
-      relations_sent = reverse i.outgoing.relations_sent.items;
-      reorder = i.reorder;
-    } in
-    let j = c.self-in-Ok-Ready.inside in
-    let new : SenderState = record {
-      selection = j.selection;
-      start = j.start;
-      position = c.deref-in-Ok-Ready-2.result.now.end;
-      failed = j.failed;
-      held = j.outgoing.held.items;
-      relations_sent = reverse j.outgoing.relations_sent.items;
-      reorder = c.finish.new.self;
-    } in
-    let after : SenderState = c.publish-published.new.self in
-    let e = c.self-in-Ok-Ready.view_is in
-    let told = c.publish-published.ensures in
-    let record_is = c.deref-in-Ok-Ready.ensures in
-    let published = rw (to_z-of_z w64 c.args.clock c.ranges.clock, record_is) at c.in_ok-published-in-Ok-Ready.ensures.held in
-    let fit = rw record_is at c.in_ok-published-in-Ok-Ready.ensures.fit in
-    let relations_sent = rw record_is at c.in_ok-published-in-Ok-Ready.ensures.relations_sent in
-    let taken = rw c.in-Ok-Ready.field-0-is at c.in-Ok-Ready.ensures.ok in
-    let P : SenderState → Type 0 = λ a. ReadOne c.args.clock a new c.args.next.now.value in
-    subst P c.self.view_is (record {
-      ready = Some (ready_entries c.take.new.self.strands.pool c.in-Ok-Ready.ready);
-      takes = takes_same i.reorder c.take.new.self c.finish.new.self c.args.next.now.value (Some (ready_entries c.take.new.self.strands.pool c.in-Ok-Ready.ready))
-          (subst (λ (r : Record). Takes i.reorder c.take.new.self r (Some (ready_entries c.take.new.self.strands.pool c.in-Ok-Ready.ready))) c.deref.ensures taken)
-          (subst (λ (m : ReorderState). IsSameTaken m c.finish.new.self) (ap (λ (s : SenderState). s.reorder) e ∙ told.reorder) c.finish.ensures.same);
-      selection = ap (λ (s : SenderState). s.selection) e ∙ told.selection;
-      start = ap (λ (s : SenderState). s.start) e ∙ told.start;
-      position = ap (λ (r : Record). r.end) c.deref-in-Ok-Ready-2.ensures;
-      held = ap (λ (s : SenderState). s.held) e ∙ published;
-      fit = fit;
-      relations_sent = ap (λ (s : SenderState). s.relations_sent) e ∙ relations_sent;
-    })
+    let kept = keeps_lent i.selection c.give_way.new.reorder c.take.new.self c.give_way.new.self c.give_way.ensures.same.good c.take.ensures.lent in
+    rw (← c.self.view_is) (record { selection = refl; start = refl; position = refl; held = kept.held ∙ c.give_way.ensures.same.held })
 
-pub returns-in-Ok-Quiet-clause-chunks : goal.returns-in-Ok-Quiet-clause-chunks
-returns-in-Ok-Quiet-clause-chunks c = λ count chunks.
-    let before : IsTidy count [] c.self.inside.reorder.strands = subst (λ (s : SenderState). HasChunks s count) (sym c.self.view_is) chunks in
-    let taken = rw c.in-Ok-Quiet.field-0-is at c.in-Ok-Quiet.ensures.tidy in
-    let same : c.self-in-Ok-Quiet.inside.reorder ≡ c.take.new.self = ap (λ (s : SenderState). s.reorder) c.self-in-Ok-Quiet.view_is ∙ c.note.ensures.reorder in
-    subst (λ (m : ReorderState). IsTidy count [] m.strands) (sym same) (taken count [] before)
+pub returns-in-Err-clause-err : goal.returns-in-Err-clause-err
+returns-in-Err-clause-err c =
+    let i = c.self.inside in
+    let kept = keeps_lent i.selection c.give_way.new.reorder c.take.new.self c.give_way.new.self c.give_way.ensures.same.good c.take.ensures.lent in
+    rw (← c.self.view_is) (record { selection = refl; start = refl; position = refl; held = kept.held ∙ c.give_way.ensures.same.held })
 
-pub returns-in-Ok-Ready-clause-chunks : goal.returns-in-Ok-Ready-clause-chunks
-returns-in-Ok-Ready-clause-chunks c = λ count chunks.
-    let before : IsTidy count [] c.self.inside.reorder.strands = subst (λ (s : SenderState). HasChunks s count) (sym c.self.view_is) chunks in
-    let taken = rw c.in-Ok-Ready.field-0-is at c.in-Ok-Ready.ensures.tidy in
-    let same : c.self-in-Ok-Ready.inside.reorder ≡ c.take.new.self = ap (λ (s : SenderState). s.reorder) c.self-in-Ok-Ready.view_is ∙ c.publish-published.ensures.reorder in
-    c.finish.ensures.tidy count [] (subst (λ (m : ReorderState). IsTidy count (c.in-Ok-Ready.ready ∷ []) m.strands) (sym same) (taken count [] before))
+pub returns-in_err-add_record-in-Ok-clause-err : goal.returns-in_err-add_record-in-Ok-clause-err
+returns-in_err-add_record-in-Ok-clause-err c =
+    let i = c.self.inside in
+    let kept = keeps_lent i.selection c.give_way.new.reorder c.take.new.self c.give_way.new.self c.give_way.ensures.same.good c.take.ensures.lent in
+    rw (← c.self.view_is) (on_err c.from_residual-in_err-add_record-in-Ok.result _ (record { selection = refl; start = refl; position = refl; held = c.in_err-add_record-in-Ok.ensures.grows.err ∙ (kept.held ∙ c.give_way.ensures.same.held) }))
+
+pub returns-in-Err-Full-clause-room : goal.returns-in-Err-Full-clause-room
+returns-in-Err-Full-clause-room c = λ is.
+    let i = c.self.inside in
+    let g = c.give_way.new in
+    let ws = readies g.self.waiting.items in
+    let full : c.take.result ≡ Err ReorderFault.Full = c.in-Err-Full.is ∙ ap Err c.in-Err-Full.field-0-is in
+    rw (← c.self.view_is) (λ rs count taken may tidy.
+    lacks_room_alone i.selection i.reorder g.reorder i.outgoing g.self c.give_way.ensures.same rs count c.args.next.now.value c.in_ok-give_way.ensures.free taken tidy
+    (λ taken_then tidy_then. subst (λ (r : Record). LeavesNoRoomBeside (lent_chunks g.reorder ws) count rs r) c.deref.ensures
+    (c.take.ensures.full_beside full rs ws count taken_then (subst (λ (r : Record). MayCome rs r.body) (sym c.deref.ensures) may) c.give_way.ensures.same.good.lent tidy_then)))
+
+-- read
+
+pub returns-clause-ok : goal.returns-clause-ok
+returns-clause-ok c =
+    let i = c.self.inside in
+    let g = c.give_way.new in
+    let m = c.take.new.self in
+    let told = c.in_ok-add_record-in-Ok.ensures in
+    let ready = readied m c.in-Ok.step in
+    let grows = rw (to_z-of_z w64 c.args.clock c.ranges.clock, c.deref-in-Ok.ensures) at told.grows in
+    let fit = rw c.deref-in-Ok.ensures at told.fit in
+    let takes = subst (λ (r : Record). Takes g.reorder m r ready) c.deref.ensures c.in-Ok.ensures.ok in
+    rw (← c.self.view_is)
+    (read_behind i.selection i.reorder g.reorder i.outgoing g.self c.give_way.ensures.same c.args.clock i.start i.position i.failed c.args.next.now.value _
+    (read_one c.args.clock i.selection i.start i.position c.deref-2.result.now.end i.failed c.args.next.now.value g.reorder m c.add_record.new.reorder g.self c.add_record.new.self ready c.give_way.ensures.same.good.lent
+    (keeps_lent i.selection g.reorder m g.self c.give_way.ensures.same.good c.take.ensures.lent) takes (ap (λ (r : Record). r.end) c.deref-2.ensures) grows fit told.taken))
+
+pub returns-clause-chunks : goal.returns-clause-chunks
+returns-clause-chunks c =
+    let i = c.self.inside in
+    let g = c.give_way.new in
+    let ws = readies g.self.waiting.items in
+    rw (← c.self.view_is) (λ count tidy.
+    c.in_ok-add_record-in-Ok.ensures.tidy count
+    (tidy_step g.reorder c.take.new.self ws c.in-Ok.step count c.give_way.ensures.same.good.lent
+    (lent_step g.reorder c.take.new.self ws c.in-Ok.step c.give_way.ensures.same.good.lent c.take.ensures.lent c.in-Ok.ensures.held c.in-Ok.ensures.apart)
+    c.in-Ok.ensures.tidy (tidy_then i.selection i.reorder g.reorder i.outgoing g.self c.give_way.ensures.same count tidy)))

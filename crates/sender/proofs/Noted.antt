@@ -1,0 +1,70 @@
+-- A note comes behind what is held.
+use Rattle.std.proofs.Common.{◌≡◌, ℕ, ℤ, List, [], ◌∷◌, ◌++◌, Option, Some, None, Result, Ok, Err, take, refl, sym, ap, subst, ◌∙◌, append-nil}
+use Rattle.std.specs.Prelude.{pos, true, OnOk, OnErr}
+use Rattle.std.specs.declared.alloc.AllocError.{AllocError}
+use Rattle.pgoutput.specs.declared.logical.Logical.{Logical}
+use Rattle.pgoutput.specs.declared.logical.Logical.TheVariants as logical
+use Rattle.pgoutput.specs.Logical.{spell_logical}
+use Rattle.frames.specs.Frame.{frame}
+use Rattle.frames.specs.declared.copy_data.TheConstants.{COPY_DATA}
+use Rattle.copyboth.specs.XLogData.{xlogdata}
+use Rattle.tables.specs.declared.change.Change.{Change}
+use Rattle.publication.specs.Publications.{PublicationSet}
+use Rattle.publication.specs.Logged.{IsNoteAt, note_message}
+use Rattle.publication.specs.Selection.{relation}
+use Rattle.publication.specs.Spelling.{IsPut}
+use Rattle.reorder.specs.Taking.{ReorderState}
+use Rattle.stream.specs.declared.published.Published.{Published}
+use Rattle.stream.specs.Items.{Block, relations_sent_through, spelled, xlogdata_word}
+use Rattle.sender.specs.Published.{has_message, published_at, published_note}
+use Rattle.sender.specs.Outgoing.{AddsBytes, Grows, IsOutgoing, held_of, sent_of}
+use Rattle.sender.specs.declared.outgoing.Outgoing.{Outgoing}
+use Rattle.sender.proofs.Framing.{frames_one}
+use Rattle.sender.proofs.Growing.{bytes_added, sent_kept}
+use Rattle.sender.proofs.Noting.{by_message, told}
+
+module _ (selection : PublicationSet) (s : ReorderState) (o o' : Outgoing) (clock : ℤ) where
+  -- nothing is published
+  pub nothing_grows : (ts : List Published) → ts ≡ [] → IsOutgoing selection s o → Grows selection clock ts (Ok tt) s s o o
+  nothing_grows ts none good =
+      subst (λ (l : List Published). Grows selection clock l (Ok tt) s s o o) (sym none)
+      (record { good = good; held = sym (append-nil (held_of selection s o)); sent = refl; err = tt })
+
+  -- memory was refused at once
+  pub stopped_grows : (ts : List Published) (e : AllocError) → IsOutgoing selection s o → Grows selection clock ts (Err e) s s o o
+  stopped_grows ts e good = record { good = good; held = tt; sent = tt; err = refl }
+
+  pub added_grows : (start end : ℕ) (m : Logical) (bytes : List ℕ) (result : Result (Unit {0}) AllocError) → IsOutgoing selection s o → bytes ≡ spell_logical m → IsNoteAt start m
+      → AddsBytes (frame COPY_DATA (xlogdata end end clock bytes)) result o o' → Grows selection clock (told start end m ∷ []) result s s o o'
+  added_grows start end m bytes (Ok u) good text at adds =
+      let g = bytes_added selection s o o' (frame COPY_DATA (xlogdata end end clock bytes)) (Ok u) good adds in
+      let whole : spelled (relation selection) (sent_of selection s o) (Block clock (told start end m) ∷ []) ≡ frame COPY_DATA (xlogdata end end clock bytes) =
+      frames_one (xlogdata_word end clock m) ∙ ap (λ (l : List ℕ). frame COPY_DATA (xlogdata end end clock l)) (sym text) in
+      let none : relations_sent_through (sent_of selection s o) (told start end m ∷ []) ≡ sent_of selection s o =
+      ap (λ (n : Logical). relations_sent_through (sent_of selection s o) (told start end n ∷ [])) at.is in
+      record {
+        good = g.0;
+        held = g.1 ∙ ap (λ (l : List ℕ). held_of selection s o ++ l) (sym whole);
+        sent = sent_kept selection s o o' good adds.frames adds.rest ∙ sym none;
+        err = tt;
+      }
+  added_grows start end m bytes (Err e) good text at adds =
+      let g = bytes_added selection s o o' (frame COPY_DATA (xlogdata end end clock bytes)) (Err e) good adds in
+      record { good = g.0; held = tt; sent = tt; err = g.2 }
+
+  pub note_grows : (start end n : ℕ) (change : Change) (room : List ℕ) (result : Result (Unit {0}) AllocError) → IsOutgoing selection s o → IsPut (Some n) room (note_message selection start change)
+      → ((m : Logical) → note_message selection start change ≡ Some m → IsNoteAt start m) → AddsBytes (frame COPY_DATA (xlogdata end end clock (take n room))) result o o'
+      → Grows selection clock (published_note selection start end change) result s s o o'
+  note_grows start end n change room result good put fits adds = by_option (note_message selection start change) put fits
+    where
+      by_option : (m : Option Logical) → IsPut (Some n) room m → ((l : Logical) → m ≡ Some l → IsNoteAt start l) → Grows selection clock (by_message start end m) result s s o o'
+      by_option None put fits = absurd put
+      by_option (Some m) put fits = added_grows start end m (take n room) result good put.1 (fits m refl) adds
+
+  -- the note has no message
+  pub no_note_grows : (start end : ℕ) (change : Change) (room : List ℕ) → IsOutgoing selection s o → IsPut None room (note_message selection start change) → Grows selection clock (published_note selection start end change) (Ok tt) s s o o
+  no_note_grows start end change room good put = by_option (note_message selection start change) put
+    where
+      by_option : (m : Option Logical) → IsPut None room m → Grows selection clock (by_message start end m) (Ok tt) s s o o
+      by_option None put = nothing_grows [] refl good
+      by_option (Some m) put = absurd put

@@ -1,0 +1,69 @@
+-- What is ready can be told in a stream.
+use Rattle.std.proofs.Common.{◌≡◌, ◌<◌, ◌^◌, ℕ, List, [], ◌∷◌, ◌++◌, Option, Some, None, get_or, length, map, zero, suc, refl, sym, ap, subst, ◌∙◌, arith}
+use Rattle.std.specs.Prelude.{FitsSigned, IfSome, option_map, option_to_list}
+use Rattle.std.specs.Int.{w64}
+use Rattle.std.specs.List.{All, AllByRecursion}
+use Rattle.pgoutput.specs.declared.logical.Logical.{Logical}
+use Rattle.tables.specs.declared.change.Change.{Change}
+use Rattle.tables.specs.Reading.{SpellsBody}
+use Rattle.wal.specs.Log.{Entry}
+use Rattle.publication.specs.Publications.{PublicationSet}
+use Rattle.publication.specs.Logged.{change_message}
+use Rattle.publication.specs.Projection.{MessageFits}
+use Rattle.publication.specs.Selection.{relation}
+use Rattle.reorder.specs.Entries.{IsEntry, body_in, coded_entry, position_in}
+use Rattle.reorder.specs.Pool.{PoolState, entries_at}
+use Rattle.reorder.specs.Ready.{IsReadyIn, IsSpot, ReadyState, SpotState, bytes_at, entry_at, lent_from, ready_entries}
+use Rattle.reorder.proofs.Coding.{body_spells, position_of}
+use Rattle.stream.specs.declared.published.Published.{Published}
+use Rattle.stream.specs.declared.published.PublishedChange.{PublishedChange}
+use Rattle.stream.specs.Items.{FitsPublished}
+use Rattle.sender.specs.declared.header.Header.{Header}
+use Rattle.sender.specs.Published.{CanBeTold, published_at, published_changes, published_with}
+use Rattle.sender.proofs.Fitting.{commit_fits}
+
+-- the change has a position of 64 bits, and a body that spells it
+pub record IsSpelled (e : Entry) : Type 0 where
+  pub position : e.position < 2 ^ 64
+  pub body : List ℕ
+  pub spells : SpellsBody body e.change
+
+-- ---- what is ready
+
+in_all : {A : Type 0} (P : A → Type 0) (xs : List A) (k : ℕ) (d : A) → AllByRecursion P xs → k < length xs → P (get_or xs k d)
+in_all P [] k d all low = absurd (omega (arith, low))
+in_all P (x ∷ xs) zero d all low = all.0
+in_all P (x ∷ xs) (suc k) d all low = in_all P xs k d all.1 (omega (arith, low))
+
+spot_spelled : (pool : PoolState) (spot : SpotState) → AllByRecursion IsEntry (entries_at pool spot.xid) → IsSpot pool spot → IsSpelled (entry_at pool spot)
+spot_spelled pool spot all is =
+    let entry : IsEntry (bytes_at pool spot) = in_all IsEntry (entries_at pool spot.xid) spot.place [] all is.0 in
+    let at : spot.position ≡ entry.position = is.1 ∙ ap position_in entry.is ∙ position_of entry.position entry.change entry.in_range in
+    record { position = subst (λ (n : ℕ). n < 2 ^ 64) (sym at) entry.in_range; body = body_in (bytes_at pool spot); spells = body_spells (bytes_at pool spot) entry }
+
+pub ready_spelled : (pool : PoolState) (ready : ReadyState) → IsReadyIn pool ready → AllByRecursion IsSpelled (ready_entries pool ready)
+ready_spelled pool ready is = each ready.spots is.spots
+  where
+    each : (spots : List SpotState) → All (IsSpot (lent_from pool ready)) spots → AllByRecursion IsSpelled (map (entry_at (lent_from pool ready)) spots)
+    each [] all = tt
+    each (spot ∷ spots) all = (spot_spelled (lent_from pool ready) spot (is.lent.hold spot.xid) (all 0 spot (omega arith)), each spots (λ k d low. all (suc k) d (omega (arith, low))))
+
+-- ---- what it publishes
+
+-- the message of each change that has one fits
+abbrev pub MessagesFit : PublicationSet → Type 0
+MessagesFit selection = (position : ℕ) (body : List ℕ) (c : Change) (m : Logical) → position < 2 ^ 64 → SpellsBody body c → change_message selection position c ≡ Some m → MessageFits selection m
+
+changes_told : (selection : PublicationSet) → MessagesFit selection → (es : List Entry) → AllByRecursion IsSpelled es → AllByRecursion (CanBeTold selection) (published_changes selection es)
+changes_told selection fit [] all = tt
+changes_told selection fit (e ∷ es) all = by_option (change_message selection e.position e.change) refl (changes_told selection fit es all.1)
+  where
+    by_option : (o : Option Logical) → change_message selection e.position e.change ≡ o → AllByRecursion (CanBeTold selection) (published_changes selection es) → AllByRecursion (CanBeTold selection) (published_at e.position o ++ published_changes selection es)
+    by_option None is rest = rest
+    by_option (Some m) is rest = ((all.0.position, fit e.position all.0.body e.change m all.0.position all.0.spells is), rest)
+
+-- a commit, or nothing, whose changes are ready
+pub judged_fit : (selection : PublicationSet) (pool : PoolState) (ready : ReadyState) (o : Option Header) (ts : List Published) → MessagesFit selection → IsReadyIn pool ready
+    → option_to_list (option_map (published_with selection (ready_entries pool ready)) o) ≡ ts → IfSome o (λ h. (h.start < 2 ^ 64) × (h.end < 2 ^ 64) × FitsSigned w64 h.time × (h.xid < 2 ^ 32)) → AllByRecursion (FitsPublished (relation selection)) ts
+judged_fit selection pool ready None ts fit is value numbers = let P : List Published → Type 0 = λ l. AllByRecursion (FitsPublished (relation selection)) l in subst P value tt
+judged_fit selection pool ready (Some h) ts fit is value numbers = commit_fits selection (ready_entries pool ready) h ts value numbers (changes_told selection fit (ready_entries pool ready) (ready_spelled pool ready is))
