@@ -2,6 +2,8 @@
 #![tactic(auto)]
 
 #[cfg(test)]
+mod drain_calls;
+#[cfg(test)]
 mod follower;
 #[cfg(test)]
 mod load_calls;

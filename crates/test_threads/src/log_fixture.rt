@@ -15,7 +15,7 @@ use txlog::{Opened, Publisher, Receipt, SessionFault};
 use wal::{Body, FIRST_POSITION, Record};
 
 /// The chunks of the arena in which the sender keeps changes.
-const CHUNKS: usize = 64;
+pub const CHUNKS: usize = 64;
 
 /// One table, and a publication of it.
 pub const CONFIGURATION: &str = "\

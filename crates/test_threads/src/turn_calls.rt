@@ -18,7 +18,7 @@ use wal::{Body, Record};
 
 /// What is sent of a transaction that inserts (1,'ab',7), commits with time 5 and is read with clock 9: the sample of
 /// docs/PROTOCOL.md.
-const FIRST_BLOCK: &str = "\
+pub const FIRST_BLOCK: &str = "\
 6400000032770000000001000030000000000100003000000000000000094200000000010000300000000000000005000002bc\
 64000000587700000000010000000000000001000000000000000000000952000040007075626c6963006974656d00640003\
 0169640000000017ffffffff006e616d650000000019ffffffff007174790000000014ffffffff\
@@ -34,7 +34,7 @@ const SECOND_BLOCK: &str = "\
 64000000377700000000010000a000000000010000a000000000000000094300000000000100008000000000010000a00000000000000005";
 
 /// The length of the first block.
-const LENGTH: usize = 253;
+pub const LENGTH: usize = 253;
 
 /// A transaction with one insert: its row, where its two records start and end, and what is sent of it.
 struct Sample {

@@ -2,6 +2,7 @@
 
 ghost use Rattle.std.specs.Prelude.{◌≡◌};
 
+use crate::drain_calls::drain_by_bytes;
 use crate::load_calls::run_load;
 use crate::log_fixture::opened;
 use crate::receipt_calls::learn_elsewhere;
@@ -21,13 +22,14 @@ pub enum Work {
     LearnElsewhere,
     LookTwice,
     TurnNarrowly,
+    DrainByBytes,
     Load,
 }
 
 impl Work {
     fn readers(self) -> usize {
         match self {
-            Work::LearnElsewhere | Work::TurnNarrowly => 1,
+            Work::LearnElsewhere | Work::TurnNarrowly | Work::DrainByBytes => 1,
             Work::LookTwice | Work::Load => 2,
         }
     }
@@ -69,6 +71,7 @@ fn with_log<L: LogName + Send + Sync, R: Threads + Wait + Abort + Sync>(
         Work::LearnElsewhere => learn_elsewhere(rt, alloc, desk, readers),
         Work::LookTwice => look_twice(rt, alloc, desk, readers),
         Work::TurnNarrowly => turn_narrowly(rt, alloc, desk, readers),
+        Work::DrainByBytes => drain_by_bytes(rt, alloc, desk, readers),
         Work::Load => run_load(rt, alloc, desk, readers),
     }
 }

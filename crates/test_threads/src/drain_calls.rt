@@ -1,0 +1,64 @@
+//! A sender drained byte by byte.
+
+use crate::log_fixture::{CHUNKS, commit_under_lock, sender_of_p};
+use crate::turn_calls::{FIRST_BLOCK, LENGTH};
+use crate::work::{Work, do_work};
+use sender::Sender;
+use shared_log::{LogName, LogReader};
+use std::alloc::Global;
+use std::process::Abort;
+use std::sync::{Mutex, Wait};
+use std::test::Fail;
+use txlog::Publisher;
+
+/// So many bytes of the block are moved out while its only change still lies in the arena: all before its Commit's frame but one.
+const WITH_CHANGE: usize = 196;
+
+#[test]
+fn bytes_one_by_one(rt: HostRuntime) -> Result<(), Fail> {
+    do_work(&rt, rt.alloc(), Work::DrainByBytes)
+}
+
+/// A transaction with one insert, of which each byte is drained by a call of its own.
+pub fn drain_by_bytes<L: LogName, R: Wait + Abort>(
+    rt: &R,
+    alloc: Global,
+    desk: &Mutex<Publisher<L>>,
+    readers: Vec<LogReader<L>>,
+) -> Result<(), Fail> {
+    commit_under_lock(rt, alloc, desk, 1, "ab", 7)?;
+    let mut readers = readers;
+    match readers.pop() {
+        Some(mut reader) => feed_and_drain(rt, alloc, &mut reader),
+        None => Err(Fail::from("a reader")),
+    }
+}
+
+fn feed_and_drain<L: LogName, R: Abort>(
+    rt: &R,
+    alloc: Global,
+    reader: &mut LogReader<L>,
+) -> Result<(), Fail> {
+    let mut sender = sender_of_p(alloc)?;
+    let records = reader.fetch(alloc, 100)?;
+    sender.feed(records.as_slice(), 9)?;
+    let bytes = drain_all(rt, alloc, &mut sender)?;
+    let text = hex::encode(alloc, bytes.as_slice())?;
+    assert!(rt; text.as_str() == FIRST_BLOCK);
+    assert!(rt; !sender.holds_bytes() && sender.free_chunks() == CHUNKS);
+    Ok(())
+}
+
+/// All bytes of the block. Its chunk comes back between the end of its change's frame and that of its Commit's.
+fn drain_all<R: Abort>(rt: &R, alloc: Global, sender: &mut Sender) -> Result<Vec<u8>, Fail> {
+    let mut bytes = Vec::with_capacity(alloc, LENGTH)?;
+    let mut byte = [0];
+    for moved in 0..LENGTH {
+        let lacks_one = sender.free_chunks() + 1 == CHUNKS;
+        assert!(rt; lacks_one || moved > WITH_CHANGE);
+        let count = sender.drain(&mut byte);
+        assert!(rt; count == 1);
+        bytes.push(byte[0])?;
+    }
+    Ok(bytes)
+}
