@@ -114,9 +114,6 @@ module _ (selection : PublicationSet) (s : ReorderState) (o o' : Outgoing) (read
   pub queue_taken : (rs : List Record) → AreLentIn s (readies o.waiting.items ++ ready ∷ []) → HasTaken s rs → HasTaken (settled_of s o') rs
   queue_taken rs lent taken = taken_settled s (readies o'.waiting.items) rs (subst (AreLentIn s) (sym waiting_readies) lent) taken
 
-  pub queue_tidy : (count : ℕ) → IsTidy count [] (settled s (readies o.waiting.items ++ ready ∷ [])).strands → IsTidy count [] (settled_of s o').strands
-  queue_tidy count tidy = subst (λ (rs : List ReadyState). IsTidy count [] (settled s rs).strands) (sym waiting_readies) tidy
-
 -- ---- one that doesn't
 
 module _ (selection : PublicationSet) (s s' : ReorderState) (o : Outgoing) (ready : ReadyState) (clock : ℤ) (good : IsOutgoing selection s o) (lent : AreLentIn s (readies o.waiting.items ++ ready ∷ [])) (is : s' ≡ given_back s ready) where

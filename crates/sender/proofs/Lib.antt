@@ -7,11 +7,12 @@ pub mod Sections
 pub mod Turns
 pub mod Fitting
 pub mod Spelled
-pub mod Due
-pub mod Adding
 pub mod Queueing
+pub mod Frames
+pub mod Moving
 pub mod GivingWay
 pub mod Growing
+pub mod Emptied
 pub mod Heads
 pub mod OnceEach
 pub mod Framed

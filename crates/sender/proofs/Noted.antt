@@ -24,16 +24,6 @@ use Rattle.sender.proofs.Growing.{bytes_added, sent_kept}
 use Rattle.sender.proofs.Noting.{by_message, told}
 
 module _ (selection : PublicationSet) (s : ReorderState) (o o' : Outgoing) (clock : ℤ) where
-  -- nothing is published
-  pub nothing_grows : (ts : List Published) → ts ≡ [] → IsOutgoing selection s o → Grows selection clock ts (Ok tt) s s o o
-  nothing_grows ts none good =
-      subst (λ (l : List Published). Grows selection clock l (Ok tt) s s o o) (sym none)
-      (record { good = good; held = sym (append-nil (held_of selection s o)); sent = refl; err = tt })
-
-  -- memory was refused at once
-  pub stopped_grows : (ts : List Published) (e : AllocError) → IsOutgoing selection s o → Grows selection clock ts (Err e) s s o o
-  stopped_grows ts e good = record { good = good; held = tt; sent = tt; err = refl }
-
   pub added_grows : (start end : ℕ) (m : Logical) (bytes : List ℕ) (result : Result (Unit {0}) AllocError) → IsOutgoing selection s o → bytes ≡ spell_logical m → IsNoteAt start m
       → AddsBytes (frame COPY_DATA (xlogdata end end clock bytes)) result o o' → Grows selection clock (told start end m ∷ []) result s s o o'
   added_grows start end m bytes (Ok u) good text at adds =
@@ -60,11 +50,3 @@ module _ (selection : PublicationSet) (s : ReorderState) (o o' : Outgoing) (cloc
       by_option : (m : Option Logical) → IsPut (Some n) room m → ((l : Logical) → m ≡ Some l → IsNoteAt start l) → Grows selection clock (by_message start end m) result s s o o'
       by_option None put fits = absurd put
       by_option (Some m) put fits = added_grows start end m (take n room) result good put.1 (fits m refl) adds
-
-  -- the note has no message
-  pub no_note_grows : (start end : ℕ) (change : Change) (room : List ℕ) → IsOutgoing selection s o → IsPut None room (note_message selection start change) → Grows selection clock (published_note selection start end change) (Ok tt) s s o o
-  no_note_grows start end change room good put = by_option (note_message selection start change) put
-    where
-      by_option : (m : Option Logical) → IsPut None room m → Grows selection clock (by_message start end m) (Ok tt) s s o o
-      by_option None put = nothing_grows [] refl good
-      by_option (Some m) put = absurd put

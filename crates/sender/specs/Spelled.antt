@@ -53,12 +53,6 @@ abbrev pub Yields : PublicationSet → (here next : List PublishedChange) → Op
 Yields selection here next None room = here ≡ next
 Yields selection here next (Some p) room = (p.1 ≤ length room) × Tells selection p.0 (take p.1 room) × (here ≡ told_at p.0 (take p.1 room) ∷ next)
 
--- What is held now and what is to come behind `here` are what was held and what was to come; refused, what was held still stands at the front.
-pub record Adds (relation : ℕ → Relation) (clock : ℤ) (here next : List PublishedChange) (result : Result (Unit {0}) AllocError) (old new old_sent new_sent : List ℕ) : Type 0 where
-  pub front : Extends old new
-  pub held : OnOk result (new ++ frames_of (changes_words relation new_sent clock next) ≡ old ++ frames_of (changes_words relation old_sent clock here))
-  pub sent : OnOk result (relations_sent_by_all new_sent next ≡ relations_sent_by_all old_sent here)
-
 abbrev pub begin_with : Header → Logical
 begin_with h = logical.Begin (record { position = h.start; time = h.time; xid = h.xid })
 

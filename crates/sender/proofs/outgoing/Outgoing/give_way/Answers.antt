@@ -1,0 +1,8 @@
+use Rattle.std.proofs.Common.{◌<◌, length, arith, rules}
+use Rattle.sender.proofs.Moving.{falls}
+use Rattle.sender.proofs.outgoing.Outgoing.give_way.Goals as goal
+
+pub loop-reorder-smaller : goal.loop-reorder-smaller
+loop-reorder-smaller c =
+    let some : 0 < length c.loop-reorder.self.waiting.items = grind (arith, c.is_empty.ensures, c.loop-reorder-test.true) in
+    falls c.args.selection.now c.loop-reorder.reorder c.gather_frames.new.reorder c.loop-reorder.self c.gather_frames.new.self c.in_ok-gather_frames.field-0 c.loop-reorder.invariant.good c.gather_frames.ensures.same some c.in_ok-gather_frames.ensures.more

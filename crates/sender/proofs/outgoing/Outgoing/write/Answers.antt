@@ -1,0 +1,45 @@
+use Rattle.std.proofs.Common.{◌≡◌, ◌+◌, [], refl, sym, subst, ◌∙◌, arith}
+use Rattle.std.proofs.lemmas.List.{drop_all}
+use Rattle.sender.proofs.Moving.{Written, written_front, written_more, written_same}
+use Rattle.sender.proofs.outgoing.Outgoing.write.Goals as goal
+
+pub returns-in_err-written-clause-given : goal.returns-in_err-written-clause-given
+returns-in_err-written-clause-given g c =
+    let w =
+    written_front c.args.selection.now c.args.reorder.now c.args.self.now (record c.args.self.now { front = c.advance.new.self }) (g.W.Write.contents c.args.out.now) (g.W.Write.contents c.write_front-taken.new.out) c.write_front-taken.result.0
+    c.requires (rw c.as_slice.ensures at c.write_front-taken.ensures.within) (rw c.as_slice.ensures at c.write_front-taken.ensures.taken) c.advance.ensures.items refl in
+    (w.count, w.low, w.moves, w.given)
+
+pub loop-out-init : goal.loop-out-init
+loop-out-init g c =
+    let all = rw c.as_slice.ensures at (rw c.in_ok-written.was at c.write_front-taken.ensures.ok) in (
+      written_front c.args.selection.now c.args.reorder.now c.args.self.now (record c.args.self.now { front = c.advance.new.self }) (g.W.Write.contents c.args.out.now) (g.W.Write.contents c.write_front-taken.new.out)
+          c.write_front-taken.result.0 c.requires (rw c.as_slice.ensures at c.write_front-taken.ensures.within) (rw c.as_slice.ensures at c.write_front-taken.ensures.taken) c.advance.ensures.items refl,
+      c.advance.ensures.items ∙ drop_all c.write_front-taken.result.0 c.args.self.now.front.items (omega (arith, all)),
+    )
+
+pub loop-out-preserved : goal.loop-out-preserved
+loop-out-preserved g c =
+    let none : c.fill_up.new.self.front.items ≡ [] = subst (λ f. f.items ≡ []) (sym c.fill_up.ensures.front) c.loop-out.invariant.1 in
+    let taken = c.write_front-taken-in-loop-out.result.0 in
+    let told = c.write_front-taken-in-loop-out.ensures in
+    let w =
+    written_same c.args.selection.now c.args.reorder.now c.loop-out.reorder c.fill_up.new.reorder c.args.self.now c.loop-out.self c.fill_up.new.self (g.W.Write.contents c.args.out.now) (g.W.Write.contents c.loop-out.out) c.loop-out.invariant.0
+    c.fill_up.ensures.same in (
+      written_more c.args.selection.now c.args.reorder.now c.fill_up.new.reorder c.args.self.now c.fill_up.new.self (record c.fill_up.new.self { from = c.fill_up.new.self.from + taken }) (g.W.Write.contents c.args.out.now)
+          (g.W.Write.contents c.loop-out.out) (g.W.Write.contents c.write_front-taken-in-loop-out.new.out) taken w none (rw c.deref.ensures.value at told.within) (rw c.deref.ensures.value at told.taken) refl,
+      none,
+    )
+
+pub returns-in_err-written-2-clause-given : goal.returns-in_err-written-2-clause-given
+returns-in_err-written-2-clause-given g c =
+    let none : c.fill_up.new.self.front.items ≡ [] = subst (λ f. f.items ≡ []) (sym c.fill_up.ensures.front) c.loop-out.invariant.1 in
+    let taken = c.write_front-taken-in-loop-out.result.0 in
+    let told = c.write_front-taken-in-loop-out.ensures in
+    let before =
+    written_same c.args.selection.now c.args.reorder.now c.loop-out.reorder c.fill_up.new.reorder c.args.self.now c.loop-out.self c.fill_up.new.self (g.W.Write.contents c.args.out.now) (g.W.Write.contents c.loop-out.out) c.loop-out.invariant.0
+    c.fill_up.ensures.same in
+    let w =
+    written_more c.args.selection.now c.args.reorder.now c.fill_up.new.reorder c.args.self.now c.fill_up.new.self (record c.fill_up.new.self { from = c.fill_up.new.self.from + taken }) (g.W.Write.contents c.args.out.now)
+    (g.W.Write.contents c.loop-out.out) (g.W.Write.contents c.write_front-taken-in-loop-out.new.out) taken before none (rw c.deref.ensures.value at told.within) (rw c.deref.ensures.value at told.taken) refl in
+    (w.count, w.low, w.moves, w.given)
