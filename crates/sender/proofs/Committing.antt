@@ -1,10 +1,10 @@
 -- A transaction that waits behind all others, and one that doesn't come to wait.
-use Rattle.std.proofs.Common.{◌≡◌, ◌<◌, ◌≤◌, ℕ, ℤ, ◌+◌, List, [], ◌∷◌, ◌++◌, Ok, Err, length, inl, refl, sym, ap, subst, ◌∙◌, append_assoc, append-nil, arith}
-use Rattle.std.specs.Prelude.{reverse, map, take}
+use Rattle.std.proofs.Common.{◌≡◌, ◌<◌, ℕ, ℤ, ◌+◌, List, [], ◌∷◌, ◌++◌, Ok, Err, length, inl, sym, ap, subst, ◌∙◌, append_assoc, append-nil, arith}
+use Rattle.std.specs.Prelude.{reverse}
 use Rattle.std.specs.declared.alloc.AllocError.{AllocError}
 use Rattle.std.proofs.lemmas.List.{length-append, map-append}
 use Rattle.publication.specs.Publications.{PublicationSet}
-use Rattle.publication.specs.Selection.{relation, selected_oids}
+use Rattle.publication.specs.Selection.{relation}
 use Rattle.wal.specs.declared.record.Record.{Record}
 use Rattle.reorder.specs.Chunks.{IsTidy}
 use Rattle.reorder.specs.Ready.{ReadyState, ready_entries}
@@ -13,9 +13,9 @@ use Rattle.reorder.specs.Taking.{HasTaken, ReorderState}
 use Rattle.reorder.proofs.Settling.{taken_settled}
 use Rattle.stream.specs.declared.published.Published.{Published}
 use Rattle.stream.specs.Words.{frames_of}
-use Rattle.stream.specs.Items.{Block, relations_sent_by_all, relations_sent_through, spelled, transaction_words}
-use Rattle.sender.specs.Published.{published_changes, published_with}
-use Rattle.sender.specs.Waiting.{AreSelected, AreWithin, bytes_behind, changes_bytes, left_of, places, readies, sent_behind}
+use Rattle.stream.specs.Items.{Block, relations_sent_through, spelled, transaction_words}
+use Rattle.sender.specs.Published.{published_with}
+use Rattle.sender.specs.Waiting.{AreSelected, AreWithin, bytes_behind, changes_bytes, places, readies, sent_behind}
 use Rattle.sender.specs.Outgoing.{Grows, IsOutgoing, Queues, StaysQueued, begin_bytes, commit_bytes, frames_left, held_behind, held_of, sent_of, settled_of}
 use Rattle.sender.specs.declared.header.Header.{Header}
 use Rattle.sender.specs.declared.outgoing.Outgoing.{Outgoing}

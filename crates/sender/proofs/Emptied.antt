@@ -1,5 +1,5 @@
 -- Where nothing is made any more, nothing is held but the front.
-use Rattle.std.proofs.Common.{◌≡◌, ◌<◌, ◌≤◌, ℕ, ◌+◌, ◌-◌, List, [], ◌∷◌, ◌++◌, drop, length, reverse, take, refl, ap, ◌∙◌, append-nil, arith}
+use Rattle.std.proofs.Common.{◌≡◌, ◌≤◌, ℕ, ◌-◌, List, [], ◌∷◌, ◌++◌, drop, length, reverse, take, refl, ap, ◌∙◌, append-nil, arith}
 use Rattle.publication.specs.Publications.{PublicationSet}
 use Rattle.reorder.specs.Taking.{ReorderState}
 use Rattle.sender.specs.Outgoing.{IsOutgoing, frames_left, held_behind, held_of}

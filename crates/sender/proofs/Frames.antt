@@ -1,7 +1,7 @@
 -- Bytes that are held, from where they are made to the frames, and out of them.
-use Rattle.std.proofs.Common.{◌≡◌, ◌<◌, ◌≤◌, ℕ, ◌+◌, ◌-◌, zero, suc, List, [], ◌∷◌, ◌++◌, drop, get_or, length, map, take, refl, sym, ap, subst, ◌∙◌, append_assoc, append-nil, arith}
-use Rattle.std.specs.Prelude.{◌⊎◌, reverse, slice_set, vec_capacity}
-use Rattle.std.proofs.Common.{⊎_elim, inl, inr}
+use Rattle.std.proofs.Common.{◌≡◌, ◌<◌, ◌≤◌, ℕ, ◌+◌, ◌-◌, List, [], ◌∷◌, ◌++◌, drop, get_or, length, take, refl, sym, ap, subst, ◌∙◌, append_assoc, arith}
+use Rattle.std.specs.Prelude.{reverse, slice_set, vec_capacity}
+use Rattle.std.proofs.Common.{⊎_elim, inl}
 use Rattle.std.proofs.Math.Seq.{take-add, take-append-add}
 use Rattle.std.proofs.lemmas.List.{drop-append-le, drop-drop, drop_all, drop-take, length-append, length-drop, length-map, length-take-le, take-append-drop, take-take}
 use Rattle.std.proofs.lemmas.Slice.{drop-put_mid, take-put_mid}
@@ -9,7 +9,7 @@ use borrow.Rule.Slice.PartMut.{put_mid}
 use Rattle.publication.specs.Publications.{PublicationSet}
 use Rattle.publication.specs.Selection.{selected_oids}
 use Rattle.reorder.specs.Pool.{PoolState}
-use Rattle.reorder.specs.Ready.{ReadyState, ready_entries}
+use Rattle.reorder.specs.Ready.{ready_entries}
 use Rattle.reorder.specs.Settled.{AreLentIn, given_back, settled}
 use Rattle.reorder.specs.Taking.{ReorderState}
 use Rattle.reorder.proofs.Settling.{entries_given_back}
@@ -17,7 +17,7 @@ use Rattle.stream.specs.declared.published.PublishedChange.{PublishedChange}
 use Rattle.stream.specs.Items.{relations_sent_by_all}
 use Rattle.sender.specs.Published.{published_changes}
 use Rattle.sender.specs.Waiting.{AreSelected, AreWithin, Makes, bytes_behind, changes_bytes, left_of, places, readies, sent_behind}
-use Rattle.sender.specs.Outgoing.{HoldsSame, IsFilled, IsOutgoing, MovesOut, frames_left, held_behind, held_of, sent_of, settled_of}
+use Rattle.sender.specs.Outgoing.{HoldsSame, IsFilled, IsOutgoing, frames_left, held_behind, held_of, sent_of}
 use Rattle.sender.specs.declared.outgoing.Outgoing.{Outgoing}
 use Rattle.sender.specs.declared.outgoing.TheConstants.{FRAMES_LENGTH}
 use Rattle.sender.specs.declared.waiting.Waiting.{Waiting}

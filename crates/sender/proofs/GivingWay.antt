@@ -1,9 +1,9 @@
 -- Where what waits has given way, a change finds no room only because of transactions in progress, and a record is read as before.
-use Rattle.std.proofs.Common.{◌≡◌, ◌<◌, ℕ, ℤ, ◌+◌, Bool, List, [], ◌∷◌, ap, subst, sym, arith, inl, inr, ⊎_elim}
+use Rattle.std.proofs.Common.{◌≡◌, ℕ, ℤ, Bool, List, [], ap, subst, sym, arith, inl, inr, ⊎_elim}
 use Rattle.std.specs.Prelude.{◌⊎◌}
 use Rattle.wal.specs.declared.record.Record.{Record}
 use Rattle.publication.specs.Publications.{PublicationSet}
-use Rattle.reorder.specs.Chunks.{IsTidy, LeavesNoRoom, live_chunks}
+use Rattle.reorder.specs.Chunks.{IsTidy, LeavesNoRoom}
 use Rattle.reorder.specs.Ready.{ReadyState}
 use Rattle.reorder.specs.Settled.{AreLentIn, LeavesNoRoomBeside, lent_chunks, settled}
 use Rattle.reorder.specs.Taking.{HasTaken, ReorderState}
@@ -12,7 +12,6 @@ use Rattle.sender.specs.Outgoing.{HasFreeChunk, HoldsSame, held_of, sent_of, set
 use Rattle.sender.specs.Sending.{ReadOne, SenderState}
 use Rattle.sender.specs.Waiting.{readies}
 use Rattle.sender.specs.declared.outgoing.Outgoing.{Outgoing}
-use Rattle.sender.specs.declared.waiting.Waiting.{Waiting}
 use Rattle.sender.proofs.States.{state}
 
 none_left : (s : ReorderState) (ws : List ReadyState) (rs : List Record) (count : ℕ) (r : Record) → (ws ≡ []) ⊎ HasFreeChunk s → HasTaken s rs → AreLentIn s ws → IsTidy count [] (settled s ws).strands

@@ -1,29 +1,18 @@
 -- What the fields of what is on its way out do to all that is held.
-use Rattle.std.proofs.Common.{◌≡◌, ◌<◌, ◌≤◌, ℕ, ℤ, ◌+◌, ◌-◌, List, [], ◌∷◌, ◌++◌, Result, Ok, Err, OnOk, drop, length, map, take, refl, sym, ap, subst, ◌∙◌, append_assoc, append-nil, arith}
-use Rattle.std.specs.Prelude.{◌⊎◌, OnErr, reverse, vec_capacity}
+use Rattle.std.proofs.Common.{◌≡◌, ◌<◌, ◌≤◌, ℕ, ◌+◌, ◌-◌, List, [], ◌++◌, Result, Ok, Err, OnOk, drop, length, take, sym, ap, subst, ◌∙◌, append_assoc, arith}
+use Rattle.std.specs.Prelude.{◌⊎◌, OnErr, reverse}
 use Rattle.std.specs.declared.alloc.AllocError.{AllocError}
 use Rattle.std.proofs.Common.{⊎_elim, inl, inr}
-use Rattle.std.proofs.lemmas.List.{length-append, map-append}
-use Rattle.std.proofs.lemmas.Grind.{flat_map-append}
+use Rattle.std.proofs.lemmas.List.{length-append}
 use Rattle.publication.specs.Publications.{PublicationSet}
-use Rattle.publication.specs.Selection.{relation, selected_oids}
-use Rattle.wal.specs.Log.{Entry}
-use Rattle.reorder.specs.Ready.{ReadyState, ready_entries}
 use Rattle.reorder.specs.Settled.{AreLentIn, settled}
 use Rattle.reorder.specs.Taking.{ReorderState}
-use Rattle.reorder.proofs.Settling.{settled_both}
-use Rattle.stream.specs.declared.published.Published.{Published}
-use Rattle.stream.specs.Words.{frames_of, word_bytes}
-use Rattle.stream.specs.Items.{Block, block_words, relations_sent_by_all, relations_sent_through, spelled}
-use Rattle.sender.specs.Published.{published_changes, published_with}
-use Rattle.sender.specs.Waiting.{AreSelected, AreWithin, bytes_behind, changes_bytes, left_of, places, readies, sent_behind}
-use Rattle.sender.specs.Outgoing.{AddsBytes, Grows, HoldsSame, IsOutgoing, IsSameQueue, IsSized, Queues, StaysQueued, begin_bytes, commit_bytes, frames_left, held_behind, held_of, sent_of, settled_of}
-use Rattle.sender.specs.declared.header.Header.{Header}
+use Rattle.sender.specs.Waiting.{AreSelected, AreWithin, bytes_behind, places, readies, sent_behind}
+use Rattle.sender.specs.Outgoing.{AddsBytes, IsOutgoing, IsSameQueue, IsSized, frames_left, held_behind, held_of, sent_of, settled_of}
 use Rattle.sender.specs.declared.outgoing.Outgoing.{Outgoing}
 use Rattle.sender.specs.declared.outgoing.TheConstants.{FRAMES_LENGTH}
 use Rattle.sender.specs.declared.waiting.Waiting.{Waiting}
-use Rattle.sender.proofs.Framing.{block_is}
-use Rattle.sender.proofs.Queueing.{bytes_last, bytes_more, places_last, places_low, sent_last, within_last, within_more}
+use Rattle.sender.proofs.Queueing.{bytes_more, within_more}
 
 -- ---- frames that there was no room for
 

@@ -1,10 +1,10 @@
 -- What is held, as bytes are moved out of it or gathered at its front.
-use Rattle.std.proofs.Common.{◌≡◌, ◌<◌, ◌≤◌, ℕ, ◌+◌, ◌-◌, zero, suc, Bool, true, false, List, [], ◌∷◌, ◌++◌, Option, drop, length, take, refl, sym, ap, subst, ◌∙◌, append_assoc, append-nil, arith}
+use Rattle.std.proofs.Common.{◌≡◌, ◌<◌, ◌≤◌, ℕ, ◌+◌, ◌-◌, zero, suc, Bool, true, false, List, [], ◌∷◌, ◌++◌, Option, drop, length, take, refl, sym, ap, subst, ◌∙◌, append-nil, arith}
 use Rattle.std.specs.Prelude.{MatchBool, min, reverse}
 use Rattle.std.specs.Io.KnownBytes.{Appends}
 use Rattle.std.proofs.KnownBytes.{Appends-trans}
 use Rattle.std.proofs.Math.Seq.{take-add, take-append-add}
-use Rattle.std.proofs.lemmas.List.{drop-drop, drop-take, drop-append-le, drop_at, take-append-le, length-append, length-drop, length-take-le, take_all, drop_all}
+use Rattle.std.proofs.lemmas.List.{drop-drop, drop-take, drop-append-le, drop_at, take-append-le, length-append, length-drop, length-take-le, drop_all}
 use borrow.Rule.Slice.PartMut.{put_mid}
 use Rattle.publication.specs.Publications.{PublicationSet}
 use Rattle.reorder.specs.Pool.{PoolState}

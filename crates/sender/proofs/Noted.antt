@@ -1,9 +1,7 @@
 -- A note comes behind what is held.
-use Rattle.std.proofs.Common.{◌≡◌, ℕ, ℤ, List, [], ◌∷◌, ◌++◌, Option, Some, None, Result, Ok, Err, take, refl, sym, ap, subst, ◌∙◌, append-nil}
-use Rattle.std.specs.Prelude.{pos, true, OnOk, OnErr}
+use Rattle.std.proofs.Common.{◌≡◌, ℕ, ℤ, List, [], ◌∷◌, ◌++◌, Option, Some, None, Result, Ok, Err, take, refl, sym, ap, ◌∙◌}
 use Rattle.std.specs.declared.alloc.AllocError.{AllocError}
 use Rattle.pgoutput.specs.declared.logical.Logical.{Logical}
-use Rattle.pgoutput.specs.declared.logical.Logical.TheVariants as logical
 use Rattle.pgoutput.specs.Logical.{spell_logical}
 use Rattle.frames.specs.Frame.{frame}
 use Rattle.frames.specs.declared.copy_data.TheConstants.{COPY_DATA}
@@ -14,9 +12,8 @@ use Rattle.publication.specs.Logged.{IsNoteAt, note_message}
 use Rattle.publication.specs.Selection.{relation}
 use Rattle.publication.specs.Spelling.{IsPut}
 use Rattle.reorder.specs.Taking.{ReorderState}
-use Rattle.stream.specs.declared.published.Published.{Published}
 use Rattle.stream.specs.Items.{Block, relations_sent_through, spelled, xlogdata_word}
-use Rattle.sender.specs.Published.{has_message, published_at, published_note}
+use Rattle.sender.specs.Published.{published_note}
 use Rattle.sender.specs.Outgoing.{AddsBytes, Grows, IsOutgoing, held_of, sent_of}
 use Rattle.sender.specs.declared.outgoing.Outgoing.{Outgoing}
 use Rattle.sender.proofs.Framing.{frames_one}

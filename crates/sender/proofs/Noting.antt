@@ -3,7 +3,6 @@ use Rattle.std.proofs.Common.{◌≡◌, ℕ, ◌<◌, ◌^◌, List, [], ◌∷
 use Rattle.std.specs.Prelude.{pos, true, OnErr, OnOk}
 use Rattle.std.specs.List.{AllByRecursion}
 use Rattle.pgoutput.specs.declared.logical.Logical.{Logical}
-use Rattle.pgoutput.specs.declared.logical.Logical.TheVariants as logical
 use Rattle.pgoutput.specs.Logical.{FitsLogical}
 use Rattle.tables.specs.declared.change.Change.{Change}
 use Rattle.publication.specs.Publications.{PublicationSet}

@@ -11,12 +11,11 @@ use Rattle.publication.specs.Publications.{PublicationSet}
 use Rattle.publication.specs.Logged.{change_message}
 use Rattle.publication.specs.Projection.{MessageFits}
 use Rattle.publication.specs.Selection.{relation}
-use Rattle.reorder.specs.Entries.{IsEntry, body_in, coded_entry, position_in}
+use Rattle.reorder.specs.Entries.{IsEntry, body_in, position_in}
 use Rattle.reorder.specs.Pool.{PoolState, entries_at}
 use Rattle.reorder.specs.Ready.{IsReadyIn, IsSpot, ReadyState, SpotState, bytes_at, entry_at, lent_from, ready_entries}
 use Rattle.reorder.proofs.Coding.{body_spells, position_of}
 use Rattle.stream.specs.declared.published.Published.{Published}
-use Rattle.stream.specs.declared.published.PublishedChange.{PublishedChange}
 use Rattle.stream.specs.Items.{FitsPublished}
 use Rattle.sender.specs.declared.header.Header.{Header}
 use Rattle.sender.specs.Published.{CanBeTold, published_at, published_changes, published_with}

@@ -9,7 +9,6 @@ use Rattle.stream.specs.Words.{word_bytes}
 use Rattle.reorder.specs.Ready.{ReadyState}
 use Rattle.sender.specs.Spelled.{begin_with, commit_with}
 use Rattle.sender.specs.declared.header.Header.{Header}
-use Rattle.sender.specs.declared.waiting.Waiting.{Waiting}
 use Rattle.reorder.specs.Chunks.{IsTidy, live_chunks}
 use Rattle.reorder.specs.Settled.{AreLentIn, lent_chunks, settled}
 use Rattle.reorder.specs.Taking.{HasTaken, ReorderState}

@@ -1,12 +1,12 @@
 -- What a sender has still to make into bytes: the changes of committed transactions, between bytes that are made already.
-use Rattle.std.specs.Prelude.{◌≡◌, ◌<◌, ◌≤◌, ℕ, ℤ, ◌+◌, ◌-◌, ◌^◌, true, false, List, [], ◌∷◌, ◌++◌, drop, length, map, reverse, take, IsSome}
+use Rattle.std.specs.Prelude.{◌≡◌, ◌<◌, ℕ, ℤ, ◌+◌, ◌-◌, false, List, [], ◌∷◌, ◌++◌, drop, length, map, take, IsSome}
 use Rattle.std.specs.List.{AllByRecursion}
 use Rattle.std.specs.Int.{w64, cast_unsigned}
 use Rattle.pqformat.specs.Fields.{int32, int64}
 use Rattle.frames.specs.declared.copy_data.TheConstants.{COPY_DATA}
 use Rattle.copyboth.specs.declared.xlogdata.TheConstants.{XLOGDATA}
 use Rattle.publication.specs.Publications.{PublicationSet}
-use Rattle.publication.specs.Selection.{relation, selected_oids, selected_table}
+use Rattle.publication.specs.Selection.{relation, selected_table}
 use Rattle.stream.specs.declared.published.PublishedChange.{PublishedChange}
 use Rattle.stream.specs.Words.{frames_of}
 use Rattle.stream.specs.Items.{changes_words, is_relation_sent, relations_sent_by_all}
@@ -14,8 +14,6 @@ use Rattle.reorder.specs.Pool.{PoolState}
 use Rattle.reorder.specs.Ready.{ReadyState, ready_entries}
 use Rattle.reorder.specs.declared.ready.Step.{Step}
 use Rattle.reorder.specs.declared.ready.Step.TheVariants as steps
-use Rattle.reorder.specs.Settled.{AreLentIn}
-use Rattle.reorder.specs.Taking.{ReorderState}
 use Rattle.sender.specs.Published.{published_changes}
 use Rattle.sender.specs.declared.waiting.Waiting.{Waiting}
 

@@ -1,6 +1,6 @@
 use Rattle.std.proofs.Common.{◌<◌, ◌-◌, drop, length, take, arith}
 use Rattle.std.proofs.lemmas.List.{take_rest}
-use Rattle.sender.proofs.Moving.{Drained, drained_all, drained_more, drained_same, put_end}
+use Rattle.sender.proofs.Moving.{drained_all, drained_more, drained_same, put_end}
 use Rattle.sender.proofs.outgoing.Outgoing.drain.Goals as goal
 
 pub loop-count-preserved : goal.loop-count-preserved

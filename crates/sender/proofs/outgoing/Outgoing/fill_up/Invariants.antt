@@ -1,5 +1,5 @@
 use Rattle.std.proofs.Common.{◌≡◌, ◌<◌, ◌-◌, length}
-use Rattle.sender.specs.Outgoing.{HoldsSame, IsFilled}
+use Rattle.sender.specs.Outgoing.{HoldsSame}
 use Rattle.sender.proofs.outgoing.Outgoing.fill_up.Given as goal
 
 abbrev pub invariant-loop-self : goal.invariant-loop-self

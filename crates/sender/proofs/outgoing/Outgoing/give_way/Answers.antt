@@ -1,4 +1,4 @@
-use Rattle.std.proofs.Common.{◌<◌, length, arith, rules}
+use Rattle.std.proofs.Common.{◌<◌, length, arith}
 use Rattle.sender.proofs.Moving.{falls}
 use Rattle.sender.proofs.outgoing.Outgoing.give_way.Goals as goal
 

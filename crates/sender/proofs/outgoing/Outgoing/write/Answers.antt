@@ -1,6 +1,6 @@
 use Rattle.std.proofs.Common.{◌≡◌, ◌+◌, [], refl, sym, subst, ◌∙◌, arith}
 use Rattle.std.proofs.lemmas.List.{drop_all}
-use Rattle.sender.proofs.Moving.{Written, written_front, written_more, written_same}
+use Rattle.sender.proofs.Moving.{written_front, written_more, written_same}
 use Rattle.sender.proofs.outgoing.Outgoing.write.Goals as goal
 
 pub returns-in_err-written-clause-given : goal.returns-in_err-written-clause-given

@@ -1,15 +1,11 @@
-use Rattle.std.proofs.Common.{◌≡◌, ◌⊎◌, ⊎_elim, inl, inr, Err, [], List, ap, refl, sym, subst, ◌∙◌}
+use Rattle.std.proofs.Common.{◌≡◌, Err, ap, refl, sym, subst, ◌∙◌}
 use Rattle.std.specs.Int.{w64}
 use Rattle.std.proofs.lemmas.Int.{to_z-of_z}
 use Rattle.wal.specs.declared.record.Record.{Record}
-use Rattle.reorder.specs.Chunks.{LeavesNoRoom}
-use Rattle.reorder.specs.Ready.{ReadyState}
 use Rattle.reorder.specs.Settled.{LeavesNoRoomBeside, lent_chunks}
 use Rattle.reorder.specs.Taking.{MayCome, Takes, readied}
 use Rattle.reorder.specs.declared.fault.ReorderFault.{ReorderFault}
-use Rattle.sender.specs.Outgoing.{HasFreeChunk}
 use Rattle.sender.specs.Waiting.{readies}
-use Rattle.sender.specs.declared.waiting.Waiting.{Waiting}
 use Rattle.sender.proofs.GivingWay.{lacks_room_alone, read_behind, tidy_then}
 use Rattle.sender.proofs.Lent.{keeps_lent}
 use Rattle.sender.proofs.Noting.{on_err}
