@@ -54,7 +54,7 @@ fn drain_all<R: Abort>(rt: &R, alloc: Global, sender: &mut Sender) -> Result<Vec
     let mut bytes = Vec::with_capacity(alloc, LENGTH)?;
     let mut byte = [0];
     for moved in 0..LENGTH {
-        let lacks_one = sender.free_chunks() + 1 == CHUNKS;
+        let lacks_one = sender.free_chunks() == CHUNKS - 1;
         assert!(rt; lacks_one || moved > WITH_CHANGE);
         let count = sender.drain(&mut byte);
         assert!(rt; count == 1);
