@@ -1,8 +1,10 @@
 -- Which conditions make sense over the columns of a table: what may be compared, and what is true or false.
 use Rattle.std.specs.Prelude.{◌≡◌, ℕ, nat_lt, Bool, true, false, ◌&&◌, List, Option, Some, None, option_map, option_and_then, slice_get, if◌then◌else◌}
 use Rattle.tables.specs.declared.column.Column.{Column as TableColumn}
-use Rattle.tables.specs.declared.kind.Kind.TheVariants as kinds
-use Rattle.tables.specs.declared.kind.Kind.{Kind}
+use Rattle.tables.specs.declared.kinds.Kind.TheVariants as kinds
+use Rattle.tables.specs.declared.kinds.Kind.{Kind}
+use Rattle.tables.specs.declared.kinds.Value.{Value}
+use Rattle.tables.specs.declared.kinds.Value.TheVariants as values
 use Rattle.conditions.specs.declared.sort.Sort.{Sort}
 use Rattle.conditions.specs.declared.sort.Sort.TheVariants.{Any, Truths, Numbers, Texts}
 use Rattle.conditions.specs.declared.question.Question.{Question}
@@ -16,6 +18,15 @@ sort_of_kind kinds.Int2 = Numbers
 sort_of_kind kinds.Int4 = Numbers
 sort_of_kind kinds.Int8 = Numbers
 sort_of_kind kinds.Text = Texts
+
+-- a value as conditions see it
+abbrev pub datum_of : Value → Datum
+datum_of values.Null = Missing
+datum_of (values.Bool b) = Flag b
+datum_of (values.Int2 n) = Number n
+datum_of (values.Int4 n) = Number n
+datum_of (values.Int8 n) = Number n
+datum_of (values.Text text) = Bytes text
 
 abbrev pub sort_of_datum : Datum → Sort
 sort_of_datum Missing = Any

@@ -3,14 +3,14 @@ use Rattle.std.specs.Prelude.{Bool, true, false, not, List, Option, Some, None, 
 use Rattle.std.specs.declared.cmp.Ordering.{Ordering}
 use Rattle.std.specs.Ordering.{nat_cmp, int_cmp, bool_cmp, is_eq, is_ne, is_lt, is_gt, is_le, is_ge}
 use Rattle.std.specs.Cmp.Lexicographic.{slice_cmp}
-use Rattle.tables.specs.declared.value.Value.{Value}
-use Rattle.tables.specs.declared.value.Value.TheVariants as values
+use Rattle.tables.specs.declared.kinds.Value.{Value}
 use Rattle.conditions.specs.declared.truth.Truth.{Truth}
 use Rattle.conditions.specs.declared.truth.Truth.TheVariants.{True, False, Unknown}
 use Rattle.conditions.specs.declared.comparison.Comparison.{Comparison}
 use Rattle.conditions.specs.declared.comparison.Comparison.TheVariants.{Equal, NotEqual, Less, Greater, LessOrEqual, GreaterOrEqual}
 use Rattle.conditions.specs.declared.question.Question.{Question}
 use Rattle.conditions.specs.declared.question.Question.TheVariants as questions
+use Rattle.conditions.specs.Kinds.{datum_of}
 use Rattle.conditions.specs.Conditions.{Datum, Missing, Flag, Number, Bytes, Condition, Column, Literal, Compare, Is, Not, And, Or}
 
 -- ---- three values
@@ -40,14 +40,6 @@ is_true True = true
 is_true _ = false
 
 -- ---- values
-
-abbrev pub datum_of : Value → Datum
-datum_of values.Null = Missing
-datum_of (values.Bool b) = Flag b
-datum_of (values.Int2 n) = Number n
-datum_of (values.Int4 n) = Number n
-datum_of (values.Int8 n) = Number n
-datum_of (values.Text text) = Bytes text
 
 abbrev pub datum_of_truth : Truth → Datum
 datum_of_truth True = Flag true

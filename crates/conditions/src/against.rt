@@ -1,12 +1,13 @@
 //! A column of a row against a literal, as most comparisons have it.
 
 ghost use Rattle.std.specs.Prelude.{◌≡◌, slice_get};
-ghost use Rattle.conditions.specs.Conditions.{Bytes, Number};
 ghost use Rattle.conditions.specs.Shapes.{literal_datum};
-ghost use Rattle.tables.specs.Refs.{value_of};
-ghost use Rattle.conditions.specs.Truth.{compared, datum_at, datum_of};
+ghost use Rattle.tables.specs.Kinds.{value_of};
+ghost use Rattle.conditions.specs.Kinds.{datum_of};
+ghost use Rattle.conditions.specs.Truth.{compared, datum_at};
 
 use crate::comparison::Comparison;
+use crate::kinds::{number_against, text_against};
 use crate::literal::Literal;
 use crate::operand::Operand;
 use crate::truth::Truth;
@@ -37,25 +38,5 @@ fn value_against(how: Comparison, value: ValueRef<'_>, literal: &Literal) -> Tru
         Literal::Null | Literal::Bool(_) => {
             Operand::of_value(value).compared(how, Operand::of_literal(literal))
         }
-    }
-}
-
-fn number_against(how: Comparison, value: ValueRef<'_>, number: i64) -> Truth
-    ensures { result ≡ compared how (datum_of (value_of value.entry)) (Number number) }
-{
-    match value {
-        ValueRef::Int2(n) => Truth::of(how.holds(i64::from(n).cmp(&number))),
-        ValueRef::Int4(n) => Truth::of(how.holds(i64::from(n).cmp(&number))),
-        ValueRef::Int8(n) => Truth::of(how.holds(n.cmp(&number))),
-        _ => Truth::Unknown,
-    }
-}
-
-fn text_against(how: Comparison, value: ValueRef<'_>, text: &[u8]) -> Truth
-    ensures { result ≡ compared how (datum_of (value_of value.entry)) (Bytes text.now) }
-{
-    match value {
-        ValueRef::Text(value) => Truth::of(how.holds(value.cmp(text))),
-        _ => Truth::Unknown,
     }
 }

@@ -7,6 +7,7 @@ mod comparison;
 mod expression;
 mod fault;
 mod joint;
+mod kinds;
 mod lexer;
 mod literal;
 mod number;

@@ -1,8 +1,7 @@
 //! What an operand of a condition is in a row.
 
 ghost use Rattle.std.specs.Prelude.{◌≡◌, option_map};
-ghost use Rattle.tables.specs.Refs.{value_of};
-ghost use Rattle.conditions.specs.Truth.{asked, compared, datum_of, datum_of_truth, ordering_of, truth_of};
+ghost use Rattle.conditions.specs.Truth.{asked, compared, datum_of_truth, ordering_of, truth_of};
 ghost use Rattle.conditions.specs.Shapes.{literal_datum, seen};
 
 use crate::comparison::Comparison;
@@ -10,7 +9,6 @@ use crate::literal::Literal;
 use crate::question::Question;
 use crate::truth::Truth;
 use std::cmp::Ordering;
-use tables::ValueRef;
 
 /// A value as conditions see it: numbers of all widths are alike, and a text is lent. Unknown is null.
 #[derive(Clone, Copy)]
@@ -22,19 +20,6 @@ pub(crate) enum Operand<'a> {
 }
 
 impl<'a> Operand<'a> {
-    pub(crate) fn of_value(value: ValueRef<'a>) -> Operand<'a>
-        ensures { seen result ≡ datum_of (value_of value.entry) }
-    {
-        match value {
-            ValueRef::Null => Operand::Null,
-            ValueRef::Bool(b) => Operand::Bool(b),
-            ValueRef::Int2(n) => Operand::Number(i64::from(n)),
-            ValueRef::Int4(n) => Operand::Number(i64::from(n)),
-            ValueRef::Int8(n) => Operand::Number(n),
-            ValueRef::Text(text) => Operand::Text(text),
-        }
-    }
-
     pub(crate) fn of_literal(literal: &'a Literal) -> Operand<'a>
         ensures { seen result ≡ literal_datum literal.now }
     {

@@ -1,12 +1,11 @@
 //! Which values can be compared, and which are true or false.
 
 ghost use Rattle.std.specs.Prelude.{◌≡◌, ◌&&◌};
-ghost use Rattle.conditions.specs.Kinds.{are_compared, is_asked, is_truth, of_one, of_two, sort_of_datum, sort_of_kind, truths_if};
+ghost use Rattle.conditions.specs.Kinds.{are_compared, is_asked, is_truth, of_one, of_two, sort_of_datum, truths_if};
 ghost use Rattle.conditions.specs.Shapes.{literal_datum};
 
 use crate::literal::Literal;
 use crate::question::Question;
-use tables::Kind;
 
 /// The kind of an operand. Numbers of all widths are one; null is of any.
 #[derive(Clone, Copy)]
@@ -18,16 +17,6 @@ pub enum Sort {
 }
 
 impl Sort {
-    pub(crate) fn of_kind(kind: Kind) -> Sort
-        ensures { result ≡ sort_of_kind kind }
-    {
-        match kind {
-            Kind::Bool => Sort::Truths,
-            Kind::Int2 | Kind::Int4 | Kind::Int8 => Sort::Numbers,
-            Kind::Text => Sort::Texts,
-        }
-    }
-
     pub(crate) fn of_literal(literal: &Literal) -> Sort
         ensures { result ≡ sort_of_datum (literal_datum literal.now) }
     {

@@ -27,7 +27,7 @@ pub use logical::{
     Logical, a_message_is_its_fields, no_message_goes_on, no_message_has_two_spellings,
     read_logical, write_logical,
 };
-pub use message::{MESSAGE, Message, NOT_TRANSACTIONAL, TRANSACTIONAL};
+pub use message::{MESSAGE, Message, NOT_TRANSACTIONAL, TRANSACTIONAL, message_flags};
 pub use old_tuple::{KEY, OLD, OldTuple};
 pub use relation::{
     Column, IDENTITY_DEFAULT, IDENTITY_FULL, IDENTITY_INDEX, IDENTITY_NOTHING, Identity, KEY_FLAG,

@@ -67,7 +67,7 @@ pub(crate) fn put_message(out: &mut BytesMut, told: &Message) -> Result<(), Allo
     requires { HasShortContent told.now }
     ensures { Puts result out.old.items out.new.items (message told.now) }
 {
-    put_byte(out, flags_of(told.is_transactional))?;
+    put_byte(out, message_flags(told.is_transactional))?;
     put_int64(out, told.position)?;
     put_string(out, told.prefix.as_str())?;
     put_int32(out, told.content.len() as u32)?;
@@ -75,7 +75,8 @@ pub(crate) fn put_message(out: &mut BytesMut, told: &Message) -> Result<(), Allo
     Ok(())
 }
 
-fn flags_of(is_transactional: bool) -> u8
+/// The flags that say whether a message belongs to a transaction.
+pub fn message_flags(is_transactional: bool) -> u8
     ensures { result ≡ message_flags is_transactional }
 {
     if is_transactional {

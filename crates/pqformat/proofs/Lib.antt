@@ -3,3 +3,4 @@ pub mod Loop
 pub mod Numbers
 pub mod Putting
 pub mod Texts
+pub mod Writing

@@ -1,3 +1,4 @@
 pub mod Fields
 pub mod Putting
 pub mod Steps
+pub mod Writing

@@ -1,39 +1,20 @@
 -- How long a message of a change is at most: its tuples are hardly longer than the rows in the log.
 use Rattle.std.proofs.Common.{◌≡◌, ℕ, ◌+◌, ◌*◌, ◌≤◌, Bool, true, false, cond, List, [], ◌∷◌, length, ap, ◌∙◌, arith}
-use Rattle.std.specs.Prelude.{codes}
 use Rattle.std.specs.List.{flat_map, AllByRecursion}
-use Rattle.std.specs.Int.{w16, w32, w64, cast_unsigned}
-use Rattle.std.specs.Fmt.{signed_decimal}
-use Rattle.std.proofs.lemmas.Fmt.{length_signed_le}
 use Rattle.std.proofs.lemmas.List.{length-append}
 use Rattle.std.proofs.lemmas.List.Concat.{flat_map-cons}
-use Rattle.pqformat.specs.Fields.{int16, int32}
-use Rattle.pqformat.proofs.Numbers.{length-int16, length-int32, length-int64}
+use Rattle.pqformat.specs.Fields.{int16}
+use Rattle.pqformat.proofs.Numbers.{length-int16}
 use Rattle.pgoutput.specs.declared.tuple.Cell.{Cell}
 use Rattle.pgoutput.specs.declared.tuple.Cell.TheVariants as cells
 use Rattle.pgoutput.specs.Tuple.{cell, tuple}
 use Rattle.tables.specs.declared.column.Column.{Column}
-use Rattle.tables.specs.declared.value.Value.{Value}
-use Rattle.tables.specs.declared.value.Value.TheVariants as values
-use Rattle.tables.specs.Spelling.{row_length, spell_value}
-use Rattle.tables.specs.Tables.{IsValue}
-use Rattle.publication.specs.Tuples.{cell_behind, cell_of, key_tuple_of, tuple_behind, tuple_of}
-
--- a cell is at most 16 bytes longer than the value in the log
-cell_near : (v : Value) → IsValue v → length (cell (cell_of v)) ≤ 16 + length (spell_value v)
-cell_near values.Null in_range = omega arith
-cell_near (values.Bool true) in_range = omega (arith, length-append (int32 1) (codes "t"), length-int32 1)
-cell_near (values.Bool false) in_range = omega (arith, length-append (int32 1) (codes "f"), length-int32 1)
-cell_near (values.Int2 z) in_range =
-    let six : length (signed_decimal z) ≤ 6 = length_signed_le 5 z (omega (arith, in_range.sfits)) (omega (arith, in_range.sfits)) in
-    omega (arith, six, length-append (int32 (length (signed_decimal z))) (signed_decimal z), length-int32 (length (signed_decimal z)), length-int16 (cast_unsigned w16 z))
-cell_near (values.Int4 z) in_range =
-    let eleven : length (signed_decimal z) ≤ 11 = length_signed_le 10 z (omega (arith, in_range.sfits)) (omega (arith, in_range.sfits)) in
-    omega (arith, eleven, length-append (int32 (length (signed_decimal z))) (signed_decimal z), length-int32 (length (signed_decimal z)), length-int32 (cast_unsigned w32 z))
-cell_near (values.Int8 z) in_range =
-    let twenty : length (signed_decimal z) ≤ 20 = length_signed_le 19 z (omega (arith, in_range.sfits)) in_range.sfits in
-    omega (arith, twenty, length-append (int32 (length (signed_decimal z))) (signed_decimal z), length-int32 (length (signed_decimal z)), length-int64 (cast_unsigned w64 z))
-cell_near (values.Text text) in_range = omega (arith, length-append (int32 (length text)) text, length-int32 (length text))
+use Rattle.tables.specs.declared.kinds.Value.{Value}
+use Rattle.tables.specs.Kinds.{IsValue, spell_value}
+use Rattle.tables.specs.Spelling.{row_length}
+use Rattle.publication.specs.Kinds.{cell_of}
+use Rattle.publication.specs.Tuples.{cell_behind, key_tuple_of, tuple_behind, tuple_of}
+use Rattle.publication.proofs.Values.{cell_near}
 
 told : (c : Cell) (cs : List Cell) → length (flat_map cell (c ∷ cs)) ≡ length (cell c) + length (flat_map cell cs)
 told c cs = ap length (flat_map-cons cell c cs) ∙ length-append (cell c) (flat_map cell cs)

@@ -7,7 +7,8 @@ use Rattle.pqformat.specs.Fields.{has_zero}
 use Rattle.pgoutput.specs.Relation.{FitsName}
 use Rattle.tables.specs.declared.column.Column.{Column}
 use Rattle.tables.specs.declared.table.Table.{Table}
-use Rattle.tables.specs.Tables.{IsName, IsTable, has_no_zero}
+use Rattle.tables.specs.Kinds.{has_no_zero}
+use Rattle.tables.specs.Tables.{IsName, IsTable}
 use Rattle.publication.specs.Selection.{FitsTable}
 use Rattle.publication.proofs.Rows.{both_true}
 

@@ -10,16 +10,18 @@ use Rattle.pqformat.specs.Fields.{int16}
 use Rattle.pqformat.proofs.Numbers.{length-int16}
 use Rattle.tables.specs.declared.column.Column.{Column}
 use Rattle.tables.specs.declared.table.Table.{Table}
-use Rattle.tables.specs.declared.value.Value.{Value}
+use Rattle.tables.specs.declared.kinds.Value.{Value}
 use Rattle.tables.specs.declared.row.TheConstants.{MAX_ROW_LENGTH}
-use Rattle.tables.specs.Spelling.{row_length, spell_value}
+use Rattle.tables.specs.Kinds.{spell_value}
+use Rattle.tables.specs.Spelling.{row_length}
 use Rattle.tables.specs.Tables.{fits_column, fits_table}
 use Rattle.pgoutput.specs.Relation.{FitsName}
 use Rattle.publication_config.specs.Published.{is_listed}
 use Rattle.publication.specs.Selection.{chosen, narrowed, FitsTable}
 use Rattle.pgoutput.specs.declared.tuple.Cell.{Cell}
 use Rattle.pgoutput.specs.declared.tuple.Cell.TheVariants as cells
-use Rattle.publication.specs.Tuples.{cell_behind, cell_of, changes_key, same_value}
+use Rattle.publication.specs.Kinds.{cell_of, same_value}
+use Rattle.publication.specs.Tuples.{cell_behind, changes_key}
 use Rattle.publication.specs.Projection.{stands_in}
 use Rattle.publication.proofs.Rows.{both_true}
 

@@ -5,7 +5,7 @@ use Rattle.pqformat.specs.Fields.{number_at}
 use Rattle.pqformat.specs.Steps.{◌>>=◌}
 use Rattle.tables.specs.declared.fault.BodyFault.{BodyFault}
 use Rattle.tables.specs.declared.fault.BodyFault.TheVariants.{Trailing}
-use Rattle.tables.specs.declared.value.Value.{Value}
+use Rattle.tables.specs.declared.kinds.Value.{Value}
 use Rattle.std.specs.Prelude.{IfSome}
 use Rattle.tables.specs.declared.change.Change.{Change}
 use Rattle.tables.specs.declared.change.Change.TheVariants as changes

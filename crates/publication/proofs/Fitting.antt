@@ -15,13 +15,14 @@ use Rattle.pgoutput.specs.declared.old_tuple.OldTuple.TheVariants as olds
 use Rattle.pgoutput.specs.Tuple.{tuple}
 use Rattle.pgoutput.specs.OldTuple.{cells_of, old_tuple}
 use Rattle.tables.specs.declared.row.TheConstants.{MAX_ROW_LENGTH}
-use Rattle.tables.specs.declared.value.Value.{Value}
+use Rattle.tables.specs.declared.kinds.Value.{Value}
 use Rattle.tables.specs.declared.table.Table.{Table}
 use Rattle.tables.specs.declared.change.Change.{Change}
 use Rattle.tables.specs.declared.change.Change.TheVariants as changes
 use Rattle.tables.specs.declared.change_body.TheConstants.{MAX_TRUNCATED}
 use Rattle.tables.specs.Tables.{repeats}
-use Rattle.tables.specs.Tables.{table_of, IsValue}
+use Rattle.tables.specs.Kinds.{IsValue}
+use Rattle.tables.specs.Tables.{table_of}
 use Rattle.stream.specs.Items.{FitsRelationOf}
 use Rattle.publication_config.specs.declared.operations.Operation.{Operation}
 use Rattle.publication_config.specs.declared.operations.Operation.TheVariants.{Insert, Update, Delete, Truncate}

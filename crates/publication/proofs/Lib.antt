@@ -9,6 +9,7 @@ pub mod Relations
 pub mod Repeats
 pub mod Rows
 pub mod Standing
+pub mod Values
 pub mod Worked
 pub mod Written
 pub mod RelationParts

@@ -14,12 +14,14 @@ use Rattle.tables.specs.declared.message.TheConstants.{MAX_PREFIX_LENGTH, MAX_CO
 use Rattle.tables.specs.declared.message.Message.{Message}
 use Rattle.tables.specs.declared.change.Change.{Change}
 use Rattle.tables.specs.declared.change.Change.TheVariants as changes
-use Rattle.tables.specs.Tables.{has_no_zero, is_prefix}
+use Rattle.tables.specs.Kinds.{has_no_zero}
+use Rattle.tables.specs.Tables.{is_prefix}
 use Rattle.publication_config.specs.Published.{PublicationSet}
 use Rattle.publication.specs.Logged.{IsNoteAt, change_message, fits_log, logged, note_message, told_of}
 use Rattle.publication.specs.Projection.{AreValues, MessageFits}
 use Rattle.publication.specs.Selection.{FitTables}
-use Rattle.publication.specs.Spelling.{FitsRoom, HasRoom}
+use Rattle.pqformat.specs.Writing.{FitsRoom}
+use Rattle.publication.specs.Spelling.{HasRoom}
 use Rattle.publication.proofs.Catalogued.{no_zero}
 use Rattle.publication.proofs.Fitting.{message_fits}
 use Rattle.publication.proofs.Rows.{both_true}

@@ -6,7 +6,6 @@ use Rattle.std.specs.Int.{w32, cast_unsigned}
 use Rattle.std.proofs.lemmas.List.{length-append, length-map}
 use Rattle.std.proofs.lemmas.List.Concat.{flat_map-cons}
 use Rattle.pqformat.specs.Fields.{int16, int32, string}
-use Rattle.pqformat.proofs.Numbers.{length-int32}
 use Rattle.pgoutput.specs.Relation.{FitsName, column, identity_letter, key_flag}
 use Rattle.pgoutput.specs.Logical.{spell_logical}
 use Rattle.pgoutput.specs.declared.logical.Logical.TheVariants as logical
@@ -16,9 +15,11 @@ use Rattle.tables.specs.declared.identity.Identity.{Identity}
 use Rattle.tables.specs.declared.table.Table.{Table}
 use Rattle.publication_config.specs.Published.{is_identity, is_listed}
 use Rattle.publication.specs.declared.relation.TheConstants.{NO_MODIFIER}
-use Rattle.publication.specs.Selection.{chosen, identity_of, narrowed, relation_column, relation_of, type_oid}
-use Rattle.publication.specs.Spelling.{Writes}
-use Rattle.publication.proofs.Written.{length_front, off, on, past, then}
+use Rattle.publication.specs.Kinds.{type_oid}
+use Rattle.publication.specs.Selection.{chosen, identity_of, narrowed, relation_column, relation_of}
+use Rattle.pqformat.specs.Writing.{Writes}
+use Rattle.pqformat.proofs.Writing.{length_front, then}
+use Rattle.publication.proofs.Written.{off, on, past}
 
 -- what is to be told from a column on
 abbrev pub columns_from : Identity → List Bool → List Column → ℕ → List ℕ

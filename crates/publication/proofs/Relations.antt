@@ -1,5 +1,5 @@
 -- A table that is found, and its Relation, which fits its fields and a frame.
-use Rattle.std.proofs.Common.{◌≡◌, ℕ, negsuc, ◌+◌, ◌*◌, ◌^◌, ◌<◌, ◌≤◌, Bool, true, false, cond, eqb, List, [], ◌∷◌, ◌++◌, length, map, Option, Some, None, refl, sym, ap, subst, ◌∙◌, arith}
+use Rattle.std.proofs.Common.{◌≡◌, ℕ, negsuc, ◌+◌, ◌*◌, ◌≤◌, Bool, true, false, cond, eqb, List, [], ◌∷◌, ◌++◌, length, map, Option, Some, None, refl, sym, ap, subst, ◌∙◌, arith}
 use Rattle.std.specs.Prelude.{FitsSigned, IfSome}
 use Rattle.std.specs.Borrow.{Bor}
 use Rattle.std.specs.Option.{option_copied}
@@ -13,15 +13,14 @@ use Rattle.pqformat.proofs.Numbers.{length-int16, length-int32}
 use Rattle.pgoutput.specs.declared.logical.Logical.TheVariants as logical
 use Rattle.pgoutput.specs.Relation.{column, identity_letter, FitsName, FitsColumn}
 use Rattle.pgoutput.specs.Logical.{FitsLogical}
-use Rattle.tables.specs.declared.kind.Kind.{Kind}
-use Rattle.tables.specs.declared.kind.Kind.TheVariants as kinds
 use Rattle.tables.specs.declared.identity.Identity.{Identity}
 use Rattle.tables.specs.declared.column.Column.{Column}
 use Rattle.tables.specs.declared.table.Table.{Table}
 use Rattle.tables.specs.Tables.{table_of}
 use Rattle.stream.specs.Items.{IsShortMessage, FitsRelationOf}
 use Rattle.publication_config.specs.Published.{PublicationSet}
-use Rattle.publication.specs.Selection.{relation, relation_of, relation_column, selected_table, type_oid, FitsTable, FitTables}
+use Rattle.publication.specs.Selection.{relation, relation_of, relation_column, selected_table, FitsTable, FitTables}
+use Rattle.publication.proofs.Values.{type_fits}
 
 pub some_is : {A : Type 0} (x y : A) → Some x ≡ Some y → x ≡ y
 some_is x y e = cc
@@ -48,13 +47,6 @@ name_length name = length-append name (0 ∷ [])
 record ColumnsFit (identity : Identity) (cs : List Column) : Type 0 where
   fits : AllByRecursion FitsColumn (map (relation_column identity) cs)
   short : length (flat_map column (map (relation_column identity) cs)) ≤ 73 * length cs
-
-type_fits : (k : Kind) → type_oid k < 2 ^ 32
-type_fits kinds.Bool = omega arith
-type_fits kinds.Int2 = omega arith
-type_fits kinds.Int4 = omega arith
-type_fits kinds.Int8 = omega arith
-type_fits kinds.Text = omega arith
 
 no_modifier : FitsSigned w32 (negsuc 0)
 no_modifier = record { sfits = omega arith }

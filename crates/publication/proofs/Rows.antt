@@ -1,17 +1,12 @@
 -- The cells of a row and the tuples that are made of it fit their fields, with as many cells as the table has columns.
-use Rattle.std.proofs.Common.{◌≡◌, ℕ, ℤ, zero, suc, ◌+◌, ◌*◌, ◌≤◌, Bool, true, false, cond, eqb, leb, ltb, List, [], ◌∷◌, ◌++◌, length, map, Option, Some, None, refl, sym, ap, ◌∙◌, arith}
-use Rattle.std.specs.Prelude.{FitsSigned, ◌&&◌, codes}
-use Rattle.std.specs.List.{flat_map, list_all, AllByRecursion}
-use Rattle.std.specs.Int.{w16, w32, w64, cast_unsigned}
-use Rattle.std.specs.Str.{IsAscii, is_utf8}
-use Rattle.std.specs.Fmt.{signed_decimal}
-use Rattle.std.proofs.lemmas.Str.{IsUtf8-from_ascii, is_utf8-from_IsUtf8}
-use Rattle.std.proofs.lemmas.Fmt.{IsAscii-signed, length_signed_le}
-use Rattle.std.proofs.lemmas.Bool.{eqb-true, leb-true, ltb-true}
+use Rattle.std.proofs.Common.{◌≡◌, ℕ, suc, ◌+◌, ◌*◌, ◌≤◌, Bool, true, false, cond, eqb, leb, List, [], ◌∷◌, length, map, Option, Some, None, refl, sym, ap, ◌∙◌, arith}
+use Rattle.std.specs.Prelude.{◌&&◌}
+use Rattle.std.specs.List.{flat_map, AllByRecursion}
+use Rattle.std.proofs.lemmas.Bool.{eqb-true, leb-true}
 use Rattle.std.proofs.lemmas.List.{length-append, length-map}
 use Rattle.std.proofs.lemmas.List.Concat.{flat_map-cons}
-use Rattle.pqformat.specs.Fields.{int16, int32}
-use Rattle.pqformat.proofs.Numbers.{length-int16, length-int32, length-int64}
+use Rattle.pqformat.specs.Fields.{int16}
+use Rattle.pqformat.proofs.Numbers.{length-int16}
 use Rattle.pgoutput.specs.declared.tuple.Cell.{Cell}
 use Rattle.pgoutput.specs.declared.tuple.Cell.TheVariants as cells
 use Rattle.pgoutput.specs.declared.old_tuple.OldTuple.{OldTuple}
@@ -21,14 +16,17 @@ use Rattle.tables.specs.declared.row.TheConstants.{MAX_ROW_LENGTH}
 use Rattle.tables.specs.declared.identity.Identity.{Identity}
 use Rattle.tables.specs.declared.identity.Identity.TheVariants as identities
 use Rattle.tables.specs.declared.column.Column.{Column}
-use Rattle.tables.specs.declared.value.Value.{Value}
-use Rattle.tables.specs.declared.value.Value.TheVariants as values
+use Rattle.tables.specs.declared.kinds.Value.{Value}
 use Rattle.tables.specs.declared.table.Table.{Table}
-use Rattle.tables.specs.Spelling.{spell_value, row_length}
-use Rattle.tables.specs.Tables.{fits_table, IsValue}
+use Rattle.tables.specs.Kinds.{IsValue, spell_value}
+use Rattle.tables.specs.Spelling.{row_length}
+use Rattle.tables.specs.Tables.{fits_table}
 use Rattle.publication.specs.Selection.{FitsTable}
-use Rattle.publication.specs.Tuples.{cell_behind, cell_of, changes_key, is_long, key_tuple_of, old_by, replaced_by, same_value, tuple_behind, tuple_of}
+use Rattle.publication.specs.Kinds.{cell_of, is_long, same_value}
+use Rattle.publication.specs.Tuples.{cell_behind, changes_key, key_tuple_of, old_by, replaced_by, tuple_behind, tuple_of}
 use Rattle.publication.specs.Projection.{stands, stands_in}
+use Rattle.tables.proofs.Values.{some_byte}
+use Rattle.publication.proofs.Values.{cell_fits, sent_cell}
 
 pub both_true : (a b : Bool) → (a && b) ≡ true → (a ≡ true) × (b ≡ true)
 both_true true b e = (refl, e)
@@ -36,60 +34,10 @@ both_true false b e = absurd cc
 
 -- ---- the cells of a row
 
-decimal_text : (z : ℤ) → FitsSigned w64 z → (length (signed_decimal z) ≤ 20) × (is_utf8 (signed_decimal z) ≡ true)
-decimal_text z fits =
-    (length_signed_le 19 z (omega (arith, fits.sfits)) fits.sfits, is_utf8-from_IsUtf8 (signed_decimal z) (IsUtf8-from_ascii (signed_decimal z) (IsAscii-signed z fits.sfits)))
-
--- a cell fits, and is at most four times as long as the value in the log
-record CellFits (v : Value) : Type 0 where
-  fits : FitsCell (cell_of v)
-  short : length (cell (cell_of v)) ≤ 4 * length (spell_value v)
-
-ascii_at : (text : List ℕ) → list_all (λ b. ltb b 128) text ≡ true → IsAscii text
-ascii_at [] test i = omega arith
-ascii_at (b ∷ text) test zero = ltb-true b 128 (both_true (ltb b 128) (list_all (λ b. ltb b 128) text) test).0
-ascii_at (b ∷ text) test (suc i) = ascii_at text (both_true (ltb b 128) (list_all (λ b. ltb b 128) text) test).1 i
-
-ascii_fits : (text : List ℕ) → list_all (λ b. ltb b 128) text ≡ true → is_utf8 text ≡ true
-ascii_fits text test = is_utf8-from_IsUtf8 text (IsUtf8-from_ascii text (ascii_at text test))
-
-letter_fits : (b : Bool) → is_utf8 (cond b (codes "t") (codes "f")) ≡ true
-letter_fits true = ascii_fits (codes "t") refl
-letter_fits false = ascii_fits (codes "f") refl
-
-cell_fits : (v : Value) → IsValue v → length (spell_value v) ≤ MAX_ROW_LENGTH → CellFits v
-cell_fits values.Null in_range short = record { fits = tt; short = omega arith }
-cell_fits (values.Bool true) in_range short = record { fits = (omega arith, letter_fits true); short = omega (arith, length-append (int32 1) (codes "t"), length-int32 1) }
-cell_fits (values.Bool false) in_range short = record { fits = (omega arith, letter_fits false); short = omega (arith, length-append (int32 1) (codes "f"), length-int32 1) }
-cell_fits (values.Int2 z) in_range short =
-    let wide : FitsSigned w64 z = record { sfits = omega (arith, in_range.sfits) } in
-    let d = decimal_text z wide in
-    let six : length (signed_decimal z) ≤ 6 = length_signed_le 5 z (omega (arith, in_range.sfits)) (omega (arith, in_range.sfits)) in
-    record { fits = (omega (arith, d.0), d.1); short = omega (arith, six, length-append (int32 (length (signed_decimal z))) (signed_decimal z), length-int32 (length (signed_decimal z)), length-int16 (cast_unsigned w16 z)) }
-cell_fits (values.Int4 z) in_range short =
-    let wide : FitsSigned w64 z = record { sfits = omega (arith, in_range.sfits) } in
-    let d = decimal_text z wide in
-    let eleven : length (signed_decimal z) ≤ 11 = length_signed_le 10 z (omega (arith, in_range.sfits)) (omega (arith, in_range.sfits)) in
-    record { fits = (omega (arith, d.0), d.1); short = omega (arith, eleven, length-append (int32 (length (signed_decimal z))) (signed_decimal z), length-int32 (length (signed_decimal z)), length-int32 (cast_unsigned w32 z)) }
-cell_fits (values.Int8 z) in_range short =
-    let d = decimal_text z in_range in
-    record { fits = (omega (arith, d.0), d.1); short = omega (arith, d.0, length-append (int32 (length (signed_decimal z))) (signed_decimal z), length-int32 (length (signed_decimal z)), length-int64 (cast_unsigned w64 z)) }
-cell_fits (values.Text text) in_range short =
-    let len : length (int32 (length text) ++ text) ≡ 4 + length text = omega (arith, length-append (int32 (length text)) text, length-int32 (length text)) in
-    record { fits = (omega (arith, len, short), in_range); short = omega (arith, len) }
-
 -- a cell of a key, which is null where the column isn't in it
 record KeyCellFits (is_key : Bool) (v : Value) : Type 0 where
   fits : FitsCell (cond is_key (cell_of v) cells.Null)
   short : length (cell (cond is_key (cell_of v) cells.Null)) ≤ 4 * length (spell_value v)
-
-some_byte : (v : Value) → 1 ≤ length (spell_value v)
-some_byte values.Null = omega arith
-some_byte (values.Bool b) = omega arith
-some_byte (values.Int2 z) = omega arith
-some_byte (values.Int4 z) = omega arith
-some_byte (values.Int8 z) = omega arith
-some_byte (values.Text text) = omega arith
 
 key_cell_fits : (is_key : Bool) (v : Value) → IsValue v → length (spell_value v) ≤ MAX_ROW_LENGTH → KeyCellFits is_key v
 key_cell_fits true v in_range short = let f = cell_fits v in_range short in record { fits = f.fits; short = f.short }
@@ -141,14 +89,6 @@ behind_fits (o ∷ old) (v ∷ new) counts in_range short =
     record { count = ap suc others.count; fits = (first.fits, others.fits); short = omega (arith, spelled, told, first.short, others.short) }
 
 -- of a row that stands by itself every value is sent
-sent_cell : (v : Value) → FitsCell (cell_of v) → FitsSentCell (cell_of v)
-sent_cell values.Null fits = tt
-sent_cell (values.Bool b) fits = fits
-sent_cell (values.Int2 z) fits = fits
-sent_cell (values.Int4 z) fits = fits
-sent_cell (values.Int8 z) fits = fits
-sent_cell (values.Text text) fits = fits
-
 sent_cells : (row : List Value) → AllByRecursion FitsCell (map cell_of row) → AllByRecursion FitsSentCell (map cell_of row)
 sent_cells [] fits = tt
 sent_cells (v ∷ row) fits = (sent_cell v fits.0, sent_cells row fits.1)

@@ -19,18 +19,19 @@ use Rattle.pgoutput.specs.Logical.{spell_logical}
 use Rattle.pgoutput.specs.Tuple.{tuple}
 use Rattle.tables.specs.declared.row.TheConstants.{MAX_ROW_LENGTH}
 use Rattle.tables.specs.declared.table.Table.{Table}
-use Rattle.tables.specs.declared.value.Value.{Value}
-use Rattle.tables.specs.declared.value.Value.TheVariants as values
-use Rattle.tables.specs.Reading.{IsCoded, IsCodedValue, SpellsBody}
+use Rattle.tables.specs.declared.kinds.Value.{Value}
+use Rattle.tables.specs.Kinds.{IsCodedValue, IsValue}
+use Rattle.tables.specs.Reading.{IsCoded, SpellsBody}
 use Rattle.tables.specs.declared.change.Change.{Change}
 use Rattle.tables.specs.declared.change.Change.TheVariants as changes
 use Rattle.tables.specs.Refs.{IsLarge}
 use Rattle.tables.specs.Spelling.{row_length}
-use Rattle.tables.specs.Tables.{IsValue, fits_table, table_of}
+use Rattle.tables.specs.Tables.{fits_table, table_of}
 use Rattle.publication_config.specs.Published.{PublicationSet}
 use Rattle.publication.specs.Projection.{delete_message, insert_message, only_if, stands, stands_in, update_message, updated, AreValues, MessageFits}
 use Rattle.publication.specs.Selection.{FitTables, FitsTable, chosen, narrowed}
-use Rattle.publication.specs.Spelling.{FitsRoom, HasRoom, IsShortRow, IsWritten}
+use Rattle.pqformat.specs.Writing.{FitsRoom}
+use Rattle.publication.specs.Spelling.{HasRoom, IsShortRow, IsWritten}
 use Rattle.publication.specs.Tuples.{changes_key, key_tuple_of, old_by, replaced_by, tuple_behind, tuple_of}
 use Rattle.publication.proofs.Bounds.{behind_bound, key_bound, tuple_bound}
 use Rattle.publication.proofs.Choosing.{all_chosen, narrowed_stands}
@@ -39,6 +40,7 @@ use Rattle.publication.specs.Logged.{change_message}
 use Rattle.publication.proofs.LoggedMessages.{change_fits}
 use Rattle.publication.proofs.Rows.{both_true}
 use Rattle.publication.proofs.Written.{chosen_short}
+use Rattle.tables.proofs.Values.{value_is}
 
 some_is : {A : Type 0} (a b : A) → Some a ≡ Some b → a ≡ b
 some_is a b e = cc
@@ -81,15 +83,7 @@ nothing_if (Some m) false e = refl
 
 -- ---- rows that stand
 
-value_is : (v : Value) → IsCodedValue v → IsValue v
-value_is values.Null is = tt
-value_is (values.Bool b) is = tt
-value_is (values.Int2 n) is = is
-value_is (values.Int4 n) is = is
-value_is (values.Int8 n) is = is
-value_is (values.Text text) is = is.1
-
-pub values_are : (row : List Value) → AllByRecursion IsCodedValue row → AllByRecursion IsValue row
+values_are : (row : List Value) → AllByRecursion IsCodedValue row → AllByRecursion IsValue row
 values_are [] all = tt
 values_are (v ∷ row) all = (value_is v all.0, values_are row all.1)
 

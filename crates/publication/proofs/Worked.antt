@@ -10,9 +10,9 @@ use Rattle.pgoutput.specs.declared.tuple.Cell.TheVariants.{Null, Text}
 use Rattle.pgoutput.specs.declared.old_tuple.OldTuple.{OldTuple}
 use Rattle.pgoutput.specs.declared.old_tuple.OldTuple.TheVariants.{Key, Full}
 use Rattle.tables.specs.declared.identity.Identity.TheVariants as identities
-use Rattle.tables.specs.declared.kind.Kind.TheVariants as kinds
-use Rattle.tables.specs.declared.value.Value.{Value}
-use Rattle.tables.specs.declared.value.Value.TheVariants as values
+use Rattle.tables.specs.declared.kinds.Kind.TheVariants as kinds
+use Rattle.tables.specs.declared.kinds.Value.{Value}
+use Rattle.tables.specs.declared.kinds.Value.TheVariants as values
 use Rattle.tables.specs.declared.table.Table.{Table}
 use Rattle.tables.specs.declared.change.Change.TheVariants as changes
 use Rattle.tables.specs.Tables.{item_table, table_named}

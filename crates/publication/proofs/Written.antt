@@ -1,14 +1,15 @@
 -- Texts that are written one behind the other into a slice.
-use Rattle.std.proofs.Common.{◌≡◌, ℕ, zero, suc, ◌+◌, ◌^◌, ◌<◌, ◌≤◌, Bool, true, false, cond, List, [], ◌∷◌, ◌++◌, drop, get_or, length, map, take, Option, Some, None, refl, sym, ap, subst, ◌∙◌, append_assoc, append-nil, arith}
+use Rattle.std.proofs.Common.{◌≡◌, ℕ, suc, ◌+◌, ◌^◌, ◌<◌, ◌≤◌, Bool, true, false, cond, List, [], ◌∷◌, ◌++◌, drop, get_or, length, map, take, Option, Some, None, refl, sym, ap, subst, ◌∙◌, append_assoc, append-nil, arith}
 use Rattle.std.specs.List.{flat_map, list_any, zip}
 use Rattle.std.proofs.lemmas.List.{drop_all, get_or_default, length-append, length-map, length-take, take-append-le}
 use Rattle.std.proofs.lemmas.List.Concat.{flat_map-cons}
 use Rattle.std.specs.Prelude.{◌&&◌, ◌||◌, not}
 use Rattle.std.proofs.lemmas.Slice.Zip.{length-zip}
 use Rattle.tables.specs.declared.column.Column.{Column}
-use Rattle.tables.specs.declared.value.Value.{Value}
-use Rattle.tables.specs.declared.value.Value.TheVariants as values
-use Rattle.publication.specs.Tuples.{changes_key, old_by, same_value}
+use Rattle.tables.specs.declared.kinds.Value.{Value}
+use Rattle.tables.specs.declared.kinds.Value.TheVariants as values
+use Rattle.publication.specs.Kinds.{same_value}
+use Rattle.publication.specs.Tuples.{changes_key, old_by}
 use Rattle.std.specs.Option.{option_map}
 use Rattle.tables.specs.declared.table.Table.{Table}
 use Rattle.pgoutput.specs.declared.delete.TheConstants.{DELETE}
@@ -25,37 +26,10 @@ use Rattle.pgoutput.specs.declared.tuple.Cell.TheVariants as cells
 use Rattle.pgoutput.specs.Tuple.{cell, tuple}
 use Rattle.publication_config.specs.Published.{is_listed}
 use Rattle.publication.specs.Selection.{chosen}
-use Rattle.publication.specs.Spelling.{FitsRoom, IsPut, IsWritten, Writes}
+use Rattle.pqformat.specs.Writing.{FitsRoom, Writes}
+use Rattle.pqformat.proofs.Writing.{first, left, length_front}
+use Rattle.publication.specs.Spelling.{IsPut, IsWritten}
 use Rattle.publication.proofs.Choosing.{beside, next_by, none_left, paired, zip_chosen}
-
-pub length_front : (n : ℕ) (xs : List ℕ) → n ≤ length xs → length (take n xs) ≡ n
-length_front zero xs low = refl
-length_front (suc n) [] low = absurd (omega arith)
-length_front (suc n) (x ∷ xs) low = ap suc (length_front n xs (omega arith))
-
--- ---- one text behind the other
-
-pub then : (at middle to : ℕ) (old new last text more : List ℕ) → Writes at middle old new text → Writes middle to new last more → Writes at to old last (text ++ more)
-then at middle to old new last text more a b = record {
-  ends = omega (arith, a.ends, b.ends, length-append text more);
-  front = b.front ∙ ap (λ (l : List ℕ). l ++ more) a.front ∙ append_assoc (take at old) text more;
-  same = b.same ∙ a.same;
-}
-
--- there is room for what is left
-pub left : (at middle : ℕ) (old new text more : List ℕ) → Writes at middle old new text → FitsRoom at old (text ++ more) → FitsRoom middle new more
-left at middle old new text more a fits =
-    let size = length-append text more in
-    (omega (arith, a.ends, a.same, fits.0, size), omega (arith, a.same, fits.1))
-
--- and for the first
-pub first : (at : ℕ) (old text more : List ℕ) → FitsRoom at old (text ++ more) → FitsRoom at old text
-first at old text more fits =
-    let size = length-append text more in
-    (omega (arith, fits.0, size), fits.1)
-
-pub nothing : (at : ℕ) (old : List ℕ) → Writes at at old old []
-nothing at old = record { ends = omega arith; front = sym (append-nil (take at old)); same = refl }
 
 pub text_length : (text : List ℕ) → length (cell (cells.Text text)) ≡ 5 + length text
 text_length text = omega (arith, length-append (int32 (length text)) text, length-int32 (length text))

@@ -1,3 +1,4 @@
+pub mod Kinds
 pub mod Publications
 pub mod Selection
 pub mod Tuples

@@ -7,13 +7,14 @@ use Rattle.pgoutput.specs.declared.logical.Logical.TheVariants as logical
 use Rattle.pgoutput.specs.Logical.{FitsLogical}
 use Rattle.tables.specs.declared.row.TheConstants.{MAX_ROW_LENGTH}
 use Rattle.tables.specs.declared.change_body.TheConstants.{MAX_TRUNCATED}
-use Rattle.tables.specs.declared.value.Value.{Value}
+use Rattle.tables.specs.declared.kinds.Value.{Value}
 use Rattle.tables.specs.declared.table.Table.{Table}
 use Rattle.tables.specs.declared.change.Change.{Change}
 use Rattle.tables.specs.declared.change.Change.TheVariants as changes
 use Rattle.tables.specs.Spelling.{row_length}
 use Rattle.tables.specs.Tables.{repeats}
-use Rattle.tables.specs.Tables.{table_of, fits_table, IsValue}
+use Rattle.tables.specs.Kinds.{IsValue}
+use Rattle.tables.specs.Tables.{table_of, fits_table}
 use Rattle.stream.specs.Items.{tables_of, IsShortMessage, IsOfChange, FitsRelationOf}
 use Rattle.publication_config.specs.declared.operations.Operation.{Operation}
 use Rattle.publication_config.specs.declared.operations.Operation.TheVariants.{Insert, Update, Delete, Truncate}

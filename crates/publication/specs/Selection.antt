@@ -6,14 +6,13 @@ use Rattle.pgoutput.specs.declared.relation.Column.{Column as ToldColumn}
 use Rattle.pgoutput.specs.declared.relation.Identity.{Identity as ToldIdentity}
 use Rattle.pgoutput.specs.declared.relation.Identity.TheVariants as told
 use Rattle.pgoutput.specs.Relation.{FitsName}
-use Rattle.tables.specs.declared.kind.Kind.{Kind}
-use Rattle.tables.specs.declared.kind.Kind.TheVariants as kinds
 use Rattle.tables.specs.declared.identity.Identity.{Identity}
 use Rattle.tables.specs.declared.identity.Identity.TheVariants as identities
 use Rattle.tables.specs.declared.column.Column.{Column}
 use Rattle.tables.specs.declared.table.Table.{Table}
 use Rattle.tables.specs.Tables.{table_of}
-use Rattle.publication.specs.declared.relation.TheConstants.{BOOL_OID, INT2_OID, INT4_OID, INT8_OID, TEXT_OID, NO_MODIFIER}
+use Rattle.publication.specs.declared.relation.TheConstants.{NO_MODIFIER}
+use Rattle.publication.specs.Kinds.{type_oid}
 use Rattle.publication_config.specs.declared.publication.Publication.{Publication}
 use Rattle.publication_config.specs.declared.published_table.PublishedTable.{PublishedTable}
 use Rattle.publication_config.specs.Published.{PublicationSet, has, is_identity, table_in}
@@ -53,13 +52,6 @@ selected_table s oid = option_map (narrowed (list_by s.publications oid)) (whole
 -- the tables of the selection, in the order of the catalogue
 abbrev pub selected_oids : PublicationSet → List ℕ
 selected_oids s = filter (has_table s) (map (λ t. t.oid) s.tables)
-
-abbrev pub type_oid : Kind → ℕ
-type_oid kinds.Bool = BOOL_OID
-type_oid kinds.Int2 = INT2_OID
-type_oid kinds.Int4 = INT4_OID
-type_oid kinds.Int8 = INT8_OID
-type_oid kinds.Text = TEXT_OID
 
 abbrev pub identity_of : Identity → ToldIdentity
 identity_of identities.Default = told.Default

@@ -1,22 +1,13 @@
--- What a writer does to a slice that has room.
-use Rattle.std.specs.Prelude.{Option, Some, None, Result, Ok, [], ◌≡◌, ℕ, ◌+◌, ◌<◌, ◌≤◌, ◌^◌, List, ◌++◌, length, take}
+-- Messages that are written into a slice that has room.
+use Rattle.std.specs.Prelude.{Option, Some, None, Result, Ok, [], ◌≡◌, ℕ, ◌<◌, ◌≤◌, ◌^◌, List, length, take}
+use Rattle.pqformat.specs.Writing.{Writes}
 use Rattle.tables.specs.declared.fault.BodyFault.{BodyFault}
 use Rattle.tables.specs.declared.row.TheConstants.{MAX_ROW_LENGTH}
-use Rattle.tables.specs.declared.value.Value.{Value}
+use Rattle.tables.specs.declared.kinds.Value.{Value}
 use Rattle.tables.specs.Reading.{IsCodedRow}
 use Rattle.tables.specs.Spelling.{row_length}
 use Rattle.pgoutput.specs.declared.logical.Logical.{Logical}
 use Rattle.pgoutput.specs.Logical.{spell_logical}
-
--- The text stands at the place, behind what stood before it there, and ends here. Nothing is told of what stands behind it.
-pub record Writes (at to : ℕ) (old new text : List ℕ) : Type 0 where
-  pub ends : to ≡ at + length text
-  pub front : take to new ≡ take at old ++ text
-  pub same : length new ≡ length old
-
--- There is room for the text from the place on, in a slice whose length fits a field.
-abbrev pub FitsRoom : ℕ → List ℕ → List ℕ → Type 0
-FitsRoom at out text = (at + length text ≤ length out) × (length out < 2 ^ 31)
 
 -- the message at the front of the slice, where there is one
 abbrev pub IsWritten : Option ℕ → List ℕ → List ℕ → Option Logical → Type 0

@@ -1,23 +1,20 @@
 //! The values of a row as the texts of a tuple, and the tuples of old rows.
 
-ghost use Rattle.std.specs.Prelude.{◌≡◌, ◌++◌, ◌&&◌, not, IfOk, length, codes, if◌then◌else◌};
+ghost use Rattle.std.specs.Prelude.{◌≡◌, ◌++◌, ◌&&◌, not, IfOk, length, if◌then◌else◌};
 ghost use Rattle.std.specs.List.{list_any, zip};
 ghost use Rattle.pgoutput.specs.declared.tuple.Cell.TheVariants as cells;
 ghost use Rattle.publication.specs.Selection.{chosen, narrowed};
-ghost use Rattle.tables.specs.Refs.{value_of};
-ghost use Rattle.publication.specs.Tuples.{cell_behind, cell_of, changes_key, is_long, key_tuple_of, old_by, replaced_by, same_value, tuple_behind, tuple_of};
+ghost use Rattle.publication.specs.Kinds.{cell_of, is_long, same_value};
+ghost use Rattle.publication.specs.Tuples.{cell_behind, changes_key, key_tuple_of, old_by, replaced_by, tuple_behind, tuple_of};
 
+use crate::kinds::{cell, is_long, is_same};
 use pgoutput::{Cell, OldTuple};
-use pqformat::{Items, Text};
+use pqformat::Items;
 use publication_config::is_listed;
 use std::alloc::{AllocError, Global};
-use tables::{Column, Identity, Row, Table, Value, ValueRef};
+use tables::{Column, Identity, Row, Table, Value};
 
-/// The longest text that the new tuple of an Update repeats though it didn't change, in bytes. PostgreSQL leaves out what it keeps
-/// out of line, which begins at about this length.
-pub(crate) const MOST_RESENT: usize = 2000;
-
-/// The tuple of the listed columns of a row: bool is `t` or `f`, an integer its decimal digits, a text its bytes.
+/// The tuple of the listed columns of a row.
 pub(crate) fn tuple_of(
     alloc: Global,
     listed: &[bool],
@@ -32,20 +29,6 @@ pub(crate) fn tuple_of(
         }
     }
     Ok(Items::new(cells))
-}
-
-fn cell(alloc: Global, value: &Value) -> Result<Cell, AllocError>
-    ensures { IfOk result (λ c. c ≡ cell_of value.now) }
-{
-    Ok(match value {
-        Value::Null => Cell::Null,
-        Value::Bool(true) => Cell::Text(Text::copy_of(alloc, "t")?),
-        Value::Bool(false) => Cell::Text(Text::copy_of(alloc, "f")?),
-        Value::Int2(n) => Cell::Text(Text::new(n.to_string(alloc)?)),
-        Value::Int4(n) => Cell::Text(Text::new(n.to_string(alloc)?)),
-        Value::Int8(n) => Cell::Text(Text::new(n.to_string(alloc)?)),
-        Value::Text(text) => Cell::Text(text.copy(alloc)?),
-    })
 }
 
 /// The tuple of the listed columns of a row that took the place of another one: a long text that stayed the same isn't sent.
@@ -76,16 +59,6 @@ fn cell_behind(alloc: Global, old: &Value, new: &Value) -> Result<Cell, AllocErr
         return Ok(Cell::Unchanged);
     }
     cell(alloc, new)
-}
-
-pub(crate) fn is_long(value: ValueRef<'_>) -> bool
-    ensures { result ≡ is_long (value_of value.entry) }
-{
-    match value {
-        ValueRef::Null | ValueRef::Bool(_) => false,
-        ValueRef::Int2(_) | ValueRef::Int4(_) | ValueRef::Int8(_) => false,
-        ValueRef::Text(text) => text.len() > MOST_RESENT,
-    }
 }
 
 /// What is sent of a row that is gone: its key, the whole of it, or nothing, by the table's identity.
@@ -152,19 +125,6 @@ fn has_other_key(columns: &[Column], listed: &[bool], old: &[Value], new: &[Valu
     let mut cells = listed.iter().zip(columns.iter().zip(old.iter().zip(new)));
     cells.any(|(listed, (column, (old, new)))| *listed
         && (column.is_key && !is_same(old.lend(), new.lend())))
-}
-
-pub(crate) fn is_same(a: ValueRef<'_>, b: ValueRef<'_>) -> bool
-    ensures { result ≡ same_value (value_of a.entry) (value_of b.entry) }
-{
-    match a {
-        ValueRef::Null => matches!(b, ValueRef::Null),
-        ValueRef::Bool(a) => matches!(b, ValueRef::Bool(b) if a == b),
-        ValueRef::Int2(a) => matches!(b, ValueRef::Int2(b) if a == b),
-        ValueRef::Int4(a) => matches!(b, ValueRef::Int4(b) if a == b),
-        ValueRef::Int8(a) => matches!(b, ValueRef::Int8(b) if a == b),
-        ValueRef::Text(a) => matches!(b, ValueRef::Text(b) if a == b),
-    }
 }
 
 /// The cells of the primary key, with as many cells as listed columns.

@@ -2,6 +2,7 @@
 #![tactic(auto)]
 
 mod cells;
+mod kinds;
 mod logged;
 mod messages;
 mod passing;
@@ -13,7 +14,6 @@ mod putting;
 mod relation;
 mod row_reading;
 mod selection;
-mod spelling;
 mod truncating;
 mod tuples;
 
@@ -21,6 +21,5 @@ pub use projection::Projected;
 pub use publication_config::{Member, Misfit, Place, PubFault, TableMember, explained};
 pub use publications::Publications;
 pub use putting::MAX_MESSAGE_LENGTH;
-pub use relation::{BOOL_OID, INT2_OID, INT4_OID, INT8_OID, NO_MODIFIER, TEXT_OID};
+pub use relation::NO_MODIFIER;
 pub use selection::Selection;
-pub use spelling::{put_byte, put_int32, put_int64};

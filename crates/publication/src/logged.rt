@@ -11,13 +11,13 @@ ghost use Rattle.tables.specs.Refs.{message_of};
 ghost use Rattle.tables.specs.declared.change.Change.{Change as Changed};
 ghost use Rattle.tables.specs.declared.message.Message.{Message as Held};
 ghost use Rattle.publication.specs.Logged.{IsNoteAt, change_message, fits_log, note_message, logged, told_of};
-ghost use Rattle.publication.specs.Spelling.{FitsRoom, HasRoom, IsPut, IsReadWhole, IsWritten, Writes};
+ghost use Rattle.pqformat.specs.Writing.{FitsRoom, Writes};
+ghost use Rattle.publication.specs.Spelling.{HasRoom, IsPut, IsReadWhole, IsWritten};
 
 use crate::putting::MAX_MESSAGE_LENGTH;
 use crate::selection::Selection;
-use crate::spelling::{put_byte, put_bytes, put_int32, put_int64};
-use pgoutput::{Logical, MESSAGE, Message as Told, NOT_TRANSACTIONAL, TRANSACTIONAL};
-use pqformat::Items;
+use pgoutput::{Logical, MESSAGE, Message as Told, message_flags};
+use pqformat::{Items, write_byte, write_bytes, write_int32, write_int64};
 use std::alloc::AllocError;
 use tables::{MAX_CONTENT_LENGTH, MESSAGE_TAG, Message, MessageRef, is_prefix, lend_message};
 
@@ -126,21 +126,11 @@ fn put_message(
     ensures { Writes 0 result out.old out.new
         (spell_logical (told_of is_transactional position (message_of message.entry))) }
 {
-    let kind = put_byte(out, 0, MESSAGE);
-    let flags = put_byte(out, kind, flags_of(is_transactional));
-    let placed = put_int64(out, flags, position);
-    let named = put_bytes(out, placed, message.prefix.as_bytes());
-    let ended = put_byte(out, named, 0);
-    let counted = put_int32(out, ended, message.content.len() as u32);
-    put_bytes(out, counted, message.content)
-}
-
-fn flags_of(is_transactional: bool) -> u8
-    ensures { result ≡ message_flags is_transactional }
-{
-    if is_transactional {
-        TRANSACTIONAL
-    } else {
-        NOT_TRANSACTIONAL
-    }
+    let kind = write_byte(out, 0, MESSAGE);
+    let flags = write_byte(out, kind, message_flags(is_transactional));
+    let placed = write_int64(out, flags, position);
+    let named = write_bytes(out, placed, message.prefix.as_bytes());
+    let ended = write_byte(out, named, 0);
+    let counted = write_int32(out, ended, message.content.len() as u32);
+    write_bytes(out, counted, message.content)
 }

@@ -9,12 +9,13 @@ ghost use Rattle.pqformat.specs.Fields.{int32};
 ghost use Rattle.pgoutput.specs.Update.{old_if_any};
 ghost use Rattle.publication.specs.Selection.{chosen, narrowed};
 ghost use Rattle.publication.specs.Projection.{delete_message, insert_message, update_message, updated};
-ghost use Rattle.publication.specs.Spelling.{FitsRoom, IsWritten, Writes};
+ghost use Rattle.pqformat.specs.Writing.{FitsRoom, Writes};
+ghost use Rattle.publication.specs.Spelling.{IsWritten};
 ghost use Rattle.publication.specs.Tuples.{replaced_by};
 
-use crate::spelling::{put_byte, put_int32};
 use crate::tuples::{changes_key_in, put_key_tuple, put_tuple, put_tuple_behind};
 use pgoutput::{DELETE, INSERT, KEY, NEW, OLD, UPDATE};
+use pqformat::{write_byte, write_int32};
 use tables::{Identity, RowRef, Table};
 
 pub(crate) fn put_insertion(
@@ -31,9 +32,9 @@ pub(crate) fn put_insertion(
         (spell_logical
         (insert_message (chosen listed.now row.now) (narrowed listed.now table.now))) }
 {
-    let kind = put_byte(out, 0, INSERT);
-    let oid = put_int32(out, kind, table.oid);
-    let letter = put_byte(out, oid, NEW);
+    let kind = write_byte(out, 0, INSERT);
+    let oid = write_int32(out, kind, table.oid);
+    let letter = write_byte(out, oid, NEW);
     put_tuple(out, letter, listed, row)
 }
 
@@ -86,10 +87,10 @@ fn put_replacement(
         (update_message (chosen listed.now old.now) (chosen listed.now new.now)
         (narrowed listed.now table.now))) }
 {
-    let kind = put_byte(out, 0, UPDATE);
-    let oid = put_int32(out, kind, table.oid);
+    let kind = write_byte(out, 0, UPDATE);
+    let oid = write_int32(out, kind, table.oid);
     let replaced = put_replaced(out, oid, table, listed, old, new);
-    let letter = put_byte(out, replaced, NEW);
+    let letter = write_byte(out, replaced, NEW);
     put_tuple_behind(out, letter, listed, old, new)
 }
 
@@ -120,12 +121,12 @@ fn put_replaced(
             if !changes_key_in(columns, listed, old, new) {
                 return at;
             }
-            let letter = put_byte(out, at, KEY);
+            let letter = write_byte(out, at, KEY);
             put_key_tuple(out, letter, columns, listed, old)
         }
         Identity::Nothing => at,
         Identity::Full => {
-            let letter = put_byte(out, at, OLD);
+            let letter = write_byte(out, at, OLD);
             put_tuple(out, letter, listed, old)
         }
     }
@@ -165,7 +166,7 @@ fn put_head(out: &mut [u8], oid: u32, letter: u8) -> usize
     requires { FitsRoom 0 out.old (DELETE ∷ (int32 oid ++ letter ∷ [])) }
     ensures { Writes 0 result out.old out.new (DELETE ∷ (int32 oid ++ letter ∷ [])) }
 {
-    let kind = put_byte(out, 0, DELETE);
-    let end = put_int32(out, kind, oid);
-    put_byte(out, end, letter)
+    let kind = write_byte(out, 0, DELETE);
+    let end = write_int32(out, kind, oid);
+    write_byte(out, end, letter)
 }

@@ -10,13 +10,15 @@ ghost use Rattle.pgoutput.specs.Relation.{column, identity_letter, key_flag};
 ghost use Rattle.pgoutput.specs.declared.logical.Logical.TheVariants as logical;
 ghost use Rattle.publication_config.specs.Published.{is_identity};
 ghost use Rattle.publication.specs.Selection.{FitsTable, chosen, identity_of, narrowed, relation_column, relation_of, selected_table};
-ghost use Rattle.publication.specs.Spelling.{HasRoom, IsPut, Writes};
+ghost use Rattle.pqformat.specs.Writing.{Writes};
+ghost use Rattle.publication.specs.Spelling.{HasRoom, IsPut};
 
+use crate::kinds::oid_of;
 use crate::putting::MAX_MESSAGE_LENGTH;
-use crate::relation::{NO_MODIFIER, oid_of};
+use crate::relation::NO_MODIFIER;
 use crate::selection::Selection;
-use crate::spelling::{put_byte, put_bytes, put_int16, put_int32};
 use pgoutput::{IDENTITY_DEFAULT, IDENTITY_FULL, IDENTITY_NOTHING, KEY_FLAG, NO_FLAG, RELATION};
+use pqformat::{write_byte, write_bytes, write_int16, write_int32};
 use publication_config::{is_in_identity, is_listed};
 use tables::{Column, Identity, Table};
 
@@ -48,12 +50,12 @@ fn put_table(out: &mut [u8], table: &Table, listed: &[bool]) -> usize
     let name = table.name.as_str();
     let columns = table.columns.as_slice();
     let count = count_listed(listed, columns);
-    let kind = put_byte(out, 0, RELATION);
-    let oid = put_int32(out, kind, table.oid);
+    let kind = write_byte(out, 0, RELATION);
+    let oid = write_int32(out, kind, table.oid);
     let placed = put_name(out, oid, schema);
     let named = put_name(out, placed, name);
-    let identity = put_byte(out, named, letter_of(table.identity));
-    let counted = put_int16(out, identity, count as u16);
+    let identity = write_byte(out, named, letter_of(table.identity));
+    let counted = write_int16(out, identity, count as u16);
     put_columns(out, counted, table.identity, listed, columns)
 }
 
@@ -71,8 +73,8 @@ fn put_name(out: &mut [u8], at: usize, name: &str) -> usize
     requires { at + (length name.now + 1) ≤ length out.old }
     ensures { Writes at result out.old out.new (string name.now) }
 {
-    let end = put_bytes(out, at, name.as_bytes());
-    put_byte(out, end, 0)
+    let end = write_bytes(out, at, name.as_bytes());
+    write_byte(out, end, 0)
 }
 
 /// How many columns are listed.
@@ -96,7 +98,7 @@ fn put_columns(
     listed: &[bool],
     columns: &[Column],
 ) -> usize
-    requires room { at + 73 * length columns.now ≤ length out.old }
+    requires room { at + MAX_COLUMN_LENGTH * length columns.now ≤ length out.old }
     requires names { AllByRecursion (λ c. length c.name ≤ 63) columns.now }
     ensures { Writes at result out.old out.new
         (flat_map column (map (relation_column identity) (chosen listed.now columns.now))) }
@@ -117,10 +119,10 @@ fn put_column(out: &mut [u8], at: usize, identity: Identity, told: &Column) -> u
         (column (relation_column identity told.now)) }
     ensures short { result ≤ at + MAX_COLUMN_LENGTH }
 {
-    let flags = put_byte(out, at, flags_of(identity, told.is_key));
+    let flags = write_byte(out, at, flags_of(identity, told.is_key));
     let name = put_name(out, flags, told.name.as_str());
-    let kind = put_int32(out, name, oid_of(told.kind));
-    put_int32(out, kind, NO_MODIFIER.cast_unsigned())
+    let kind = write_int32(out, name, oid_of(told.kind));
+    write_int32(out, kind, NO_MODIFIER.cast_unsigned())
 }
 
 fn flags_of(identity: Identity, is_key: bool) -> u8

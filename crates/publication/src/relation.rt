@@ -1,24 +1,15 @@
 //! The Relation message of a table.
 
 ghost use Rattle.std.specs.Prelude.{◌≡◌, ◌++◌, IfOk, map, pos, negsuc};
-ghost use Rattle.publication.specs.Selection.{chosen, narrowed, relation_of, relation_column, identity_of, type_oid};
+ghost use Rattle.publication.specs.Kinds.{type_oid};
+ghost use Rattle.publication.specs.Selection.{chosen, narrowed, relation_of, relation_column, identity_of};
 
+use crate::kinds::oid_of;
 use pgoutput::{Column, Identity, Relation};
 use pqformat::Items;
 use publication_config::{is_in_identity, is_listed};
 use std::alloc::{AllocError, Global};
-use tables::{Kind, Table};
-
-/// The OIDs of the types.
-pub const BOOL_OID: u32 = 16;
-
-pub const INT8_OID: u32 = 20;
-
-pub const INT2_OID: u32 = 21;
-
-pub const INT4_OID: u32 = 23;
-
-pub const TEXT_OID: u32 = 25;
+use tables::Table;
 
 /// The modifier of a column whose type has none.
 pub const NO_MODIFIER: i32 = -1;
@@ -80,17 +71,5 @@ fn identity(identity: tables::Identity) -> Identity
         tables::Identity::Default => Identity::Default,
         tables::Identity::Nothing => Identity::Nothing,
         tables::Identity::Full => Identity::Full,
-    }
-}
-
-pub(crate) fn oid_of(kind: Kind) -> u32
-    ensures { result ≡ type_oid kind }
-{
-    match kind {
-        Kind::Bool => BOOL_OID,
-        Kind::Int2 => INT2_OID,
-        Kind::Int4 => INT4_OID,
-        Kind::Int8 => INT8_OID,
-        Kind::Text => TEXT_OID,
     }
 }

@@ -3,7 +3,7 @@
 ghost use Rattle.std.specs.Prelude.{◌≡◌, ◌⊎◌, [], ℕ, List, IfNone, IfSome, OnSome, Ok};
 ghost use Rattle.tables.specs.Reading.{insert_at, update_at};
 ghost use Rattle.tables.specs.Refs.{IsLarge};
-ghost use Rattle.tables.specs.declared.value.Value.{Value as Datum};
+ghost use Rattle.tables.specs.declared.kinds.Value.{Value as Datum};
 ghost use Rattle.publication.specs.Spelling.{IsShortRow};
 
 use pqformat::Cursor;

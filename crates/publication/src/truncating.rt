@@ -10,11 +10,12 @@ ghost use Rattle.tables.specs.Reading.{oids_at};
 ghost use Rattle.tables.specs.declared.change.Change.{Change as Changed};
 ghost use Rattle.publication_config.specs.declared.operations.Operation.{Operation};
 ghost use Rattle.publication.specs.Projection.{is_published, message};
-ghost use Rattle.publication.specs.Spelling.{FitsRoom, HasRoom, IsReadWhole, IsWritten, Writes};
+ghost use Rattle.pqformat.specs.Writing.{FitsRoom, Writes};
+ghost use Rattle.publication.specs.Spelling.{HasRoom, IsReadWhole, IsWritten};
 
 use crate::selection::{Selection, may_be_emptied};
-use crate::spelling::{put_byte, put_int32};
 use pgoutput::{NO_OPTIONS, TRUNCATE};
+use pqformat::{write_byte, write_int32};
 use publication_config::Operation;
 use tables::{MAX_TRUNCATED, lend_oids};
 
@@ -85,9 +86,9 @@ fn put_truncation(out: &mut [u8], oids: &[u32]) -> usize
           oids = oids.now;
         }))) }
 {
-    let kind = put_byte(out, 0, TRUNCATE);
-    let counted = put_int32(out, kind, oids.len() as u32);
-    let options = put_byte(out, counted, NO_OPTIONS);
+    let kind = write_byte(out, 0, TRUNCATE);
+    let counted = write_int32(out, kind, oids.len() as u32);
+    let options = write_byte(out, counted, NO_OPTIONS);
     put_oids(out, options, oids)
 }
 
@@ -98,7 +99,7 @@ fn put_oids(out: &mut [u8], at: usize, oids: &[u32]) -> usize
     let mut end = at;
     for i in 0..oids.len() {
         let oid = oids[i];
-        end = put_int32(out, end, oid);
+        end = write_int32(out, end, oid);
     }
     end
 }

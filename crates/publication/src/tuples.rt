@@ -5,14 +5,15 @@ ghost use Rattle.std.specs.List.{list_any, zip};
 ghost use Rattle.pgoutput.specs.Tuple.{cell, tuple};
 ghost use Rattle.pgoutput.specs.declared.tuple.Cell.TheVariants as cells;
 ghost use Rattle.publication.specs.Selection.{chosen};
-ghost use Rattle.publication.specs.Spelling.{FitsRoom, Writes};
-ghost use Rattle.publication.specs.Tuples.{cell_behind, cell_of, changes_key, key_tuple_of, same_value, tuple_behind, tuple_of};
-ghost use Rattle.tables.specs.Refs.{value_of};
-ghost use Rattle.tables.specs.declared.value.Value.TheVariants as values;
+ghost use Rattle.pqformat.specs.Writing.{FitsRoom, Writes};
+ghost use Rattle.publication.specs.Kinds.{cell_of, same_value};
+ghost use Rattle.publication.specs.Tuples.{cell_behind, changes_key, key_tuple_of, tuple_behind, tuple_of};
+ghost use Rattle.tables.specs.Kinds.{value_of};
+ghost use Rattle.tables.specs.declared.kinds.Value.TheVariants as values;
 
-use crate::cells::{is_long, is_same};
-use crate::spelling::{put_byte, put_cell, put_int16};
+use crate::kinds::{is_long, is_same, put_cell};
 use pgoutput::{NULL, UNCHANGED};
+use pqformat::{write_byte, write_int16};
 use publication_config::is_listed;
 use tables::{Column, RowRef, ValueRef};
 
@@ -22,7 +23,7 @@ pub(crate) fn put_tuple(out: &mut [u8], at: usize, listed: &[bool], row: &RowRef
     requires few { length row.now < 2 ^ 15 }
     ensures { Writes at result out.old out.new (tuple (tuple_of (chosen listed.now row.now))) }
 {
-    let mut end = put_int16(out, at, count_listed(listed, row) as u16);
+    let mut end = write_int16(out, at, count_listed(listed, row) as u16);
     for i in 0..row.len() {
         if is_listed(listed, i) {
             end = put_cell(out, end, value_in(row, i));
@@ -46,7 +47,7 @@ pub(crate) fn put_tuple_behind(
     ensures { Writes at result out.old out.new
         (tuple (tuple_behind (chosen listed.now old.now) (chosen listed.now new.now))) }
 {
-    let mut end = put_int16(out, at, count_listed(listed, old) as u16);
+    let mut end = write_int16(out, at, count_listed(listed, old) as u16);
     for i in 0..old.len() {
         let before = value_in(old, i);
         let value = value_in(new, i);
@@ -63,7 +64,7 @@ fn put_cell_behind(out: &mut [u8], at: usize, old: ValueRef<'_>, new: ValueRef<'
         (cell (cell_behind (value_of old.entry) (value_of new.entry))) }
 {
     if is_long(new) && is_same(old, new) {
-        return put_byte(out, at, UNCHANGED);
+        return write_byte(out, at, UNCHANGED);
     }
     put_cell(out, at, new)
 }
@@ -83,7 +84,7 @@ pub(crate) fn put_key_tuple(
     ensures { Writes at result out.old out.new
         (tuple (key_tuple_of (chosen listed.now columns.now) (chosen listed.now row.now))) }
 {
-    let mut end = put_int16(out, at, count_listed(listed, row) as u16);
+    let mut end = write_int16(out, at, count_listed(listed, row) as u16);
     for i in 0..columns.len() {
         let column = &columns[i];
         let value = value_in(row, i);
@@ -102,7 +103,7 @@ fn put_key_cell(out: &mut [u8], at: usize, column: &Column, value: ValueRef<'_>)
         (cell (if column.now.is_key then cell_of (value_of value.entry) else cells.Null)) }
 {
     if !column.is_key {
-        return put_byte(out, at, NULL);
+        return write_byte(out, at, NULL);
     }
     put_cell(out, at, value)
 }

@@ -2,8 +2,8 @@
 use Rattle.std.proofs.Common.{◌≡◌, ℕ, zero, suc, List, [], ◌∷◌, None, Ok, Err, refl, lit≤, true, false, pos}
 use Rattle.std.specs.Prelude.{codes}
 use Rattle.tables.specs.declared.column.Column.{Column as TableColumn}
-use Rattle.tables.specs.declared.kind.Kind.TheVariants as kinds
-use Rattle.tables.specs.declared.value.Value.TheVariants as values
+use Rattle.tables.specs.declared.kinds.Kind.TheVariants as kinds
+use Rattle.tables.specs.declared.kinds.Value.TheVariants as values
 use Rattle.conditions.specs.declared.comparison.Comparison.TheVariants.{Equal, Greater}
 use Rattle.conditions.specs.declared.question.Question.TheVariants as questions
 use Rattle.conditions.specs.declared.token.Token.{Token}

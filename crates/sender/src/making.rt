@@ -16,8 +16,8 @@ use crate::publishing::put_entry;
 use crate::waiting::Waiting;
 use copyboth::XLOGDATA;
 use frames::COPY_DATA;
-use pqformat::Cursor;
-use publication::{MAX_MESSAGE_LENGTH, Selection, put_byte, put_int32, put_int64};
+use pqformat::{Cursor, write_byte, write_int32, write_int64};
+use publication::{MAX_MESSAGE_LENGTH, Selection};
 use reorder::Reorder;
 
 /// The bytes of a frame before its message.
@@ -152,10 +152,10 @@ fn put_head(head: &mut [u8], position: u64, clock: i64, size: usize)
     requires short { size ≤ MAX_MESSAGE_LENGTH }
     ensures { head.new ≡ frame_head position clock size }
 {
-    let kind = put_byte(head, 0, COPY_DATA);
-    let counted = put_int32(head, kind, 29 + size as u32);
-    let message = put_byte(head, counted, XLOGDATA);
-    let start = put_int64(head, message, position);
-    let end = put_int64(head, start, position);
-    put_int64(head, end, clock.cast_unsigned());
+    let kind = write_byte(head, 0, COPY_DATA);
+    let counted = write_int32(head, kind, 29 + size as u32);
+    let message = write_byte(head, counted, XLOGDATA);
+    let start = write_int64(head, message, position);
+    let end = write_int64(head, start, position);
+    write_int64(head, end, clock.cast_unsigned());
 }

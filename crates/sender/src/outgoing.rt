@@ -19,6 +19,7 @@ use crate::waiting::Waiting;
 use crate::word::{put_keepalive, put_spelled, put_xlogdata};
 use bytes::BytesMut;
 use pgoutput::{Begin, Commit, Logical};
+use pqformat::whole_or_nothing;
 use publication::Selection;
 use reorder::Ready;
 use std::alloc::{AllocError, Global};
@@ -32,7 +33,8 @@ pub(crate) const FRAMES_LENGTH: usize = 65_536;
 #[derive(Drop)]
 pub(crate) struct Outgoing {
     alloc: Global,
-    /// Bytes that were gathered for a caller who had no memory for them then.
+    /// Bytes that go out before all others: those that were gathered for a caller who had no memory for them then, and the frames of
+    /// transactions that gave way where the arena was full.
     pub(crate) front: BytesMut,
     /// Frames, of which those from `from` to `to` are not taken yet.
     pub(crate) frames: Vec<u8>,
@@ -110,10 +112,7 @@ impl Outgoing {
         self.reserve()?;
         let length = self.made.len();
         let written = put_keepalive(&mut self.made, position, clock, ask);
-        if written.is_err() {
-            self.made.truncate(length);
-        }
-        written
+        whole_or_nothing(written, length, &mut self.made)
     }
 
     /// Adds the message of a note at a position, of which this is the spelling, or, where memory is refused, nothing.
@@ -130,10 +129,7 @@ impl Outgoing {
         self.reserve()?;
         let length = self.made.len();
         let written = put_spelled(&mut self.made, position, clock, message);
-        if written.is_err() {
-            self.made.truncate(length);
-        }
-        written
+        whole_or_nothing(written, length, &mut self.made)
     }
 
     /// Adds the block of a transaction, whose changes are ready, or, where memory is refused, nothing, and hands back what is ready.

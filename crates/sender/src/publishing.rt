@@ -223,7 +223,7 @@ pub(crate) fn make_room(room: &mut Vec<u8>) -> Result<(), AllocError>
 }
 
 /// What the record commits, if it starts at the start position or later and a change of it has a message.
-pub(crate) fn header_of(
+fn header_of(
     selection: &Selection,
     start: u64,
     next: &Record,

@@ -1,10 +1,10 @@
 -- The row or the key that the literals of a line spell. An integer takes the kind of its column; what doesn't fit the column becomes a
 -- value of another kind, so that no table takes the row.
 use Rattle.std.specs.Prelude.{ℤ, pos, negsuc, ◌^◌, Bool, false, nat_lt, drop, filter, List, [], ◌∷◌, if◌then◌else◌}
-use Rattle.tables.specs.declared.kind.Kind.{Kind}
-use Rattle.tables.specs.declared.kind.Kind.TheVariants as kinds
-use Rattle.tables.specs.declared.value.Value.{Value}
-use Rattle.tables.specs.declared.value.Value.TheVariants as values
+use Rattle.tables.specs.declared.kinds.Kind.{Kind}
+use Rattle.tables.specs.declared.kinds.Kind.TheVariants as kinds
+use Rattle.tables.specs.declared.kinds.Value.{Value}
+use Rattle.tables.specs.declared.kinds.Value.TheVariants as values
 use Rattle.tables.specs.declared.column.Column.{Column}
 use Rattle.schedule.specs.declared.event.Literal.{Literal}
 use Rattle.schedule.specs.declared.event.Literal.TheVariants as literals

@@ -6,9 +6,10 @@ use Rattle.pqformat.proofs.Numbers.{length-int32}
 use Rattle.store.specs.declared.key.TheConstants.{MAX_KEY_LENGTH}
 use Rattle.tables.specs.declared.row.TheConstants.{MAX_ROW_LENGTH}
 use Rattle.tables.specs.declared.column.Column.{Column}
-use Rattle.tables.specs.declared.value.Value.{Value}
+use Rattle.tables.specs.declared.kinds.Value.{Value}
 use Rattle.store.specs.Rows.{key_text, key_values}
-use Rattle.tables.specs.Spelling.{spell_value, row_length}
+use Rattle.tables.specs.Kinds.{spell_value}
+use Rattle.tables.specs.Spelling.{row_length}
 use Rattle.tables.proofs.Lengths.{row_length_is}
 
 pub key_length : (oid : ℕ) (key : List Value) → length (key_text (record { oid = oid; values = key })) ≡ 2 + row_length key

@@ -9,7 +9,7 @@ use Rattle.pqformat.specs.Fields.{int32}
 use Rattle.pqformat.proofs.Numbers.{length-int32}
 use Rattle.store.specs.declared.slot.Slot.{Slot}
 use Rattle.store.specs.declared.slot.Undo.{Undo}
-use Rattle.tables.specs.declared.value.Value.{Value}
+use Rattle.tables.specs.declared.kinds.Value.{Value}
 use Rattle.store.specs.Slots.{same_key, Entries, entries_of, slot_at, put, HasPlace, HavePlaces, undone, undone_at}
 use Rattle.store.specs.History.{is_other, is_within, is_among, table_place}
 use Rattle.store.specs.Keeping.{all_emptied, put_at, without_row, AreShort, SameSlots}

@@ -6,7 +6,7 @@ use Rattle.std.specs.Map.{lookup}
 use Rattle.store.specs.declared.key.TheConstants.{MAX_KEY_LENGTH}
 use Rattle.store.specs.declared.slot.Slot.{Slot}
 use Rattle.store.specs.declared.slot.Undo.{Undo}
-use Rattle.tables.specs.declared.value.Value.{Value}
+use Rattle.tables.specs.declared.kinds.Value.{Value}
 use Rattle.tables.specs.declared.table.Table.{Table}
 use Rattle.tables.specs.declared.change.Change.{Change}
 use Rattle.tables.specs.declared.change.Change.TheVariants as changes

@@ -2,10 +2,10 @@
 use Rattle.std.specs.Prelude.{ℕ, List, [], ◌∷◌, ◌++◌, Option, Some, None, if◌then◌else◌}
 use Rattle.std.specs.List.{flat_map}
 use Rattle.pqformat.specs.Fields.{int32}
-use Rattle.tables.specs.declared.value.Value.{Value}
+use Rattle.tables.specs.declared.kinds.Value.{Value}
 use Rattle.tables.specs.declared.column.Column.{Column}
 use Rattle.tables.specs.declared.table.Table.{Table}
-use Rattle.tables.specs.Spelling.{spell_value}
+use Rattle.tables.specs.Kinds.{spell_value}
 use Rattle.tables.specs.Tables.{table_of}
 use Rattle.store.specs.Slots.{same_key}
 

@@ -1,16 +1,16 @@
 //! The texts by which a store finds its places: those of rows' keys, and one for each table.
 
 ghost use Rattle.std.specs.Prelude.{◌≡◌, ◌+◌, ◌++◌, ◌∷◌, [], ◌<◌, ◌≤◌, MatchOption, length, take};
-ghost use Rattle.pqformat.specs.Fields.{int16, int32, int64};
+ghost use Rattle.pqformat.specs.Fields.{int32};
 ghost use Rattle.store.specs.History.{is_within, table_place};
 ghost use Rattle.store.specs.Rows.{key_text, key_values};
 ghost use Rattle.store.specs.Slots.{same_key};
-ghost use Rattle.tables.specs.Spelling.{row_length, spell_value};
+ghost use Rattle.tables.specs.Kinds.{spell_value};
+ghost use Rattle.tables.specs.Spelling.{row_length};
 
+use pqformat::{write_byte, write_int32};
 use std::marker::Model;
-use tables::{
-    BOOL_TAG, Column, INT2_TAG, INT4_TAG, INT8_TAG, MAX_ROW_LENGTH, NULL_TAG, Row, TEXT_TAG, Value,
-};
+use tables::{Column, MAX_ROW_LENGTH, Row, Value, write_value};
 
 /// The longest text of a key, in bytes: the values of the longest row, behind its table's OID.
 pub const MAX_KEY_LENGTH: usize = 8002;
@@ -56,77 +56,26 @@ impl Place {
         requires { length self.old < MAX_KEY_LENGTH }
         ensures { self.new ≡ self.old ++ byte ∷ [] }
     {
-        self.bytes[self.len] = byte;
-        self.len += 1;
+        self.len = write_byte(&mut self.bytes, self.len, byte);
     }
 
-    fn extend(&mut self, bytes: &[u8])
-        requires { length self.old + length bytes.now ≤ MAX_KEY_LENGTH }
-        ensures { self.new ≡ self.old ++ bytes.now }
-    {
-        for byte in bytes {
-            self.push(*byte);
-        }
-    }
-
-    #[tactic(auto, unfolding(pqformat::specs::Fields::int16))]
-    fn push_int16(&mut self, number: u16)
-        requires { length self.old + 2 ≤ MAX_KEY_LENGTH }
-        ensures { self.new ≡ self.old ++ int16 number }
-    {
-        self.extend(&number.to_be_bytes());
-    }
-
-    #[tactic(auto, using(tables::proofs::Lengths::lengths), unfolding(pqformat::specs::Fields::int32))]
+    #[tactic(auto, using(tables::proofs::Values::lengths))]
     fn push_int32(&mut self, number: u32)
         requires { length self.old + 4 ≤ MAX_KEY_LENGTH }
         ensures { self.new ≡ self.old ++ int32 number }
     {
-        self.extend(&number.to_be_bytes());
+        self.len = write_int32(&mut self.bytes, self.len, number);
     }
 
-    #[tactic(auto, unfolding(pqformat::specs::Fields::int64))]
-    fn push_int64(&mut self, number: u64)
-        requires { length self.old + 8 ≤ MAX_KEY_LENGTH }
-        ensures { self.new ≡ self.old ++ int64 number }
-    {
-        self.extend(&number.to_be_bytes());
-    }
-
-    #[tactic(auto, using(tables::proofs::Lengths::lengths))]
     fn push_value(&mut self, value: &Value)
         requires { length self.old + length (spell_value value.now) ≤ MAX_KEY_LENGTH }
         ensures { self.new ≡ self.old ++ spell_value value.now }
     {
-        match value {
-            Value::Null => self.push(NULL_TAG),
-            Value::Bool(b) => {
-                self.push(BOOL_TAG);
-                self.push(*b as u8);
-            }
-            Value::Int2(n) => {
-                self.push(INT2_TAG);
-                self.push_int16(n.cast_unsigned());
-            }
-            Value::Int4(n) => {
-                self.push(INT4_TAG);
-                self.push_int32(n.cast_unsigned());
-            }
-            Value::Int8(n) => {
-                self.push(INT8_TAG);
-                self.push_int64(n.cast_unsigned());
-            }
-            Value::Text(text) => {
-                let bytes = text.as_str().as_bytes();
-                self.push(TEXT_TAG);
-                self.push_int32(bytes.len() as u32);
-                self.extend(bytes);
-            }
-        }
+        self.len = write_value(value, &mut self.bytes, self.len);
     }
 
     /// The place of a whole table, which a truncate holds.
-    #[tactic(auto, using(tables::proofs::Lengths::lengths))]
+    #[tactic(auto, using(tables::proofs::Values::lengths))]
     pub fn of_table(oid: u32) -> Self
         ensures { result ≡ table_place oid }
     {
@@ -149,7 +98,7 @@ impl Place {
         }
     }
 
-    #[tactic(auto, using(tables::proofs::Lengths::lengths, crate::proofs::Keys::fits_next))]
+    #[tactic(auto, using(tables::proofs::Values::lengths, crate::proofs::Keys::fits_next))]
     fn of_short_key(oid: u32, key: &Row) -> Self
         requires { row_length key.now ≤ MAX_ROW_LENGTH }
         ensures { result ≡ key_text (record { oid = oid; values = key.now }) }
@@ -163,7 +112,7 @@ impl Place {
     }
 
     /// The place of a row's key.
-    #[tactic(auto, using(tables::proofs::Lengths::lengths))]
+    #[tactic(auto, using(tables::proofs::Values::lengths))]
     pub fn of_row(oid: u32, columns: &[Column], row: &Row) -> Self
         requires short { row_length row.now ≤ MAX_ROW_LENGTH }
         requires whole { length columns.now ≡ length row.now }

@@ -14,12 +14,14 @@ use Rattle.pqformat.proofs.Numbers.{number16, number32, bytes_codec}
 use Rattle.tables.specs.declared.change_body.TheConstants.{INSERT_TAG, UPDATE_TAG, DELETE_TAG, TRUNCATE_TAG, MESSAGE_TAG}
 use Rattle.tables.specs.declared.fault.BodyFault.{BodyFault}
 use Rattle.tables.specs.declared.fault.BodyFault.TheVariants.{Short, BadText, UnknownTag, Trailing}
-use Rattle.tables.specs.declared.value.Value.{Value}
+use Rattle.tables.specs.declared.kinds.Value.{Value}
 use Rattle.tables.specs.declared.change.Change.{Change}
 use Rattle.tables.specs.declared.change.Change.TheVariants as changes
-use Rattle.tables.specs.Spelling.{spell_row, spell_value, spell_oids, spell_message, spell_body}
-use Rattle.tables.specs.Reading.{IsCodedRow, value_at, RowHasValue, InsertHasValue, Gives, IsCodedOids, IsCoded, SpellsBody, oid_at, oids_at, prefix_sized_at, prefix_at, message_at, IsCodedMessage, HoldsMessage, update_at, change_tagged, change_at, body_at, BeginsRow, is_row_tag, HoldsRow, HoldsOid, HoldsPart, SecondHasValue, OidsHaveOne, ChangeHasPart}
-use Rattle.tables.proofs.RowBodies.{sized_codec, row_codec, insert_codec, value_codec, is_read, is_there}
+use Rattle.tables.specs.Kinds.{spell_value, value_at}
+use Rattle.tables.specs.Spelling.{spell_row, spell_oids, spell_message, spell_body}
+use Rattle.tables.specs.Reading.{IsCodedRow, RowHasValue, InsertHasValue, Gives, IsCodedOids, IsCoded, SpellsBody, oid_at, oids_at, prefix_sized_at, prefix_at, message_at, IsCodedMessage, HoldsMessage, update_at, change_tagged, change_at, body_at, BeginsRow, is_row_tag, HoldsRow, HoldsOid, HoldsPart, SecondHasValue, OidsHaveOne, ChangeHasPart}
+use Rattle.tables.proofs.Values.{sized_codec, value_codec}
+use Rattle.tables.proofs.RowBodies.{row_codec, insert_codec, is_read, is_there}
 
 oids_codec : Codec oids_at spell_oids IsCodedOids
 unfolding oids_at

@@ -3,9 +3,8 @@ use Rattle.std.proofs.Common.{◌≡◌, ◌≤◌, ◌<◌, ◌^◌, ◌+◌, �
 use Rattle.std.specs.Prelude.{IsSome, nat_le}
 use Rattle.std.specs.List.{AllByRecursion, flat_map}
 use Rattle.pqformat.specs.Fields.{int16, int32}
-use Rattle.pqformat.proofs.Numbers.{length-int16, length-int32, length-int64}
-use Rattle.tables.specs.declared.value.Value.{Value}
-use Rattle.tables.specs.declared.value.Value.TheVariants as values
+use Rattle.pqformat.proofs.Numbers.{length-int16, length-int32}
+use Rattle.tables.specs.declared.kinds.Value.{Value}
 use Rattle.tables.specs.declared.table.Table.{Table}
 use Rattle.tables.specs.declared.change.Change.{Change}
 use Rattle.tables.specs.declared.change.Change.TheVariants as changes
@@ -14,29 +13,18 @@ use Rattle.tables.specs.declared.row.TheConstants.{MAX_ROW_LENGTH}
 use Rattle.tables.specs.declared.message.TheConstants.{MAX_PREFIX_LENGTH}
 use Rattle.tables.specs.declared.message.Message.{Message}
 use Rattle.std.proofs.lemmas.Bool.{leb-true}
-use Rattle.tables.specs.Reading.{IsCodedValue, IsCodedRow, IsCodedMessage, IsCoded}
-use Rattle.tables.specs.Tables.{FitsChange, FitsMessage, IsValue, has_no_zero, is_prefix, table_of}
-use Rattle.tables.specs.Spelling.{spell_value, spell_row, row_length, spell_one, body_length, IsShort, IsShortMessage}
-
-pub ruleset lengths = (length-int16, length-int32, length-int64)
-
-pub length-text : (text : List ℕ) → length (spell_value (values.Text text)) ≡ 5 + length text
-length-text text = omega (arith, length-append (int32 (length text)) text, length-int32 (length text))
+use Rattle.tables.specs.Kinds.{IsCodedValue, IsValue, has_no_zero, spell_value}
+use Rattle.tables.specs.Reading.{IsCodedRow, IsCodedMessage, IsCoded}
+use Rattle.tables.specs.Tables.{FitsChange, FitsMessage, is_prefix, table_of}
+use Rattle.tables.specs.Spelling.{spell_row, row_length, spell_one, body_length, IsShort, IsShortMessage}
+use Rattle.tables.proofs.Values.{coded_value, some_byte}
 
 pub row_length_is : (row : List Value) → row_length row ≡ 2 + length (flat_map spell_value row)
 row_length_is row = omega (arith, length-append (int16 (length row)) (flat_map spell_value row), length-int16 (length row))
 
-one_at_least : (value : Value) → 1 ≤ length (spell_value value)
-one_at_least values.Null = omega arith
-one_at_least (values.Bool b) = omega arith
-one_at_least (values.Int2 n) = omega arith
-one_at_least (values.Int4 n) = omega arith
-one_at_least (values.Int8 n) = omega arith
-one_at_least (values.Text text) = omega arith
-
 counted : (row : List Value) → length row ≤ length (flat_map spell_value row)
 counted [] = omega arith
-counted (value ∷ row) = omega (arith, counted row, one_at_least value, length-append (spell_value value) (flat_map spell_value row))
+counted (value ∷ row) = omega (arith, counted row, some_byte value, length-append (spell_value value) (flat_map spell_value row))
 
 -- a row has no more values than its coding has bytes
 pub count_le_row_length : (row : List Value) → length row ≤ row_length row
@@ -65,15 +53,6 @@ message_length message =
       length-int16 (length message.prefix),
       length-int32 (length message.content),
     )
-
--- a value that a short row holds can be read again
-coded_value : (value : Value) → IsValue value → length (spell_value value) ≤ MAX_ROW_LENGTH → IsCodedValue value
-coded_value values.Null fits short = tt
-coded_value (values.Bool b) fits short = tt
-coded_value (values.Int2 n) fits short = fits
-coded_value (values.Int4 n) fits short = fits
-coded_value (values.Int8 n) fits short = fits
-coded_value (values.Text text) fits short = (omega (arith, short, length-text text), fits)
 
 coded_values : (row : List Value) → AllByRecursion IsValue row → length (flat_map spell_value row) ≤ MAX_ROW_LENGTH → AllByRecursion IsCodedValue row
 coded_values [] fits short = tt

@@ -5,14 +5,15 @@ use Rattle.std.specs.Int.{w16}
 use Rattle.pqformat.specs.Fields.{number_at}
 use Rattle.pqformat.specs.Steps.{◌>>=◌, repeat_at}
 use Rattle.pqformat.proofs.Codec.{IsBytes}
-use Rattle.tables.specs.Reading.{IsCodedRow, oid_at, oids_at, row_at, value_at}
+use Rattle.tables.specs.Kinds.{value_at, value_of}
+use Rattle.tables.specs.Reading.{IsCodedRow, oid_at, oids_at, row_at}
 use Rattle.tables.specs.Spelling.{row_length, spell_row}
 use Rattle.tables.proofs.RowBodies.{row_codec}
 use Rattle.tables.specs.declared.fault.BodyFault.{BodyFault}
-use Rattle.tables.specs.declared.value.Value.{Value}
-use Rattle.tables.specs.declared.row_ref.ValueRef.{ValueRef}
+use Rattle.tables.specs.declared.kinds.Value.{Value}
+use Rattle.tables.specs.declared.kinds.ValueRef.{ValueRef}
 use Rattle.tables.specs.declared.row.TheConstants.{MAX_ROW_LENGTH}
-use Rattle.tables.specs.Refs.{IsLarge, value_of}
+use Rattle.tables.specs.Refs.{IsLarge}
 
 -- one value more
 pub one_more : (room : List ValueRef) (i : ℕ) (v : ValueRef) → i < length room → map value_of (take (i + 1) (set room i v)) ≡ map value_of (take i room) ++ value_of v ∷ []

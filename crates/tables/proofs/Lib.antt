@@ -8,3 +8,4 @@ pub mod Members
 pub mod Names
 pub mod RowBodies
 pub mod Sides
+pub mod Values

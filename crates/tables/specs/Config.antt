@@ -7,8 +7,7 @@ use Rattle.toml.specs.Parse.{parse_document}
 use Rattle.toml.specs.View.{view}
 use Rattle.toml.specs.declared.value.Value.{Value}
 use Rattle.pqformat.specs.Steps.{◌>>=◌}
-use Rattle.tables.specs.declared.kind.Kind.{Kind}
-use Rattle.tables.specs.declared.kind.Kind.TheVariants as kinds
+use Rattle.tables.specs.declared.kinds.Kind.{Kind}
 use Rattle.tables.specs.declared.identity.Identity.{Identity}
 use Rattle.tables.specs.declared.identity.Identity.TheVariants as identities
 use Rattle.tables.specs.declared.column.Column.{Column}
@@ -24,6 +23,7 @@ use Rattle.tables.specs.declared.config_table.TheConstants.{MAX_COLUMNS}
 use Rattle.tables.specs.declared.config_member.TheConstants.{MAX_OID}
 use Rattle.tables.specs.declared.config_table.Unread.{Unread}
 use Rattle.tables.specs.declared.config_table.Unread.TheVariants as unread
+use Rattle.tables.specs.Kinds.{kind_named}
 use Rattle.tables.specs.Tables.{is_name, is_namesake}
 
 -- what is read of what was found, if anything was
@@ -52,17 +52,8 @@ unfoldable pub identity_in : Option Data → Option Identity
 identity_in None = Some identities.Default
 identity_in (Some d) = and_then (as_str d) identity_of
 
-abbrev pub kind_of : List ℕ → Option Kind
-kind_of text =
-    if bytes_eq text (codes "bool") then Some kinds.Bool
-    else if bytes_eq text (codes "int2") then Some kinds.Int2
-    else if bytes_eq text (codes "int4") then Some kinds.Int4
-    else if bytes_eq text (codes "int8") then Some kinds.Int8
-    else if bytes_eq text (codes "text") then Some kinds.Text
-    else None
-
 unfoldable pub kind_in : Data → Option Kind
-kind_in d = and_then (as_str d) kind_of
+kind_in d = and_then (as_str d) kind_named
 
 abbrev pub unless_empty : {X : Type 0} → List X → Option (List X)
 unless_empty [] = None

@@ -1,4 +1,5 @@
 pub mod Config
+pub mod Kinds
 pub mod Reading
 pub mod Refs
 pub mod Spelling

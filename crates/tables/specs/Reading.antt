@@ -1,30 +1,21 @@
 -- How a change is read from its body: one field after the other, up to the first fault.
-use Rattle.std.specs.Prelude.{◌≡◌, ◌⊎◌, ℕ, ◌^◌, ◌<◌, ◌==◌, Bool, true, false, ◌||◌, List, ◌∷◌, ◌++◌, length, FitsSigned, Option, Some, None, IsSomeAnd, Result, Ok, Err, IsOk, if◌then◌else◌}
+use Rattle.std.specs.Prelude.{◌≡◌, ◌⊎◌, ℕ, ◌^◌, ◌<◌, ◌==◌, Bool, true, ◌||◌, List, ◌∷◌, ◌++◌, length, IsSomeAnd, Result, Ok, Err, IsOk, if◌then◌else◌}
 use Rattle.std.specs.List.{AllByRecursion}
-use Rattle.std.specs.Option.{ok_or}
-use Rattle.std.specs.Int.{w16, w32, w64}
+use Rattle.std.specs.Int.{w16, w32}
 use Rattle.std.specs.Str.{is_utf8}
 use Rattle.pqformat.specs.Fields.{byte_at, bytes_at, number_at, int16, int32}
-use Rattle.pqformat.specs.Steps.{◌>>=◌, letter_at, signed_at, repeat_at}
-use Rattle.tables.specs.declared.row_body.TheConstants.{NULL_TAG, BOOL_TAG, INT2_TAG, INT4_TAG, INT8_TAG, TEXT_TAG}
+use Rattle.pqformat.specs.Steps.{◌>>=◌, repeat_at}
 use Rattle.tables.specs.declared.change_body.TheConstants.{INSERT_TAG, UPDATE_TAG, DELETE_TAG, TRUNCATE_TAG, MESSAGE_TAG}
 use Rattle.tables.specs.declared.fault.BodyFault.{BodyFault}
-use Rattle.tables.specs.declared.fault.BodyFault.TheVariants.{Short, UnknownTag, BadBool, BadText, Trailing, Memory}
-use Rattle.tables.specs.declared.value.Value.{Value}
-use Rattle.tables.specs.declared.value.Value.TheVariants as values
+use Rattle.tables.specs.declared.fault.BodyFault.TheVariants.{UnknownTag, BadText, Trailing, Memory}
+use Rattle.tables.specs.declared.kinds.Value.{Value}
 use Rattle.tables.specs.declared.change.Change.{Change}
 use Rattle.tables.specs.declared.change.Change.TheVariants as changes
 use Rattle.tables.specs.declared.message.Message.{Message}
-use Rattle.tables.specs.Spelling.{spell_value, spell_message, spell_body}
+use Rattle.tables.specs.Kinds.{IsCodedValue, short, sized_at, spell_value, value_at}
+use Rattle.tables.specs.Spelling.{spell_message, spell_body}
 
 -- WHAT HAS A BODY
-
-abbrev pub IsCodedValue : Value → Type 0
-IsCodedValue (values.Int2 n) = FitsSigned w16 n
-IsCodedValue (values.Int4 n) = FitsSigned w32 n
-IsCodedValue (values.Int8 n) = FitsSigned w64 n
-IsCodedValue (values.Text text) = (length text < 2 ^ 32) × (is_utf8 text ≡ true)
-IsCodedValue value = Unit {0}
 
 abbrev pub IsCodedRow : List Value → Type 0
 IsCodedRow row = (length row < 2 ^ 16) × AllByRecursion IsCodedValue row
@@ -48,31 +39,6 @@ pub record SpellsBody (bytes : List ℕ) (change : Change) : Type 0 where
   pub text : bytes ≡ spell_body change
 
 -- READING
-
-abbrev pub short : {A : Type 0} → Option A → Result A BodyFault
-short o = ok_or o Short
-
-abbrev pub bool_of : ℕ → Option Bool
-bool_of b = if b == 0 then Some false else (if b == 1 then Some true else None)
-
-abbrev pub sized_at : List ℕ → Result (List ℕ × List ℕ) BodyFault
-sized_at bytes = short (number_at w32 bytes) >>= λ n. short (bytes_at n.0 n.1)
-
-unfoldable pub text_at : List ℕ → Result (List ℕ × List ℕ) BodyFault
-text_at bytes = sized_at bytes >>= λ text. if is_utf8 text.0 then Ok text else Err BadText
-
-abbrev pub tagged_at : ℕ → List ℕ → Result (Value × List ℕ) BodyFault
-tagged_at tag bytes =
-    if tag == NULL_TAG then Ok (values.Null, bytes)
-    else (if tag == BOOL_TAG then letter_at Short BadBool bool_of bytes >>= (λ b. Ok (values.Bool b.0, b.1))
-    else (if tag == INT4_TAG then signed_at Short w32 bytes >>= (λ n. Ok (values.Int4 n.0, n.1))
-    else (if tag == INT8_TAG then signed_at Short w64 bytes >>= (λ n. Ok (values.Int8 n.0, n.1))
-    else (if tag == TEXT_TAG then text_at bytes >>= (λ t. Ok (values.Text t.0, t.1))
-    else (if tag == INT2_TAG then signed_at Short w16 bytes >>= (λ n. Ok (values.Int2 n.0, n.1))
-    else Err UnknownTag)))))
-
-unfoldable pub value_at : List ℕ → Result (Value × List ℕ) BodyFault
-value_at bytes = short (byte_at bytes) >>= λ tag. tagged_at tag.0 tag.1
 
 unfoldable pub row_at : List ℕ → Result (List Value × List ℕ) BodyFault
 row_at bytes = short (number_at w16 bytes) >>= λ n. repeat_at value_at n.0 n.1

@@ -1,22 +1,11 @@
--- Values, rows and messages that are read where they lie.
+-- Rows and messages that are read where they lie.
 use Rattle.std.specs.Prelude.{◌⊎◌, ◌<◌, List, length}
-use Rattle.tables.specs.declared.value.Value.{Value}
-use Rattle.tables.specs.declared.value.Value.TheVariants as values
+use Rattle.tables.specs.declared.kinds.Value.{Value}
 use Rattle.tables.specs.declared.config_table.TheConstants.{MAX_COLUMNS}
 use Rattle.tables.specs.declared.row.TheConstants.{MAX_ROW_LENGTH}
-use Rattle.tables.specs.declared.row_ref.ValueRef.{ValueRef}
-use Rattle.tables.specs.declared.row_ref.ValueRef.TheVariants as refs
 use Rattle.tables.specs.declared.message.Message.{Message}
 use Rattle.tables.specs.declared.message.MessageRef.{MessageRef}
 use Rattle.tables.specs.Spelling.{row_length}
-
-abbrev pub value_of : ValueRef → Value
-value_of refs.Null = values.Null
-value_of (refs.Bool b) = values.Bool b
-value_of (refs.Int2 n) = values.Int2 n
-value_of (refs.Int4 n) = values.Int4 n
-value_of (refs.Int8 n) = values.Int8 n
-value_of (refs.Text text) = values.Text text.now
 
 abbrev pub message_of : MessageRef → Message
 message_of m = record { prefix = m.prefix.now; content = m.content.now }

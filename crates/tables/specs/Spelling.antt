@@ -1,27 +1,17 @@
--- How the log keeps a change: a row is a count of two bytes and its values, a value is a tag and its bytes. The body of a
--- change is a tag, the table's OID and its rows, of an update the old one first; of a truncate a count of two bytes and
--- the OIDs; of a message its prefix behind a length of two bytes, and its content behind one of four.
-use Rattle.std.specs.Prelude.{ℕ, ◌≤◌, List, [], ◌∷◌, ◌++◌, length, if◌then◌else◌}
+-- How the log keeps a change: a row is a count of two bytes and its values. The body of a change is a tag, the table's OID and its
+-- rows, of an update the old one first; of a truncate a count of two bytes and the OIDs; of a message its prefix behind a length of
+-- two bytes, and its content behind one of four.
+use Rattle.std.specs.Prelude.{ℕ, ◌≤◌, List, ◌∷◌, ◌++◌, length}
 use Rattle.std.specs.List.{flat_map}
-use Rattle.std.specs.Int.{w16, w32, w64, cast_unsigned}
-use Rattle.pqformat.specs.Fields.{int16, int32, int64}
-use Rattle.tables.specs.declared.row_body.TheConstants.{NULL_TAG, BOOL_TAG, INT2_TAG, INT4_TAG, INT8_TAG, TEXT_TAG}
+use Rattle.pqformat.specs.Fields.{int16, int32}
 use Rattle.tables.specs.declared.change_body.TheConstants.{INSERT_TAG, UPDATE_TAG, DELETE_TAG, TRUNCATE_TAG, MESSAGE_TAG, MAX_TRUNCATED}
 use Rattle.tables.specs.declared.message.TheConstants.{MAX_PREFIX_LENGTH, MAX_CONTENT_LENGTH}
 use Rattle.tables.specs.declared.message.Message.{Message}
 use Rattle.tables.specs.declared.row.TheConstants.{MAX_ROW_LENGTH}
-use Rattle.tables.specs.declared.value.Value.{Value}
-use Rattle.tables.specs.declared.value.Value.TheVariants as values
+use Rattle.tables.specs.declared.kinds.Value.{Value}
 use Rattle.tables.specs.declared.change.Change.{Change}
 use Rattle.tables.specs.declared.change.Change.TheVariants as changes
-
-abbrev pub spell_value : Value → List ℕ
-spell_value values.Null = NULL_TAG ∷ []
-spell_value (values.Bool b) = BOOL_TAG ∷ (if b then 1 else 0) ∷ []
-spell_value (values.Int2 n) = INT2_TAG ∷ int16 (cast_unsigned w16 n)
-spell_value (values.Int4 n) = INT4_TAG ∷ int32 (cast_unsigned w32 n)
-spell_value (values.Int8 n) = INT8_TAG ∷ int64 (cast_unsigned w64 n)
-spell_value (values.Text text) = TEXT_TAG ∷ (int32 (length text) ++ text)
+use Rattle.tables.specs.Kinds.{spell_value}
 
 abbrev pub spell_row : List Value → List ℕ
 spell_row row = int16 (length row) ++ flat_map spell_value row

@@ -1,23 +1,22 @@
 -- Which rows a table takes, and which changes fit a catalogue.
-use Rattle.std.specs.Prelude.{◌≡◌, ℕ, ◌^◌, ◌<◌, ◌≤◌, ◌==◌, nat_le, Bool, true, false, ◌&&◌, ◌||◌, not, List, [], ◌∷◌, ◌++◌, length, codes, count_by, filter, find, map, Option, IsSome, IsSomeAnd, FitsSigned}
+use Rattle.std.specs.Prelude.{◌≡◌, ℕ, ◌^◌, ◌<◌, ◌≤◌, ◌==◌, nat_le, Bool, true, false, ◌&&◌, ◌||◌, not, List, [], ◌∷◌, ◌++◌, length, codes, count_by, filter, find, map, Option, IsSome, IsSomeAnd}
 use Rattle.std.specs.List.{list_all, list_any, zip, AllByRecursion}
-use Rattle.std.specs.Int.{w16, w32, w64}
 use Rattle.std.specs.Str.{bytes_eq, is_utf8}
 use Rattle.tables.specs.declared.config_member.TheConstants.{MAX_NAME_LENGTH}
 use Rattle.tables.specs.declared.config_table.TheConstants.{MAX_COLUMNS}
 use Rattle.tables.specs.declared.row.TheConstants.{MAX_ROW_LENGTH}
 use Rattle.tables.specs.declared.change_body.TheConstants.{MAX_TRUNCATED}
-use Rattle.tables.specs.declared.kind.Kind.{Kind}
-use Rattle.tables.specs.declared.kind.Kind.TheVariants as kinds
+use Rattle.tables.specs.declared.kinds.Kind.TheVariants as kinds
 use Rattle.tables.specs.declared.identity.Identity.TheVariants as identities
-use Rattle.tables.specs.declared.value.Value.{Value}
-use Rattle.tables.specs.declared.value.Value.TheVariants as values
+use Rattle.tables.specs.declared.kinds.Value.{Value}
+use Rattle.tables.specs.declared.kinds.Value.TheVariants as values
 use Rattle.tables.specs.declared.column.Column.{Column}
 use Rattle.tables.specs.declared.table.Table.{Table}
 use Rattle.tables.specs.declared.change.Change.{Change}
 use Rattle.tables.specs.declared.change.Change.TheVariants as changes
 use Rattle.tables.specs.declared.message.TheConstants.{MAX_PREFIX_LENGTH, MAX_CONTENT_LENGTH}
 use Rattle.tables.specs.declared.message.Message.{Message}
+use Rattle.tables.specs.Kinds.{IsValue, has_no_zero, is_of_kind}
 use Rattle.tables.specs.Spelling.{spell_row}
 
 -- the table public.item: id int4 in the key, name text, qty int8
@@ -47,10 +46,6 @@ full_name table = table.schema ++ 46 ∷ table.name
 abbrev pub table_named : List ℕ → List Table → Option Table
 table_named name tables = find (λ table. bytes_eq (full_name table) name) tables
 
--- no zero byte stands in the text
-abbrev pub has_no_zero : List ℕ → Bool
-has_no_zero text = list_all (λ b. not (b == 0)) text
-
 -- 1 to 63 bytes, no zero byte and no dot
 abbrev pub is_name : List ℕ → Bool
 is_name text = not (length text == 0) && (nat_le (length text) MAX_NAME_LENGTH && (has_no_zero text && list_all (λ b. not (b == 46)) text))
@@ -70,34 +65,6 @@ pub record IsTable (table : Table) : Type 0 where
   pub name : IsName table.name
   pub columns : AreColumns table.columns
 
-abbrev pub is_bool : Value → Bool
-is_bool (values.Bool b) = true
-is_bool value = false
-
-abbrev pub is_int2 : Value → Bool
-is_int2 (values.Int2 n) = true
-is_int2 value = false
-
-abbrev pub is_int4 : Value → Bool
-is_int4 (values.Int4 n) = true
-is_int4 value = false
-
-abbrev pub is_int8 : Value → Bool
-is_int8 (values.Int8 n) = true
-is_int8 value = false
-
--- a text has no zero byte
-abbrev pub is_text : Value → Bool
-is_text (values.Text text) = has_no_zero text
-is_text value = false
-
-abbrev pub is_of_kind : Kind → Value → Bool
-is_of_kind kinds.Bool value = is_bool value
-is_of_kind kinds.Int2 value = is_int2 value
-is_of_kind kinds.Int4 value = is_int4 value
-is_of_kind kinds.Int8 value = is_int8 value
-is_of_kind kinds.Text value = is_text value
-
 -- a column takes null, unless it belongs to the key, and values of its kind
 abbrev pub fits_column : Column → Value → Bool
 fits_column column values.Null = not column.is_key
@@ -111,14 +78,6 @@ fits_table table row = (length table.columns == length row) && list_all (λ p. f
 abbrev pub fits_key : Table → List Value → Bool
 fits_key table key =
     (count_by (λ c. c.is_key) table.columns == length key) && list_all (λ p. fits_column p.0 p.1) (zip (filter (λ c. c.is_key) table.columns) key)
-
--- what a value of Rust is: an integer of its width, and a text in UTF-8
-abbrev pub IsValue : Value → Type 0
-IsValue (values.Int2 n) = FitsSigned w16 n
-IsValue (values.Int4 n) = FitsSigned w32 n
-IsValue (values.Int8 n) = FitsSigned w64 n
-IsValue (values.Text text) = is_utf8 text ≡ true
-IsValue value = Unit {0}
 
 -- a row that may stand in the log for this table
 pub record FitsRow (tables : List Table) (oid : ℕ) (row : List Value) : Type 0 where

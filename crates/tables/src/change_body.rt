@@ -11,8 +11,9 @@ ghost use Rattle.tables.specs.declared.row.TheConstants.{MAX_ROW_LENGTH};
 use crate::change::Change;
 use crate::message::Message;
 use crate::row::Row;
-use crate::row_body::{put_int16, put_int32, put_row};
+use crate::row_body::put_row;
 use bytes::{BufMut, BytesMut};
+use pqformat::{put_int16, put_int32};
 use std::alloc::AllocError;
 
 /// The longest body of a change in bytes: that of an update, with two rows.

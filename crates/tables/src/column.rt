@@ -1,12 +1,10 @@
 //! A column of a table, and the values that it takes.
 
 ghost use Rattle.std.specs.Prelude.{◌≡◌, IfOk};
-ghost use Rattle.tables.specs.Refs.{value_of};
+ghost use Rattle.tables.specs.Kinds.{value_of};
 ghost use Rattle.tables.specs.Tables.{fits_column};
 
-use crate::kind::Kind;
-use crate::row_ref::ValueRef;
-use crate::value::Value;
+use crate::kinds::{Kind, Value, ValueRef};
 use pqformat::Text;
 use std::alloc::{AllocError, Global};
 

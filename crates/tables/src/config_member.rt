@@ -9,7 +9,7 @@ ghost use Rattle.tables.specs.Config.{another_name, is_more_than, kind_in, name_
 ghost use Rattle.tables.specs.Tables.{IsName, is_name};
 
 use crate::identity::Identity;
-use crate::kind::{Kind, is_without_zero};
+use crate::kinds::{Kind, is_without_zero};
 use pqformat::{Items, Text};
 use std::alloc::{AllocError, Global};
 use toml::Value;
@@ -86,14 +86,7 @@ fn identity_of(text: &str) -> Option<Identity>
 pub(crate) fn kind_in(value: &Value) -> Option<Kind>
     ensures { result ≡ kind_in (view value.now) }
 {
-    match value.as_str()? {
-        "bool" => Some(Kind::Bool),
-        "int2" => Some(Kind::Int2),
-        "int4" => Some(Kind::Int4),
-        "int8" => Some(Kind::Int8),
-        "text" => Some(Kind::Text),
-        _ => None,
-    }
+    Kind::named(value.as_str()?)
 }
 
 /// The names of a list of one or more, each once.

@@ -2,14 +2,12 @@
 
 ghost use Rattle.std.specs.Prelude.{[], ◌≡◌, ◌<◌, ◌≤◌, ℕ, List, IfErr, IfNone, IfOk, IfSome, IsErr, OnErr, OnOk, Ok, Err, length, map, take};
 ghost use Rattle.pqformat.specs.Steps.{repeat_at};
-ghost use Rattle.tables.specs.Reading.{oid_at, oids_at, text_at, value_at};
-ghost use Rattle.tables.specs.Refs.{value_of};
+ghost use Rattle.tables.specs.Kinds.{value_at, value_of};
+ghost use Rattle.tables.specs.Reading.{oid_at, oids_at};
 
 use crate::fault::BodyFault;
-use crate::row_body::{BOOL_TAG, INT2_TAG, INT4_TAG, INT8_TAG, NULL_TAG, TEXT_TAG};
-use crate::row_reading::{bool_in, i16_in, i32_in, i64_in};
-use crate::row_ref::ValueRef;
-use pqformat::{Cursor, utf8_of};
+use crate::kinds::{ValueRef, lend_value};
+use pqformat::Cursor;
 
 /// So many values, into the front of the room.
 pub(crate) fn lend_values<'a>(
@@ -25,7 +23,7 @@ pub(crate) fn lend_values<'a>(
     ensures same { length room.new ≡ length room.old }
 {
     for i in 0..count {
-        room[i] = value_in(cursor)?;
+        room[i] = lend_value(cursor)?;
     }
     Ok(())
 }
@@ -71,31 +69,4 @@ fn oid_in(cursor: &mut Cursor<'_>) -> Result<u32, BodyFault>
     ensures fails { IfErr result (λ fault. oid_at cursor.old ≡ Err fault) }
 {
     cursor.u32().ok_or(BodyFault::Short)
-}
-
-#[tactic(auto, unfolding(crate::specs::Reading::value_at))]
-fn value_in<'a>(cursor: &mut Cursor<'a>) -> Result<ValueRef<'a>, BodyFault>
-    ensures found { IfOk result (λ value. value_at cursor.old ≡ Ok (value_of value, cursor.new)) }
-    ensures fails { IfErr result (λ fault. value_at cursor.old ≡ Err fault) }
-{
-    match cursor.u8().ok_or(BodyFault::Short)? {
-        NULL_TAG => Ok(ValueRef::Null),
-        BOOL_TAG => Ok(ValueRef::Bool(bool_in(cursor)?)),
-        INT4_TAG => Ok(ValueRef::Int4(i32_in(cursor)?)),
-        INT8_TAG => Ok(ValueRef::Int8(i64_in(cursor)?)),
-        TEXT_TAG => Ok(ValueRef::Text(text_in(cursor)?)),
-        INT2_TAG => Ok(ValueRef::Int2(i16_in(cursor)?)),
-        _ => Err(BodyFault::UnknownTag),
-    }
-}
-
-#[tactic(auto, unfolding(crate::specs::Reading::text_at))]
-fn text_in<'a>(cursor: &mut Cursor<'a>) -> Result<&'a [u8], BodyFault>
-    ensures found { IfOk result (λ text. text_at cursor.old ≡ Ok (text.now, cursor.new)) }
-    ensures fails { IfErr result (λ fault. text_at cursor.old ≡ Err fault) }
-{
-    let len = cursor.u32().ok_or(BodyFault::Short)?;
-    let bytes = cursor.take(len as usize).ok_or(BodyFault::Short)?;
-    utf8_of(bytes).ok_or(BodyFault::BadText)?;
-    Ok(bytes)
 }

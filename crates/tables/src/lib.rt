@@ -13,7 +13,7 @@ mod config_table;
 mod document;
 mod fault;
 mod identity;
-mod kind;
+mod kinds;
 mod lending;
 mod message;
 mod oids;
@@ -22,7 +22,6 @@ mod row_body;
 mod row_reading;
 mod row_ref;
 mod table;
-mod value;
 
 pub use catalog::Catalog;
 pub use change::Change;
@@ -39,14 +38,12 @@ pub use config_table::MAX_COLUMNS;
 pub use document::read_document;
 pub use fault::BodyFault;
 pub use identity::Identity;
-pub use kind::Kind;
+pub use kinds::{Kind, Value, ValueRef, write_value};
 pub use lending::lend_oids;
 pub use message::{
     MAX_CONTENT_LENGTH, MAX_PREFIX_LENGTH, Message, MessageRef, is_prefix, lend_message,
 };
 pub use oids::repeats;
 pub use row::{MAX_ROW_LENGTH, Row};
-pub use row_body::{BOOL_TAG, INT2_TAG, INT4_TAG, INT8_TAG, NULL_TAG, TEXT_TAG};
-pub use row_ref::{RowRef, ValueRef};
+pub use row_ref::RowRef;
 pub use table::Table;
-pub use value::Value;

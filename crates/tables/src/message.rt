@@ -1,14 +1,15 @@
 //! Messages that stand in the log beside the changes of tables.
 
 ghost use Rattle.std.specs.Prelude.{[], ◌≡◌, ◌≢◌, ℕ, List, IfErr, IfNone, IfOk, IfSome, Ok, Err};
-ghost use Rattle.tables.specs.Reading.{message_at, prefix_at, sized_at};
+ghost use Rattle.tables.specs.Kinds.{sized_at};
+ghost use Rattle.tables.specs.Reading.{message_at, prefix_at};
 ghost use Rattle.tables.specs.Refs.{message_of};
 ghost use Rattle.tables.specs.Tables.{is_prefix};
 ghost use Rattle.tables.specs.declared.fault.BodyFault.TheVariants.{Memory};
 ghost use Rattle.tables.specs.declared.message.Message.{Message as Held};
 
 use crate::fault::BodyFault;
-use crate::kind::is_without_zero;
+use crate::kinds::is_without_zero;
 use pqformat::{Cursor, Items, Text, utf8_of};
 use std::alloc::{AllocError, Global};
 

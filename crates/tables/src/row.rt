@@ -2,10 +2,10 @@
 
 ghost use Rattle.std.specs.Prelude.{◌≡◌, ◌+◌, ◌<◌, ◌≤◌, ◌^◌, IfOk, MatchOption, OnSome, length};
 ghost use Rattle.std.specs.List.{AllByRecursion};
-ghost use Rattle.tables.specs.Spelling.{row_length, spell_value};
-ghost use Rattle.tables.specs.Tables.{IsValue};
+ghost use Rattle.tables.specs.Kinds.{IsValue};
+ghost use Rattle.tables.specs.Spelling.{row_length};
 
-use crate::value::Value;
+use crate::kinds::{Value, coded_len_of};
 use pqformat::Items;
 use std::alloc::{AllocError, Global};
 use std::marker::Model;
@@ -21,7 +21,7 @@ pub struct Row {
 
 impl Model for Row {
     ghost use Rattle.std.specs.Prelude.{List};
-    ghost use Rattle.tables.specs.declared.value.Value.{Value as Datum};
+    ghost use Rattle.tables.specs.declared.kinds.Value.{Value as Datum};
 
     ghost Value = { List Datum };
 
@@ -58,7 +58,7 @@ impl Row {
 
 impl Row {
     /// The length of the row's coding in bytes; None where it passes the limit of 8,000.
-    #[tactic(auto, using(crate::proofs::Lengths::lengths))]
+    #[tactic(auto, using(crate::proofs::Values::lengths))]
     pub fn coded_len(&self) -> Option<usize>
         ensures value { MatchOption result (MAX_ROW_LENGTH < row_length self.now)
             (λ n. (n ≡ row_length self.now) × (n ≤ MAX_ROW_LENGTH)) }
@@ -72,31 +72,5 @@ impl Row {
             }
         }
         Some(len)
-    }
-}
-
-/// The length of the value's coding in bytes.
-#[tactic(auto, using(crate::proofs::Lengths::lengths, pqformat::proofs::Texts::valid_text))]
-fn coded_len_of(value: &Value) -> usize
-    ensures value { result ≡ length (spell_value value.now) }
-    ensures in_range { IsValue value.now }
-    ensures bounded { result < 2 ^ 63 + 5 }
-{
-    match value {
-        Value::Null => 1,
-        Value::Bool(_) => 2,
-        Value::Int2(n) => {
-            let _in_range = *n;
-            3
-        }
-        Value::Int4(n) => {
-            let _in_range = *n;
-            5
-        }
-        Value::Int8(n) => {
-            let _in_range = *n;
-            9
-        }
-        Value::Text(text) => 5 + text.as_str().len(),
     }
 }

@@ -2,30 +2,20 @@
 
 ghost use Rattle.std.specs.Prelude.{◌≡◌, ◌<◌, ◌≤◌, ℕ, List, [], length, slice_get, IfNone, IfSome, OnSome, Ok};
 ghost use Rattle.std.specs.Option.{option_map};
+ghost use Rattle.tables.specs.Kinds.{value_of};
 ghost use Rattle.tables.specs.Reading.{IsCodedRow, row_at};
-ghost use Rattle.tables.specs.Refs.{IsLarge, value_of};
+ghost use Rattle.tables.specs.Refs.{IsLarge};
 ghost use Rattle.tables.specs.Spelling.{row_length};
 ghost use Rattle.tables.specs.declared.row.TheConstants.{MAX_ROW_LENGTH};
 ghost use Rattle.tables.specs.declared.config_table.TheConstants.{MAX_COLUMNS};
-ghost use Rattle.tables.specs.declared.value.Value.{Value as Datum};
+ghost use Rattle.tables.specs.declared.kinds.Value.{Value as Datum};
 
 use crate::config_table::MAX_COLUMNS;
+use crate::kinds::{Value, ValueRef};
 use crate::lending::lend_values;
 use crate::row::{MAX_ROW_LENGTH, Row};
-use crate::value::Value;
 use pqformat::Cursor;
 use std::marker::Model;
-
-/// What a row holds in one column; a text is its bytes, where they lie.
-#[derive(Clone, Copy)]
-pub enum ValueRef<'a> {
-    Null,
-    Bool(bool),
-    Int2(i16),
-    Int4(i32),
-    Int8(i64),
-    Text(&'a [u8]),
-}
 
 /// The values of a row, which lies elsewhere. Contracts see the list of them.
 #[derive(Drop)]
@@ -40,8 +30,8 @@ pub struct RowRef<'a> {
 impl<'a> Model for RowRef<'a> {
     ghost use Rattle.std.specs.Prelude.{◌≤◌, ◌++◌, List, length, map, take};
     ghost use Rattle.tables.specs.declared.config_table.TheConstants.{MAX_COLUMNS};
-    ghost use Rattle.tables.specs.declared.value.Value.{Value as Datum};
-    ghost use Rattle.tables.specs.Refs.{value_of};
+    ghost use Rattle.tables.specs.declared.kinds.Value.{Value as Datum};
+    ghost use Rattle.tables.specs.Kinds.{value_of};
 
     ghost Value = { List Datum };
 
@@ -131,21 +121,5 @@ fn lent(values: &[Value], place: usize) -> Option<ValueRef<'_>>
     match values.get(place) {
         Some(value) => Some(value.lend()),
         None => None,
-    }
-}
-
-impl Value {
-    /// The same, with its text where it lies.
-    pub fn lend(&self) -> ValueRef<'_>
-        ensures { value_of result ≡ self.now }
-    {
-        match self {
-            Value::Null => ValueRef::Null,
-            Value::Bool(b) => ValueRef::Bool(*b),
-            Value::Int2(n) => ValueRef::Int2(*n),
-            Value::Int4(n) => ValueRef::Int4(*n),
-            Value::Int8(n) => ValueRef::Int8(*n),
-            Value::Text(text) => ValueRef::Text(text.as_str().as_bytes()),
-        }
     }
 }

@@ -9,7 +9,7 @@ use Rattle.wal.specs.declared.record.TheConstants.{FIRST_POSITION}
 use Rattle.wal.specs.Log.{IsWellFormedLog, end_of}
 use Rattle.tables.specs.declared.table.Table.{Table}
 use Rattle.publication.specs.Publications.{PublicationSet}
-use Rattle.tables.specs.declared.value.Value.{Value}
+use Rattle.tables.specs.declared.kinds.Value.{Value}
 use Rattle.txlog.specs.Publishing.{PublisherState, begun, log_end, with_old}
 use Rattle.tables.specs.Tables.{table_named}
 use Rattle.schedule.specs.declared.start_options.StartOptions.{StartOptions}

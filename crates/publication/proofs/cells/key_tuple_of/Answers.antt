@@ -1,7 +1,7 @@
 use Rattle.std.proofs.Common.{sym, ap, map, ◌∷◌, ◌++◌, [], ◌∙◌}
 use Rattle.std.specs.List.{zip}
 use Rattle.tables.specs.declared.column.Column.{Column}
-use Rattle.tables.specs.declared.value.Value.{Value}
+use Rattle.tables.specs.declared.kinds.Value.{Value}
 use Rattle.publication.specs.Selection.{chosen}
 use Rattle.publication.proofs.Choosing.{all_taken, beside, key_cell_of, paired, passed, taken, unpaired, zip_chosen}
 use Rattle.publication.proofs.cells.key_tuple_of.Goals.{then-is_listed+in_ok-key_cell+in_ok-push, else-is_listed}

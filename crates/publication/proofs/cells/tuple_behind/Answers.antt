@@ -1,6 +1,6 @@
 use Rattle.std.proofs.Common.{sym, ap, map, ◌∷◌, ◌++◌, [], ◌∙◌}
 use Rattle.std.specs.List.{zip}
-use Rattle.tables.specs.declared.value.Value.{Value}
+use Rattle.tables.specs.declared.kinds.Value.{Value}
 use Rattle.publication.specs.Selection.{chosen}
 use Rattle.publication.proofs.Choosing.{all_taken, beside, behind_cell, paired, passed, taken, unpaired, zip_chosen}
 use Rattle.publication.proofs.cells.tuple_behind.Goals.{then-is_listed+in_ok-cell_behind+in_ok-push, else-is_listed}

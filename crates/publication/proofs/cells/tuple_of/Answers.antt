@@ -1,5 +1,6 @@
 use Rattle.std.proofs.Common.{sym, ap, ◌∷◌, ◌++◌, [], ◌∙◌}
-use Rattle.publication.specs.Tuples.{cell_of, tuple_of}
+use Rattle.publication.specs.Kinds.{cell_of}
+use Rattle.publication.specs.Tuples.{tuple_of}
 use Rattle.publication.specs.Selection.{chosen}
 use Rattle.publication.proofs.Choosing.{all_taken, passed, taken}
 use Rattle.publication.proofs.cells.tuple_of.Goals.{then-is_listed+in_ok-cell+in_ok-push, else-is_listed}

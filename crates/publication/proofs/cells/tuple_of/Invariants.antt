@@ -1,6 +1,6 @@
 use Rattle.std.proofs.Common.{◌≡◌, ◌++◌, drop, map}
 use Rattle.publication.specs.Selection.{chosen}
-use Rattle.publication.specs.Tuples.{cell_of}
+use Rattle.publication.specs.Kinds.{cell_of}
 use Rattle.publication.proofs.cells.tuple_of.Given as goal
 
 abbrev pub invariant-loop-i : goal.invariant-loop-i

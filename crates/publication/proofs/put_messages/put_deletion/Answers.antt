@@ -1,6 +1,6 @@
 use Rattle.std.proofs.Common.{◌≡◌, List, Some, ap, subst, sym}
 use Rattle.tables.specs.declared.column.Column.{Column}
-use Rattle.publication.specs.Spelling.{FitsRoom}
+use Rattle.pqformat.specs.Writing.{FitsRoom}
 use Rattle.publication.specs.Selection.{chosen, narrowed}
 use Rattle.publication.specs.Tuples.{key_tuple_of, old_by, tuple_of}
 use Rattle.pgoutput.specs.Tuple.{tuple}

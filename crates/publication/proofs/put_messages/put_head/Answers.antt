@@ -3,5 +3,5 @@ use Rattle.pgoutput.specs.declared.delete.TheConstants.{DELETE}
 use Rattle.publication.proofs.Written.{then_int32}
 use Rattle.publication.proofs.put_messages.put_head.Goals as goal
 
-pub put_int32-end-requires : goal.put_int32-end-requires
-put_int32-end-requires c = then_int32 0 c.put_byte-kind.result DELETE c.args.out.now c.put_byte-kind.new.out c.args.oid (c.args.letter ∷ []) c.put_byte-kind.ensures c.requires
+pub write_int32-end-requires : goal.write_int32-end-requires
+write_int32-end-requires c = then_int32 0 c.write_byte-kind.result DELETE c.args.out.now c.write_byte-kind.new.out c.args.oid (c.args.letter ∷ []) c.write_byte-kind.ensures c.requires

@@ -3,16 +3,17 @@ use Rattle.pgoutput.specs.declared.insert.TheConstants.{INSERT, NEW}
 use Rattle.pgoutput.specs.Tuple.{tuple}
 use Rattle.publication.specs.Selection.{chosen}
 use Rattle.publication.specs.Tuples.{tuple_of}
-use Rattle.publication.proofs.Written.{left, then, then_int32}
+use Rattle.pqformat.proofs.Writing.{left, then}
+use Rattle.publication.proofs.Written.{then_int32}
 use Rattle.publication.proofs.put_messages.put_insertion.Goals as goal
 
-pub put_int32-oid-requires : goal.put_int32-oid-requires
-put_int32-oid-requires c =
-    then_int32 0 c.put_byte-kind.result INSERT c.args.out.now c.put_byte-kind.new.out c.args.table.now.oid ((NEW ∷ []) ++ tuple (tuple_of (chosen c.args.listed.now c.args.row.now))) c.put_byte-kind.ensures c.requires.room
+pub write_int32-oid-requires : goal.write_int32-oid-requires
+write_int32-oid-requires c =
+    then_int32 0 c.write_byte-kind.result INSERT c.args.out.now c.write_byte-kind.new.out c.args.table.now.oid ((NEW ∷ []) ++ tuple (tuple_of (chosen c.args.listed.now c.args.row.now))) c.write_byte-kind.ensures c.requires.room
 
 pub put_tuple-requires-clause-room : goal.put_tuple-requires-clause-room
 put_tuple-requires-clause-room c =
-    left _ _ _ _ _ _ c.put_byte-letter.ensures (left _ _ _ _ _ _ c.put_int32-oid.ensures (left _ _ _ _ _ _ c.put_byte-kind.ensures c.requires.room))
+    left _ _ _ _ _ _ c.write_byte-letter.ensures (left _ _ _ _ _ _ c.write_int32-oid.ensures (left _ _ _ _ _ _ c.write_byte-kind.ensures c.requires.room))
 
 pub returns : goal.returns
-returns c = then _ _ _ _ _ _ _ _ c.put_byte-kind.ensures (then _ _ _ _ _ _ _ _ c.put_int32-oid.ensures (then _ _ _ _ _ _ _ _ c.put_byte-letter.ensures c.put_tuple.ensures))
+returns c = then _ _ _ _ _ _ _ _ c.write_byte-kind.ensures (then _ _ _ _ _ _ _ _ c.write_int32-oid.ensures (then _ _ _ _ _ _ _ _ c.write_byte-letter.ensures c.put_tuple.ensures))

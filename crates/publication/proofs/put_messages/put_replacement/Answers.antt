@@ -5,23 +5,24 @@ use Rattle.pgoutput.specs.Tuple.{tuple}
 use Rattle.pgoutput.specs.Update.{old_if_any}
 use Rattle.publication.specs.Selection.{chosen, narrowed}
 use Rattle.publication.specs.Tuples.{replaced_by, tuple_behind}
-use Rattle.publication.proofs.Written.{first, left, then, then_int32}
+use Rattle.pqformat.proofs.Writing.{first, left, then}
+use Rattle.publication.proofs.Written.{then_int32}
 use Rattle.publication.proofs.put_messages.put_replacement.Goals as goal
 
-pub put_int32-oid-requires : goal.put_int32-oid-requires
-put_int32-oid-requires c =
+pub write_int32-oid-requires : goal.write_int32-oid-requires
+write_int32-oid-requires c =
     let old = chosen c.args.listed.now c.args.old.now in
     let new = chosen c.args.listed.now c.args.new.now in
     let told = old_if_any (replaced_by c.args.table.now.identity (narrowed c.args.listed.now c.args.table.now) old new) in
-    then_int32 0 c.put_byte-kind.result UPDATE c.args.out.now c.put_byte-kind.new.out c.args.table.now.oid (told ++ ((NEW ∷ []) ++ tuple (tuple_behind old new))) c.put_byte-kind.ensures c.requires.room
+    then_int32 0 c.write_byte-kind.result UPDATE c.args.out.now c.write_byte-kind.new.out c.args.table.now.oid (told ++ ((NEW ∷ []) ++ tuple (tuple_behind old new))) c.write_byte-kind.ensures c.requires.room
 
 pub put_replaced-replaced-requires-clause-room : goal.put_replaced-replaced-requires-clause-room
-put_replaced-replaced-requires-clause-room c = first _ _ _ _ (left _ _ _ _ _ _ c.put_int32-oid.ensures (left _ _ _ _ _ _ c.put_byte-kind.ensures c.requires.room))
+put_replaced-replaced-requires-clause-room c = first _ _ _ _ (left _ _ _ _ _ _ c.write_int32-oid.ensures (left _ _ _ _ _ _ c.write_byte-kind.ensures c.requires.room))
 
 pub put_tuple_behind-requires-clause-room : goal.put_tuple_behind-requires-clause-room
 put_tuple_behind-requires-clause-room c =
-    left _ _ _ _ _ _ c.put_byte-letter.ensures (left _ _ _ _ _ _ c.put_replaced-replaced.ensures (left _ _ _ _ _ _ c.put_int32-oid.ensures (left _ _ _ _ _ _ c.put_byte-kind.ensures c.requires.room)))
+    left _ _ _ _ _ _ c.write_byte-letter.ensures (left _ _ _ _ _ _ c.put_replaced-replaced.ensures (left _ _ _ _ _ _ c.write_int32-oid.ensures (left _ _ _ _ _ _ c.write_byte-kind.ensures c.requires.room)))
 
 pub returns : goal.returns
 returns c =
-    then _ _ _ _ _ _ _ _ c.put_byte-kind.ensures (then _ _ _ _ _ _ _ _ c.put_int32-oid.ensures (then _ _ _ _ _ _ _ _ c.put_replaced-replaced.ensures (then _ _ _ _ _ _ _ _ c.put_byte-letter.ensures c.put_tuple_behind.ensures)))
+    then _ _ _ _ _ _ _ _ c.write_byte-kind.ensures (then _ _ _ _ _ _ _ _ c.write_int32-oid.ensures (then _ _ _ _ _ _ _ _ c.put_replaced-replaced.ensures (then _ _ _ _ _ _ _ _ c.write_byte-letter.ensures c.put_tuple_behind.ensures)))

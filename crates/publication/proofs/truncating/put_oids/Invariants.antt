@@ -1,7 +1,7 @@
 use Rattle.std.proofs.Common.{◌≡◌, ◌+◌, ◌*◌, take}
 use Rattle.std.specs.List.{flat_map}
 use Rattle.pqformat.specs.Fields.{int32}
-use Rattle.publication.specs.Spelling.{Writes}
+use Rattle.pqformat.specs.Writing.{Writes}
 use Rattle.publication.proofs.truncating.put_oids.Given as goal
 
 abbrev pub invariant-loop-i : goal.invariant-loop-i

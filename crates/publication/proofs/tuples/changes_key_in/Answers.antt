@@ -1,9 +1,9 @@
 use Rattle.std.proofs.Common.{sym, ap, ◌∙◌}
 use Rattle.std.specs.Prelude.{◌&&◌, not}
 use Rattle.std.specs.List.{list_any, zip}
-use Rattle.tables.specs.declared.value.Value.{Value}
-use Rattle.tables.specs.Refs.{value_of}
-use Rattle.publication.specs.Tuples.{same_value}
+use Rattle.tables.specs.declared.kinds.Value.{Value}
+use Rattle.tables.specs.Kinds.{value_of}
+use Rattle.publication.specs.Kinds.{same_value}
 use Rattle.publication.proofs.Written.{changed_here, is_changed, key_is, passed_here, past, same_here}
 use Rattle.publication.proofs.Choosing.{unpaired}
 use Rattle.publication.proofs.tuples.changes_key_in.Goals.{else-is_listed-via-then-is_listed+else-is_other_key, else-is_listed-via-else-is_listed}

@@ -1,6 +1,6 @@
 use Rattle.std.proofs.Common.{◌≡◌, ◌<◌, get_or, length, sym, ap, ◌∙◌, arith}
 use Rattle.std.proofs.lemmas.List.{get_or_default}
-use Rattle.tables.specs.declared.value.Value.TheVariants as values
+use Rattle.tables.specs.declared.kinds.Value.TheVariants as values
 use Rattle.publication.proofs.Written.{chosen_short, off, on, past}
 use Rattle.publication.proofs.tuples.count_listed.Goals.{then-is_listed, else-is_listed}
 use Rattle.publication.proofs.tuples.count_listed.Goals as goal

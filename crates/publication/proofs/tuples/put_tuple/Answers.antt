@@ -1,22 +1,23 @@
 use Rattle.std.proofs.Common.{◌≡◌, ◌<◌, ◌++◌, take, get_or, length, refl, sym, ap, subst, ◌∙◌, arith}
 use Rattle.std.specs.List.{flat_map}
 use Rattle.std.proofs.lemmas.List.{get_or_default}
-use Rattle.tables.specs.declared.value.Value.{Value}
-use Rattle.tables.specs.declared.value.Value.TheVariants as values
+use Rattle.tables.specs.declared.kinds.Value.{Value}
+use Rattle.tables.specs.declared.kinds.Value.TheVariants as values
 use Rattle.pgoutput.specs.Tuple.{cell}
 use Rattle.publication.specs.Selection.{chosen}
-use Rattle.publication.specs.Spelling.{FitsRoom, Writes}
-use Rattle.publication.specs.Tuples.{cell_of, tuple_of}
+use Rattle.pqformat.specs.Writing.{FitsRoom, Writes}
+use Rattle.publication.specs.Kinds.{cell_of}
+use Rattle.publication.specs.Tuples.{tuple_of}
 use Rattle.publication.proofs.Written.{begun, fits, skipped, told, tuple_room, written}
 use Rattle.publication.proofs.tuples.put_tuple.Goals.{then-is_listed, else-is_listed}
 use Rattle.publication.proofs.tuples.put_tuple.Goals as goal
 
-pub put_int16-end-requires : goal.put_int16-end-requires
-put_int16-end-requires c = tuple_room c.args.at c.args.out.now (tuple_of (chosen c.args.listed.now c.args.row.now)) c.requires.room
+pub write_int16-end-requires : goal.write_int16-end-requires
+write_int16-end-requires c = tuple_room c.args.at c.args.out.now (tuple_of (chosen c.args.listed.now c.args.row.now)) c.requires.room
 
 pub loop-i-init : goal.loop-i-init
 loop-i-init c = record {
-  part = begun cell_of c.args.listed.now c.args.row.now c.args.at c.put_int16-end.result c.count_listed.result c.args.out.now c.put_int16-end.new.out c.requires.room c.count_listed.ensures.value c.put_int16-end.ensures;
+  part = begun cell_of c.args.listed.now c.args.row.now c.args.at c.write_int16-end.result c.count_listed.result c.args.out.now c.write_int16-end.new.out c.requires.room c.count_listed.ensures.value c.write_int16-end.ensures;
   same = refl;
 }
 
@@ -25,7 +26,7 @@ put_cell-end-requires c =
     let low : c.loop-i.i < length c.args.row.now = omega (arith, c.loop-i-test.true, c.len-i-end.ensures) in
     let x = get_or c.args.row.now c.loop-i.i values.Null in
     let is : x ≡ get_or c.args.row.now c.loop-i.i x = get_or_default c.args.row.now c.loop-i.i values.Null x low in
-    let whole = take c.put_int16-end.result c.put_int16-end.new.out ++ flat_map cell (tuple_of (chosen c.args.listed.now c.args.row.now)) in
+    let whole = take c.write_int16-end.result c.write_int16-end.new.out ++ flat_map cell (tuple_of (chosen c.args.listed.now c.args.row.now)) in
     let P : Value → Type 0 = λ v. FitsRoom c.loop-i.end c.loop-i.out (cell (cell_of v)) in
     subst P (sym c.value_in.ensures) (fits cell_of c.args.listed.now c.args.row.now whole c.loop-i.i c.loop-i.end c.loop-i.out x low is c.loop-i.invariant.part (sym c.is_listed.ensures ∙ c.if-is_listed.true))
 
@@ -34,7 +35,7 @@ loop-i-preserved c =
     let low : c.loop-i.i < length c.args.row.now = omega (arith, c.loop-i-test.true, c.len-i-end.ensures) in
     let x = get_or c.args.row.now c.loop-i.i values.Null in
     let is : x ≡ get_or c.args.row.now c.loop-i.i x = get_or_default c.args.row.now c.loop-i.i values.Null x low in
-    let whole = take c.put_int16-end.result c.put_int16-end.new.out ++ flat_map cell (tuple_of (chosen c.args.listed.now c.args.row.now)) in
+    let whole = take c.write_int16-end.result c.write_int16-end.new.out ++ flat_map cell (tuple_of (chosen c.args.listed.now c.args.row.now)) in
     elim c.if-is_listed.branch [
       | then-is_listed w ↦
           let P : Value → Type 0 = λ v. Writes c.loop-i.end w.put_cell-end.result c.loop-i.out w.put_cell-end.new.out (cell (cell_of v)) in
@@ -51,5 +52,5 @@ loop-i-preserved c =
 
 pub returns : goal.returns
 returns c =
-    told cell_of c.args.listed.now c.args.row.now c.args.at c.put_int16-end.result c.count_listed.result c.args.out.now c.put_int16-end.new.out c.requires.room c.count_listed.ensures.value c.put_int16-end.ensures
+    told cell_of c.args.listed.now c.args.row.now c.args.at c.write_int16-end.result c.count_listed.result c.args.out.now c.write_int16-end.new.out c.requires.room c.count_listed.ensures.value c.write_int16-end.ensures
     c.loop-i.i c.loop-i.end c.loop-i.out (omega (arith, c.loop-i-test.false, c.len-i-end.ensures)) c.loop-i.invariant.part c.loop-i.invariant.same

@@ -2,7 +2,8 @@ use Rattle.std.proofs.Common.{◌≡◌, ◌++◌, length, take}
 use Rattle.std.specs.List.{flat_map}
 use Rattle.pgoutput.specs.Tuple.{cell}
 use Rattle.publication.specs.Selection.{chosen}
-use Rattle.publication.specs.Tuples.{cell_of, tuple_of}
+use Rattle.publication.specs.Kinds.{cell_of}
+use Rattle.publication.specs.Tuples.{tuple_of}
 use Rattle.publication.proofs.Written.{IsPartOf}
 use Rattle.publication.proofs.tuples.put_tuple.Given as goal
 

@@ -3,8 +3,7 @@ use Rattle.std.proofs.lemmas.List.{length-set}
 use Rattle.std.proofs.lemmas.Result.{err_from_is_err_and}
 use Rattle.pqformat.specs.Steps.{repeat_at}
 use Rattle.pqformat.proofs.Loop.{ends, goes_on, is_done}
-use Rattle.tables.specs.Reading.{value_at}
-use Rattle.tables.specs.Refs.{value_of}
+use Rattle.tables.specs.Kinds.{value_at, value_of}
 use Rattle.tables.proofs.Lent.{one_more}
 use Rattle.tables.proofs.lending.lend_values.Goals as goal
 
@@ -19,7 +18,7 @@ returns-in_err-room-clause-none c =
 
 pub loop-i-preserved : goal.loop-i-preserved
 loop-i-preserved c = record {
-  read = rw (one_more c.loop-i.room c.loop-i.i c.in_ok-room.field-0 (let low : c.loop-i.i < length c.loop-i.room = omega (arith, c.loop-i-test.true, c.requires, c.loop-i.invariant.same) in low)) (goes_on value_at (map value_of (take c.loop-i.i c.loop-i.room)) c.args.count c.loop-i.i c.loop-i.cursor (value_of c.in_ok-room.field-0) c.value_in.new.cursor
+  read = rw (one_more c.loop-i.room c.loop-i.i c.in_ok-room.field-0 (let low : c.loop-i.i < length c.loop-i.room = omega (arith, c.loop-i-test.true, c.requires, c.loop-i.invariant.same) in low)) (goes_on value_at (map value_of (take c.loop-i.i c.loop-i.room)) c.args.count c.loop-i.i c.loop-i.cursor (value_of c.in_ok-room.field-0) c.lend_value.new.cursor
       (repeat_at value_at c.args.count c.args.cursor.now) c.loop-i-test.true c.in_ok-room.ensures.found c.loop-i.invariant.read);
   same = length-set c.loop-i.room c.loop-i.i c.in_ok-room.field-0 ∙ c.loop-i.invariant.same;
 }

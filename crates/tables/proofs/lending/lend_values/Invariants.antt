@@ -1,8 +1,7 @@
 use Rattle.std.proofs.Common.{◌≡◌, ◌-◌, length, map, take}
 use Rattle.pqformat.specs.Steps.{repeat_at}
 use Rattle.pqformat.proofs.Loop.{with_front}
-use Rattle.tables.specs.Reading.{value_at}
-use Rattle.tables.specs.Refs.{value_of}
+use Rattle.tables.specs.Kinds.{value_at, value_of}
 use Rattle.tables.proofs.lending.lend_values.Given as goal
 
 abbrev pub invariant-loop-i : goal.invariant-loop-i

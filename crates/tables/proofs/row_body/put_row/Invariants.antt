@@ -2,7 +2,8 @@ use Rattle.std.proofs.Common.{◌≡◌, ◌≤◌, ◌++◌, length, drop}
 use Rattle.std.specs.List.{flat_map}
 use Rattle.tables.specs.declared.row.TheConstants.{MAX_ROW_LENGTH}
 use Rattle.pqformat.specs.Putting.{Extends}
-use Rattle.tables.specs.Spelling.{spell_value, spell_row}
+use Rattle.tables.specs.Kinds.{spell_value}
+use Rattle.tables.specs.Spelling.{spell_row}
 use Rattle.tables.proofs.row_body.put_row.Given as goal
 
 abbrev pub invariant-loop-value : goal.invariant-loop-value

@@ -2,7 +2,7 @@ use Rattle.std.proofs.Common.{refl, arith}
 use Rattle.std.proofs.lemmas.Result.{err_from_is_err_and}
 use Rattle.pqformat.specs.Steps.{repeat_at}
 use Rattle.pqformat.proofs.Loop.{goes_on, is_done}
-use Rattle.tables.specs.Reading.{value_at}
+use Rattle.tables.specs.Kinds.{value_at}
 use Rattle.tables.proofs.RowBodies.{fails_on, first_read, memory_before}
 use Rattle.tables.proofs.row_reading.values_of.Goals as goal
 
@@ -14,7 +14,7 @@ returns-in_err-value-clause-exact c =
 
 pub loop-preserved : goal.loop-preserved
 loop-preserved c = (
-  rw c.in_ok-push.ensures.items (goes_on value_at c.loop.values.items c.args.count c.loop.counter c.loop.cursor c.in_ok-value.value c.value_of.new.cursor
+  rw c.in_ok-push.ensures.items (goes_on value_at c.loop.values.items c.args.count c.loop.counter c.loop.cursor c.in_ok-value.value c.read_value.new.cursor
       (repeat_at value_at c.args.count c.args.cursor.now) c.loop-test.true c.in_ok-value.ensures.exact c.loop.invariant.0),
   λ zero_is. absurd (omega (arith, zero_is)),
   λ some. first_read c.loop.counter c.loop.cursor c.args.cursor.now c.loop.invariant.1 c.loop.invariant.2 (rw c.in_ok-value.ensures.exact refl),

@@ -2,7 +2,7 @@ use Rattle.std.proofs.Common.{◌≡◌, ◌-◌, ◌<◌}
 use Rattle.std.specs.Prelude.{IsOk}
 use Rattle.pqformat.specs.Steps.{repeat_at}
 use Rattle.pqformat.proofs.Loop.{with_front}
-use Rattle.tables.specs.Reading.{value_at}
+use Rattle.tables.specs.Kinds.{value_at}
 use Rattle.tables.proofs.row_reading.values_of.Given as goal
 
 abbrev pub invariant-loop : goal.invariant-loop

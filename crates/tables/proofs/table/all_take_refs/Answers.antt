@@ -1,7 +1,7 @@
 use Rattle.std.proofs.Common.{◌+◌, sym, ap, arith, ◌∙◌, ◌&&◌, drop}
 use Rattle.std.specs.List.{list_all, zip}
 use Rattle.std.specs.Option.{option_map}
-use Rattle.tables.specs.Refs.{value_of}
+use Rattle.tables.specs.Kinds.{value_of}
 use Rattle.tables.specs.Tables.{fits_column}
 use Rattle.tables.proofs.Sides.{step, there}
 use Rattle.tables.proofs.table.all_take_refs.Goals as goal

@@ -1,9 +1,9 @@
 use Rattle.std.proofs.Common.{◌≡◌, length, drop, ◌+◌, sym, ap, ◌∙◌, List}
 use Rattle.std.specs.List.{flat_map}
 use Rattle.store.specs.declared.key.TheConstants.{MAX_KEY_LENGTH}
-use Rattle.tables.specs.declared.value.Value.{Value}
+use Rattle.tables.specs.declared.kinds.Value.{Value}
 use Rattle.store.specs.Rows.{key_text, key_values}
-use Rattle.tables.specs.Spelling.{spell_value}
+use Rattle.tables.specs.Kinds.{spell_value}
 use Rattle.store.proofs.Keys.{key_skip, key_more, next_fits, row_key_le}
 use Rattle.store.proofs.key.Place.of_row.Goals as goal
 

@@ -1,7 +1,7 @@
 use Rattle.std.proofs.Common.{◌≡◌, ◌++◌, drop}
 use Rattle.std.specs.List.{flat_map}
 use Rattle.store.specs.Rows.{key_text}
-use Rattle.tables.specs.Spelling.{spell_value}
+use Rattle.tables.specs.Kinds.{spell_value}
 use Rattle.store.proofs.key.Place.of_short_key.Given as goal
 
 abbrev pub invariant-loop-value : goal.invariant-loop-value

@@ -1,8 +1,8 @@
 use Rattle.std.proofs.Common.{◌≡◌, ◌+◌, ◌≤◌, length, drop}
 use Rattle.std.specs.List.{flat_map, AllByRecursion}
 use Rattle.tables.specs.declared.row.TheConstants.{MAX_ROW_LENGTH}
-use Rattle.tables.specs.Spelling.{spell_value, row_length}
-use Rattle.tables.specs.Tables.{IsValue}
+use Rattle.tables.specs.Kinds.{IsValue, spell_value}
+use Rattle.tables.specs.Spelling.{row_length}
 use Rattle.tables.proofs.row.Row.coded_len.Given as goal
 
 abbrev pub invariant-loop-value : goal.invariant-loop-value

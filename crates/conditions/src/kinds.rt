@@ -1,0 +1,61 @@
+//! What the kinds of columns are to a condition, and how the values of each compare with a literal.
+
+ghost use Rattle.std.specs.Prelude.{◌≡◌};
+ghost use Rattle.tables.specs.Kinds.{value_of};
+ghost use Rattle.conditions.specs.Conditions.{Bytes, Number};
+ghost use Rattle.conditions.specs.Kinds.{datum_of, sort_of_kind};
+ghost use Rattle.conditions.specs.Shapes.{seen};
+ghost use Rattle.conditions.specs.Truth.{compared};
+
+use crate::comparison::Comparison;
+use crate::operand::Operand;
+use crate::sort::Sort;
+use crate::truth::Truth;
+use tables::{Kind, ValueRef};
+
+impl Sort {
+    pub(crate) fn of_kind(kind: Kind) -> Sort
+        ensures { result ≡ sort_of_kind kind }
+    {
+        match kind {
+            Kind::Bool => Sort::Truths,
+            Kind::Int2 | Kind::Int4 | Kind::Int8 => Sort::Numbers,
+            Kind::Text => Sort::Texts,
+        }
+    }
+}
+
+impl<'a> Operand<'a> {
+    pub(crate) fn of_value(value: ValueRef<'a>) -> Operand<'a>
+        ensures { seen result ≡ datum_of (value_of value.entry) }
+    {
+        match value {
+            ValueRef::Null => Operand::Null,
+            ValueRef::Bool(b) => Operand::Bool(b),
+            ValueRef::Int2(n) => Operand::Number(i64::from(n)),
+            ValueRef::Int4(n) => Operand::Number(i64::from(n)),
+            ValueRef::Int8(n) => Operand::Number(n),
+            ValueRef::Text(text) => Operand::Text(text),
+        }
+    }
+}
+
+pub(crate) fn number_against(how: Comparison, value: ValueRef<'_>, number: i64) -> Truth
+    ensures { result ≡ compared how (datum_of (value_of value.entry)) (Number number) }
+{
+    match value {
+        ValueRef::Int2(n) => Truth::of(how.holds(i64::from(n).cmp(&number))),
+        ValueRef::Int4(n) => Truth::of(how.holds(i64::from(n).cmp(&number))),
+        ValueRef::Int8(n) => Truth::of(how.holds(n.cmp(&number))),
+        _ => Truth::Unknown,
+    }
+}
+
+pub(crate) fn text_against(how: Comparison, value: ValueRef<'_>, text: &[u8]) -> Truth
+    ensures { result ≡ compared how (datum_of (value_of value.entry)) (Bytes text.now) }
+{
+    match value {
+        ValueRef::Text(value) => Truth::of(how.holds(value.cmp(text))),
+        _ => Truth::Unknown,
+    }
+}
