@@ -28,7 +28,7 @@ pub struct Server {
     pub systemid: Text,
     /// For how many records the log has room: 1 to `MAX_RECORDS`.
     pub records: usize,
-    /// The chunks of a sender's arena: 1 to `MAX_CHUNKS`. No sender has one yet.
+    /// The chunks of a sender's arena: 1 to `MAX_CHUNKS`.
     pub chunks: usize,
 }
 

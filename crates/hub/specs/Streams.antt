@@ -1,18 +1,19 @@
 -- What a connection makes of its stream.
-use Rattle.std.specs.Prelude.{◌≡◌, ◌⊎◌, ℕ, Bool, zero, suc, List, [], ◌++◌, false}
+use Rattle.std.specs.Prelude.{◌≡◌, ◌⊎◌, ℕ, zero, suc, List, [], ◌++◌, false}
 use Rattle.std.specs.declared.option.Option.{Option}
 use Rattle.std.specs.Io.KnownBytes.{Appends}
 use Rattle.stream.specs.Words.{word_bytes}
 use Rattle.stream.specs.Items.{keepalive_word}
 use Rattle.publication.specs.Publications.{PublicationSet, selected}
+use Rattle.replcmd.specs.declared.setting.StreamOptions.{StreamOptions}
 use Rattle.shared_log.specs.Readers.{seen_of}
 use Rattle.walsender.specs.declared.walsender.Walsender.{Walsender}
 use Rattle.walsender.specs.Serving.{Gives, GoesOn}
 use Rattle.hub.specs.declared.streaming.TheConstants.{CLOCK}
 
--- what a START asks for: what its names select, and the messages of the log or none of them
-abbrev pub asked_for : PublicationSet → List (List ℕ) → Bool → PublicationSet
-asked_for publications names messages = record (selected publications names) { messages = messages }
+-- what a START asks for: what its names select, with the messages of the log where its options ask for them
+abbrev pub asked_for : PublicationSet → List (List ℕ) → StreamOptions → PublicationSet
+asked_for publications names options = record (selected publications names) { messages = options.messages }
 
 -- so many keepalives, one behind the other, which don't ask for an answer
 abbrev pub keepalives : ℕ → ℕ → List ℕ

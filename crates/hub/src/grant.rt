@@ -14,6 +14,7 @@ use crate::pool::Pair;
 use chgarena::Arena;
 use pqformat::Text;
 use publication::{PubFault, Publications, Selection};
+use replcmd::StreamOptions;
 use shared_log::{LogName, LogReader};
 use slots::{SlotName, SlotTable};
 use std::alloc::Global;
@@ -22,14 +23,14 @@ use walsender::ClaimFault;
 /// How many records of the log count for where a stream begins: all that its reader sees.
 const LIMIT: usize = usize::MAX;
 
-/// What a stream is made of beside its slot and its reader: what these names select, with the messages of the log or without them,
-/// and an arena of so many chunks.
+/// What a stream is made of beside its slot and its reader: what these names select, told as the options ask, and an arena of so many
+/// chunks.
 #[derive(Drop)]
 pub(crate) struct Means<'a> {
     pub alloc: Global,
     pub publications: &'a Publications,
     pub names: &'a [Text],
-    pub messages: bool,
+    pub options: &'a StreamOptions,
     pub chunks: u32,
 }
 
@@ -38,11 +39,11 @@ impl<'a> Means<'a> {
     fn make(&self) -> Result<(Selection, Arena), PubFault>
         ensures { IfOk result
             (λ made. made.0
-            ≡ asked_for self.now.publications.now self.now.names.now self.now.messages) }
+            ≡ asked_for self.now.publications.now self.now.names.now self.now.options.now) }
     {
         let selection = self.publications.select(self.names)?;
         let arena = Arena::new(self.alloc, self.chunks as usize)?;
-        Ok((selection.with_messages(self.messages), arena))
+        Ok((selection.with_messages(self.options.messages), arena))
     }
 }
 
@@ -84,7 +85,7 @@ impl<L: LogName + SlotName> StreamGrant<L> {
         ensures place { IfOk result (λ b. b.hold.lease.place ≡ place) }
         ensures selection { IfOk result
             (λ b. b.selection
-            ≡ asked_for means.now.publications.now means.now.names.now means.now.messages) }
+            ≡ asked_for means.now.publications.now means.now.names.now means.now.options.now) }
     {
         let Pair {
             mut reader,

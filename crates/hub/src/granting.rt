@@ -100,7 +100,7 @@ impl<L: LogName + SlotName> Hub<L> {
             hub: self,
             slot,
             names: names.as_slice(),
-            messages: options.messages,
+            options,
             position,
         };
         let grant = begin(&mut start).map_err(of_start)?;

@@ -7,6 +7,7 @@ use crate::hub::Hub;
 use crate::pool::Pair;
 use pqformat::Text;
 use publication::PubFault;
+use replcmd::StreamOptions;
 use shared_log::LogName;
 use slots::SlotName;
 use std::sync::Wait;
@@ -19,7 +20,7 @@ pub(crate) struct HubStart<'h, L: LogName + SlotName, R: Wait> {
     pub hub: &'h Hub<L>,
     pub slot: &'h str,
     pub names: &'h [Text],
-    pub messages: bool,
+    pub options: &'h StreamOptions,
     pub position: u64,
 }
 
@@ -61,7 +62,7 @@ impl<'h, L: LogName + SlotName, R: Wait> StartDesk for HubStart<'h, L, R> {
             alloc: hub.alloc,
             publications: &hub.publications,
             names: self.names,
-            messages: self.messages,
+            options: self.options,
             chunks: hub.chunks,
         };
         match StreamGrant::claim(&hub.slots, pair, slot.place, &means, self.position) {

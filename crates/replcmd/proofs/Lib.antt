@@ -8,7 +8,7 @@ pub mod Lists
 pub mod Readers
 pub mod PublicationNames
 pub mod Truths
+pub mod Settings
 pub mod Options
-pub mod Gathered
 pub mod Phrases
 pub mod Sentences

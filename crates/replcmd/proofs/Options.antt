@@ -1,97 +1,20 @@
 -- The options that are read of the tokens of START_REPLICATION are those that stand there.
-use Rattle.std.proofs.Common.{◌≡◌, ◌≢◌, ℕ, suc, ◌<◌, Bool, true, false, cond, eqb, List, [], ◌∷◌, length, Option, Some, None, Result, Ok, Err, refl, sym, ap, subst, ◌∙◌, arith}
-use Rattle.std.specs.Prelude.{codes}
+use Rattle.std.proofs.Common.{◌≡◌, ◌≢◌, ℕ, suc, ◌<◌, Bool, true, false, cond, eqb, List, [], ◌∷◌, length, Option, Some, None, Result, Err, refl, sym, ap, subst, ◌∙◌, arith}
 use Rattle.std.specs.Option.{ok_or}
-use Rattle.std.specs.Str.{bytes_eq}
 use Rattle.std.proofs.lemmas.Bool.{eqb-true}
 use Rattle.replcmd.specs.declared.fault.CmdFault.{CmdFault}
-use Rattle.replcmd.specs.declared.fault.CmdFault.TheVariants.{Syntax, BadOption}
+use Rattle.replcmd.specs.declared.fault.CmdFault.TheVariants.{Syntax}
 use Rattle.replcmd.specs.declared.token.Token.{Token}
 use Rattle.replcmd.specs.declared.token.Token.TheVariants.{Word, Quoted, Value, Mark, Unclosed}
 use Rattle.replcmd.specs.declared.token.TheConstants.{OPEN, CLOSE, COMMA}
 use Rattle.replcmd.specs.declared.setting.Setting.{Setting}
-use Rattle.replcmd.specs.declared.setting.Setting.TheVariants.{Version, Publications, Messages}
-use Rattle.replcmd.specs.Grammar.{Part, Named, Chosen, Sign, IsEnd, Follows, option_name, IsValue, setting_parts}
-use Rattle.replcmd.specs.Reading.{◌>>=◌, name_of, name_at, value_at, past_mark, names_of, truth_of, version_at, publications_at, messages_at, setting_at, more_settings, settings_at, in_brackets, if_open, options_at, separated}
-use Rattle.replcmd.proofs.Lists.{found, same_found, bind_ok, Shortens, Lists, lists_take, lists_again}
-use Rattle.replcmd.proofs.PublicationNames.{names_take, names_again}
-use Rattle.replcmd.proofs.Truths.{truth_take, truth_again}
-use Rattle.replcmd.proofs.Readers.{bytes_same, same_bytes, name_follows, name_reads, value_follows, passed, mark_is, mark_stays}
-
--- ---- one option
-
--- its name, its value, and what is left
-record Told (ts : List Token) (s : Setting) (rest : List Token) : Type 0 where
-  value : List ℕ
-  name : name_at ts ≡ found (option_name s) (Value value ∷ rest)
-  says : IsValue s value
-
-version_told : (ts : List Token) (s : Setting) (rest : List Token) → version_at ts ≡ found s rest → (v : List ℕ) × (ts ≡ Value v ∷ rest) × (s ≡ Version) × (v ≡ codes "1")
-version_told ts s rest e =
-    let a = bind_ok (value_at ts) (λ value. cond (bytes_eq value.0 (codes "1")) (Ok (Version, value.1)) (Err BadOption)) (s, rest) e in
-    by_test a.0.0 a.0.1 (value_follows ts a.0.0 a.0.1 a.1) (bytes_eq a.0.0 (codes "1")) refl a.2
-  where
-    by_test : (v : List ℕ) (mid : List Token) → ts ≡ Value v ∷ mid → (t : Bool) → bytes_eq v (codes "1") ≡ t → cond t (found Version mid) (Err BadOption) ≡ found s rest
-        → (v : List ℕ) × (ts ≡ Value v ∷ rest) × (s ≡ Version) × (v ≡ codes "1")
-    by_test v mid front true is e =
-        let same = same_found Version mid s rest e in
-        (v, front ∙ ap (λ (l : List Token). Value v ∷ l) same.1, sym same.0, bytes_same v (codes "1") is)
-    by_test v mid front false is e = absurd cc
-
-publications_told : (ts : List Token) (s : Setting) (rest : List Token) → publications_at ts ≡ found s rest
-    → (v : List ℕ) × (names : List (List ℕ)) × (ts ≡ Value v ∷ rest) × (s ≡ Publications names) × (names_of v ≡ Ok names)
-publications_told ts s rest e =
-    let a = bind_ok (value_at ts) (λ value. names_of value.0 >>= λ names. Ok (Publications names, value.1)) (s, rest) e in
-    let b = bind_ok (names_of a.0.0) (λ names. Ok (Publications names, a.0.1)) (s, rest) a.2 in
-    let same = same_found (Publications b.0) a.0.1 s rest b.2 in
-    (a.0.0, b.0, value_follows ts a.0.0 a.0.1 a.1 ∙ ap (λ (l : List Token). Value a.0.0 ∷ l) same.1, sym same.0, b.1)
-
-messages_told : (ts : List Token) (s : Setting) (rest : List Token) → messages_at ts ≡ found s rest → (v : List ℕ) × (on : Bool) × (ts ≡ Value v ∷ rest) × (s ≡ Messages on) × (truth_of v ≡ Some on)
-messages_told ts s rest e =
-    let a = bind_ok (value_at ts) (λ value. ok_or (truth_of value.0) BadOption >>= λ on. Ok (Messages on, value.1)) (s, rest) e in
-    by_truth a.0.0 a.0.1 (value_follows ts a.0.0 a.0.1 a.1) (truth_of a.0.0) refl a.2
-  where
-    by_truth : (v : List ℕ) (mid : List Token) → ts ≡ Value v ∷ mid → (o : Option Bool) → truth_of v ≡ o → (ok_or o BadOption >>= λ on. found (Messages on) mid) ≡ found s rest
-        → (v : List ℕ) × (on : Bool) × (ts ≡ Value v ∷ rest) × (s ≡ Messages on) × (truth_of v ≡ Some on)
-    by_truth v mid front None is e = absurd cc
-    by_truth v mid front (Some on) is e =
-        let same = same_found (Messages on) mid s rest e in
-        (v, on, front ∙ ap (λ (l : List Token). Value v ∷ l) same.1, sym same.0, is)
-
-setting_told : (ts : List Token) (s : Setting) (rest : List Token) → setting_at ts ≡ found s rest → Told ts s rest
-unfolding setting_at
-setting_told ts s rest e =
-    let a = bind_ok (name_at ts) (λ name. cond (bytes_eq name.0 (codes "proto_version")) (version_at name.1) (cond (bytes_eq name.0 (codes "publication_names")) (publications_at name.1)
-    (cond (bytes_eq name.0 (codes "messages")) (messages_at name.1) (Err BadOption)))) (s, rest) e in
-    by_name a.0.0 a.0.1 a.1 (bytes_eq a.0.0 (codes "proto_version")) refl (bytes_eq a.0.0 (codes "publication_names")) refl (bytes_eq a.0.0 (codes "messages")) refl a.2
-  where
-    -- an option of this name, whose value stands behind it and says so
-    so : (n : List ℕ) (mid : List Token) → name_at ts ≡ found n mid → (t : Setting) → n ≡ option_name t → s ≡ t → (v : List ℕ) → mid ≡ Value v ∷ rest → IsValue t v → Told ts s rest
-    so n mid read t is same v front says =
-        let name : option_name s ≡ n = ap option_name same ∙ sym is in
-        record {
-          value = v;
-          name = read ∙ ap (λ (m : List ℕ). found m mid) (sym name) ∙ ap (found (option_name s)) front;
-          says = subst (λ (x : Setting). IsValue x v) (sym same) says;
-        }
-
-    by_name : (n : List ℕ) (mid : List Token) → name_at ts ≡ found n mid → (t : Bool) → bytes_eq n (codes "proto_version") ≡ t → (u : Bool) → bytes_eq n (codes "publication_names") ≡ u
-        → (w : Bool) → bytes_eq n (codes "messages") ≡ w
-        → cond t (version_at mid) (cond u (publications_at mid) (cond w (messages_at mid) (Err BadOption))) ≡ found s rest → Told ts s rest
-    by_name n mid read true is u other w last e = let v = version_told mid s rest e in so n mid read Version (bytes_same n (codes "proto_version") is) v.2 v.0 v.1 v.3
-    by_name n mid read false is true other w last e =
-        let v = publications_told mid s rest e in
-        so n mid read (Publications v.1) (bytes_same n (codes "publication_names") other) v.3 v.0 v.2 (names_take v.0 v.1 v.4)
-    by_name n mid read false is false other true last e =
-        let v = messages_told mid s rest e in
-        so n mid read (Messages v.1) (bytes_same n (codes "messages") last) v.3 v.0 v.2 (truth_take v.0 v.1 v.4)
-    by_name n mid read false is false other false last e = absurd cc
-
-setting_reads : (ts : List Token) (s : Setting) (v : List ℕ) (rest : List Token) → name_at ts ≡ found (option_name s) (Value v ∷ rest) → IsValue s v → setting_at ts ≡ found s rest
-unfolding setting_at
-setting_reads ts Version v rest name says = rw (name, same_bytes v (codes "1") says) refl
-setting_reads ts (Publications names) v rest name says = rw (name, names_again v names says) refl
-setting_reads ts (Messages on) v rest name says = rw (name, truth_again v on says) refl
+use Rattle.replcmd.specs.Grammar.{Part, Named, Chosen, Sign, IsEnd, Follows, setting_parts}
+use Rattle.replcmd.specs.Commands.{if_open, in_brackets, more_settings, options_at, settings_at}
+use Rattle.replcmd.specs.Reading.{◌>>=◌, name_of, name_at, past_mark, separated}
+use Rattle.replcmd.specs.Settings.{option_name, setting_at}
+use Rattle.replcmd.proofs.Lists.{found, same_found, Shortens, Lists, lists_take, lists_again}
+use Rattle.replcmd.proofs.Settings.{setting_reads, setting_told}
+use Rattle.replcmd.proofs.Readers.{name_follows, name_reads, passed, mark_is, mark_stays}
 
 -- ---- the list
 

@@ -12,7 +12,8 @@ use Rattle.replcmd.specs.declared.verb.Verb.{Verb}
 use Rattle.replcmd.specs.declared.verb.Verb.TheVariants as verb
 use Rattle.replcmd.specs.Words.{lower, is_keyword}
 use Rattle.replcmd.specs.Grammar.{Part, Keyword, Named, Quote, Sign, IsEnd, Follows, IsEnding, Bare, NoExport, NoSnapshot}
-use Rattle.replcmd.specs.Reading.{◌>>=◌, name_at, value_at, past_mark, past_word, verb_of, verb_at, plugin_at, other_option, slot_bracket_at, snapshot_value_at, if_snapshot, snapshot_at, ending_from, ending_at}
+use Rattle.replcmd.specs.Commands.{ending_at, ending_from, if_snapshot, other_option, plugin_at, slot_bracket_at, snapshot_at, snapshot_value_at}
+use Rattle.replcmd.specs.Reading.{◌>>=◌, name_at, value_at, past_mark, past_word, verb_of, verb_at}
 use Rattle.replcmd.proofs.Pieces.{if_true}
 use Rattle.replcmd.proofs.Lists.{found, same_found, bind_ok}
 use Rattle.replcmd.proofs.Options.{sign_front}

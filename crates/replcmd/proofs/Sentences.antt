@@ -1,5 +1,5 @@
 -- The command that is read of a text is the one that it spells.
-use Rattle.std.proofs.Common.{◌≡◌, ◌≢◌, ℕ, false, List, [], ◌∷◌, None, Result, Ok, Err, refl, sym, ap, subst, ◌∙◌}
+use Rattle.std.proofs.Common.{◌≡◌, ◌≢◌, ℕ, List, [], ◌∷◌, Result, Ok, Err, refl, sym, ap, subst, ◌∙◌}
 use Rattle.std.specs.Prelude.{IfOk, codes, true}
 use Rattle.replcmd.specs.declared.fault.CmdFault.{CmdFault}
 use Rattle.replcmd.specs.declared.token.Token.{Token}
@@ -8,17 +8,19 @@ use Rattle.replcmd.specs.declared.token.TheConstants.{OPEN}
 use Rattle.replcmd.specs.declared.verb.Verb.{Verb}
 use Rattle.replcmd.specs.declared.verb.Verb.TheVariants as verb
 use Rattle.replcmd.specs.declared.setting.Setting.{Setting}
-use Rattle.replcmd.specs.declared.stream_options.StreamOptions.{StreamOptions}
+use Rattle.replcmd.specs.declared.setting.StreamOptions.{StreamOptions}
 use Rattle.replcmd.specs.declared.command.Command.{Command}
 use Rattle.replcmd.specs.declared.command.Command.TheVariants.{Identify, Create, Start, Drop}
 use Rattle.replcmd.specs.Lexing.{Lexes}
 use Rattle.replcmd.specs.Words.{is_slot_name}
-use Rattle.replcmd.specs.Grammar.{Part, Keyword, Named, At, Quote, Chosen, Sign, IsPart, IsEnd, Follows, AreSettings, setting_parts, create_parts, IsEnding, start_parts, Says, SpellsCommand}
-use Rattle.replcmd.specs.Reading.{◌>>=◌, slot_at, verb_at, keyword_at, end_at, position_at, options_at, gathered, identify_at, plugin_at, ending_at, create_at, drop_at, start_at, body_at, command_at, Answers, Tells}
+use Rattle.replcmd.specs.Grammar.{Part, Keyword, Named, At, Quote, Chosen, Sign, IsPart, IsEnd, Follows, setting_parts, create_parts, IsEnding, start_parts, Says, SpellsCommand}
+use Rattle.replcmd.specs.Commands.{Tells, body_at, command_at, create_at, drop_at, ending_at, identify_at, options_at, plugin_at, start_at}
+use Rattle.replcmd.specs.Reading.{◌>>=◌, slot_at, verb_at, keyword_at, end_at, position_at, Answers}
+use Rattle.replcmd.specs.Settings.{AreSettings, told_options}
 use Rattle.replcmd.proofs.Lexemes.{AllClosed, lexes_spells, spells_lexes, lexes_once}
 use Rattle.replcmd.proofs.Lists.{found, bind_ok}
 use Rattle.replcmd.proofs.Options.{options_follow, options_read}
-use Rattle.replcmd.proofs.Gathered.{settings_gathered, gathered_settings, some_settings}
+use Rattle.replcmd.proofs.Settings.{settings_gathered, gathered_settings, some_settings}
 use Rattle.replcmd.proofs.Phrases.{verb_follows, verb_reads, plugin_follows, plugin_reads, ending_follows, ending_reads}
 use Rattle.replcmd.proofs.Readers.{name_follows, name_reads, slot_follows, slot_reads, keyword_follows, keyword_reads, position_follows, position_reads, end_is, is_end}
 
@@ -80,16 +82,16 @@ start_follows : (ts : List Token) (c : Command) → start_at ts ≡ Ok c
 unfolding start_at
 start_follows ts c e =
     let word = bind_ok (keyword_at verb.Start (codes "SLOT") ts) (λ word. slot_at word >>= λ slot. keyword_at verb.Start (codes "LOGICAL") slot.1 >>= λ logical. position_at logical >>= λ position. options_at position.1
-    >>= λ settings. end_at verb.Start settings.1 >>= λ end. gathered false None None settings.0 >>= λ options. Ok (Start slot.0 position.0 options)) c e in
+    >>= λ settings. end_at verb.Start settings.1 >>= λ end. told_options settings.0 >>= λ options. Ok (Start slot.0 position.0 options)) c e in
     let slot = bind_ok (slot_at word.0) (λ slot. keyword_at verb.Start (codes "LOGICAL") slot.1 >>= λ logical. position_at logical >>= λ position. options_at position.1
-    >>= λ settings. end_at verb.Start settings.1 >>= λ end. gathered false None None settings.0 >>= λ options. Ok (Start slot.0 position.0 options)) c word.2 in
+    >>= λ settings. end_at verb.Start settings.1 >>= λ end. told_options settings.0 >>= λ options. Ok (Start slot.0 position.0 options)) c word.2 in
     let logical = bind_ok (keyword_at verb.Start (codes "LOGICAL") slot.0.1) (λ logical. position_at logical >>= λ position. options_at position.1
-    >>= λ settings. end_at verb.Start settings.1 >>= λ end. gathered false None None settings.0 >>= λ options. Ok (Start slot.0.0 position.0 options)) c slot.2 in
+    >>= λ settings. end_at verb.Start settings.1 >>= λ end. told_options settings.0 >>= λ options. Ok (Start slot.0.0 position.0 options)) c slot.2 in
     let position = bind_ok (position_at logical.0) (λ position. options_at position.1
-    >>= λ settings. end_at verb.Start settings.1 >>= λ end. gathered false None None settings.0 >>= λ options. Ok (Start slot.0.0 position.0 options)) c logical.2 in
-    let settings = bind_ok (options_at position.0.1) (λ settings. end_at verb.Start settings.1 >>= λ end. gathered false None None settings.0 >>= λ options. Ok (Start slot.0.0 position.0.0 options)) c position.2 in
-    let end = bind_ok (end_at verb.Start settings.0.1) (λ end. gathered false None None settings.0.0 >>= λ options. Ok (Start slot.0.0 position.0.0 options)) c settings.2 in
-    let options = bind_ok (gathered false None None settings.0.0) (λ options. Ok (Start slot.0.0 position.0.0 options)) c end.2 in
+    >>= λ settings. end_at verb.Start settings.1 >>= λ end. told_options settings.0 >>= λ options. Ok (Start slot.0.0 position.0 options)) c logical.2 in
+    let settings = bind_ok (options_at position.0.1) (λ settings. end_at verb.Start settings.1 >>= λ end. told_options settings.0 >>= λ options. Ok (Start slot.0.0 position.0.0 options)) c position.2 in
+    let end = bind_ok (end_at verb.Start settings.0.1) (λ end. told_options settings.0.0 >>= λ options. Ok (Start slot.0.0 position.0.0 options)) c settings.2 in
+    let options = bind_ok (told_options settings.0.0) (λ options. Ok (Start slot.0.0 position.0.0 options)) c end.2 in
     let same : Start slot.0.0 position.0.0 options.0 ≡ c = let ok = options.2 in cc in
     let are = settings_gathered settings.0.0 options.0 options.1 in
     let named = slot_follows word.0 slot.0.0 slot.0.1 slot.1 in

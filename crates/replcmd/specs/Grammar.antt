@@ -7,33 +7,19 @@
 --
 -- The options are those of pgoutput (PostgreSQL 15, 55.5): `proto_version` and `publication_names`, which are needed, and
 -- `messages`.
-use Rattle.std.specs.Prelude.{◌≡◌, ℕ, List, [], ◌∷◌, Option, Some, None, Bool, true, false, count_by, codes}
-use Rattle.std.specs.List.{filter_map}
+use Rattle.std.specs.Prelude.{◌≡◌, ℕ, List, [], ◌∷◌, true, codes}
 use Rattle.replcmd.specs.declared.token.Token.{Token}
 use Rattle.replcmd.specs.declared.token.Token.TheVariants.{Word, Value, Mark}
 use Rattle.replcmd.specs.declared.token.TheConstants.{OPEN, CLOSE, COMMA, SEMICOLON}
 use Rattle.replcmd.specs.declared.setting.Setting.{Setting}
-use Rattle.replcmd.specs.declared.setting.Setting.TheVariants.{Version, Publications, Messages}
-use Rattle.replcmd.specs.declared.stream_options.StreamOptions.{StreamOptions}
 use Rattle.replcmd.specs.declared.command.Command.{Command}
 use Rattle.replcmd.specs.declared.command.Command.TheVariants.{Identify, Create, Start, Drop}
 use Rattle.replcmd.specs.Position.{SpellsPosition}
 use Rattle.replcmd.specs.Tokens.{Spells}
-use Rattle.replcmd.specs.Words.{is_keyword, is_truth, IsName, is_slot_name}
-use Rattle.replcmd.specs.Publications.{SpellsNames}
+use Rattle.replcmd.specs.Settings.{AreSettings, IsValue, option_name}
+use Rattle.replcmd.specs.Words.{is_keyword, IsName, is_slot_name}
 
 -- ---- parts
-
--- the name of an option, and the values that say so
-abbrev pub option_name : Setting → List ℕ
-option_name Version = codes "proto_version"
-option_name (Publications names) = codes "publication_names"
-option_name (Messages on) = codes "messages"
-
-abbrev pub IsValue : Setting → List ℕ → Type 0
-IsValue Version value = value ≡ codes "1"
-IsValue (Publications names) value = SpellsNames value names
-IsValue (Messages on) value = is_truth on value ≡ true
 
 -- a keyword; a name; a position; this value in single quotes; a value that says an option; a mark
 pub data Part : Type 0 where
@@ -66,30 +52,6 @@ Follows [] (part ∷ parts) = ⊥
 Follows (token ∷ tokens) (part ∷ parts) = IsPart part token × Follows tokens parts
 
 -- ---- options
-
-abbrev pub is_version : Setting → Bool
-is_version Version = true
-is_version _ = false
-
-abbrev pub publications_of : Setting → Option (List (List ℕ))
-publications_of (Publications names) = Some names
-publications_of _ = None
-
-abbrev pub messages_of : Setting → Option Bool
-messages_of (Messages on) = Some on
-messages_of _ = None
-
--- what is said of messages, once at most, comes to this: to false where nothing is said
-abbrev pub ComesTo : List Bool → Bool → Type 0
-ComesTo [] on = on ≡ false
-ComesTo (said ∷ []) on = on ≡ said
-ComesTo (said ∷ again ∷ more) on = ⊥
-
--- In any order: the version and the publications once, messages once at most, and nothing else.
-pub record AreSettings (settings : List Setting) (options : StreamOptions) : Type 0 where
-  pub version : count_by is_version settings ≡ 1
-  pub names : filter_map publications_of settings ≡ options.publications ∷ []
-  pub messages : ComesTo (filter_map messages_of settings) options.messages
 
 abbrev pub setting_parts : List Setting → List Part
 setting_parts [] = Sign CLOSE ∷ []

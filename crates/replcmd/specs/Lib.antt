@@ -3,5 +3,7 @@ pub mod Tokens
 pub mod Lexing
 pub mod Words
 pub mod Publications
-pub mod Grammar
 pub mod Reading
+pub mod Settings
+pub mod Grammar
+pub mod Commands

@@ -2,7 +2,8 @@
 
 ghost use Rattle.std.specs.Prelude.{◌≡◌, ℕ, List, Ok, IfOk};
 ghost use Rattle.replcmd.specs.Grammar.{SpellsCommand};
-ghost use Rattle.replcmd.specs.Reading.{Answers, Tells, command_at};
+ghost use Rattle.replcmd.specs.Commands.{Tells, command_at};
+ghost use Rattle.replcmd.specs.Reading.{Answers};
 
 use crate::create::create_of;
 use crate::drop_slot::drop_of;
@@ -10,8 +11,8 @@ use crate::fault::CmdFault;
 use crate::identify::identify_of;
 use crate::lexer::tokens_of;
 use crate::name::Name;
+use crate::setting::StreamOptions;
 use crate::start::start_of;
-use crate::stream_options::StreamOptions;
 use crate::tokens::Tokens;
 use crate::verb::Verb;
 use std::alloc::Global;
@@ -60,7 +61,7 @@ fn command_of(alloc: Global, text: &str) -> Result<Command, CmdFault>
     whole(alloc, Tokens::new(tokens.as_slice()))
 }
 
-#[tactic(auto, unfolding(crate::specs::Reading::command_at))]
+#[tactic(auto, unfolding(crate::specs::Commands::command_at))]
 fn whole(alloc: Global, mut tokens: Tokens<'_>) -> Result<Command, CmdFault>
     ensures { Answers result (command_at tokens.entry) }
 {

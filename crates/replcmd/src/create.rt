@@ -1,7 +1,8 @@
 //! CREATE_REPLICATION_SLOT.
 
 ghost use Rattle.std.specs.Prelude.{◌≡◌};
-ghost use Rattle.replcmd.specs.Reading.{Answers, Moves, create_at, plugin_at, ending_at, snapshot_at, other_option};
+ghost use Rattle.replcmd.specs.Commands.{create_at, ending_at, other_option, plugin_at, snapshot_at};
+ghost use Rattle.replcmd.specs.Reading.{Answers, Moves};
 
 use crate::command::Command;
 use crate::fault::CmdFault;
@@ -15,7 +16,7 @@ use std::alloc::Global;
 /// ```text
 /// CREATE_REPLICATION_SLOT slot LOGICAL pgoutput [ NOEXPORT_SNAPSHOT | ( SNAPSHOT 'nothing' ) ]
 /// ```
-#[tactic(auto, unfolding(crate::specs::Reading::create_at))]
+#[tactic(auto, unfolding(crate::specs::Commands::create_at))]
 pub(crate) fn create_of(alloc: Global, tokens: &mut Tokens<'_>) -> Result<Command, CmdFault>
     ensures { Answers result (create_at tokens.old) }
 {
@@ -28,7 +29,7 @@ pub(crate) fn create_of(alloc: Global, tokens: &mut Tokens<'_>) -> Result<Comman
 }
 
 /// The one plugin; another one is C4.
-#[tactic(auto, unfolding(crate::specs::Reading::plugin_at))]
+#[tactic(auto, unfolding(crate::specs::Commands::plugin_at))]
 fn plugin_of(alloc: Global, tokens: &mut Tokens<'_>) -> Result<(), CmdFault>
     ensures { Moves result tokens.new (plugin_at tokens.old) }
 {
@@ -39,7 +40,7 @@ fn plugin_of(alloc: Global, tokens: &mut Tokens<'_>) -> Result<(), CmdFault>
     Err(CmdFault::Unsupported)
 }
 
-#[tactic(auto, unfolding(crate::specs::Reading::ending_at))]
+#[tactic(auto, unfolding(crate::specs::Commands::ending_at))]
 fn ending_of(tokens: &mut Tokens<'_>) -> Result<(), CmdFault>
     ensures { Moves result tokens.new (ending_at tokens.old) }
 {
@@ -51,7 +52,7 @@ fn ending_of(tokens: &mut Tokens<'_>) -> Result<(), CmdFault>
 }
 
 /// The one option in brackets; another one, or another value, is C4.
-#[tactic(auto, unfolding(crate::specs::Reading::snapshot_at))]
+#[tactic(auto, unfolding(crate::specs::Commands::snapshot_at))]
 fn snapshot_of(tokens: &mut Tokens<'_>) -> Result<(), CmdFault>
     ensures { Moves result tokens.new (snapshot_at tokens.old) }
 {

@@ -1,6 +1,7 @@
 //! DROP_REPLICATION_SLOT.
 
-ghost use Rattle.replcmd.specs.Reading.{Answers, drop_at};
+ghost use Rattle.replcmd.specs.Commands.{drop_at};
+ghost use Rattle.replcmd.specs.Reading.{Answers};
 
 use crate::command::Command;
 use crate::fault::CmdFault;
@@ -13,7 +14,7 @@ use std::alloc::Global;
 /// ```text
 /// DROP_REPLICATION_SLOT slot
 /// ```
-#[tactic(auto, unfolding(crate::specs::Reading::drop_at))]
+#[tactic(auto, unfolding(crate::specs::Commands::drop_at))]
 pub(crate) fn drop_of(alloc: Global, tokens: &mut Tokens<'_>) -> Result<Command, CmdFault>
     ensures { Answers result (drop_at tokens.old) }
 {

@@ -1,6 +1,7 @@
 //! IDENTIFY_SYSTEM.
 
-ghost use Rattle.replcmd.specs.Reading.{Answers, identify_at};
+ghost use Rattle.replcmd.specs.Commands.{identify_at};
+ghost use Rattle.replcmd.specs.Reading.{Answers};
 
 use crate::command::Command;
 use crate::fault::CmdFault;

@@ -1,16 +1,27 @@
-//! The options of START_REPLICATION: in any order, none twice.
+//! The options of START_REPLICATION: in any order, none twice; and what they ask of a stream.
 
-ghost use Rattle.std.specs.Prelude.{◌≡◌, None, false};
-ghost use Rattle.replcmd.specs.Reading.{Gives, GivesItems, version_at, publications_at, messages_at, setting_at, more_settings, settings_at, options_at, gathered};
+ghost use Rattle.std.specs.Prelude.{◌≡◌};
+ghost use Rattle.replcmd.specs.Commands.{more_settings, options_at, settings_at};
+ghost use Rattle.replcmd.specs.Reading.{Gives, GivesItems};
+ghost use Rattle.replcmd.specs.Settings.{told_options, messages_at, publications_at, setting_at, version_at};
 
 use crate::fault::CmdFault;
 use crate::names::Names;
 use crate::publications::names_of;
-use crate::stream_options::StreamOptions;
 use crate::token::{CLOSE, COMMA, OPEN};
 use crate::tokens::Tokens;
 use crate::words::truth_of;
 use std::alloc::Global;
+
+/// The options of START_REPLICATION that say what its stream tells (PostgreSQL 15, 55.5).
+#[derive(Debug, Drop)]
+pub struct StreamOptions {
+    /// `publication_names`: the publications that are asked for.
+    pub publications: Names,
+    /// `messages`: whether the messages that sessions put into the log are told too, as those of pg_logical_emit_message
+    /// in PostgreSQL; false where nothing is said of them.
+    pub messages: bool,
+}
 
 /// An option, with what its value says.
 #[derive(Drop)]
@@ -24,7 +35,7 @@ pub(crate) enum Setting {
 }
 
 /// The options in brackets; none where no bracket is opened.
-#[tactic(auto, unfolding(crate::specs::Reading::options_at))]
+#[tactic(auto, unfolding(crate::specs::Commands::options_at))]
 pub(crate) fn options_of(alloc: Global, tokens: &mut Tokens<'_>) -> Result<Vec<Setting>, CmdFault>
     ensures { GivesItems result tokens.new (options_at tokens.old) }
 {
@@ -35,7 +46,7 @@ pub(crate) fn options_of(alloc: Global, tokens: &mut Tokens<'_>) -> Result<Vec<S
 }
 
 /// One option at least, and the bracket that closes the list.
-#[tactic(auto, unfolding(crate::specs::Reading::settings_at))]
+#[tactic(auto, unfolding(crate::specs::Commands::settings_at))]
 fn settings_of(alloc: Global, tokens: &mut Tokens<'_>) -> Result<Vec<Setting>, CmdFault>
     ensures { GivesItems result tokens.new (settings_at tokens.old) }
 {
@@ -61,7 +72,7 @@ fn goes_on(tokens: &mut Tokens<'_>) -> Result<bool, CmdFault>
     Err(CmdFault::Syntax)
 }
 
-#[tactic(auto, unfolding(crate::specs::Reading::setting_at))]
+#[tactic(auto, unfolding(crate::specs::Settings::setting_at))]
 fn setting_of(alloc: Global, tokens: &mut Tokens<'_>) -> Result<Setting, CmdFault>
     ensures { Gives result tokens.new (setting_at tokens.old) }
 {
@@ -106,7 +117,7 @@ fn messages_of(tokens: &mut Tokens<'_>) -> Result<Setting, CmdFault>
 /// What is asked of the stream, where no option stands twice and none that is needed is missing: the version and the
 /// publications. No messages are asked for where nothing is said of them.
 pub(crate) fn gathered(settings: Vec<Setting>) -> Result<StreamOptions, CmdFault>
-    ensures { result ≡ gathered false None None settings.items }
+    ensures { result ≡ told_options settings.items }
 {
     let mut version = false;
     let mut publications = None;

@@ -1,6 +1,7 @@
 //! START_REPLICATION.
 
-ghost use Rattle.replcmd.specs.Reading.{Answers, start_at};
+ghost use Rattle.replcmd.specs.Commands.{start_at};
+ghost use Rattle.replcmd.specs.Reading.{Answers};
 
 use crate::command::Command;
 use crate::fault::CmdFault;
@@ -14,7 +15,7 @@ use std::alloc::Global;
 /// ```text
 /// START_REPLICATION SLOT slot LOGICAL position ( option 'value' [, ...] )
 /// ```
-#[tactic(auto, unfolding(crate::specs::Reading::start_at))]
+#[tactic(auto, unfolding(crate::specs::Commands::start_at))]
 pub(crate) fn start_of(alloc: Global, tokens: &mut Tokens<'_>) -> Result<Command, CmdFault>
     ensures { Answers result (start_at tokens.old) }
 {

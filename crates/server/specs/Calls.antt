@@ -1,6 +1,6 @@
 -- What a connection asks of its desk, with the answers.
 use Rattle.std.specs.Prelude.{◌≡◌, ◌<◌, ◌^◌, ℕ, length, Bool, List, [], ◌∷◌, Result}
-use Rattle.replcmd.specs.declared.stream_options.StreamOptions.{StreamOptions}
+use Rattle.replcmd.specs.declared.setting.StreamOptions.{StreamOptions}
 use Rattle.server.specs.declared.fault.DeskFault.{DeskFault}
 use Rattle.server.specs.declared.table_name.TableName.{TableName}
 

@@ -5,7 +5,7 @@ use Rattle.replcmd.specs.declared.command.Command.TheVariants.{Identify, Create,
 use Rattle.replcmd.specs.declared.fault.CmdFault.{CmdFault}
 use Rattle.replcmd.specs.declared.fault.CmdFault.TheVariants as commands
 use Rattle.replcmd.specs.Grammar.{SpellsCommand}
-use Rattle.replcmd.specs.Reading.{Tells}
+use Rattle.replcmd.specs.Commands.{Tells}
 use Rattle.pqformat.specs.Putting.{Extends}
 use Rattle.std.specs.declared.alloc.AllocError.{AllocError}
 use Rattle.server.specs.declared.fault.DeskFault.{DeskFault}

@@ -1,6 +1,7 @@
 use Rattle.std.proofs.Common.{◌≡◌, rules, arith}
 use Rattle.std.proofs.lemmas.Result.{err_from_is_err_and}
-use Rattle.replcmd.specs.Reading.{setting_at, more_settings, settings_at}
+use Rattle.replcmd.specs.Commands.{more_settings, settings_at}
+use Rattle.replcmd.specs.Settings.{setting_at}
 use Rattle.replcmd.proofs.Lists.{found, goes_on, is_done, item_stops, more_stops}
 use Rattle.replcmd.proofs.Options.{settings_shorten}
 use Rattle.replcmd.proofs.setting.settings_of.Goals as goal

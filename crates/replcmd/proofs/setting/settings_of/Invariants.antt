@@ -1,5 +1,6 @@
 use Rattle.std.proofs.Common.{length}
-use Rattle.replcmd.specs.Reading.{setting_at, more_settings, settings_at}
+use Rattle.replcmd.specs.Commands.{more_settings, settings_at}
+use Rattle.replcmd.specs.Settings.{setting_at}
 use Rattle.replcmd.proofs.Lists.{Going}
 use Rattle.replcmd.proofs.setting.settings_of.Given as goal
 

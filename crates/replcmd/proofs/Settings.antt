@@ -1,0 +1,171 @@
+-- That an option is read as it is spelled, and that what is gathered of the options is what they come to.
+use Rattle.std.proofs.Common.{◌≡◌, ◌≢◌, ℕ, ◌+◌, Bool, true, false, cond, List, [], ◌∷◌, ◌++◌, Option, Some, None, Ok, Err, refl, sym, ap, subst, ◌∙◌, arith}
+use Rattle.std.specs.Prelude.{codes, count_by}
+use Rattle.std.specs.Option.{ok_or, option_to_list}
+use Rattle.std.specs.List.{filter_map}
+use Rattle.std.specs.Str.{bytes_eq}
+use Rattle.std.proofs.lemmas.List.Sums.{sum_by-cons}
+use Rattle.replcmd.specs.declared.fault.CmdFault.TheVariants.{BadOption}
+use Rattle.replcmd.specs.declared.token.Token.{Token}
+use Rattle.replcmd.specs.declared.token.Token.TheVariants.{Value}
+use Rattle.replcmd.specs.declared.setting.Setting.{Setting}
+use Rattle.replcmd.specs.declared.setting.Setting.TheVariants.{Version, Publications, Messages}
+use Rattle.replcmd.specs.declared.setting.StreamOptions.{StreamOptions}
+use Rattle.replcmd.specs.Reading.{◌>>=◌, name_at, value_at, names_of, truth_of}
+use Rattle.replcmd.specs.Settings.{AreSettings, ComesTo, IsValue, asked, gathered, is_version, messages_at, messages_of, option_name, publications_at, publications_of, setting_at, told_options, version_at}
+use Rattle.replcmd.proofs.Lists.{found, same_found, bind_ok}
+use Rattle.replcmd.proofs.PublicationNames.{names_take, names_again}
+use Rattle.replcmd.proofs.Truths.{truth_take, truth_again}
+use Rattle.replcmd.proofs.Readers.{bytes_same, same_bytes, value_follows}
+
+-- ---- one option
+
+-- its name, its value, and what is left
+pub record Told (ts : List Token) (s : Setting) (rest : List Token) : Type 0 where
+  pub value : List ℕ
+  pub name : name_at ts ≡ found (option_name s) (Value value ∷ rest)
+  pub says : IsValue s value
+
+version_told : (ts : List Token) (s : Setting) (rest : List Token) → version_at ts ≡ found s rest → (v : List ℕ) × (ts ≡ Value v ∷ rest) × (s ≡ Version) × (v ≡ codes "1")
+version_told ts s rest e =
+    let a = bind_ok (value_at ts) (λ value. cond (bytes_eq value.0 (codes "1")) (Ok (Version, value.1)) (Err BadOption)) (s, rest) e in
+    by_test a.0.0 a.0.1 (value_follows ts a.0.0 a.0.1 a.1) (bytes_eq a.0.0 (codes "1")) refl a.2
+  where
+    by_test : (v : List ℕ) (mid : List Token) → ts ≡ Value v ∷ mid → (t : Bool) → bytes_eq v (codes "1") ≡ t → cond t (found Version mid) (Err BadOption) ≡ found s rest
+        → (v : List ℕ) × (ts ≡ Value v ∷ rest) × (s ≡ Version) × (v ≡ codes "1")
+    by_test v mid front true is e =
+        let same = same_found Version mid s rest e in
+        (v, front ∙ ap (λ (l : List Token). Value v ∷ l) same.1, sym same.0, bytes_same v (codes "1") is)
+    by_test v mid front false is e = absurd cc
+
+publications_told : (ts : List Token) (s : Setting) (rest : List Token) → publications_at ts ≡ found s rest
+    → (v : List ℕ) × (names : List (List ℕ)) × (ts ≡ Value v ∷ rest) × (s ≡ Publications names) × (names_of v ≡ Ok names)
+publications_told ts s rest e =
+    let a = bind_ok (value_at ts) (λ value. names_of value.0 >>= λ names. Ok (Publications names, value.1)) (s, rest) e in
+    let b = bind_ok (names_of a.0.0) (λ names. Ok (Publications names, a.0.1)) (s, rest) a.2 in
+    let same = same_found (Publications b.0) a.0.1 s rest b.2 in
+    (a.0.0, b.0, value_follows ts a.0.0 a.0.1 a.1 ∙ ap (λ (l : List Token). Value a.0.0 ∷ l) same.1, sym same.0, b.1)
+
+messages_told : (ts : List Token) (s : Setting) (rest : List Token) → messages_at ts ≡ found s rest → (v : List ℕ) × (on : Bool) × (ts ≡ Value v ∷ rest) × (s ≡ Messages on) × (truth_of v ≡ Some on)
+messages_told ts s rest e =
+    let a = bind_ok (value_at ts) (λ value. ok_or (truth_of value.0) BadOption >>= λ on. Ok (Messages on, value.1)) (s, rest) e in
+    by_truth a.0.0 a.0.1 (value_follows ts a.0.0 a.0.1 a.1) (truth_of a.0.0) refl a.2
+  where
+    by_truth : (v : List ℕ) (mid : List Token) → ts ≡ Value v ∷ mid → (o : Option Bool) → truth_of v ≡ o → (ok_or o BadOption >>= λ on. found (Messages on) mid) ≡ found s rest
+        → (v : List ℕ) × (on : Bool) × (ts ≡ Value v ∷ rest) × (s ≡ Messages on) × (truth_of v ≡ Some on)
+    by_truth v mid front None is e = absurd cc
+    by_truth v mid front (Some on) is e =
+        let same = same_found (Messages on) mid s rest e in
+        (v, on, front ∙ ap (λ (l : List Token). Value v ∷ l) same.1, sym same.0, is)
+
+pub setting_told : (ts : List Token) (s : Setting) (rest : List Token) → setting_at ts ≡ found s rest → Told ts s rest
+unfolding setting_at
+setting_told ts s rest e =
+    let a = bind_ok (name_at ts) (λ name. cond (bytes_eq name.0 (codes "proto_version")) (version_at name.1) (cond (bytes_eq name.0 (codes "publication_names")) (publications_at name.1)
+    (cond (bytes_eq name.0 (codes "messages")) (messages_at name.1) (Err BadOption)))) (s, rest) e in
+    by_name a.0.0 a.0.1 a.1 (bytes_eq a.0.0 (codes "proto_version")) refl (bytes_eq a.0.0 (codes "publication_names")) refl (bytes_eq a.0.0 (codes "messages")) refl a.2
+  where
+    -- an option of this name, whose value stands behind it and says so
+    so : (n : List ℕ) (mid : List Token) → name_at ts ≡ found n mid → (t : Setting) → n ≡ option_name t → s ≡ t → (v : List ℕ) → mid ≡ Value v ∷ rest → IsValue t v → Told ts s rest
+    so n mid read t is same v front says =
+        let name : option_name s ≡ n = ap option_name same ∙ sym is in
+        record {
+          value = v;
+          name = read ∙ ap (λ (m : List ℕ). found m mid) (sym name) ∙ ap (found (option_name s)) front;
+          says = subst (λ (x : Setting). IsValue x v) (sym same) says;
+        }
+
+    by_name : (n : List ℕ) (mid : List Token) → name_at ts ≡ found n mid → (t : Bool) → bytes_eq n (codes "proto_version") ≡ t → (u : Bool) → bytes_eq n (codes "publication_names") ≡ u
+        → (w : Bool) → bytes_eq n (codes "messages") ≡ w
+        → cond t (version_at mid) (cond u (publications_at mid) (cond w (messages_at mid) (Err BadOption))) ≡ found s rest → Told ts s rest
+    by_name n mid read true is u other w last e = let v = version_told mid s rest e in so n mid read Version (bytes_same n (codes "proto_version") is) v.2 v.0 v.1 v.3
+    by_name n mid read false is true other w last e =
+        let v = publications_told mid s rest e in
+        so n mid read (Publications v.1) (bytes_same n (codes "publication_names") other) v.3 v.0 v.2 (names_take v.0 v.1 v.4)
+    by_name n mid read false is false other true last e =
+        let v = messages_told mid s rest e in
+        so n mid read (Messages v.1) (bytes_same n (codes "messages") last) v.3 v.0 v.2 (truth_take v.0 v.1 v.4)
+    by_name n mid read false is false other false last e = absurd cc
+
+pub setting_reads : (ts : List Token) (s : Setting) (v : List ℕ) (rest : List Token) → name_at ts ≡ found (option_name s) (Value v ∷ rest) → IsValue s v → setting_at ts ≡ found s rest
+unfolding setting_at
+setting_reads ts Version v rest name says = rw (name, same_bytes v (codes "1") says) refl
+setting_reads ts (Publications names) v rest name says = rw (name, names_again v names says) refl
+setting_reads ts (Messages on) v rest name says = rw (name, truth_again v on says) refl
+
+-- ---- all of them
+
+abbrev told : Bool → ℕ
+told b = cond b 1 0
+
+counted : (s : Setting) (settings : List Setting) → count_by is_version (s ∷ settings) ≡ told (is_version s) + count_by is_version settings
+counted s settings = sum_by-cons (λ s. cond (is_version s) 1 0) s settings
+
+-- what these come to, behind what was told before them
+record Come (told_version : Bool) (told_names : Option (List (List ℕ))) (told_messages : Option Bool) (settings : List Setting) (options : StreamOptions) : Type 0 where
+  version : count_by is_version settings + told told_version ≡ 1
+  names : option_to_list told_names ++ filter_map publications_of settings ≡ options.publications ∷ []
+  messages : ComesTo (option_to_list told_messages ++ filter_map messages_of settings) options.messages
+
+asked_come : (version : Bool) (names : Option (List (List ℕ))) (messages : Option Bool) (options : StreamOptions) → asked version names messages ≡ Ok options → Come version names messages [] options
+asked_come false names messages options e = absurd cc
+asked_come true None messages options e = absurd cc
+asked_come true (Some chosen) None options e =
+    let same : record { publications = chosen; messages = false } ≡ options = cc in
+    subst (Come true (Some chosen) None []) same (record { version = refl; names = refl; messages = refl })
+asked_come true (Some chosen) (Some on) options e =
+    let same : record { publications = chosen; messages = on } ≡ options = cc in
+    subst (Come true (Some chosen) (Some on) []) same (record { version = refl; names = refl; messages = refl })
+
+come_asked : (version : Bool) (names : Option (List (List ℕ))) (messages : Option Bool) (options : StreamOptions) → Come version names messages [] options → asked version names messages ≡ Ok options
+come_asked false names messages options come = absurd (let none = come.version in omega arith)
+come_asked true None messages options come = absurd (let none = come.names in cc)
+come_asked true (Some chosen) None options come =
+    let names : chosen ≡ options.publications = let is = come.names in cc in
+    ap (λ (c : List (List ℕ)). asked true (Some c) None) names ∙ ap (λ (on : Bool). Ok (record { publications = options.publications; messages = on })) (sym come.messages)
+come_asked true (Some chosen) (Some on) options come =
+    let names : chosen ≡ options.publications = let is = come.names in cc in
+    ap (λ (c : List (List ℕ)). asked true (Some c) (Some on)) names ∙ ap (λ (on : Bool). Ok (record { publications = options.publications; messages = on })) (sym come.messages)
+
+come_to : (version : Bool) (names : Option (List (List ℕ))) (messages : Option Bool) (settings : List Setting) (options : StreamOptions) → gathered version names messages settings ≡ Ok options
+    → Come version names messages settings options
+come_to version names messages [] options e = asked_come version names messages options e
+come_to true names messages (Version ∷ settings) options e = absurd cc
+come_to false names messages (Version ∷ settings) options e =
+    let come = come_to true names messages settings options e in
+    record { version = let count = come.version in omega (arith, counted Version settings); names = come.names; messages = come.messages }
+come_to version (Some n) messages (Publications chosen ∷ settings) options e = absurd cc
+come_to version None messages (Publications chosen ∷ settings) options e =
+    let come = come_to version (Some chosen) messages settings options e in
+    record { version = let count = come.version in omega (arith, counted (Publications chosen) settings); names = come.names; messages = come.messages }
+come_to version names (Some m) (Messages on ∷ settings) options e = absurd cc
+come_to version names None (Messages on ∷ settings) options e =
+    let come = come_to version names (Some on) settings options e in
+    record { version = let count = come.version in omega (arith, counted (Messages on) settings); names = come.names; messages = come.messages }
+
+to_come : (version : Bool) (names : Option (List (List ℕ))) (messages : Option Bool) (settings : List Setting) (options : StreamOptions) → Come version names messages settings options
+    → gathered version names messages settings ≡ Ok options
+to_come version names messages [] options come = come_asked version names messages options come
+to_come true names messages (Version ∷ settings) options come = absurd (let count = come.version in omega (arith, counted Version settings))
+to_come false names messages (Version ∷ settings) options come =
+    to_come true names messages settings options (record { version = let count = come.version in omega (arith, counted Version settings); names = come.names; messages = come.messages })
+to_come version (Some n) messages (Publications chosen ∷ settings) options come = absurd (let one = come.names in cc)
+to_come version None messages (Publications chosen ∷ settings) options come =
+    to_come version (Some chosen) messages settings options
+    (record { version = let count = come.version in omega (arith, counted (Publications chosen) settings); names = come.names; messages = come.messages })
+to_come version names (Some m) (Messages on ∷ settings) options come = absurd come.messages
+to_come version names None (Messages on ∷ settings) options come =
+    to_come version names (Some on) settings options
+    (record { version = let count = come.version in omega (arith, counted (Messages on) settings); names = come.names; messages = come.messages })
+
+pub settings_gathered : (settings : List Setting) (options : StreamOptions) → told_options settings ≡ Ok options → AreSettings settings options
+settings_gathered settings options e =
+    let come = come_to false None None settings options e in
+    record { version = let count = come.version in omega arith; names = come.names; messages = come.messages }
+
+pub gathered_settings : (settings : List Setting) (options : StreamOptions) → AreSettings settings options → told_options settings ≡ Ok options
+gathered_settings settings options are =
+    to_come false None None settings options (record { version = let count = are.version in omega arith; names = are.names; messages = are.messages })
+
+pub some_settings : (settings : List Setting) (options : StreamOptions) → AreSettings settings options → settings ≢ []
+some_settings settings options are = λ is. absurd (let none : count_by is_version settings ≡ 0 = ap (count_by is_version) is in let one = are.version in omega arith)

@@ -1,0 +1,86 @@
+-- The options of START_REPLICATION (PostgreSQL 15, 55.4 and 55.5): the name of each, the values that say it, how it is read, and what all
+-- of them come to. A further option is a line in most of these.
+use Rattle.std.specs.Prelude.{◌≡◌, ℕ, List, [], ◌∷◌, Option, Some, None, Result, Ok, Err, Bool, true, false, count_by, if◌then◌else◌, codes}
+use Rattle.std.specs.List.{filter_map}
+use Rattle.std.specs.Option.{ok_or, unwrap_or, is_some}
+use Rattle.std.specs.Str.{bytes_eq}
+use Rattle.replcmd.specs.declared.fault.CmdFault.{CmdFault}
+use Rattle.replcmd.specs.declared.fault.CmdFault.TheVariants.{BadOption}
+use Rattle.replcmd.specs.declared.token.Token.{Token}
+use Rattle.replcmd.specs.declared.setting.Setting.{Setting}
+use Rattle.replcmd.specs.declared.setting.Setting.TheVariants.{Version, Publications, Messages}
+use Rattle.replcmd.specs.declared.setting.StreamOptions.{StreamOptions}
+use Rattle.replcmd.specs.Publications.{SpellsNames}
+use Rattle.replcmd.specs.Reading.{◌>>=◌, name_at, value_at, names_of, truth_of}
+use Rattle.replcmd.specs.Words.{is_truth}
+
+-- the name of an option, and the values that say so
+abbrev pub option_name : Setting → List ℕ
+option_name Version = codes "proto_version"
+option_name (Publications names) = codes "publication_names"
+option_name (Messages on) = codes "messages"
+
+abbrev pub IsValue : Setting → List ℕ → Type 0
+IsValue Version value = value ≡ codes "1"
+IsValue (Publications names) value = SpellsNames value names
+IsValue (Messages on) value = is_truth on value ≡ true
+
+-- ---- what they come to
+
+abbrev pub is_version : Setting → Bool
+is_version Version = true
+is_version _ = false
+
+abbrev pub publications_of : Setting → Option (List (List ℕ))
+publications_of (Publications names) = Some names
+publications_of _ = None
+
+abbrev pub messages_of : Setting → Option Bool
+messages_of (Messages on) = Some on
+messages_of _ = None
+
+-- what is said of messages, once at most, comes to this: to false where nothing is said
+abbrev pub ComesTo : List Bool → Bool → Type 0
+ComesTo [] on = on ≡ false
+ComesTo (said ∷ []) on = on ≡ said
+ComesTo (said ∷ again ∷ more) on = ⊥
+
+-- In any order: the version and the publications once, messages once at most, and nothing else.
+pub record AreSettings (settings : List Setting) (options : StreamOptions) : Type 0 where
+  pub version : count_by is_version settings ≡ 1
+  pub names : filter_map publications_of settings ≡ options.publications ∷ []
+  pub messages : ComesTo (filter_map messages_of settings) options.messages
+
+-- ---- reading
+
+abbrev pub version_at : List Token → Result (Setting × List Token) CmdFault
+version_at tokens = value_at tokens >>= λ value. if bytes_eq value.0 (codes "1") then Ok (Version, value.1) else Err BadOption
+
+abbrev pub publications_at : List Token → Result (Setting × List Token) CmdFault
+publications_at tokens = value_at tokens >>= λ value. names_of value.0 >>= λ names. Ok (Publications names, value.1)
+
+abbrev pub messages_at : List Token → Result (Setting × List Token) CmdFault
+messages_at tokens = value_at tokens >>= λ value. ok_or (truth_of value.0) BadOption >>= λ on. Ok (Messages on, value.1)
+
+unfoldable pub setting_at : List Token → Result (Setting × List Token) CmdFault
+setting_at tokens = name_at tokens >>= λ name.
+    if bytes_eq name.0 (codes "proto_version") then version_at name.1
+    else if bytes_eq name.0 (codes "publication_names") then publications_at name.1
+    else if bytes_eq name.0 (codes "messages") then messages_at name.1
+    else Err BadOption
+
+-- what is asked of the stream, where the version is told and the publications are
+abbrev pub asked : Bool → Option (List (List ℕ)) → Option Bool → Result StreamOptions CmdFault
+asked true (Some names) messages = Ok (record { publications = names; messages = unwrap_or messages false })
+asked _ _ messages = Err BadOption
+
+-- no option twice: whether the version was told, which publications, and what of messages
+abbrev pub gathered : Bool → Option (List (List ℕ)) → Option Bool → List Setting → Result StreamOptions CmdFault
+gathered version names messages [] = asked version names messages
+gathered version names messages (Version ∷ settings) = if version then Err BadOption else gathered true names messages settings
+gathered version names messages (Publications chosen ∷ settings) = if is_some names then Err BadOption else gathered version (Some chosen) messages settings
+gathered version names messages (Messages on ∷ settings) = if is_some messages then Err BadOption else gathered version names (Some on) settings
+
+-- what these options ask for
+abbrev pub told_options : List Setting → Result StreamOptions CmdFault
+told_options settings = gathered false None None settings
