@@ -96,6 +96,15 @@ module _ (l : Links) (ps : Pages) (ns : List ℕ) (good : IsArena l ps ns) (seen
       let P : Pages → Type 0 = λ qs. IsArena l' qs ns in
       subst P (sym pages) (arena_by l' b ps ns same links' good.few good.pages good.befores (λ x low has. (good.filled x low has, good.counted x low has)))
 
+  -- those before the last chunk of a strand and its own are all
+  pub count_seen : (h : ℕ) → IsOf seen (Some h) → at ns (at b.last h) + length (get_or ps (at b.last h) []) ≡ length (entries_of seen (Some h))
+  count_seen h is =
+      let has = of_seen h is in
+      let all : at ns (at b.last h) + length (get_or ps (at b.last h) []) ≡ 0 + length (joined ps (chunks_of b h)) =
+      counting.counted_last b ps ns h (at b.last h) 0 (at b.rank (at b.last h)) h 0 (good.links.books.strands h has.0 has.1) (good.counted h has.0 has.1) in
+      let long : length (entries_of seen (Some h)) ≡ length (joined ps (chunks_of b h)) = ap length (entries_seen h is) in
+      omega (arith, all, long)
+
   -- how many entries stand before the next chunk of a strand
   pub few_before : (h : ℕ) → IsOf seen (Some h) → at ns (at b.last h) + length (get_or ps (at b.last h) []) < 2 ^ 64
   few_before h is =

@@ -1,6 +1,6 @@
 //! Strands of entries, over the chunks of one region.
 
-ghost use Rattle.std.specs.Prelude.{◌≡◌, ◌↔◌, ℕ, ◌+◌, ◌<◌, ◌≤◌, ◌^◌, ◌++◌, ◌∷◌, [], None, Some, false, get_or, length, IfOk, IsErr, MatchOption, MatchBool, OnErr, OnOk, replicate, slice_set};
+ghost use Rattle.std.specs.Prelude.{◌≡◌, ◌↔◌, ℕ, ◌+◌, ◌<◌, ◌≤◌, ◌^◌, ◌++◌, ◌∷◌, [], None, Some, false, get_or, length, IfOk, IfSome, IsErr, MatchOption, MatchBool, OnErr, OnOk, replicate, slice_set};
 ghost use Rattle.chgarena.specs.Books.{at, chunks_of};
 ghost use Rattle.chgarena.specs.Joined.{AreCounted, joined};
 ghost use Rattle.chgarena.specs.Links.{IsLinks, IsPopped, begun, books, grown};
@@ -55,6 +55,20 @@ impl Arena {
         ensures { result ≡ length self.now }
     {
         self.links.chunks()
+    }
+
+    /// How many entries a strand of this arena has.
+    pub fn count(&self, strand: &Strand) -> usize
+        requires { IsOf self.now strand.now }
+        ensures { result ≡ length (entries_of self.now strand.now) }
+    {
+        match strand.head {
+            Some(head) => {
+                let last = self.links.last(head);
+                self.before[last] + self.pages.count(last)
+            }
+            None => 0,
+        }
     }
 
     /// How many chunks no strand has.
@@ -148,19 +162,21 @@ impl Arena {
         requires entry { k < length (entries_of self.now strand.now) }
         ensures { result.now ≡ get_or (entries_of self.now strand.now) k [] }
     {
-        self.entry_near(strand, k, self.links.chunks())
+        let mut near = self.links.chunks();
+        self.entry_near(strand, k, &mut near)
     }
 
-    /// The k-th entry of a strand of this arena, as `entry` has it. It is found at once where it lies in the chunk `near`, and else by
-    /// going over the strand's chunks.
-    pub fn entry_near(&self, strand: &Strand, k: usize, near: usize) -> &[u8]
+    /// The k-th entry of a strand of this arena, as `entry` has it. It is found at once where it lies in the chunk `near` or in the one
+    /// after it, and else by going over the strand's chunks. The chunk in which it lies is the next `near`.
+    pub fn entry_near<'a>(&'a self, strand: &Strand, k: usize, near: &mut usize) -> &'a [u8]
         requires of { IsOf self.now strand.now }
         requires entry { k < length (entries_of self.now strand.now) }
         ensures { result.now ≡ get_or (entries_of self.now strand.now) k [] }
     {
         match strand.head {
             Some(head) => {
-                let (chunk, k) = find_near(&self.links, &self.pages, &self.before, head, k, near);
+                let (chunk, k) = find_near(&self.links, &self.pages, &self.before, head, k, *near);
+                *near = chunk;
                 self.pages.entry(chunk, k)
             }
             None => unreachable!(),
@@ -236,7 +252,8 @@ fn push_behind(links: &mut Links, pages: &mut Pages, head: usize, entry: &[u8]) 
     Some(chunk)
 }
 
-/// The chunk that has the k-th entry of a strand, and which of its entries that is, without going over chunks where it is the chunk `near`.
+/// The chunk that has the k-th entry of a strand, and which of its entries that is, without going over chunks where it is the chunk `near`
+/// or the one after it.
 fn find_near(
     links: &Links,
     pages: &Pages,
@@ -257,13 +274,46 @@ fn find_near(
     ensures entry { get_or (get_or pages.now result.0 []) result.1 []
         ≡ get_or (joined pages.now (chunks_of (books links.now) head)) k [] }
 {
-    if near < links.chunks() && links.owner(near) == head {
-        let first = before[near];
-        if first <= k && k - first < pages.count(near) {
-            return (near, k - first);
+    if let Some(place) = place_in(links, pages, before, head, k, near) {
+        return (near, place);
+    }
+    if near < links.chunks() {
+        let next = links.next(near);
+        if let Some(place) = place_in(links, pages, before, head, k, next) {
+            return (next, place);
         }
     }
     find(links, pages, head, k)
+}
+
+/// Which of the entries of the chunk is the k-th entry of a strand, if it lies there.
+fn place_in(
+    links: &Links,
+    pages: &Pages,
+    before: &[usize],
+    head: usize,
+    k: usize,
+    chunk: usize,
+) -> Option<usize>
+    requires links { IsLinks links.now }
+    requires strand { (head < (books links.now).chunks)
+        × (at (books links.now).last head < (books links.now).chunks) }
+    requires pages { length pages.now ≡ (books links.now).chunks }
+    requires before { (length before.now ≡ (books links.now).chunks)
+        × AreCounted pages.now before.now 0 (chunks_of (books links.now) head) }
+    ensures within { IfSome result (λ place. (chunk < length pages.now)
+        × (place < length (get_or pages.now chunk []))) }
+    ensures entry { IfSome result (λ place. get_or (get_or pages.now chunk []) place []
+        ≡ get_or (joined pages.now (chunks_of (books links.now) head)) k []) }
+{
+    if chunk >= links.chunks() || links.owner(chunk) != head {
+        return None;
+    }
+    let first = before[chunk];
+    if first > k || k - first >= pages.count(chunk) {
+        return None;
+    }
+    Some(k - first)
 }
 
 /// The chunk that has the k-th entry of a strand, and which of its entries that is.

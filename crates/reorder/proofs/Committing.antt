@@ -1,15 +1,16 @@
 -- What the strands of a transaction keep, joined and sorted by position, is what it keeps by the definition.
-use Rattle.std.proofs.Common.{◌≡◌, ℕ, ◌<◌, ◌==◌, Bool, true, false, cond, ◌&&◌, ◌||◌, not, List, [], ◌∷◌, Option, Some, None, refl, sym, ap, subst, ◌∙◌, eq-eqb, nat_cmp}
+use Rattle.std.proofs.Common.{◌≡◌, ℕ, ◌<◌, ◌==◌, Bool, true, false, cond, ◌&&◌, ◌||◌, not, List, [], ◌∷◌, ◌++◌, Option, Some, None, refl, sym, ap, subst, ◌∙◌, eq-eqb, nat_cmp, ⊎_elim}
 use Rattle.std.specs.Prelude.{IsSome}
 use Rattle.std.specs.List.{filter, flat_map, AllByRecursion}
 use Rattle.std.specs.List.Sorted.{IsNonDecreasingBy, IsStableByKey, IsPermutation}
 use Rattle.std.proofs.lemmas.Bool.{eqb-true}
+use Rattle.std.proofs.lemmas.List.{append-nil}
 use Rattle.wal.specs.declared.record.Record.{Record}
 use Rattle.wal.specs.Log.{Entry, is_named, is_undone, is_dropped, is_kept, has_ended, last_of, top_of, entries, kept}
 use Rattle.wal.proofs.Lists.{filter_agrees, all_agree, filter_twice}
 use Rattle.wal.proofs.Laws.{all_when}
 use Rattle.reorder.specs.Rising.{IsRising}
-use Rattle.reorder.specs.Strands.{StrandState, ByXid, is_in, all_in, changes_in, joined, AreDistinct}
+use Rattle.reorder.specs.Strands.{AreMerged, StrandState, ByXid, is_in, all_in, changes_in, joined, AreDistinct}
 use Rattle.reorder.specs.Bookkeeping.{IsStrand, IsTransaction, AreStrandsOf}
 use Rattle.reorder.proofs.Named.{undropped, entries_named}
 use Rattle.reorder.proofs.Keeping.{top_of_member}
@@ -138,7 +139,7 @@ of_members l rs t P h each = by_option (l.members t) refl
         of_these xs w.distinct (each_in (λ x. IsSome (l.strand x)) xs w.strands) (ap all_in is)
 
 -- sorted by position they are what the transaction keeps
-pub kept_merged : (l : ByXid) (rs : List Record) (t : ℕ) (sorted : List Entry) → AreStrandsOf l rs → has_ended rs t ≡ false →
+kept_merged : (l : ByXid) (rs : List Record) (t : ℕ) (sorted : List Entry) → AreStrandsOf l rs → has_ended rs t ≡ false →
     IsNonDecreasingBy (λ (e : Entry). e.position) sorted → IsStableByKey (λ (e : Entry). e.position) nat_cmp (joined l t) sorted → sorted ≡ kept rs t
 kept_merged l rs t sorted h running up stable =
     of_members l rs t (λ (es : List Entry). IsStableByKey (λ (e : Entry). e.position) nat_cmp es sorted → sorted ≡ kept rs t) h
@@ -146,6 +147,38 @@ kept_merged l rs t sorted h running up stable =
     merged (filter (λ e. not (is_dropped rs e.xid)) (entries rs)) (rising_kept _ (entries rs) h.rising) xs distinct sorted up stable'
     ∙ ap (λ ys. filter (λ e. is_in e.xid ys) (filter (λ e. not (is_dropped rs e.xid)) (entries rs))) (sym is) ∙ kept_members l rs t h running)
     stable
+
+-- where it has no other xid than one they are what it keeps as they are
+kept_lone : (l : ByXid) (rs : List Record) (t x : ℕ) → AreStrandsOf l rs → has_ended rs t ≡ false → l.members t ≡ Some (x ∷ []) → joined l t ≡ kept rs t
+kept_lone l rs t x h running lone =
+    of_members l rs t (λ (es : List Entry). es ≡ kept rs t) h (λ xs distinct is. by_one xs (sym is ∙ ap all_in lone))
+  where
+    live : List Entry
+    live = filter (λ e. not (is_dropped rs e.xid)) (entries rs)
+
+    or_false : (b : Bool) → b ≡ (b || false)
+    or_false true = refl
+    or_false false = refl
+
+    agrees : (es : List Entry) → filter (λ e. e.xid == x) es ++ [] ≡ filter (λ e. is_in e.xid (x ∷ [])) es
+    agrees es = append-nil (filter (λ e. e.xid == x) es) ∙ filter_same es
+      where
+        filter_same : (es : List Entry) → filter (λ e. e.xid == x) es ≡ filter (λ e. is_in e.xid (x ∷ [])) es
+        filter_same [] = refl
+        filter_same (e ∷ es) = rw (← or_false (e.xid == x), filter_same es) refl
+
+    by_one : (xs : List ℕ) → xs ≡ x ∷ [] → flat_map (λ y. filter (λ e. e.xid == y) live) xs ≡ kept rs t
+    by_one xs is =
+        ap (flat_map (λ y. filter (λ e. e.xid == y) live)) is ∙ agrees live
+        ∙ ap (λ ys. filter (λ e. is_in e.xid ys) live) (sym (ap all_in lone)) ∙ kept_members l rs t h running
+
+-- in the order of their positions they are what it keeps
+pub kept_in_order : (l : ByXid) (rs : List Record) (t : ℕ) (es : List Entry) → AreStrandsOf l rs → has_ended rs t ≡ false → AreMerged l t es → es ≡ kept rs t
+kept_in_order l rs t es h running merged =
+    ⊎_elim
+    (λ (both : IsNonDecreasingBy (λ (e : Entry). e.position) es × IsStableByKey (λ (e : Entry). e.position) nat_cmp (joined l t) es). kept_merged l rs t es h running both.0 both.1)
+    (λ (lone : (x : ℕ) × (l.members t ≡ Some (x ∷ [])) × (es ≡ joined l t)). lone.2 ∙ kept_lone l rs t lone.0 h running lone.1)
+    merged
 
 -- in some order they are what it keeps
 pub kept_permuted : (l : ByXid) (rs : List Record) (t : ℕ) → AreStrandsOf l rs → has_ended rs t ≡ false → IsPermutation (joined l t) (kept rs t)

@@ -9,7 +9,7 @@ use Rattle.wal.specs.Log.{last_of}
 use Rattle.reorder.specs.Entries.{entry_in}
 use Rattle.reorder.specs.Pool.{PoolState, entries_at, put, with_entries}
 use Rattle.reorder.specs.Strands.{StrandState, Standing, StrandsState, IsSame, all_in, by_xid, ended, fresh, above_of, is_in, kept_spots, spots_of, strand_at, with_change, with_changes, with_member, above_in, above_standing, back_from_last, back_in, behind, rolled_back, started, assigned, pushed, undone}
-use Rattle.reorder.specs.Ready.{SpotState}
+use Rattle.reorder.specs.Spots.{SpotState}
 use Rattle.reorder.proofs.Opening.{put_cases}
 
 -- where the entries of an xid stay, so does its strand

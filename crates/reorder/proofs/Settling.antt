@@ -7,9 +7,9 @@ use Rattle.std.proofs.lemmas.List.{get_or-set_other}
 use Rattle.chgarena.specs.Strands.{Strands as Arena, entries_at as entries_in_place, without}
 use Rattle.wal.specs.declared.record.Record.{Record}
 use Rattle.wal.proofs.Lists.{all_append}
-use Rattle.reorder.specs.Entries.{entry_in, position_in}
+use Rattle.reorder.specs.Entries.{entry_in}
 use Rattle.reorder.specs.Pool.{AreApart, IsLent, Lasts, PoolState, StaysLent, entries_at, entries_by, put, strand_of}
-use Rattle.reorder.specs.Ready.{IsReadyIn, ReadyState, SpotState, entry_at, lent_from, ready_entries}
+use Rattle.reorder.specs.Ready.{IsReadyIn, PlaceState, ReadyState, entry_at, lent_from, ready_entries}
 use Rattle.reorder.specs.Strands.{Standing, StrandState, StrandsState}
 use Rattle.reorder.specs.Taking.{HasTaken, IsSameTaken, ReorderState}
 use Rattle.reorder.specs.Settled.{AreLentIn, given_back, head_in, heads_of, pool_without, ready_heads, settled, strands_without, without_all}
@@ -93,18 +93,16 @@ entries_without pool ready is x =
 pub still_ready : (pool pool' : PoolState) (ready : ReadyState) → Lasts pool pool' ready.strands → IsReadyIn pool ready → IsReadyIn pool' ready
 still_ready pool pool' ready lasts is = record {
   lent = lasts.still;
-  spots = λ k d lt.
-      subst (λ (es : List (List ℕ)). ((get_or ready.spots k d).place < length es) × ((get_or ready.spots k d).position ≡ position_in (get_or es (get_or ready.spots k d).place [])))
-      (sym (lasts.same (get_or ready.spots k d).xid)) (is.spots k d lt);
+  places = λ k d lt. subst (λ (es : List (List ℕ)). (get_or ready.places k d).place < length es) (sym (lasts.same (get_or ready.places k d).xid)) (is.places k d lt);
   known = is.known;
 }
 
 pub same_ready : (pool pool' : PoolState) (ready : ReadyState) → Lasts pool pool' ready.strands → ready_entries pool' ready ≡ ready_entries pool ready
-same_ready pool pool' ready lasts = shown ready.spots
+same_ready pool pool' ready lasts = shown ready.places
   where
-    shown : (spots : List SpotState) → map (entry_at (lent_from pool' ready)) spots ≡ map (entry_at (lent_from pool ready)) spots
+    shown : (places : List PlaceState) → map (entry_at (lent_from pool' ready)) places ≡ map (entry_at (lent_from pool ready)) places
     shown [] = refl
-    shown (spot ∷ spots) = rw (lasts.same spot.xid, shown spots) refl
+    shown (at ∷ places) = rw (lasts.same at.xid, shown places) refl
 
 -- ---- several that are ready
 

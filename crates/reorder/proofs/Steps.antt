@@ -1,9 +1,8 @@
 -- Each record leaves what is kept as the log with it has it, and a Commit gives what its transaction keeps.
-use Rattle.std.proofs.Common.{◌≡◌, ℕ, ℤ, ◌==◌, Bool, true, false, cond, ◌||◌, List, [], ◌∷◌, ◌++◌, Option, Some, None, refl, sym, ap, subst, ◌∙◌, nat_cmp}
+use Rattle.std.proofs.Common.{◌≡◌, ℕ, ℤ, ◌==◌, Bool, true, false, cond, ◌||◌, List, [], ◌∷◌, ◌++◌, Option, Some, None, refl, sym, ap, subst, ◌∙◌}
 use Rattle.std.specs.Prelude.{IsSome}
 use Rattle.std.specs.Map.{lookup}
 use Rattle.std.specs.Option.{option_map}
-use Rattle.std.specs.List.Sorted.{IsNonDecreasingBy, IsStableByKey}
 use Rattle.tables.specs.declared.change.Change.{Change}
 use Rattle.wal.specs.declared.record.Record.{Record}
 use Rattle.wal.specs.declared.record.Body.{Body}
@@ -13,14 +12,14 @@ use Rattle.wal.proofs.Lists.{eqb_comm}
 use Rattle.wal.proofs.Laws.{chain-unassigned, is_named-one}
 use Rattle.reorder.specs.Kept.{kept_entry}
 use Rattle.reorder.specs.Pool.{put}
-use Rattle.reorder.specs.Strands.{StrandsState, ByXid, IsSame, by_xid, strand_at, fresh, above_of, is_in, all_in, back_from_last, rolled_back, with_change, started, assigned, pushed, undone, ended, joined}
+use Rattle.reorder.specs.Strands.{AreMerged, StrandsState, ByXid, IsSame, by_xid, strand_at, fresh, above_of, is_in, all_in, back_from_last, rolled_back, with_change, started, assigned, pushed, undone, ended}
 use Rattle.reorder.specs.Bookkeeping.{IsBookkeeping}
 use Rattle.reorder.specs.Taking.{ReorderState, HasTaken, IsSameTaken, MayCome, StartsBehind, Takes, promised}
 use Rattle.reorder.proofs.Named.{or_left, or_right}
 use Rattle.reorder.proofs.Opening.{Opened, opened, same_kept}
 use Rattle.reorder.proofs.Assigning.{assign_kept}
 use Rattle.reorder.proofs.Keeping.{push_kept, undo_kept, end_kept, quiet_kept}
-use Rattle.reorder.proofs.Committing.{kept_merged, kept_permuted, none_kept}
+use Rattle.reorder.proofs.Committing.{kept_in_order, kept_permuted, none_kept}
 
 abbrev pub state : StrandsState → Bool → ReorderState
 state s failed = record { strands = s; failed = failed }
@@ -141,9 +140,8 @@ taken_note s b d r c body = takes s s b d r (Note c) None body (λ before h next
     }
 
 pub taken_commit : (s now : StrandsState) (b d : Bool) (r : Record) (t : ℕ) (time : ℤ) (sorted : List Entry) → r.body ≡ Commit t time →
-    IsNonDecreasingBy (λ (e : Entry). e.position) sorted → IsStableByKey (λ (e : Entry). e.position) nat_cmp (joined (by_xid s) t) sorted →
-    IsSame (by_xid now) (ended t (by_xid s)) → Takes (state s b) (state now d) r (Some sorted)
-taken_commit s now b d r t time sorted body up stable same =
+    AreMerged (by_xid s) t sorted → IsSame (by_xid now) (ended t (by_xid s)) → Takes (state s b) (state now d) r (Some sorted)
+taken_commit s now b d r t time sorted body merged same =
     takes s now b d r (Commit t time) (Some sorted) body (λ before h next behind. (after before h next, brings before h next))
   where
     after : (before : List Record) → IsBookkeeping (by_xid s) before → MayCome before (Commit t time) → IsBookkeeping (by_xid now) (before ++ r ∷ [])
@@ -157,7 +155,7 @@ taken_commit s now b d r t time sorted body up stable same =
     brings : (before : List Record) → IsBookkeeping (by_xid s) before → MayCome before (Commit t time) → Some sorted ≡ Some (kept before t)
     brings before h next =
         let top : top_of before t ≡ t = ap (last_of t) (chain-unassigned before t next.0) in
-        ap Some (kept_merged (by_xid s) before t sorted h.strands (ap (has_ended before) (sym top) ∙ next.1.running) up stable)
+        ap Some (kept_in_order (by_xid s) before t sorted h.strands (ap (has_ended before) (sym top) ∙ next.1.running) merged)
 
 -- what stands as before has taken the same records
 pub same_taken : (s now : ReorderState) (rs : List Record) → IsSameTaken s now → HasTaken s rs → HasTaken now rs

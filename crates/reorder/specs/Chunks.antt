@@ -48,9 +48,9 @@ abbrev pub IsHeldBy : List ReadyState → ℕ → Type 0
 IsHeldBy [] head = ⊥
 IsHeldBy (ready ∷ held) head = ((x : ℕ) × (strand_of ready.strands x ≡ Some (Some head))) ⊎ IsHeldBy held head
 
--- strands of which no spots are known
+-- strands of which no places are known
 abbrev pub strands_alone : List (ℕ × Option ℕ) → ReadyState
-strands_alone strands = record { xids = []; strands = strands; spots = [] }
+strands_alone strands = record { xids = []; strands = strands; places = [] }
 
 -- each strand of the arena is an xid's, or one of what is held
 abbrev pub IsWhole : List ReadyState → PoolState → Type 0

@@ -1,11 +1,13 @@
 -- What is kept between two records, xid by xid, and what each record does to it.
-use Rattle.std.specs.Prelude.{◌≡◌, ℕ, ◌==◌, Bool, false, ◌&&◌, ◌||◌, List, [], ◌∷◌, ◌++◌, map, reverse, Option, Some, None, if◌then◌else◌}
+use Rattle.std.specs.Prelude.{◌≡◌, ◌⊎◌, ℕ, ◌==◌, Bool, false, ◌&&◌, ◌||◌, List, [], ◌∷◌, ◌++◌, map, reverse, Option, Some, None, if◌then◌else◌}
 use Rattle.std.specs.List.{list_any, flat_map}
+use Rattle.std.specs.List.Sorted.{IsNonDecreasingBy, IsStableByKey}
 use Rattle.std.specs.Map.{lookup}
+use Rattle.std.specs.Ordering.{nat_cmp}
 use Rattle.std.specs.Option.{option_map}
 use Rattle.reorder.specs.Entries.{entry_in}
 use Rattle.reorder.specs.Pool.{PoolState, entries_at, put}
-use Rattle.reorder.specs.Ready.{SpotState, spots_from}
+use Rattle.reorder.specs.Spots.{SpotState, spots_from}
 use Rattle.wal.specs.Log.{Entry, last_of}
 
 -- of an xid: those above it, from its parent to its transaction, and its changes, unless it or one above it is rolled back
@@ -126,6 +128,12 @@ changes_in (Some s) = s.changes
 -- the changes that a transaction keeps, xid after xid
 abbrev pub joined : ByXid → ℕ → List Entry
 joined l t = flat_map (λ x. changes_in (l.strand x)) (all_in (l.members t))
+
+-- In the order of their positions these are the changes that a transaction keeps. Those of one xid are in order already.
+abbrev pub AreMerged : ByXid → ℕ → List Entry → Type 0
+AreMerged l t es =
+    (IsNonDecreasingBy (λ (e : Entry). e.position) es × IsStableByKey (λ (e : Entry). e.position) nat_cmp (joined l t) es)
+    ⊎ ((x : ℕ) × (l.members t ≡ Some (x ∷ [])) × (es ≡ joined l t))
 
 -- WHERE IT LIES
 

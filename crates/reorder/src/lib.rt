@@ -4,6 +4,8 @@
 mod entry;
 mod fault;
 mod members;
+mod order;
+mod place;
 mod pool;
 mod ready;
 mod reorder;

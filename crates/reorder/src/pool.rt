@@ -154,14 +154,15 @@ impl Pool {
         self.arena.give_back(strand);
     }
 
-    /// The k-th entry of an xid of which the strand was lent. It is found at once where it lies in the chunk `near`.
-    pub(crate) fn entry(
-        &self,
+    /// The k-th entry of an xid of which the strand was lent. It is found at once where it lies in the chunk `near` or in the one after
+    /// it; the chunk in which it lies is the next `near`.
+    pub(crate) fn entry<'a>(
+        &'a self,
         lent: &HashMap<u32, Strand>,
         xid: u32,
         k: usize,
-        near: usize,
-    ) -> &[u8]
+        near: &mut usize,
+    ) -> &'a [u8]
         requires lent { IsLent self.now lent.now.entries }
         requires within { k < length (entries_by self.now.arena (strand_of lent.now.entries xid)) }
         ensures value { result.now
@@ -171,6 +172,16 @@ impl Pool {
         match lent.get(&xid) {
             Some(strand) => self.arena.entry_near(strand, k, near),
             None => unreachable!(),
+        }
+    }
+
+    /// How many entries an xid has.
+    pub(crate) fn count(&self, xid: u32) -> usize
+        ensures { result ≡ length (entries_at self.now xid) }
+    {
+        match self.strands.get(&xid) {
+            Some(strand) => self.arena.count(strand),
+            None => 0,
         }
     }
 

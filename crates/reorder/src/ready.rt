@@ -1,28 +1,13 @@
 //! What a commit makes ready.
 
-ghost use Rattle.std.specs.Prelude.{◌≡◌, length};
+ghost use Rattle.std.specs.Prelude.{◌≡◌, ◌<◌, Some, length, slice_get};
+ghost use Rattle.reorder.specs.Orders.{places_in};
 
+use crate::order::Order;
+use crate::place::Place;
 use chgarena::Strand;
 use std::collections::HashMap;
 use std::marker::Model;
-
-/// Where a change lies: its position, its xid, and its place among the entries of that xid.
-#[derive(Drop)]
-pub(crate) struct Spot {
-    pub(crate) position: u64,
-    pub(crate) xid: u32,
-    pub(crate) place: usize,
-    /// The chunk of the arena in which the change was found, where it is looked for first.
-    pub(crate) near: usize,
-}
-
-impl Model for Spot {
-    ghost use Rattle.reorder.specs.Ready.{SpotState};
-
-    ghost Value = { SpotState };
-
-    ghost view = { λ s. record { position = s.position; xid = s.xid; place = s.place } };
-}
 
 /// The changes that a committed transaction keeps, in log order, those of rolled-back subtransactions left out. There are
 /// `count()` of them, maybe none; `Reorder::entry` lends each by its place, and `Reorder::finish` takes them back.
@@ -31,29 +16,41 @@ pub struct Ready {
     xids: Vec<u32>,
     /// The strands of those that have changes, which nobody else has.
     strands: HashMap<u32, Strand>,
-    spots: Vec<Spot>,
+    order: Order,
+    /// The chunk of the arena in which the last of them was found.
+    near: usize,
 }
 
 impl Model for Ready {
     ghost use Rattle.reorder.specs.Ready.{ReadyState};
+    ghost use Rattle.reorder.specs.Orders.{places_in};
 
     ghost Value = { ReadyState };
 
-    ghost view = { λ r. record { xids = r.xids.items; strands = r.strands.entries; spots = r.spots.items } };
+    ghost view = { λ r. record { xids = r.xids.items; strands = r.strands.entries; places = places_in r.order } };
 }
 
 impl Ready {
     /// How many changes there are.
     pub fn count(&self) -> usize
-        ensures { result ≡ length self.now.spots }
+        ensures { result ≡ length self.now.places }
     {
-        self.spots.len()
+        self.order.count()
     }
 
-    pub(crate) fn spots(&self) -> &[Spot]
-        ensures { result.now ≡ self.now.spots }
+    /// Where the k-th of them lies.
+    pub(crate) fn place(&self, k: usize) -> Place
+        requires { k < length self.now.places }
+        ensures { slice_get self.now.places k ≡ Some result }
     {
-        self.spots.as_slice()
+        self.order.place(k, self.near)
+    }
+
+    /// Notes the chunk in which one was found.
+    pub(crate) fn note_near(&mut self, near: usize)
+        ensures { self.new ≡ self.old }
+    {
+        self.near = near;
     }
 
     pub(crate) fn strands(&self) -> &HashMap<u32, Strand>
@@ -62,14 +59,19 @@ impl Ready {
         &self.strands
     }
 
-    pub(crate) fn new(xids: Vec<u32>, strands: HashMap<u32, Strand>, spots: Vec<Spot>) -> Ready
+    pub(crate) fn new(xids: Vec<u32>, strands: HashMap<u32, Strand>, order: Order) -> Ready
         ensures { result
-            ≡ record { xids = xids.items; strands = strands.entries; spots = spots.items } }
+            ≡ record {
+              xids = xids.items;
+              strands = strands.entries;
+              places = places_in order;
+            } }
     {
         Ready {
             xids,
             strands,
-            spots,
+            order,
+            near: 0,
         }
     }
 
@@ -77,11 +79,7 @@ impl Ready {
         ensures xids { result.0.items ≡ self.xids }
         ensures strands { result.1.entries ≡ self.strands }
     {
-        let Ready {
-            xids,
-            strands,
-            spots: _,
-        } = self;
+        let Ready { xids, strands, .. } = self;
         (xids, strands)
     }
 }

@@ -9,7 +9,7 @@ ghost use Rattle.reorder.specs.Ready.{IsEntryAt, IsReadyIn, ReadyState, ready_en
 ghost use Rattle.reorder.specs.Settled.{AreLentIn, LeavesNoRoomBeside, given_back, lent_chunks, settled};
 ghost use Rattle.reorder.specs.Taking.{HasTaken, IsHeld, IsStepApart, IsStepHeld, IsSameTaken, MayCome, Takes, readied};
 
-use crate::entry::{body_of, write_entry};
+use crate::entry::{body_of, position_of, write_entry};
 use crate::fault::ReorderFault;
 use crate::ready::{Ready, Step};
 use crate::strands::Strands;
@@ -153,15 +153,17 @@ impl Reorder {
         Ok(Step::Quiet)
     }
 
-    /// The k-th change that is ready: the position at which its record starts, and its body. It is lent from the arena.
-    pub fn entry<'a>(&'a self, ready: &Ready, k: usize) -> (u64, &'a [u8])
-        requires held { IsReadyIn self.now.strands.pool ready.now }
-        requires within { k < length ready.now.spots }
-        ensures { IsEntryAt (ready_entries self.now.strands.pool ready.now) k result.0
+    /// The k-th change that is ready: the position at which its record starts, and its body. It is lent from the arena, and found at
+    /// once where the changes are asked for in their order.
+    pub fn entry<'a>(&'a self, ready: &mut Ready, k: usize) -> (u64, &'a [u8])
+        requires held { IsReadyIn self.now.strands.pool ready.old }
+        requires within { k < length ready.old.places }
+        ensures entry { IsEntryAt (ready_entries self.now.strands.pool ready.old) k result.0
             result.1.now }
+        ensures same { ready.new ≡ ready.old }
     {
-        let spot = &ready.spots()[k];
-        (spot.position, body_of(self.strands.entry(ready, spot)))
+        let entry = self.strands.entry(ready, k);
+        (position_of(entry), body_of(entry))
     }
 
     /// Gives back what was ready.

@@ -3,27 +3,23 @@
 //! A record costs a look-up or two, whatever the length of the log. Only the end of a transaction goes over its xids,
 //! and then nothing of them is left but the changes that are ready.
 
-ghost use Rattle.std.specs.Prelude.{◌≡◌, ◌≢◌, ◌==◌, Err, Option, true, ℕ, ◌+◌, ◌≤◌, [], ◌∷◌, List, Some, None, false, IsSome, IfOk, OnOk, length, nat_eq, reverse, if◌then◌else◌, ◌&&◌};
+ghost use Rattle.std.specs.Prelude.{◌≡◌, ◌≢◌, ◌==◌, Err, Option, true, ℕ, ◌+◌, ◌<◌, ◌≤◌, slice_get, [], ◌∷◌, List, Some, None, false, IsSome, IfOk, OnOk, length, nat_eq, reverse, if◌then◌else◌, ◌&&◌};
 ghost use Rattle.std.specs.Map.{lookup};
 ghost use Rattle.std.specs.HashMap.{get};
-ghost use Rattle.std.specs.List.{All, AllByRecursion};
-ghost use Rattle.std.specs.List.Sorted.{IsNonDecreasingBy, IsStableByKey};
 ghost use Rattle.std.specs.Option.{option_map};
-ghost use Rattle.std.specs.Ordering.{nat_cmp};
 ghost use Rattle.wal.specs.Log.{last_of};
 ghost use Rattle.reorder.specs.Entries.{IsEntry, entry_in};
 ghost use Rattle.chgarena.specs.Strands.{fills};
 ghost use Rattle.reorder.specs.Chunks.{HasNoRoom, IsTidy, IsWhole, StaysTidy, StaysWhole, strands_alone};
 ghost use Rattle.reorder.specs.Pool.{AreApart, HoldEntries, IsLent, IsPool, Lasts, StaysLent, entries_at, put, strand_of};
-ghost use Rattle.reorder.specs.Ready.{IsReadyIn, IsSpot, ReadyState, bytes_at, lent_from, ready_entries};
+ghost use Rattle.reorder.specs.Ready.{IsReadyIn, PlaceState, ReadyState, bytes_at, lent_from, ready_entries};
 ghost use Rattle.reorder.specs.Settled.{heads_of, ready_heads, without_all};
-ghost use Rattle.reorder.specs.Strands.{IsSame, above_of, above_standing, all_in, assigned, back_in, behind, ended, is_in, by_xid, joined, pushed, spots_of, started, undone, with_member};
+ghost use Rattle.reorder.specs.Strands.{AreMerged, IsSame, above_of, above_standing, all_in, assigned, back_in, behind, ended, is_in, by_xid, pushed, started, undone, with_member};
 
 use crate::fault::ReorderFault;
 use crate::members::Members;
 use crate::pool::Pool;
-use crate::ready::{Ready, Spot};
-use crate::spots::joined_spots;
+use crate::ready::Ready;
 use crate::strand::Strand;
 use chgarena::{Arena, Strand as ArenaStrand};
 use std::alloc::{AllocError, Global};
@@ -33,10 +29,10 @@ use std::marker::Model;
 /// The strands of all xids of the transactions in progress, and the changes of these xids and of what is ready.
 #[derive(Drop)]
 pub(crate) struct Strands {
-    alloc: Global,
-    strands: HashMap<u32, Strand>,
-    members: HashMap<u32, Members>,
-    pool: Pool,
+    pub(crate) alloc: Global,
+    pub(crate) strands: HashMap<u32, Strand>,
+    pub(crate) members: HashMap<u32, Members>,
+    pub(crate) pool: Pool,
 }
 
 impl Model for Strands {
@@ -202,11 +198,8 @@ impl Strands {
     /// Gives up all xids of a transaction, but for their changes: those that it keeps are ready, and lie where nobody else comes.
     pub(crate) fn make_ready(&mut self, top: u32) -> Result<Ready, AllocError>
         ensures ended { OnOk result (IsSame (by_xid self.new) (ended top (by_xid self.old))) }
-        ensures rising { IfOk result
-            (λ r. IsNonDecreasingBy (λ e. e.position) (ready_entries self.new.pool r)) }
-        ensures same { IfOk result
-            (λ r. IsStableByKey (λ e. e.position) nat_cmp (joined (by_xid self.old) top)
-            (ready_entries self.new.pool r)) }
+        ensures merged { IfOk result
+            (λ r. AreMerged (by_xid self.old) top (ready_entries self.new.pool r)) }
         ensures ready { IfOk result (λ r. IsReadyIn self.new.pool r) }
         ensures apart { IfOk result
             (λ r. (lent : List (ℕ × Option ℕ)) → IsLent self.old.pool lent →
@@ -216,56 +209,29 @@ impl Strands {
             IsTidy count (r ∷ held) self.new) }
         ensures lent { StaysLent self.old.pool self.new.pool }
     {
-        let spots = self.spots(top)?;
+        let order = self.order(top)?;
         let xids = remove_members(self.alloc, &mut self.members, top);
         remove_all(&mut self.strands, xids.as_slice());
         let strands = self.pool.lend_all(self.alloc, xids.as_slice())?;
-        Ok(Ready::new(xids, strands, spots))
+        Ok(Ready::new(xids, strands, order))
     }
 
-    /// Where the changes lie that a transaction keeps, in the order of their positions.
-    fn spots(&self, top: u32) -> Result<Vec<Spot>, AllocError>
-        ensures rising { IfOk result (λ v. IsNonDecreasingBy (λ s. s.position) v.items) }
-        ensures same { IfOk result
-            (λ v. IsStableByKey (λ s. s.position) nat_cmp (spots_of self.now top) v.items) }
-        ensures there { IfOk result (λ v. All (IsSpot self.now.pool) v.items) }
-        ensures own { IfOk result
-            (λ v. All
-            (λ spot. is_in spot.xid (all_in (lookup (λ k. top == k) self.now.members)) ≡ true)
-            v.items) }
-    {
-        let mut spots = self.joined(top)?;
-        spots.sort_by_key(|spot| spot.position)?;
-        Ok(spots)
-    }
-
-    /// Where the changes lie that a transaction keeps, xid after xid.
-    fn joined(&self, top: u32) -> Result<Vec<Spot>, AllocError>
-        ensures { IfOk result (λ v. v.items ≡ spots_of self.now top) }
-    {
-        match self.members.get(&top) {
-            Some(members) => {
-                let joined = joined_spots(
-                    self.alloc,
-                    &self.strands,
-                    &self.pool,
-                    members.as_slice(),
-                )?;
-                Ok(joined)
-            }
-            None => Ok(Vec::new(self.alloc)),
-        }
-    }
-
-    /// The entry at a spot of what is ready.
-    pub(crate) fn entry(&self, ready: &Ready, spot: &Spot) -> &[u8]
-        requires lent { IsLent self.now.pool ready.now.strands }
-        requires spot { IsSpot (lent_from self.now.pool ready.now) spot.now }
-        ensures value { result.now ≡ bytes_at (lent_from self.now.pool ready.now) spot.now }
+    /// The k-th entry of what is ready.
+    pub(crate) fn entry<'a>(&'a self, ready: &mut Ready, k: usize) -> &'a [u8]
+        requires ready { IsReadyIn self.now.pool ready.old }
+        requires within { k < length ready.old.places }
+        ensures value { (at : PlaceState) → slice_get ready.old.places k ≡ Some at →
+            result.now ≡ bytes_at (lent_from self.now.pool ready.old) at }
         ensures entry { IsEntry result.now }
+        ensures same { ready.new ≡ ready.old }
     {
-        self.pool
-            .entry(ready.strands(), spot.xid, spot.place, spot.near)
+        let place = ready.place(k);
+        let mut near = place.near;
+        let entry = self
+            .pool
+            .entry(ready.strands(), place.xid, place.place, &mut near);
+        ready.note_near(near);
+        entry
     }
 
     /// Gives back the changes of what was ready.

@@ -1,7 +1,7 @@
 use Rattle.std.proofs.Common.{◌≡◌, ◌≤◌, ◌-◌, ◌++◌, length}
 use Rattle.std.specs.List.{AllByRecursion}
 use Rattle.reorder.specs.Entries.{IsEntry}
-use Rattle.reorder.specs.Ready.{spots_from}
+use Rattle.reorder.specs.Spots.{spots_from}
 use Rattle.reorder.proofs.spots.add_entries.Given as goal
 
 -- the spots so far, and those of the entries that are left, are all

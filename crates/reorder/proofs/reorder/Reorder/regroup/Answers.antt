@@ -53,7 +53,7 @@ pub returns-in-Commit-clause-takes : goal.returns-in-Commit-clause-takes
 returns-in-Commit-clause-takes c =
     subst (λ (s : ReorderState). Takes s (state c.make_ready.new.self c.self.inside.failed) c.args.next.now (Some (ready_entries c.make_ready.new.self.pool c.in_ok-make_ready-in-Commit.field-0))) c.self.view_is
     (taken_commit c.self.inside.strands c.make_ready.new.self c.self.inside.failed c.self.inside.failed c.args.next.now c.in-Commit.top c.in-Commit.field-1
-    _ c.in-Commit.is c.in_ok-make_ready-in-Commit.ensures.rising c.in_ok-make_ready-in-Commit.ensures.same c.in_ok-make_ready-in-Commit.ensures.ended)
+    _ c.in-Commit.is c.in_ok-make_ready-in-Commit.ensures.merged c.in_ok-make_ready-in-Commit.ensures.ended)
 
 pub returns-in_err-push-in-Change-clause-full : goal.returns-in_err-push-in-Change-clause-full
 returns-in_err-push-in-Change-clause-full c = λ is rs count taken next tidy.

@@ -1,6 +1,6 @@
 use Rattle.std.proofs.Common.{rules}
 use Rattle.std.proofs.lemmas.List.Sorted.{IsNonDecreasingBy-from_sort_by_key, answers_always}
-use Rattle.reorder.specs.Ready.{SpotState}
+use Rattle.reorder.specs.Spots.{SpotState}
 use Rattle.reorder.proofs.Spotting.{sorted_own, sorted_there}
 use Rattle.reorder.proofs.strands.Strands.spots.Goals as goal
 
