@@ -99,9 +99,9 @@ module _ (selection : PublicationSet) (pool : PoolState) where
       ∙ append_assoc bytes here behind
       ∙ ap (λ (l : List ℕ). bytes ++ l) (sym (bytes_first sent' made (moved_to w next) ws none))
 
-  none_left : (w : Waiting) → length w.ready.spots ≤ w.next → left_of selection pool w ≡ []
+  none_left : (w : Waiting) → length w.ready.places ≤ w.next → left_of selection pool w ≡ []
   none_left w over =
-      let size : length (ready_entries pool w.ready) ≡ length w.ready.spots = length-map w.ready.spots _ in
+      let size : length (ready_entries pool w.ready) ≡ length w.ready.places = length-map w.ready.places _ in
       ap (published_changes selection) (drop_all w.next (ready_entries pool w.ready) (omega (arith, over, size)))
 
 -- ---- the same is held
@@ -230,7 +230,7 @@ frame_made selection s o o' w ws next bytes good none room comes is is' made pla
     (λ more. let low = good.capacity (subst (λ (l : List Waiting). 0 < length l) (sym is) (omega arith)) in omega (arith, low, capacity))
 
 -- the first has nothing left, and waits no more
-pub first_over : (selection : PublicationSet) (s s' : ReorderState) (o o' : Outgoing) (w : Waiting) → IsOutgoing selection s o → o.waiting.items ≡ w ∷ o'.waiting.items → w.before ≡ 0 → length w.ready.spots ≤ w.next
+pub first_over : (selection : PublicationSet) (s s' : ReorderState) (o o' : Outgoing) (w : Waiting) → IsOutgoing selection s o → o.waiting.items ≡ w ∷ o'.waiting.items → w.before ≡ 0 → length w.ready.places ≤ w.next
     → s' ≡ given_back s w.ready → o' ≡ record o { waiting = o'.waiting } → HoldsSame selection s s' o o'
 first_over selection s s' o o' w good is none over back rest =
     let pool = s.strands.pool in

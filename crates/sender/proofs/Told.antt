@@ -13,7 +13,7 @@ use Rattle.publication.specs.Projection.{MessageFits}
 use Rattle.publication.specs.Selection.{relation}
 use Rattle.reorder.specs.Entries.{IsEntry, body_in, position_in}
 use Rattle.reorder.specs.Pool.{PoolState, entries_at}
-use Rattle.reorder.specs.Ready.{IsReadyIn, IsSpot, ReadyState, SpotState, bytes_at, entry_at, lent_from, ready_entries}
+use Rattle.reorder.specs.Ready.{IsReadyIn, IsPlace, ReadyState, PlaceState, bytes_at, entry_at, lent_from, ready_entries}
 use Rattle.reorder.proofs.Coding.{body_spells, position_of}
 use Rattle.stream.specs.declared.published.Published.{Published}
 use Rattle.stream.specs.Items.{FitsPublished}
@@ -34,18 +34,18 @@ in_all P [] k d all low = absurd (omega (arith, low))
 in_all P (x ∷ xs) zero d all low = all.0
 in_all P (x ∷ xs) (suc k) d all low = in_all P xs k d all.1 (omega (arith, low))
 
-spot_spelled : (pool : PoolState) (spot : SpotState) → AllByRecursion IsEntry (entries_at pool spot.xid) → IsSpot pool spot → IsSpelled (entry_at pool spot)
-spot_spelled pool spot all is =
-    let entry : IsEntry (bytes_at pool spot) = in_all IsEntry (entries_at pool spot.xid) spot.place [] all is.0 in
-    let at : spot.position ≡ entry.position = is.1 ∙ ap position_in entry.is ∙ position_of entry.position entry.change entry.in_range in
-    record { position = subst (λ (n : ℕ). n < 2 ^ 64) (sym at) entry.in_range; body = body_in (bytes_at pool spot); spells = body_spells (bytes_at pool spot) entry }
+place_spelled : (pool : PoolState) (place : PlaceState) → AllByRecursion IsEntry (entries_at pool place.xid) → IsPlace pool place → IsSpelled (entry_at pool place)
+place_spelled pool place all is =
+    let entry : IsEntry (bytes_at pool place) = in_all IsEntry (entries_at pool place.xid) place.place [] all is in
+    let at : position_in (bytes_at pool place) ≡ entry.position = ap position_in entry.is ∙ position_of entry.position entry.change entry.in_range in
+    record { position = subst (λ (n : ℕ). n < 2 ^ 64) (sym at) entry.in_range; body = body_in (bytes_at pool place); spells = body_spells (bytes_at pool place) entry }
 
 pub ready_spelled : (pool : PoolState) (ready : ReadyState) → IsReadyIn pool ready → AllByRecursion IsSpelled (ready_entries pool ready)
-ready_spelled pool ready is = each ready.spots is.spots
+ready_spelled pool ready is = each ready.places is.places
   where
-    each : (spots : List SpotState) → All (IsSpot (lent_from pool ready)) spots → AllByRecursion IsSpelled (map (entry_at (lent_from pool ready)) spots)
+    each : (places : List PlaceState) → All (IsPlace (lent_from pool ready)) places → AllByRecursion IsSpelled (map (entry_at (lent_from pool ready)) places)
     each [] all = tt
-    each (spot ∷ spots) all = (spot_spelled (lent_from pool ready) spot (is.lent.hold spot.xid) (all 0 spot (omega arith)), each spots (λ k d low. all (suc k) d (omega (arith, low))))
+    each (place ∷ places) all = (place_spelled (lent_from pool ready) place (is.lent.hold place.xid) (all 0 place (omega arith)), each places (λ k d low. all (suc k) d (omega (arith, low))))
 
 -- ---- what it publishes
 

@@ -105,7 +105,7 @@ impl Outgoing {
     fn finish_first(&mut self, selection: &Selection, reorder: &mut Reorder)
         requires good { IsOutgoing selection.now reorder.old self.old }
         requires over { (w : Waiting) (ws : List Waiting) → self.old.waiting.items ≡ w ∷ ws →
-            (w.before ≡ 0) × (length w.ready.spots ≤ w.next) }
+            (w.before ≡ 0) × (length w.ready.places ≤ w.next) }
         requires waits { 0 < length self.old.waiting.items }
         ensures same { HoldsSame selection.now reorder.old reorder.new self.old self.new }
         ensures one { length self.new.waiting.items + 1 ≡ length self.old.waiting.items }

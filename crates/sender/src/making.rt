@@ -45,7 +45,7 @@ pub(crate) fn next_frame(
         (reverse relations_sent.old.items) (reverse relations_sent.new.items)
         (take result out.new) }
     ensures within { result ≤ MAX_FRAME_LENGTH }
-    ensures over { result ≡ 0 → length waiting.new.ready.spots ≤ waiting.new.next }
+    ensures over { result ≡ 0 → length waiting.new.ready.places ≤ waiting.new.next }
     ensures same { length out.new ≡ length out.old }
     ensures waiting { waiting.new ≡ record waiting.old { next = waiting.new.next } }
     ensures sent { AreSelected selection.now (reverse relations_sent.new.items) }
@@ -69,8 +69,8 @@ fn frame_at_next(
     out: &mut [u8],
 ) -> usize
     requires held { IsReadyIn reorder.now.strands.pool waiting.old.ready }
-    requires next { waiting.old.next < length waiting.old.ready.spots }
-    requires counted { length waiting.old.ready.spots < 2 ^ 64 }
+    requires next { waiting.old.next < length waiting.old.ready.places }
+    requires counted { length waiting.old.ready.places < 2 ^ 64 }
     requires room { length out.old ≡ MAX_FRAME_LENGTH }
     requires sent { AreSelected selection.now (reverse relations_sent.old.items) }
     requires capacity { length (selected_oids selection.now) ≤ vec_capacity relations_sent.old }
@@ -81,14 +81,14 @@ fn frame_at_next(
         (take result out.new) }
     ensures within { result ≤ MAX_FRAME_LENGTH }
     ensures moves { result ≡ 0 → waiting.new.next ≡ waiting.old.next + 1 }
-    ensures next { waiting.new.next ≤ length waiting.new.ready.spots }
+    ensures next { waiting.new.next ≤ length waiting.new.ready.places }
     ensures same { length out.new ≡ length out.old }
     ensures waiting { waiting.new ≡ record waiting.old { next = waiting.new.next } }
     ensures sent { AreSelected selection.now (reverse relations_sent.new.items) }
     ensures capacity { vec_capacity relations_sent.new ≡ vec_capacity relations_sent.old }
 {
     let (head, room) = out.split_at_mut(HEAD_LENGTH);
-    let Some((position, length)) = put_entry(selection, reorder, &waiting.ready, waiting.next, room)
+    let Some((position, length)) = put_entry(selection, reorder, &mut waiting.ready, waiting.next, room)
     else {
         waiting.next += 1;
         return 0;

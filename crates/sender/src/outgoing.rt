@@ -210,10 +210,30 @@ impl Outgoing {
         ensures rest { self.new
             ≡ record self.old { made = self.new.made; message = self.new.message } }
     {
-        self.add(header.start, clock, &begin_of(header))?;
+        self.add_begin(header, clock)?;
         let before = self.made.len() - self.placed;
-        self.add(header.end, clock, &commit_of(header))?;
+        self.add_commit(header, clock)?;
         Ok(before)
+    }
+
+    /// Adds the Begin of a transaction.
+    fn add_begin(&mut self, header: &Header, clock: i64) -> Result<(), AllocError>
+        ensures made { Puts result self.old.made.items self.new.made.items
+            (begin_bytes clock header.now) }
+        ensures rest { self.new
+            ≡ record self.old { made = self.new.made; message = self.new.message } }
+    {
+        self.add(header.start, clock, &begin_of(header))
+    }
+
+    /// Adds the Commit of a transaction.
+    fn add_commit(&mut self, header: &Header, clock: i64) -> Result<(), AllocError>
+        ensures made { Puts result self.old.made.items self.new.made.items
+            (commit_bytes clock header.now) }
+        ensures rest { self.new
+            ≡ record self.old { made = self.new.made; message = self.new.message } }
+    {
+        self.add(header.end, clock, &commit_of(header))
     }
 
     /// Adds a message at a position.

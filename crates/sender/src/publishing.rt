@@ -118,7 +118,7 @@ impl Outgoing {
         start: u64,
         reorder: &mut Reorder,
         next: &Record,
-        ready: Ready,
+        mut ready: Ready,
         clock: i64,
         room: &mut Vec<u8>,
     ) -> Result<(), AllocError>
@@ -139,7 +139,7 @@ impl Outgoing {
             (settled reorder.old (readies self.old.waiting.items ++ ready ∷ [])).strands →
             IsTidy count [] (settled_of reorder.new self.new).strands }
     {
-        match judge(selection, start, next, reorder, &ready, room) {
+        match judge(selection, start, next, reorder, &mut ready, room) {
             Ok(Some(header)) => self.queue(selection, reorder, ready, &header, clock),
             Ok(None) => {
                 reorder.finish(ready);
@@ -190,22 +190,23 @@ fn judge(
     start: u64,
     next: &Record,
     reorder: &Reorder,
-    ready: &Ready,
+    ready: &mut Ready,
     room: &mut Vec<u8>,
 ) -> Result<Option<Header>, AllocError>
-    requires held { IsReadyIn reorder.now.strands.pool ready.now }
+    requires held { IsReadyIn reorder.now.strands.pool ready.old }
     ensures value { IfOk result
         (λ o. option_to_list
         (option_map
         (published_with selection.now
-        (ready_entries reorder.now.strands.pool ready.now))
+        (ready_entries reorder.now.strands.pool ready.old))
         o)
         ≡ published_by_record selection.now start next.now
-        (Some (ready_entries reorder.now.strands.pool ready.now))) }
+        (Some (ready_entries reorder.now.strands.pool ready.old))) }
     ensures fit { OnOk result
         (AllByRecursion (FitsPublished (relation selection.now))
         (published_by_record selection.now start next.now
-        (Some (ready_entries reorder.now.strands.pool ready.now)))) }
+        (Some (ready_entries reorder.now.strands.pool ready.old)))) }
+    ensures ready { ready.new ≡ ready.old }
 {
     make_room(room)?;
     selection.messages_fit();
@@ -228,19 +229,20 @@ fn header_of(
     start: u64,
     next: &Record,
     reorder: &Reorder,
-    ready: &Ready,
+    ready: &mut Ready,
     room: &mut [u8],
 ) -> Option<Header>
-    requires held { IsReadyIn reorder.now.strands.pool ready.now }
+    requires held { IsReadyIn reorder.now.strands.pool ready.old }
     requires room { MAX_MESSAGE_LENGTH ≤ length room.old }
     ensures value { option_to_list
         (option_map
-        (published_with selection.now (ready_entries reorder.now.strands.pool ready.now))
+        (published_with selection.now (ready_entries reorder.now.strands.pool ready.old))
         result)
         ≡ published_by_record selection.now start next.now
-        (Some (ready_entries reorder.now.strands.pool ready.now)) }
+        (Some (ready_entries reorder.now.strands.pool ready.old)) }
     ensures numbers { IfSome result
         (λ h. (h.start < 2 ^ 64) × (h.end < 2 ^ 64) × FitsSigned w64 h.time × (h.xid < 2 ^ 32)) }
+    ensures ready { ready.new ≡ ready.old }
     ensures same { length room.new ≡ length room.old }
 {
     let Body::Commit(xid, time) = next.body else {
@@ -256,14 +258,15 @@ fn header_of(
 }
 
 /// Whether a change that is ready has a message.
-fn has_message(selection: &Selection, reorder: &Reorder, ready: &Ready, room: &mut [u8]) -> bool
-    requires held { IsReadyIn reorder.now.strands.pool ready.now }
+fn has_message(selection: &Selection, reorder: &Reorder, ready: &mut Ready, room: &mut [u8]) -> bool
+    requires held { IsReadyIn reorder.now.strands.pool ready.old }
     requires room { MAX_MESSAGE_LENGTH ≤ length room.old }
     ensures value { result
         ≡ not
         (length
-        (published_changes selection.now (ready_entries reorder.now.strands.pool ready.now))
+        (published_changes selection.now (ready_entries reorder.now.strands.pool ready.old))
         == 0) }
+    ensures ready { ready.new ≡ ready.old }
     ensures same { length room.new ≡ length room.old }
 {
     for k in 0..ready.count() {
@@ -279,19 +282,20 @@ fn has_message(selection: &Selection, reorder: &Reorder, ready: &Ready, room: &m
 pub(crate) fn put_entry(
     selection: &Selection,
     reorder: &Reorder,
-    ready: &Ready,
+    ready: &mut Ready,
     k: usize,
     room: &mut [u8],
 ) -> Option<(u64, usize)>
-    requires held { IsReadyIn reorder.now.strands.pool ready.now }
-    requires within { k < length ready.now.spots }
+    requires held { IsReadyIn reorder.now.strands.pool ready.old }
+    requires within { k < length ready.old.places }
     requires room { MAX_MESSAGE_LENGTH ≤ length room.old }
     ensures yields { Yields selection.now
         (published_changes selection.now
-        (drop k (ready_entries reorder.now.strands.pool ready.now)))
+        (drop k (ready_entries reorder.now.strands.pool ready.old)))
         (published_changes selection.now
-        (drop (k + 1) (ready_entries reorder.now.strands.pool ready.now)))
+        (drop (k + 1) (ready_entries reorder.now.strands.pool ready.old)))
         result room.new }
+    ensures ready { ready.new ≡ ready.old }
     ensures same { length room.new ≡ length room.old }
 {
     let (position, body) = reorder.entry(ready, k);

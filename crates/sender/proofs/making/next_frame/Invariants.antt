@@ -12,4 +12,4 @@ invariant-loop-waiting l = record {
 }
 
 abbrev pub decreases-loop-waiting : goal.decreases-loop-waiting
-decreases-loop-waiting l = length l.waiting.ready.spots - l.waiting.next
+decreases-loop-waiting l = length l.waiting.ready.places - l.waiting.next
