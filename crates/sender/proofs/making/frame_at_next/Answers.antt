@@ -7,7 +7,7 @@ use Rattle.pgoutput.specs.declared.logical.Logical.TheVariants as logical
 use Rattle.publication.specs.Selection.{relation, selected_table}
 use Rattle.stream.specs.Items.{relations_due, tables_of}
 use Rattle.sender.specs.Spelled.{message_in, named_in, oids_in, told_at}
-use Rattle.reorder.specs.Ready.{ready_entries}
+use Rattle.reorder.specs.Ready.{ReadyState, ready_entries}
 use Rattle.sender.specs.Published.{published_changes}
 use Rattle.sender.specs.Waiting.{Makes, frame_head, left_of}
 use Rattle.sender.proofs.Framed.{all_any, frame_made, makes_change, makes_relation}
@@ -62,7 +62,8 @@ returns-clause-makes c =
           omega (arith, w.length-is, ap (length {A = ℕ}) w.room-is, put.short, put.same, c.put_entry.ensures.same, c.split_at_mut-head.ensures.back_len, c.requires.room) in
           let text : take size room ≡ spell_logical (logical.Relation (relation selection oid)) = ap (λ n. take n room) w.length-is ∙ ap (take w.put_due-length.result) w.room-is ∙ put.relation in
           let frame = frame_made c.put_head.new.head room (c.put_head.new.head ++ room) (30 + size) size c.in-Some.position clock (logical.Relation (relation selection oid)) refl head within refl text in
-          let here_is : left_of selection pool c.match-first_due.waiting ≡ here = ap (left_of selection pool) w.waiting-is in
+          let here_is : left_of selection pool c.match-first_due.waiting ≡ here =
+          ap (left_of selection pool) w.waiting-is ∙ ap (λ (r : ReadyState). published_changes selection (drop c.args.waiting.now.next (ready_entries pool r))) c.put_entry.ensures.ready in
           subst (λ l. Makes selection clock here l sent sent' made) (sym here_is) (makes_relation selection clock here next sent made told y.2 oid due.0 sent' due_is noted frame)
       | in-None w ↦
           let none : relations_due sent (tables_of m) ≡ [] = due_as ∙ w.in-None.ensures.none refl in
@@ -71,7 +72,8 @@ returns-clause-makes c =
           let within : size ≤ length room = omega (arith, w.length-is, ap (length {A = ℕ}) w.room-is, y.0) in
           let text : take size room ≡ spell_logical m = ap (λ n. take n room) w.length-is ∙ ap (take c.in-Some.length) w.room-is ∙ t.text in
           let frame = frame_made c.put_head.new.head room (c.put_head.new.head ++ room) (30 + size) size c.in-Some.position clock m refl head within refl text in
-          let next_is : left_of selection pool c.match-first_due.waiting ≡ next = ap (left_of selection pool) w.waiting-is in
+          let next_is : left_of selection pool c.match-first_due.waiting ≡ next =
+          ap (left_of selection pool) w.waiting-is ∙ ap (λ (r : ReadyState). published_changes selection (drop (c.args.waiting.now.next + 1) (ready_entries pool r))) c.put_entry.ensures.ready in
           let sent_is : reverse c.match-first_due.relations_sent.items ≡ sent = ap (λ r. reverse r.items) w.relations_sent-is in
           subst (λ l. Makes selection clock here l sent (reverse c.match-first_due.relations_sent.items) made) (sym next_is)
           (subst (λ l. Makes selection clock here next sent l made) (sym sent_is) (makes_change selection clock here next sent made told y.2 none frame))

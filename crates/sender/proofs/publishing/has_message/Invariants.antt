@@ -5,6 +5,7 @@ use Rattle.sender.proofs.publishing.has_message.Given as goal
 
 abbrev pub invariant-loop-k : goal.invariant-loop-k
 invariant-loop-k l = record {
-  none : published_changes l.selection (drop l.k (ready_entries l.reorder.strands.pool l.ready)) ≡ published_changes l.selection (ready_entries l.reorder.strands.pool l.ready);
+  none : published_changes l.selection (drop l.k (ready_entries l.reorder.strands.pool l.fn.ready)) ≡ published_changes l.selection (ready_entries l.reorder.strands.pool l.fn.ready);
+  ready : l.ready ≡ l.fn.ready;
   same : length l.room ≡ length l.fn.room;
 }

@@ -1,5 +1,3 @@
-use Rattle.std.specs.Int.{w64}
-use Rattle.std.proofs.lemmas.Int.{to_z-of_z}
 use Rattle.sender.proofs.Framing.{commit_short}
 use Rattle.sender.proofs.outgoing.Outgoing.add_commit.Goals as goal
 
