@@ -5,7 +5,10 @@ use crate::hub::Hub;
 use crate::line::Line;
 use crate::read_loop::{ReadLoop, read_line};
 use crate::write_loop::{WriteLoop, write_line};
-use connections::{Arrival, ConnectionEnd, Gate, Trouble, Untaken, is_of_listener, next_socket, rest, write_trouble};
+use connections::{
+    Arrival, ConnectionEnd, Gate, Trouble, Untaken, is_of_listener, next_socket, rest,
+    write_trouble,
+};
 use shared_log::LogName;
 use slots::SlotName;
 use std::net::{Shutdown, TcpListener, TcpStream};
