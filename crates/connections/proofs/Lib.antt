@@ -1,3 +1,3 @@
 pub mod Crossing
 pub mod Dropping
-pub mod Words
+pub mod Saying

@@ -1,4 +1,4 @@
-use Rattle.connections.proofs.Words.{some_words}
+use Rattle.connections.proofs.Saying.{some_words}
 use Rattle.connections.proofs.words.write_trouble.Goals as goal
 
 pub returns : goal.returns

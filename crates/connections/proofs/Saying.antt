@@ -1,4 +1,4 @@
--- Some words were written.
+-- That some words were written.
 use Rattle.std.proofs.Common.{ℕ, List, Result, Ok, Err, OnOk}
 use Rattle.std.specs.declared.option.Option.{Option}
 use Rattle.std.specs.Io.KnownBytes.{Appends}
