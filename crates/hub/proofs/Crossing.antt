@@ -8,8 +8,6 @@ use denote.Struct.Tuple.{TupleAt, type_at, parts}
 use denote.Param.Send.{IsSend, IsSync, AllSend, sendable}
 use denote.Param.SendFields.{FieldsHave, declared_send, declared_sync, as_row_send}
 use Rattle.std.proofs.Crossing as heap
-use Rattle.std.proofs.net.tcp.TcpStream.TheSendSync as socket
-use Rattle.bytes.proofs.unique.BytesMut.TheSendSync as buffer
 use Rattle.chgarena.proofs.arena.Arena.TheSendSync as arena
 use Rattle.pqformat.proofs.items.Items.TheSendSync as items
 use Rattle.pqformat.proofs.text.Text.TheSendSync as text
@@ -20,29 +18,17 @@ use Rattle.publication_config.specs.contracts.published_table.PublishedTable as 
 use Rattle.publication_config.specs.contracts.publication.Publication as publication
 use Rattle.publication.specs.contracts.selection.Selection as selection
 use Rattle.publication.specs.contracts.publications.Publications as publications
-use Rattle.server.proofs.connection.Phase.TheSendSync as phase
 use Rattle.shared_log.specs.declared.name.LogName as log_name
 use Rattle.shared_log.proofs.reader.LogReader.TheSendSync as reader
 use Rattle.slots.specs.declared.rule.SlotName as slot_name
-use Rattle.slots.proofs.lease.Lease.TheSendSync as lease
-use Rattle.slots.proofs.seat.SlotSeat.TheSendSync as seat
 use Rattle.slots.proofs.table.SlotTable.TheSendSync as slots
 use Rattle.txlog.proofs.publisher.Publisher.TheSendSync as publisher
-use Rattle.hub.proofs.fault.ConnectionEnd.TheSendSync as end
-use Rattle.hub.specs.contracts.arrival.Arrival as arrival
-use Rattle.hub.specs.contracts.arrival.Arriving as arriving
+use Rattle.connections.proofs.Crossing.{inbox_send, arrival_sync, latch_sync, post_sync, sockets_sync, hold_send}
 use Rattle.hub.specs.contracts.grant.StreamGrant as grant
-use Rattle.hub.specs.contracts.hold.Hold as hold
 use Rattle.hub.specs.contracts.hub.Hub as hub
-use Rattle.hub.specs.contracts.inbox.Inbox as inbox
-use Rattle.hub.specs.contracts.latch.Latch as latch
 use Rattle.hub.specs.contracts.line.Line as line
-use Rattle.hub.specs.contracts.slot_post.KnownSlot as known
-use Rattle.hub.specs.contracts.slot_post.SlotPost as post
-use Rattle.hub.specs.contracts.sockets.ServedSocket as served
-use Rattle.hub.specs.contracts.sockets.Sockets as sockets
 use Rattle.hub.specs.contracts.system.SystemName as system
-use Rattle.hub.proofs.names.Names.TheSendSync as names
+use Rattle.connections.proofs.names.Names.TheSendSync as names
 use Rattle.hub.proofs.commit_notice.CommitNotice.TheSendSync as notice
 use Rattle.hub.proofs.pool.Pool.TheSendSync as pool
 
@@ -82,50 +68,14 @@ selection_send = search (publication_send, items.the_send, table.the_send, senda
 pub publications_sync : IsSync publications.the_row
 publications_sync = search (publication_sync, items.the_sync, table.the_sync, sendable) depth 40
 
--- ---- the parts that have no name in their types
-inbox_send : IsSend inbox.the_row
-inbox_send = declared_send inbox.the_type (
-  search (buffer.the_send, heap.send, heap.sync, heap.frees, sendable) depth 10,
-  (search sendable depth 10, (search sendable, (search sendable, (phase.the_send, (search sendable, (search sendable, (search (end.the_send, sendable) depth 10, tt))))))),
-)
-
-arriving_send : IsSend arriving.the_row
-arriving_send = declared_send arriving.the_type (search (socket.the_send, sendable) depth 10, (search sendable, tt))
-
-pub arrival_sync : IsSync arrival.the_row
-arrival_sync = declared_sync arrival.the_type (search (arriving_send, heap.crosses, sendable) depth 20, (search (heap.crosses, sendable) depth 10, tt))
-
-latch_sync : IsSync latch.the_row
-latch_sync = declared_sync latch.the_type (search (heap.crosses, sendable) depth 20, (search (heap.crosses, sendable) depth 10, tt))
-
-known_send : IsSend known.the_row
-known_send = declared_send known.the_type (
-  search sendable,
-  (
-    search (text.the_send, sendable) depth 10,
-    (search sendable, (search sendable depth 10, (search sendable, (search sendable, (search sendable, (search sendable, (search sendable depth 20, (search sendable depth 10, (search sendable depth 20, (search sendable, tt)))))))))),
-  ),
-)
-
-pub post_sync : IsSync post.the_row
-post_sync = declared_sync post.the_type (search (known_send, heap.crosses, sendable) depth 20, (search (heap.crosses, sendable) depth 10, tt))
-
-served_send : IsSend served.the_row
-served_send = declared_send served.the_type (search sendable, (socket.the_send, tt))
-
-sockets_sync : IsSync sockets.the_row
-sockets_sync = declared_sync sockets.the_type (search (served_send, heap.crosses, sendable) depth 20, (search (heap.crosses, sendable) depth 10, tt))
-
+-- ---- the name of the system
 system_sync : IsSync system.the_row
 system_sync = declared_sync system.the_type (text.the_sync, tt)
 
 -- ---- at the names of a log and its slots
 module _ (L : RattleType) (s : slot_name.Ghosts L.Denot) (l : log_name.Ghosts L.Denot) where
-  hold_send : IsSend (hold.the_row L s)
-  hold_send = declared_send (hold.the_type L s) (seat.the_send L s, (lease.the_send L s, tt))
-
   grant_send : IsSend (grant.the_row L s l)
-  grant_send = declared_send (grant.the_type L s l) (selection_send, (search sendable, (search sendable, (reader.the_send L l, (hold_send, (search sendable, (arena.the_send, tt)))))))
+  grant_send = declared_send (grant.the_type L s l) (selection_send, (search sendable, (search sendable, (reader.the_send L l, (hold_send L s, (search sendable, (arena.the_send, tt)))))))
 
   -- what the two threads of a connection have in common
   pub line_sync : IsSync (line.the_row L s l)

@@ -1,5 +1,4 @@
 pub mod Crossing
-pub mod Dropping
 pub mod Resuming
 pub mod Streams
 pub mod Telling

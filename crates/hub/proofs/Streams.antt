@@ -113,7 +113,3 @@ pub words_behind : {L : Type 0} {T E : Type 0} (a b : Walsender L) (before betwe
     → OnOk r ((words : List ℕ) × Appends between after words) → OnOk r (WordsBehind a b before after)
 words_behind a b before between after given (Ok done) gives empty p (words, q) = (given, words, gives, inr empty, Appends-trans before between after given words p q)
 words_behind a b before between after given (Err fault) gives empty p told = tt
-
-pub some_words : {T E : Type 0} (before after : Option (List ℕ)) (bytes : List ℕ) (r : Result T E) → OnOk r (Appends before after bytes) → OnOk r ((words : List ℕ) × Appends before after words)
-some_words before after bytes (Ok done) appended = (bytes, appended)
-some_words before after bytes (Err fault) appended = tt

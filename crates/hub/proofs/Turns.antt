@@ -10,7 +10,7 @@ use Rattle.shared_log.specs.Readers.{seen_of}
 use Rattle.server.specs.declared.connection.Phase.TheVariants as phases
 use Rattle.walsender.specs.declared.walsender.Walsender.{Walsender}
 use Rattle.walsender.specs.Serving.{IsServing, WritesFirst}
-use Rattle.hub.specs.declared.inbox.Work.{Work}
+use Rattle.connections.specs.declared.inbox.Work.{Work}
 use Rattle.hub.specs.Streams.{HasLearnt, StreamsOn, keepalives}
 use Rattle.hub.specs.Turns.{Answers, Confirms, Ended, EndsTurns, LeavesSlot, Standing, TakesTurns, Turn, Turns, standing}
 use Rattle.hub.proofs.Streams.{learnt, one_more}

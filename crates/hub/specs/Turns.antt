@@ -7,7 +7,7 @@ use Rattle.server.specs.declared.connection.Phase.TheVariants as phases
 use Rattle.walsender.specs.declared.walsender.Walsender.{Walsender}
 use Rattle.walsender.specs.Serving.{WritesFirst}
 use Rattle.sender.specs.declared.turn_fault.TurnFault.{TurnFault}
-use Rattle.hub.specs.declared.inbox.Work.{Work}
+use Rattle.connections.specs.declared.inbox.Work.{Work}
 use Rattle.hub.specs.Streams.{StreamsOn, keepalives}
 
 -- What a status brings is confirmed as far as was read: the slot is raised to it, unless it stands further.

@@ -1,10 +1,9 @@
 //! The desk of a connection over the hub.
 
-use crate::gate::Gate;
 use crate::hub::Hub;
 use crate::line::Line;
 use crate::published::{known_names, tables_of};
-use crate::refused_command::RefusedCommand;
+use connections::{Gate, RefusedCommand};
 use pqformat::Items;
 use replcmd::{CmdFault, Names, StreamOptions};
 use server::{Desk, DeskFault, TableName};

@@ -9,9 +9,9 @@ ghost use Rattle.slots.specs.Rule.{slot_step, with_step};
 ghost use Rattle.slots.specs.Standings.{held_by};
 ghost use Rattle.slots.specs.declared.step.SlotKind.TheVariants.{Claim, Read, Release};
 
-use crate::hold::Hold;
 use crate::pool::Pair;
 use chgarena::Arena;
+use connections::Hold;
 use pqformat::Text;
 use publication::{PubFault, Publications, Selection};
 use replcmd::StreamOptions;

@@ -5,16 +5,13 @@ ghost use Rattle.hub.specs.Streams.{HasLearnt};
 
 use crate::commit_notice::CommitNotice;
 use crate::fault::HubFault;
-use crate::latch::Latch;
 use crate::line::Line;
-use crate::names::Names;
 use crate::opened::OpenedHub;
 use crate::pool::Pool;
 use crate::shared::{Places, Shared};
-use crate::slot_post::SlotPost;
-use crate::sockets::Sockets;
 use crate::streaming::Stream;
 use crate::system::SystemName;
+use connections::{Latch, Names, SlotPost, Sockets};
 use publication::Publications;
 use server::{Dialect, Service};
 use shared_log::{LogName, LogReader};

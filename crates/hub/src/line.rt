@@ -1,9 +1,8 @@
 //! What stands between the two threads of a connection.
 
-use crate::fault::ConnectionEnd;
 use crate::grant::StreamGrant;
-use crate::inbox::{Inbox, Work};
 use bytes::BytesMut;
+use connections::{ConnectionEnd, Inbox, Work};
 use server::Phase;
 use shared_log::LogName;
 use slots::SlotName;

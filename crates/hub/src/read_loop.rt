@@ -4,11 +4,10 @@ ghost use Rattle.std.specs.Prelude.{◌≡◌};
 ghost use Rattle.server.specs.Segment.{phase_of};
 
 use crate::desk::HubDesk;
-use crate::fault::ConnectionEnd;
-use crate::gate::Gate;
 use crate::hub::Hub;
 use crate::line::Line;
 use bytes::BytesMut;
+use connections::{ConnectionEnd, Gate};
 use server::{Connection, Phase};
 use shared_log::LogName;
 use slots::SlotName;

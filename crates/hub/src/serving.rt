@@ -1,14 +1,14 @@
 //! Serving connections: two threads for each.
 
-use crate::arrival::Arrival;
-use crate::fault::{ConnectionEnd, ServeFault, Untaken};
-use crate::gate::Gate;
+use crate::fault::ServeFault;
 use crate::hub::Hub;
 use crate::line::Line;
-use crate::listening::{is_of_listener, next_socket, rest};
 use crate::read_loop::{ReadLoop, read_line};
-use crate::words::{Trouble, write_trouble};
 use crate::write_loop::{WriteLoop, write_line};
+use connections::{
+    Arrival, ConnectionEnd, Gate, Trouble, Untaken, is_of_listener, next_socket, rest,
+    write_trouble,
+};
 use shared_log::LogName;
 use slots::SlotName;
 use std::net::{Shutdown, TcpListener, TcpStream};

@@ -3,10 +3,9 @@
 ghost use Rattle.std.specs.Prelude.{◌≡◌};
 
 use crate::fault::HubFault;
-use crate::latch::Latch;
 use crate::opened::MOST_STREAMS;
 use crate::pool::Pool;
-use crate::slot_post::SlotPost;
+use connections::{Latch, SlotPost};
 use shared_log::{LogName, LogReader};
 use slots::{OpenedSlots, PLACES, SlotName, SlotSeat, SlotTable};
 use std::alloc::{AllocError, Global};

@@ -1,7 +1,7 @@
 //! What runs, for whoever looks.
 
 use crate::hub::Hub;
-use crate::slot_post::KnownSlot;
+use connections::KnownSlot;
 use pqformat::Text;
 use shared_log::LogName;
 use slots::SlotName;

@@ -2,8 +2,7 @@
 
 use crate::fault::SteerFault;
 use crate::hub::Hub;
-use crate::reins::Rein;
-use crate::slot_post::SlotPost;
+use connections::{Rein, SlotPost};
 use shared_log::LogName;
 use slots::SlotName;
 use std::sync::Wait;

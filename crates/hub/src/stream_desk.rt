@@ -1,11 +1,10 @@
 //! Where the work of a stream comes from while it is written: from its client, from those that steer it, and from the server's end.
 
-use crate::inbox::Work;
-use crate::slot_post::SlotPost;
 use crate::streaming::Stream;
 use crate::work_desk::WorkDesk;
 use crate::write_loop::{WriteLoop, break_off};
 use bytes::BytesMut;
+use connections::{SlotPost, Work};
 use frames::{Back, write_back};
 use server::Phase;
 use shared_log::LogName;

@@ -4,11 +4,9 @@ ghost use Rattle.std.specs.Prelude.{◌≡◌, OnOk};
 ghost use Rattle.hub.specs.Streams.{StreamsOn, WordsBehind};
 ghost use Rattle.hub.specs.Turns.{Ended, EndsTurns, LeavesSlot, TakesTurns, standing};
 
-use crate::fault::ConnectionEnd;
-use crate::inbox::Work;
 use crate::streaming::Stream;
-use crate::words::{Trouble, write_trouble};
 use crate::work_desk::WorkDesk;
+use connections::{ConnectionEnd, Trouble, Work, write_trouble};
 use sender::{SendFault, TurnFault};
 use server::Phase;
 use shared_log::LogName;

@@ -17,9 +17,8 @@ ghost use Rattle.hub.specs.Turns.{Confirms};
 
 use crate::commit_notice::CommitNotice;
 use crate::grant::StreamGrant;
-use crate::hold::Hold;
-use crate::inbox::Work;
 use crate::pool::Pair;
+use connections::{Hold, Work};
 use sender::{SendFault, TurnFault};
 use server::Phase;
 use shared_log::LogName;

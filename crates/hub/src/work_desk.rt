@@ -1,7 +1,7 @@
 //! Where a stream's work comes from.
 
-use crate::inbox::Work;
 use crate::streaming::Stream;
+use connections::Work;
 use shared_log::LogName;
 use slots::SlotName;
 
@@ -10,7 +10,7 @@ use slots::SlotName;
 pub(crate) trait WorkDesk<L: LogName + SlotName> {
     ghost use Rattle.std.specs.Prelude.{◌≡◌};
     ghost use Rattle.hub.specs.Streams.{HasLearnt};
-    ghost use Rattle.hub.specs.declared.inbox.Work.{Work};
+    ghost use Rattle.connections.specs.declared.inbox.Work.{Work};
 
     ghost told: { Self → Work → Self → Type 0 };
 

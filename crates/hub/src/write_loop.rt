@@ -1,15 +1,12 @@
 //! The writing thread of a connection: all that goes to the client.
 
-use crate::fault::ConnectionEnd;
 use crate::grant::StreamGrant;
 use crate::hub::Hub;
-use crate::inbox::Work;
 use crate::line::Line;
-use crate::slot_post::SlotPost;
 use crate::stream_desk::{StreamDesk, report};
 use crate::stream_loop::{say, write_stream};
 use crate::streaming::Stream;
-use crate::tap::Tap;
+use connections::{ConnectionEnd, SlotPost, Tap, Work};
 use server::Phase;
 use shared_log::LogName;
 use slots::SlotName;

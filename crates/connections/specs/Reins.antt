@@ -1,8 +1,8 @@
 -- How the stream of a slot is steered, and what passes to a client whose connection is to be cut behind so many bytes.
 use Rattle.std.specs.Prelude.{ℕ, Option, Some, None, min, true, false, ◌-◌}
-use Rattle.hub.specs.declared.reins.Reins.{Reins}
-use Rattle.hub.specs.declared.reins.Rein.{Rein}
-use Rattle.hub.specs.declared.reins.Rein.TheVariants as reins
+use Rattle.connections.specs.declared.reins.Reins.{Reins}
+use Rattle.connections.specs.declared.reins.Rein.{Rein}
+use Rattle.connections.specs.declared.reins.Rein.TheVariants as reins
 
 -- each word changes what it names, and nothing else
 abbrev pub steered : Reins → Rein → Reins

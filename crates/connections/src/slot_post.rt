@@ -12,7 +12,7 @@ use std::time::Duration;
 /// What is known of the slot at one place, and how its stream is steered. What it knows is told to it: the slot itself is asked only
 /// by whoever holds it.
 #[derive(Drop)]
-pub(crate) struct SlotPost {
+pub struct SlotPost {
     known: Mutex<KnownSlot>,
     /// The slot was confirmed further, or dropped, or its stream has ended.
     moved: Condvar,
@@ -20,7 +20,7 @@ pub(crate) struct SlotPost {
 
 /// What is known of a slot.
 #[derive(Drop)]
-pub(crate) struct KnownSlot {
+pub struct KnownSlot {
     /// A slot is at this place.
     is_open: bool,
     /// Its name, unless there was no memory for it.

@@ -1,7 +1,7 @@
 //! What a connection's reading thread leaves for its writing thread.
 
 ghost use Rattle.std.specs.Prelude.{◌≡◌, ◌++◌, ◌==◌, ◌↔◌, ◌&&◌, [], Some, None, length, max, not, true, false};
-ghost use Rattle.hub.specs.Inboxes.{asked_after, flushed_after};
+ghost use Rattle.connections.specs.Inboxes.{asked_after, flushed_after};
 
 use crate::fault::ConnectionEnd;
 use bytes::BytesMut;
@@ -12,7 +12,7 @@ use std::mem;
 /// What is to be said, how far the client has flushed, and how far the conversation is; and what the writing thread has to
 /// tell of itself.
 #[derive(Drop)]
-pub(crate) struct Inbox {
+pub struct Inbox {
     said: BytesMut,
     /// The greatest position of the statuses that came.
     flushed: Option<u64>,
@@ -31,7 +31,7 @@ pub(crate) struct Inbox {
 
 /// What the writing thread takes of it.
 #[derive(Drop)]
-pub(crate) struct Work {
+pub struct Work {
     pub said: BytesMut,
     pub flushed: Option<u64>,
     pub asked: u32,

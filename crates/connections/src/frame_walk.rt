@@ -17,7 +17,7 @@ const COMMIT: u8 = b'C';
 
 /// Goes over the frames of a stream, however their bytes are cut into pieces.
 #[derive(Clone, Copy)]
-pub(crate) struct FrameWalk {
+pub struct FrameWalk {
     /// How many bytes of the frame have passed.
     at: u64,
     /// Its length behind its type, as far as that has passed.

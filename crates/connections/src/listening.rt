@@ -19,10 +19,7 @@ const ENOTSOCK: i32 = 88;
 const EOPNOTSUPP: i32 = 95;
 
 /// The next connection. It sends what is written at once, and a read that waits for so long gives up.
-pub(crate) fn next_socket(
-    listener: &TcpListener,
-    silence: Option<Duration>,
-) -> io::Result<TcpStream> {
+pub fn next_socket(listener: &TcpListener, silence: Option<Duration>) -> io::Result<TcpStream> {
     let (socket, _) = listener.accept()?;
     socket.set_nodelay(true)?;
     socket.set_read_timeout(silence)?;
@@ -30,12 +27,12 @@ pub(crate) fn next_socket(
 }
 
 /// Lets a listener rest.
-pub(crate) fn rest<R: Clock>(rt: &R) {
+pub fn rest<R: Clock>(rt: &R) {
     thread::sleep(rt, Duration::from_millis(REST));
 }
 
 /// Whether the fault is the listener's own. All others come of a client that has gone, or of want of memory or descriptors.
-pub(crate) fn is_of_listener(fault: &io::Error) -> bool {
+pub fn is_of_listener(fault: &io::Error) -> bool {
     matches!(
         fault.raw_os_error(),
         Some(EBADF | EFAULT | EINVAL | ENOTSOCK | EOPNOTSUPP)

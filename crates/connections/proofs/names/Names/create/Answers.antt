@@ -1,5 +1,5 @@
-use Rattle.hub.proofs.Dropping.{dropped}
-use Rattle.hub.proofs.names.Names.create.Goals as goal
+use Rattle.connections.proofs.Dropping.{dropped}
+use Rattle.connections.proofs.names.Names.create.Goals as goal
 
 pub returns-in-Err-clause-dropped : goal.returns-in-Err-clause-dropped
 returns-in-Err-clause-dropped g c =

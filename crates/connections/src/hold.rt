@@ -9,7 +9,7 @@ ghost use Rattle.slots.specs.declared.step.SlotKind.TheVariants.{Claim, Raise, R
 use slots::{Lease, SlotFault, SlotName, SlotSeat, SlotTable};
 
 /// The lease of a slot, with the seat that claimed it, so that each of its calls goes through that seat. `release` ends it.
-pub(crate) struct Hold<L: SlotName> {
+pub struct Hold<L: SlotName> {
     seat: SlotSeat<L>,
     lease: Lease<L>,
     ghost held: { Holds lease.place seat },

@@ -12,7 +12,7 @@ use std::io::{ErrorKind, Write};
 
 /// Why a stream ends before its client asks for it, or a connection before its client has said a word.
 #[derive(Clone, Copy, PartialEq, Eq)]
-pub(crate) enum Trouble {
+pub enum Trouble {
     Memory,
     /// Transactions in progress fill the arena.
     FullArena,
@@ -55,7 +55,7 @@ impl Trouble {
 }
 
 /// Writes the ErrorResponse that tells it.
-pub(crate) fn write_trouble<W: Write>(alloc: Global, trouble: Trouble, to: &mut W) -> io::Result<()>
+pub fn write_trouble<W: Write>(alloc: Global, trouble: Trouble, to: &mut W) -> io::Result<()>
     ensures { OnOk result
         ((words : List ℕ) × Appends (W.contents to.old) (W.contents to.new) words) }
 {

@@ -6,7 +6,7 @@ use std::sync::{Condvar, Mutex, MutexGuard, Wait};
 
 /// Where the thread that takes connections leaves one for the thread that reads it, and waits until both of its threads run.
 #[derive(Drop)]
-pub(crate) struct Arrival {
+pub struct Arrival {
     arriving: Mutex<Arriving>,
     settled: Condvar,
 }

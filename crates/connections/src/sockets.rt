@@ -6,7 +6,7 @@ use std::sync::atomic::{AtomicBool, Ordering};
 use std::sync::{Mutex, Wait};
 
 #[derive(Drop)]
-pub(crate) struct Sockets {
+pub struct Sockets {
     served: Mutex<Vec<ServedSocket>>,
     /// The server ends, and serves no more connections.
     is_ending: AtomicBool,

@@ -8,7 +8,7 @@ use std::sync::Wait;
 
 /// Counts what is sent, and lets nothing through behind the byte at which the connection is to be cut.
 #[derive(Drop)]
-pub(crate) struct Tap<'h, R: Wait> {
+pub struct Tap<'h, R: Wait> {
     pub rt: &'h R,
     pub post: &'h SlotPost,
     pub socket: &'h TcpStream,

@@ -6,7 +6,7 @@ use std::sync::{Condvar, Mutex, Wait};
 
 /// Set by commits, notes and the stream's own connection. What it tells stays until its stream has seen it, so none is lost.
 #[derive(Drop)]
-pub(crate) struct Latch {
+pub struct Latch {
     told: Mutex<Told>,
     set: Condvar,
 }

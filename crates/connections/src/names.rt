@@ -11,7 +11,7 @@ use std::alloc::Global;
 
 /// The slots by name, with a seat that makes and drops them.
 #[derive(Drop)]
-pub(crate) struct Names<L: SlotName> {
+pub struct Names<L: SlotName> {
     directory: Directory,
     seat: SlotSeat<L>,
 }

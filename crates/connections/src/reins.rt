@@ -1,13 +1,13 @@
 //! How a stream is steered on purpose, as a test of its client needs it.
 
 ghost use Rattle.std.specs.Prelude.{◌≡◌, ◌≤◌, ◌↔◌, Some, None, false, true};
-ghost use Rattle.hub.specs.Reins.{left_behind, passing, steered};
+ghost use Rattle.connections.specs.Reins.{left_behind, passing, steered};
 
 use std::mem;
 
 /// One way to steer a stream.
 #[derive(Clone, Copy, PartialEq, Eq)]
-pub(crate) enum Rein {
+pub enum Rein {
     /// Nothing of it is written any more, until it is let go.
     Hold,
     LetGo,
@@ -19,7 +19,7 @@ pub(crate) enum Rein {
 
 /// How the stream of a slot is steered. It is of the slot, so that it stands for a stream that is still to come.
 #[derive(Clone, Copy)]
-pub(crate) struct Reins {
+pub struct Reins {
     /// Nothing of the stream is written.
     is_held: bool,
     /// A keepalive is to ask its client for an answer.
