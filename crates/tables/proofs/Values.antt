@@ -1,7 +1,9 @@
 -- What holds of the values of every kind: how long they are in the log, and that one that is read was spelled so.
-use Rattle.std.proofs.Common.{◌≡◌, ℕ, ◌^◌, ◌<◌, ◌≤◌, ◌+◌, arith, Bool, true, false, cond, eqb, List, [], ◌∷◌, ◌++◌, length, length-append, Some, None, Ok, refl, sym}
+use Rattle.std.proofs.Common.{◌≡◌, ℕ, ◌^◌, ◌<◌, ◌≤◌, ◌+◌, arith, Bool, true, false, cond, eqb, List, [], ◌∷◌, ◌++◌, length, length-append, Option, Some, None, Ok, refl, sym, ◌∙◌}
 use Rattle.std.specs.Option.{ok_or}
-use Rattle.std.specs.Int.{w128}
+use Rattle.std.specs.Int.{w128, from_be_bytes}
+use Rattle.std.specs.Prelude.{option_map}
+use Rattle.uuid.specs.Text.{parsed, parsed_hyphenated}
 use Rattle.std.specs.Str.{is_utf8}
 use Rattle.std.proofs.lemmas.Bool.{eqb-true}
 use Rattle.pqformat.specs.Fields.{byte_at, bytes_at, int32}
@@ -14,7 +16,7 @@ use Rattle.tables.specs.declared.fault.BodyFault.TheVariants.{Short, UnknownTag,
 use Rattle.tables.specs.declared.kinds.Value.{Value}
 use Rattle.tables.specs.declared.kinds.Value.TheVariants as values
 use Rattle.tables.proofs.Wide.{wide128}
-use Rattle.tables.specs.Kinds.{IsCodedValue, IsValue, bool_of, sized_at, spell_value, tagged_at, text_at, uuid_at, uuid_bytes, value_at}
+use Rattle.tables.specs.Kinds.{IsCodedValue, IsValue, bool_of, sized_at, spell_value, tagged_at, text_at, uuid_at, uuid_bytes, uuid_of_text, value_at}
 
 pub length-uuid : (n : ℕ) → length (uuid_bytes n) ≡ 16
 unfolding uuid_bytes
@@ -112,3 +114,15 @@ value_again (values.Uuid n) rest fits = rw (uuid_codec.again n rest fits) refl
 pub value_codec : Codec value_at spell_value IsCodedValue
 unfolding value_at
 value_codec = choice_codec Short values_choose value_again
+
+-- a text that spells no UUID in any form spells none in the plain one
+pub none_spelled : (text : List ℕ) → length text ≡ 36 → ((bytes : List ℕ) → parsed text ≡ Some bytes → ⊥) → None ≡ uuid_of_text text
+unfolding uuid_of_text
+none_spelled text len never = by_read (parsed_hyphenated text) refl
+  where
+    whole : parsed text ≡ parsed_hyphenated text
+    whole = rw len refl
+
+    by_read : (o : Option (List ℕ)) → parsed_hyphenated text ≡ o → None ≡ option_map (λ bytes. from_be_bytes w128 bytes) o
+    by_read None is = refl
+    by_read (Some bytes) is = absurd (never bytes (whole ∙ is))

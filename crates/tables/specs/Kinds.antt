@@ -1,10 +1,11 @@
 -- The kinds of columns, and all that is said of each: which values are of it, its name in a configuration, and how the log keeps a
 -- value, as a tag and its bytes. A further kind is a line in each of these.
-use Rattle.std.specs.Prelude.{◌≡◌, ℕ, ◌^◌, ◌<◌, ◌==◌, Bool, true, false, not, List, [], ◌∷◌, ◌++◌, length, codes, FitsSigned, Option, Some, None, Result, Ok, Err, if◌then◌else◌}
+use Rattle.std.specs.Prelude.{◌≡◌, ℕ, ◌+◌, ◌*◌, ◌^◌, ◌<◌, ◌==◌, Bool, true, false, not, List, [], ◌∷◌, ◌++◌, length, codes, FitsSigned, Option, Some, None, option_map, Result, Ok, Err, if◌then◌else◌}
 use Rattle.std.specs.List.{list_all}
 use Rattle.std.specs.Option.{ok_or}
-use Rattle.std.specs.Int.{w16, w32, w64, w128, cast_unsigned, to_be_bytes}
+use Rattle.std.specs.Int.{w16, w32, w64, w128, cast_unsigned, from_be_bytes, to_be_bytes}
 use Rattle.std.specs.Str.{bytes_eq, is_utf8}
+use Rattle.uuid.specs.Text.{parsed_hyphenated}
 use Rattle.pqformat.specs.Fields.{byte_at, bytes_at, number_at, int16, int32, int64}
 use Rattle.pqformat.specs.Steps.{◌>>=◌, letter_at, signed_at}
 use Rattle.tables.specs.declared.kinds.Kind.{Kind}
@@ -76,6 +77,10 @@ is_of_kind kinds.Int8 value = is_int8 value
 is_of_kind kinds.Text value = is_text value
 is_of_kind kinds.Uuid value = is_uuid value
 
+-- the UUID of a text: 32 hex digits, in either case, of which 8, 4, 4, 4 and 12 stand between hyphens
+unfoldable pub uuid_of_text : List ℕ → Option ℕ
+uuid_of_text text = option_map (λ bytes. from_be_bytes w128 bytes) (parsed_hyphenated text)
+
 -- the value that is read where it lies
 abbrev pub value_of : ValueRef → Value
 value_of refs.Null = values.Null
@@ -84,7 +89,7 @@ value_of (refs.Int2 n) = values.Int2 n
 value_of (refs.Int4 n) = values.Int4 n
 value_of (refs.Int8 n) = values.Int8 n
 value_of (refs.Text text) = values.Text text.now
-value_of (refs.Uuid n) = values.Uuid n
+value_of (refs.Uuid high low) = values.Uuid (high * 2 ^ 64 + low)
 
 -- HOW THE LOG KEEPS THEM
 

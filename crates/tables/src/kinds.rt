@@ -1,13 +1,13 @@
 //! The kinds of columns, and all that this crate knows of each: its values, its name in a configuration, and how the log keeps it.
 
-ghost use Rattle.std.specs.Prelude.{◌≡◌, ◌≢◌, ◌+◌, ◌++◌, ◌∷◌, [], ◌<◌, ◌≤◌, ◌^◌, Err, Ok, IfErr, IfOk, IsOk, OnErr, OnOk, length, if◌then◌else◌};
+ghost use Rattle.std.specs.Prelude.{◌≡◌, ◌≢◌, ◌*◌, ◌+◌, ◌++◌, ◌∷◌, [], ◌<◌, ◌≤◌, ◌^◌, Err, Ok, IfErr, IfOk, IsOk, OnErr, OnOk, length, if◌then◌else◌};
 ghost use Rattle.std.specs.Int.{w16, w32, w64};
 ghost use Rattle.pqformat.specs.Putting.{Puts};
 ghost use Rattle.pqformat.specs.Steps.{letter_at, signed_at};
 ghost use Rattle.pqformat.specs.Writing.{FitsRoom, Writes};
 ghost use Rattle.tables.specs.declared.fault.BodyFault.TheVariants.{Short, BadBool, Memory};
 ghost use Rattle.tables.specs.declared.row.TheConstants.{MAX_ROW_LENGTH};
-ghost use Rattle.tables.specs.Kinds.{IsValue, bool_of, has_no_zero, is_of_kind, kind_named, spell_value, text_at, uuid_at, uuid_bytes, value_at, value_of};
+ghost use Rattle.tables.specs.Kinds.{IsValue, bool_of, has_no_zero, is_of_kind, kind_named, spell_value, text_at, uuid_at, uuid_bytes, uuid_of_text, value_at, value_of};
 ghost use Rattle.tables.specs.Reading.{Gives};
 
 use crate::fault::BodyFault;
@@ -42,7 +42,8 @@ pub enum Value {
     Uuid(u128),
 }
 
-/// What a row holds in one column; a text is its bytes, where they lie.
+/// What a row holds in one column; a text is its bytes, where they lie, and a UUID two halves, with which a value is 24 bytes long, and
+/// not 32.
 #[derive(Clone, Copy)]
 pub enum ValueRef<'a> {
     Null,
@@ -51,7 +52,7 @@ pub enum ValueRef<'a> {
     Int4(i32),
     Int8(i64),
     Text(&'a [u8]),
-    Uuid(u128),
+    Uuid(u64, u64),
 }
 
 /// The first byte of a value in a row, by its kind.
@@ -95,7 +96,7 @@ impl Kind {
             Kind::Int4 => matches!(value, ValueRef::Int4(_)),
             Kind::Int8 => matches!(value, ValueRef::Int8(_)),
             Kind::Text => matches!(value, ValueRef::Text(text) if is_without_zero(text)),
-            Kind::Uuid => matches!(value, ValueRef::Uuid(_)),
+            Kind::Uuid => matches!(value, ValueRef::Uuid(_, _)),
         }
     }
 }
@@ -132,7 +133,10 @@ impl Value {
             Value::Int4(n) => ValueRef::Int4(*n),
             Value::Int8(n) => ValueRef::Int8(*n),
             Value::Text(text) => ValueRef::Text(text.as_str().as_bytes()),
-            Value::Uuid(n) => ValueRef::Uuid(*n),
+            Value::Uuid(n) => {
+                let (high, low) = halves_of_uuid(*n);
+                ValueRef::Uuid(high, low)
+            }
         }
     }
 }
@@ -287,7 +291,10 @@ pub(crate) fn lend_value<'a>(cursor: &mut Cursor<'a>) -> Result<ValueRef<'a>, Bo
         INT8_TAG => Ok(ValueRef::Int8(i64_in(cursor)?)),
         TEXT_TAG => Ok(ValueRef::Text(text_in(cursor)?)),
         INT2_TAG => Ok(ValueRef::Int2(i16_in(cursor)?)),
-        UUID_TAG => Ok(ValueRef::Uuid(uuid_in(cursor)?)),
+        UUID_TAG => {
+            let (high, low) = halves_of_uuid(uuid_in(cursor)?);
+            Ok(ValueRef::Uuid(high, low))
+        }
         _ => Err(BodyFault::UnknownTag),
     }
 }
@@ -334,6 +341,33 @@ fn uuid_in(cursor: &mut Cursor<'_>) -> Result<u128, BodyFault>
     let bytes = cursor.take(16).ok_or(BodyFault::Short)?;
     let uuid = Uuid::from_slice(bytes).map_err(|_| BodyFault::Short)?;
     Ok(uuid.as_u128())
+}
+
+fn halves_of_uuid(n: u128) -> (u64, u64)
+    ensures { result.0 * 2 ^ 64 + result.1 ≡ n }
+{
+    ((n / (1 << 64)) as u64, (n % (1 << 64)) as u64)
+}
+
+/// The UUID of these halves.
+pub fn uuid_of_halves(high: u64, low: u64) -> u128
+    ensures { result ≡ high * 2 ^ 64 + low }
+{
+    u128::from(high) * (1 << 64) + u128::from(low)
+}
+
+/// The UUID of a text in its plain form, as `6ba7b810-9dad-11d1-80b4-00c04fd430c8`, in either case.
+#[tactic(auto, unfolding(crate::specs::Kinds::uuid_of_text))]
+pub fn uuid_of_text(text: &[u8]) -> Option<u128>
+    ensures { result ≡ uuid_of_text text.now }
+{
+    if text.len() != 36 {
+        return None;
+    }
+    match Uuid::try_parse_ascii(text) {
+        Ok(uuid) => Some(uuid.as_u128()),
+        Err(_) => None,
+    }
 }
 
 #[tactic(auto, unfolding(crate::specs::Kinds::text_at))]
