@@ -66,9 +66,9 @@ pub(crate) fn cell(alloc: Global, value: &Value) -> Result<Cell, AllocError>
 }
 
 /// How long the text of a UUID is.
-const UUID_TEXT_LENGTH: usize = 36;
+pub(crate) const UUID_TEXT_LENGTH: usize = 36;
 
-#[tactic(auto, unfolding(tables::specs::Kinds::uuid_bytes))]
+#[tactic(auto, unfolding(crate::specs::Kinds::uuid_text, tables::specs::Kinds::uuid_bytes))]
 fn uuid_text<'r>(n: u128, room: &'r mut [u8]) -> &'r str
     requires { UUID_TEXT_LENGTH ≤ length room.old }
     ensures { result.now ≡ uuid_text n }
