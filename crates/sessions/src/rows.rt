@@ -87,12 +87,15 @@ fn value_of(alloc: Global, kind: Kind, literal: &Literal) -> Result<Value, Alloc
 fn text_of(alloc: Global, kind: Kind, text: &Text) -> Result<Value, AllocError>
     ensures { IfOk result (λ v. v ≡ text_in kind text.now) }
 {
-    if let Kind::Uuid = kind {
-        if let Some(n) = uuid_of_text(text.as_str().as_bytes()) {
-            return Ok(Value::Uuid(n));
+    match kind {
+        Kind::Uuid => match uuid_of_text(text.as_str().as_bytes()) {
+            Some(n) => Ok(Value::Uuid(n)),
+            None => Ok(Value::Text(text.copy(alloc)?)),
+        },
+        Kind::Bool | Kind::Int2 | Kind::Int4 | Kind::Int8 | Kind::Text => {
+            Ok(Value::Text(text.copy(alloc)?))
         }
     }
-    Ok(Value::Text(text.copy(alloc)?))
 }
 
 /// Of the column's kind where it fits, else of one that the column doesn't take.
