@@ -1,6 +1,7 @@
 """Files of filters: what each is of some rows, or why it is none."""
 import json
 import re
+import uuid
 
 import published
 from case import Case, line_of, refused, values
@@ -21,6 +22,8 @@ def value_of(kind, value):
         return None
     if kind == "text":
         return re.fullmatch("'(.*)'", value)[1]
+    if kind == "uuid":
+        return uuid.UUID(value[1:-1])
     return {"true": True, "false": False}[value] if kind == "bool" else (kind, int(value))
 
 

@@ -1,4 +1,5 @@
 """What values mean, in the words of the sample files."""
+import uuid
 
 
 def position(number):
@@ -119,7 +120,7 @@ def value(it):
     if it.word == "Null":
         return "null"
     inner = it.inside[0]
-    shown = quoted(inner) if it.word == "Text" else str(inner).lower()
+    shown = quoted(inner) if it.word == "Text" else uuid.UUID(int=inner) if it.word == "Uuid" else str(inner).lower()
     return f"{it.word.lower()} {shown}"
 
 

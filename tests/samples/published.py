@@ -1,6 +1,7 @@
 """What publications make of changes, over the tables of tables.toml."""
 import pathlib
 import struct
+import uuid
 
 import meanings
 from case import Wrong, line_of, meant, values
@@ -15,6 +16,7 @@ ROWS = {
     16385: [("a", ("int4", 5)), ("a", ("int4", 6)), ("a", None)],
     16386: [(("int8", number), "m") for number in (1, 2, 3)],
     16388: [(("int2", number), ("int2", -1), ("int8", 7)) for number in (-32768, 6, 32767)],
+    16389: [(uuid.UUID(int=number), "m", None) for number in (0, 0x6BA7B8109DAD11D180B400C04FD430C8, 2**128 - 1)],
 }
 
 
@@ -30,6 +32,8 @@ def coded_value(value):
     if isinstance(value, str):
         text = value.encode()
         return b"\4" + struct.pack(">I", len(text)) + text
+    if isinstance(value, uuid.UUID):
+        return b"\6" + value.bytes
     kind, number = value
     tag, form = NUMBERS[kind]
     return tag + struct.pack(form, number)

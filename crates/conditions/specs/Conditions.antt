@@ -3,12 +3,13 @@ use Rattle.std.specs.Prelude.{◌≡◌, ℕ, ◌==◌, Bool, false, ◌||◌, �
 use Rattle.conditions.specs.declared.comparison.Comparison.{Comparison}
 use Rattle.conditions.specs.declared.question.Question.{Question}
 
--- a value as conditions see it: numbers of both widths are alike, and unknown is null
+-- a value as conditions see it: integers of all widths are alike, and unknown is null
 pub data Datum : Type 0 where
   Missing : Datum
   Flag : Bool → Datum
   Number : ℤ → Datum
   Bytes : List ℕ → Datum
+  Uuid : ℕ → Datum
 
 -- A condition, or an operand of one. A column is told by its place in the table. IS NOT is IS with the flag set.
 pub data Condition : Type 0 where

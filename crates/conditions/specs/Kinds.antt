@@ -5,11 +5,12 @@ use Rattle.tables.specs.declared.kinds.Kind.TheVariants as kinds
 use Rattle.tables.specs.declared.kinds.Kind.{Kind}
 use Rattle.tables.specs.declared.kinds.Value.{Value}
 use Rattle.tables.specs.declared.kinds.Value.TheVariants as values
+use Rattle.tables.specs.Kinds.{uuid_of_text}
 use Rattle.conditions.specs.declared.sort.Sort.{Sort}
-use Rattle.conditions.specs.declared.sort.Sort.TheVariants.{Any, Truths, Numbers, Texts}
+use Rattle.conditions.specs.declared.sort.Sort.TheVariants.{Any, Truths, Numbers, Texts, UuidTexts, Uuids}
 use Rattle.conditions.specs.declared.question.Question.{Question}
 use Rattle.conditions.specs.declared.question.Question.TheVariants as questions
-use Rattle.conditions.specs.Conditions.{Datum, Missing, Flag, Number, Bytes, Condition, Column, Literal, Compare, Is, Not, And, Or}
+use Rattle.conditions.specs.Conditions.{Datum, Missing, Flag, Number, Bytes, Uuid, Condition, Column, Literal, Compare, Is, Not, And, Or}
 
 -- int2, int4 and int8 are all whole numbers; null is of any kind
 abbrev pub sort_of_kind : Kind → Sort
@@ -18,6 +19,7 @@ sort_of_kind kinds.Int2 = Numbers
 sort_of_kind kinds.Int4 = Numbers
 sort_of_kind kinds.Int8 = Numbers
 sort_of_kind kinds.Text = Texts
+sort_of_kind kinds.Uuid = Uuids
 
 -- a value as conditions see it
 abbrev pub datum_of : Value → Datum
@@ -27,12 +29,19 @@ datum_of (values.Int2 n) = Number n
 datum_of (values.Int4 n) = Number n
 datum_of (values.Int8 n) = Number n
 datum_of (values.Text text) = Bytes text
+datum_of (values.Uuid n) = Uuid n
+
+-- a text is also a UUID where it spells one
+abbrev pub sort_of_text : Option ℕ → Sort
+sort_of_text None = Texts
+sort_of_text (Some n) = UuidTexts
 
 abbrev pub sort_of_datum : Datum → Sort
 sort_of_datum Missing = Any
 sort_of_datum (Flag b) = Truths
 sort_of_datum (Number n) = Numbers
-sort_of_datum (Bytes text) = Texts
+sort_of_datum (Bytes text) = sort_of_text (uuid_of_text text)
+sort_of_datum (Uuid n) = Uuids
 
 abbrev pub are_compared : Sort → Sort → Bool
 are_compared Any b = true
@@ -40,6 +49,12 @@ are_compared a Any = true
 are_compared Truths Truths = true
 are_compared Numbers Numbers = true
 are_compared Texts Texts = true
+are_compared Texts UuidTexts = true
+are_compared UuidTexts Texts = true
+are_compared UuidTexts UuidTexts = true
+are_compared UuidTexts Uuids = true
+are_compared Uuids UuidTexts = true
+are_compared Uuids Uuids = true
 are_compared _ _ = false
 
 -- bool, or null, stands as a condition

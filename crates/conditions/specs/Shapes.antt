@@ -7,7 +7,7 @@ use Rattle.conditions.specs.declared.operand.Operand.{Operand}
 use Rattle.conditions.specs.declared.operand.Operand.TheVariants as operands
 use Rattle.conditions.specs.declared.literal.Literal.{Literal as Written}
 use Rattle.conditions.specs.declared.literal.Literal.TheVariants as literals
-use Rattle.conditions.specs.Conditions.{Datum, Missing, Flag, Number, Bytes, Condition, Column, Literal, Compare, Is, Not, And, Or}
+use Rattle.conditions.specs.Conditions.{Datum, Missing, Flag, Number, Bytes, Uuid, Condition, Column, Literal, Compare, Is, Not, And, Or}
 
 -- the value of a literal
 abbrev pub literal_datum : Written → Datum
@@ -32,6 +32,7 @@ seen operands.Null = Missing
 seen (operands.Bool b) = Flag b
 seen (operands.Number n) = Number n
 seen (operands.Text text) = Bytes text.now
+seen (operands.Uuid n) = Uuid n
 
 -- a place behind others, unless it is there
 abbrev pub with_place : ℕ → List ℕ → List ℕ

@@ -1,9 +1,10 @@
 -- What a condition is of a row: true, false or unknown (PostgreSQL 15, 9.1, 9.2 and 31.3).
-use Rattle.std.specs.Prelude.{Bool, true, false, not, List, Option, Some, None, slice_get}
+use Rattle.std.specs.Prelude.{Bool, true, false, not, List, Option, Some, None, option_map, slice_get}
 use Rattle.std.specs.declared.cmp.Ordering.{Ordering}
 use Rattle.std.specs.Ordering.{nat_cmp, int_cmp, bool_cmp, is_eq, is_ne, is_lt, is_gt, is_le, is_ge}
 use Rattle.std.specs.Cmp.Lexicographic.{slice_cmp}
 use Rattle.tables.specs.declared.kinds.Value.{Value}
+use Rattle.tables.specs.Kinds.{uuid_of_text}
 use Rattle.conditions.specs.declared.truth.Truth.{Truth}
 use Rattle.conditions.specs.declared.truth.Truth.TheVariants.{True, False, Unknown}
 use Rattle.conditions.specs.declared.comparison.Comparison.{Comparison}
@@ -11,7 +12,7 @@ use Rattle.conditions.specs.declared.comparison.Comparison.TheVariants.{Equal, N
 use Rattle.conditions.specs.declared.question.Question.{Question}
 use Rattle.conditions.specs.declared.question.Question.TheVariants as questions
 use Rattle.conditions.specs.Kinds.{datum_of}
-use Rattle.conditions.specs.Conditions.{Datum, Missing, Flag, Number, Bytes, Condition, Column, Literal, Compare, Is, Not, And, Or}
+use Rattle.conditions.specs.Conditions.{Datum, Missing, Flag, Number, Bytes, Uuid, Condition, Column, Literal, Compare, Is, Not, And, Or}
 
 -- ---- three values
 
@@ -50,11 +51,15 @@ abbrev pub truth_of : Datum → Truth
 truth_of (Flag b) = certain b
 truth_of _ = Unknown
 
--- false stands before true, a whole number before a greater one, a text before another by its bytes
+-- false stands before true, a whole number before a greater one, a text or a UUID before another by its bytes; a text stands to a
+-- UUID as the one that it spells
 abbrev pub ordering_of : Datum → Datum → Option Ordering
 ordering_of (Flag a) (Flag b) = Some (bool_cmp a b)
 ordering_of (Number m) (Number n) = Some (int_cmp m n)
 ordering_of (Bytes s) (Bytes t) = Some (slice_cmp nat_cmp s t)
+ordering_of (Uuid m) (Uuid n) = Some (nat_cmp m n)
+ordering_of (Uuid m) (Bytes text) = option_map (λ n. nat_cmp m n) (uuid_of_text text)
+ordering_of (Bytes text) (Uuid n) = option_map (λ m. nat_cmp m n) (uuid_of_text text)
 ordering_of _ _ = None
 
 abbrev pub holds : Comparison → Ordering → Bool

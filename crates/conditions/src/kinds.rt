@@ -11,7 +11,7 @@ use crate::comparison::Comparison;
 use crate::operand::Operand;
 use crate::sort::Sort;
 use crate::truth::Truth;
-use tables::{Kind, ValueRef};
+use tables::{Kind, ValueRef, uuid_of_halves, uuid_of_text};
 
 impl Sort {
     pub(crate) fn of_kind(kind: Kind) -> Sort
@@ -21,6 +21,7 @@ impl Sort {
             Kind::Bool => Sort::Truths,
             Kind::Int2 | Kind::Int4 | Kind::Int8 => Sort::Numbers,
             Kind::Text => Sort::Texts,
+            Kind::Uuid => Sort::Uuids,
         }
     }
 }
@@ -36,6 +37,7 @@ impl<'a> Operand<'a> {
             ValueRef::Int4(n) => Operand::Number(i64::from(n)),
             ValueRef::Int8(n) => Operand::Number(n),
             ValueRef::Text(text) => Operand::Text(text),
+            ValueRef::Uuid(high, low) => Operand::Uuid(uuid_of_halves(high, low)),
         }
     }
 }
@@ -56,6 +58,10 @@ pub(crate) fn text_against(how: Comparison, value: ValueRef<'_>, text: &[u8]) ->
 {
     match value {
         ValueRef::Text(value) => Truth::of(how.holds(value.cmp(text))),
+        ValueRef::Uuid(high, low) => match uuid_of_text(text) {
+            Some(n) => Truth::of(how.holds(uuid_of_halves(high, low).cmp(&n))),
+            None => Truth::Unknown,
+        },
         _ => Truth::Unknown,
     }
 }

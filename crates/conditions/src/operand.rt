@@ -9,14 +9,16 @@ use crate::literal::Literal;
 use crate::question::Question;
 use crate::truth::Truth;
 use std::cmp::Ordering;
+use tables::uuid_of_text;
 
-/// A value as conditions see it: numbers of all widths are alike, and a text is lent. Unknown is null.
+/// A value as conditions see it: integers of all widths are alike, and a text is lent. Unknown is null.
 #[derive(Clone, Copy)]
 pub(crate) enum Operand<'a> {
     Null,
     Bool(bool),
     Number(i64),
     Text(&'a [u8]),
+    Uuid(u128),
 }
 
 impl<'a> Operand<'a> {
@@ -58,6 +60,9 @@ impl<'a> Operand<'a> {
             (Operand::Bool(a), Operand::Bool(b)) => Some(a.cmp(&b)),
             (Operand::Number(m), Operand::Number(n)) => Some(m.cmp(&n)),
             (Operand::Text(s), Operand::Text(t)) => Some(s.cmp(t)),
+            (Operand::Uuid(m), Operand::Uuid(n)) => Some(m.cmp(&n)),
+            (Operand::Uuid(m), Operand::Text(text)) => Some(m.cmp(&uuid_of_text(text)?)),
+            (Operand::Text(text), Operand::Uuid(n)) => Some(uuid_of_text(text)?.cmp(&n)),
             _ => None,
         }
     }

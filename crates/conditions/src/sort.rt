@@ -1,19 +1,24 @@
 //! Which values can be compared, and which are true or false.
 
 ghost use Rattle.std.specs.Prelude.{◌≡◌, ◌&&◌};
-ghost use Rattle.conditions.specs.Kinds.{are_compared, is_asked, is_truth, of_one, of_two, sort_of_datum, truths_if};
+ghost use Rattle.conditions.specs.Kinds.{are_compared, is_asked, is_truth, of_one, of_two, sort_of_datum, sort_of_text, truths_if};
 ghost use Rattle.conditions.specs.Shapes.{literal_datum};
+ghost use Rattle.tables.specs.Kinds.{uuid_of_text};
 
 use crate::literal::Literal;
 use crate::question::Question;
+use tables::uuid_of_text;
 
-/// The kind of an operand. Numbers of all widths are one; null is of any.
+/// The kind of an operand. Integers of all widths are one; null is of any. A text in the condition that spells a UUID is of two:
+/// it is compared with texts and with UUIDs.
 #[derive(Clone, Copy)]
 pub enum Sort {
     Any,
     Truths,
     Numbers,
     Texts,
+    UuidTexts,
+    Uuids,
 }
 
 impl Sort {
@@ -24,7 +29,16 @@ impl Sort {
             Literal::Null => Sort::Any,
             Literal::Bool(_) => Sort::Truths,
             Literal::Number(_) => Sort::Numbers,
-            Literal::Text(_) => Sort::Texts,
+            Literal::Text(text) => Sort::of_text(text.as_slice()),
+        }
+    }
+
+    fn of_text(text: &[u8]) -> Sort
+        ensures { result ≡ sort_of_text (uuid_of_text text.now) }
+    {
+        match uuid_of_text(text) {
+            Some(_) => Sort::UuidTexts,
+            None => Sort::Texts,
         }
     }
 
@@ -35,7 +49,8 @@ impl Sort {
             (Sort::Any, _) | (_, Sort::Any) => true,
             (Sort::Truths, Sort::Truths) => true,
             (Sort::Numbers, Sort::Numbers) => true,
-            (Sort::Texts, Sort::Texts) => true,
+            (Sort::Texts | Sort::UuidTexts, Sort::Texts | Sort::UuidTexts) => true,
+            (Sort::Uuids | Sort::UuidTexts, Sort::Uuids | Sort::UuidTexts) => true,
             _ => false,
         }
     }
@@ -46,7 +61,7 @@ impl Sort {
     {
         match self {
             Sort::Any | Sort::Truths => true,
-            Sort::Numbers | Sort::Texts => false,
+            Sort::Numbers | Sort::Texts | Sort::UuidTexts | Sort::Uuids => false,
         }
     }
 

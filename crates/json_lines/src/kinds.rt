@@ -21,6 +21,8 @@ pub(crate) const INT4_OID: u32 = 23;
 
 pub(crate) const TEXT_OID: u32 = 25;
 
+pub(crate) const UUID_OID: u32 = 2950;
+
 /// The member that tells a type: its name, or its OID where no name is known.
 pub(crate) fn put_kind(out: &mut Writer, kind: u32) -> Result<(), AllocError>
     ensures tokens { OnOk result
@@ -45,6 +47,7 @@ fn kind_name(kind: u32) -> Option<&'static str>
         INT2_OID => Some("smallint"),
         INT4_OID => Some("integer"),
         TEXT_OID => Some("text"),
+        UUID_OID => Some("uuid"),
         _ => None,
     }
 }

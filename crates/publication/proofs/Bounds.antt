@@ -22,7 +22,7 @@ told c cs = ap length (flat_map-cons cell c cs) ∙ length-append (cell c) (flat
 kept : (v : Value) (row : List Value) → length (flat_map spell_value (v ∷ row)) ≡ length (spell_value v) + length (flat_map spell_value row)
 kept v row = ap length (flat_map-cons spell_value v row) ∙ length-append (spell_value v) (flat_map spell_value row)
 
-row_near : (row : List Value) → AllByRecursion IsValue row → length (flat_map cell (tuple_of row)) ≤ 16 * length row + length (flat_map spell_value row)
+row_near : (row : List Value) → AllByRecursion IsValue row → length (flat_map cell (tuple_of row)) ≤ 24 * length row + length (flat_map spell_value row)
 row_near [] all = omega arith
 row_near (v ∷ row) all =
     let first = cell_near v all.0 in
@@ -33,19 +33,19 @@ or_less : (b : Bool) (c : Cell) (n : ℕ) (v : Value) → 1 ≤ n → length (ce
 or_less true c n v one first other = omega (arith, one, other)
 or_less false c n v one first other = first
 
-behind_near : (old new : List Value) → length old ≡ length new → AllByRecursion IsValue new → length (flat_map cell (tuple_behind old new)) ≤ 16 * length new + length (flat_map spell_value new)
+behind_near : (old new : List Value) → length old ≡ length new → AllByRecursion IsValue new → length (flat_map cell (tuple_behind old new)) ≤ 24 * length new + length (flat_map spell_value new)
 behind_near [] new same all = omega arith
 behind_near (u ∷ old) [] same all = absurd (omega (arith, same))
 behind_near (u ∷ old) (v ∷ new) same all =
-    let first : length (cell (cell_behind u v)) ≤ 16 + length (spell_value v) = or_less _ cells.Unchanged (16 + length (spell_value v)) v (omega arith) (cell_near v all.0) (omega arith) in
+    let first : length (cell (cell_behind u v)) ≤ 24 + length (spell_value v) = or_less _ cells.Unchanged (24 + length (spell_value v)) v (omega arith) (cell_near v all.0) (omega arith) in
     let rest = behind_near old new (omega (arith, same)) all.1 in
     omega (arith, first, rest, told (cell_behind u v) (tuple_behind old new), kept v new)
 
-key_cell : (b : Bool) (v : Value) → IsValue v → length (cell (cond b (cell_of v) cells.Null)) ≤ 16 + length (spell_value v)
+key_cell : (b : Bool) (v : Value) → IsValue v → length (cell (cond b (cell_of v) cells.Null)) ≤ 24 + length (spell_value v)
 key_cell true v in_range = cell_near v in_range
 key_cell false v in_range = omega arith
 
-key_near : (columns : List Column) (row : List Value) → AllByRecursion IsValue row → length (flat_map cell (key_tuple_of columns row)) ≤ 16 * length row + length (flat_map spell_value row)
+key_near : (columns : List Column) (row : List Value) → AllByRecursion IsValue row → length (flat_map cell (key_tuple_of columns row)) ≤ 24 * length row + length (flat_map spell_value row)
 key_near [] row all = omega arith
 key_near (c ∷ columns) [] all = omega arith
 key_near (c ∷ columns) (v ∷ row) all =
@@ -56,15 +56,15 @@ key_near (c ∷ columns) (v ∷ row) all =
 coded : (row : List Value) → row_length row ≡ 2 + length (flat_map spell_value row)
 coded row = length-append (int16 (length row)) (flat_map spell_value row) ∙ ap (λ (n : ℕ). n + length (flat_map spell_value row)) (length-int16 (length row))
 
--- so a tuple of at most 64 columns and 8,000 bytes has at most 9,024
-bounded : (cs : List Cell) (row : List Value) → length (flat_map cell cs) ≤ 16 * length row + length (flat_map spell_value row) → length row ≤ 64 → row_length row ≤ 8000 → length (tuple cs) ≤ 9024
+-- so a tuple of at most 64 columns and 8,000 bytes has at most 9,536
+bounded : (cs : List Cell) (row : List Value) → length (flat_map cell cs) ≤ 24 * length row + length (flat_map spell_value row) → length row ≤ 64 → row_length row ≤ 8000 → length (tuple cs) ≤ 9536
 bounded cs row near few short = omega (arith, near, few, short, coded row, length-append (int16 (length cs)) (flat_map cell cs), length-int16 (length cs))
 
-pub tuple_bound : (row : List Value) → AllByRecursion IsValue row → length row ≤ 64 → row_length row ≤ 8000 → length (tuple (tuple_of row)) ≤ 9024
+pub tuple_bound : (row : List Value) → AllByRecursion IsValue row → length row ≤ 64 → row_length row ≤ 8000 → length (tuple (tuple_of row)) ≤ 9536
 tuple_bound row all few short = bounded (tuple_of row) row (row_near row all) few short
 
-pub behind_bound : (old new : List Value) → length old ≡ length new → AllByRecursion IsValue new → length new ≤ 64 → row_length new ≤ 8000 → length (tuple (tuple_behind old new)) ≤ 9024
+pub behind_bound : (old new : List Value) → length old ≡ length new → AllByRecursion IsValue new → length new ≤ 64 → row_length new ≤ 8000 → length (tuple (tuple_behind old new)) ≤ 9536
 behind_bound old new same all few short = bounded (tuple_behind old new) new (behind_near old new same all) few short
 
-pub key_bound : (columns : List Column) (row : List Value) → AllByRecursion IsValue row → length row ≤ 64 → row_length row ≤ 8000 → length (tuple (key_tuple_of columns row)) ≤ 9024
+pub key_bound : (columns : List Column) (row : List Value) → AllByRecursion IsValue row → length row ≤ 64 → row_length row ≤ 8000 → length (tuple (key_tuple_of columns row)) ≤ 9536
 key_bound columns row all few short = bounded (key_tuple_of columns row) row (key_near columns row all) few short

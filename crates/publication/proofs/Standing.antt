@@ -123,7 +123,7 @@ module _ (flags : List Bool) (t : Table) (row : List Value) (fits : FitsTable t)
       let bound = tuple_bound (chosen flags row) values_chosen few still_short in
       (omega (arith, bound, room.0, length-int32 t.oid, length-append (int32 t.oid) ((78 ∷ []) ++ tuple (tuple_of (chosen flags row)))), room.1)
 
-letter_and : (letter : ℕ) (cells : List ℕ) → length cells ≤ 9024 → length (letter ∷ cells) ≤ 9025
+letter_and : (letter : ℕ) (cells : List ℕ) → length cells ≤ 9536 → length (letter ∷ cells) ≤ 9537
 letter_and letter cells bound = omega (arith, bound)
 
 -- what is told of a row that is gone or replaced
@@ -134,16 +134,16 @@ module _ (flags : List Bool) (t : Table) (old : List Value) (fits : FitsTable t)
   abbrev seen : Table
   seen = narrowed flags t
 
-  key_told : length (tuple (key_tuple_of seen.columns row)) ≤ 9024
+  key_told : length (tuple (key_tuple_of seen.columns row)) ≤ 9536
   key_told = key_bound seen.columns row (values_chosen flags t old fits is_old short_old) (few flags t old fits is_old short_old) (still_short flags t old fits is_old short_old)
 
-  all_told : length (tuple (tuple_of row)) ≤ 9024
+  all_told : length (tuple (tuple_of row)) ≤ 9536
   all_told = tuple_bound row (values_chosen flags t old fits is_old short_old) (few flags t old fits is_old short_old) (still_short flags t old fits is_old short_old)
 
-  if_any : (o : Option OldTuple) → o ≡ None ⊎ ((o ≡ Some (Key (key_tuple_of seen.columns row))) ⊎ (o ≡ Some (Full (tuple_of row)))) → length (old_if_any o) ≤ 9025
-  if_any o (inl none) = subst (λ x. length (old_if_any x) ≤ 9025) (sym none) (omega arith)
-  if_any o (inr (inl key)) = subst (λ x. length (old_if_any x) ≤ 9025) (sym key) (letter_and 75 (tuple (key_tuple_of seen.columns row)) key_told)
-  if_any o (inr (inr full)) = subst (λ x. length (old_if_any x) ≤ 9025) (sym full) (letter_and 79 (tuple (tuple_of row)) all_told)
+  if_any : (o : Option OldTuple) → o ≡ None ⊎ ((o ≡ Some (Key (key_tuple_of seen.columns row))) ⊎ (o ≡ Some (Full (tuple_of row)))) → length (old_if_any o) ≤ 9537
+  if_any o (inl none) = subst (λ x. length (old_if_any x) ≤ 9537) (sym none) (omega arith)
+  if_any o (inr (inl key)) = subst (λ x. length (old_if_any x) ≤ 9537) (sym key) (letter_and 75 (tuple (key_tuple_of seen.columns row)) key_told)
+  if_any o (inr (inr full)) = subst (λ x. length (old_if_any x) ≤ 9537) (sym full) (letter_and 79 (tuple (tuple_of row)) all_told)
 
   replaced : (i : Identity) (new : List Value) → replaced_by i seen row new ≡ None ⊎ ((replaced_by i seen row new ≡ Some (Key (key_tuple_of seen.columns row))) ⊎ (replaced_by i seen row new ≡ Some (Full (tuple_of row))))
   replaced identities.Default new = by_test (changes_key seen.columns row new)
@@ -157,7 +157,7 @@ module _ (flags : List Bool) (t : Table) (old : List Value) (fits : FitsTable t)
   pub gone_room : (out : List ℕ) → HasRoom out → (m : Logical) → delete_message row seen ≡ Some m → FitsRoom 0 out (spell_logical m)
   gone_room out room m e = by_identity t.identity e
     where
-      told : (old : OldTuple) → length (old_tuple old) ≤ 9025 → ◌≡◌ {A = Option Logical} (Some (logical.Delete (record { oid = t.oid; old = old }))) (Some m) → FitsRoom 0 out (spell_logical m)
+      told : (old : OldTuple) → length (old_tuple old) ≤ 9537 → ◌≡◌ {A = Option Logical} (Some (logical.Delete (record { oid = t.oid; old = old }))) (Some m) → FitsRoom 0 out (spell_logical m)
       told old bound is =
           subst (λ (n : Logical). FitsRoom 0 out (spell_logical n)) (some_is (logical.Delete (record { oid = t.oid; old = old })) m is)
           (omega (arith, bound, room.0, length-int32 t.oid, length-append (int32 t.oid) (old_tuple old)), room.1)
@@ -172,7 +172,7 @@ module _ (flags : List Bool) (t : Table) (old : List Value) (fits : FitsTable t)
       let same : length row ≡ length (chosen flags new) = alike flags old new (sym (columns_are t old is_old) ∙ columns_are t new is_new) in
       let bound = behind_bound row (chosen flags new) same (values_chosen flags t new fits is_new short_new) (few flags t new fits is_new short_new) (still_short flags t new fits is_new short_new) in
       let told = old_if_any (replaced_by t.identity seen row (chosen flags new)) in
-      let first : length told ≤ 9025 = if_any _ (replaced t.identity (chosen flags new)) in
+      let first : length told ≤ 9537 = if_any _ (replaced t.identity (chosen flags new)) in
       let last = tuple (tuple_behind row (chosen flags new)) in
       (omega (arith, bound, first, room.0, length-int32 t.oid, length-append (int32 t.oid) (told ++ ((78 ∷ []) ++ last)), length-append told ((78 ∷ []) ++ last)), room.1)
 

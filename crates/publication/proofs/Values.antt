@@ -1,5 +1,5 @@
 -- What holds of the values and types of every kind: a value's cell fits a message, and is hardly longer than the value in the log.
-use Rattle.std.proofs.Common.{◌≡◌, ℕ, ℤ, zero, suc, ◌+◌, ◌*◌, ◌≤◌, ◌<◌, ◌^◌, Bool, true, false, cond, ltb, List, [], ◌∷◌, ◌++◌, length, refl, arith}
+use Rattle.std.proofs.Common.{◌≡◌, ℕ, ℤ, zero, suc, ◌+◌, ◌*◌, ◌≤◌, ◌<◌, ◌^◌, Bool, true, false, cond, ltb, List, [], ◌∷◌, ◌++◌, length, inl, refl, arith}
 use Rattle.std.specs.Prelude.{FitsSigned, ◌&&◌, codes}
 use Rattle.std.specs.List.{list_all}
 use Rattle.std.specs.Int.{w16, w32, w64, cast_unsigned}
@@ -17,8 +17,11 @@ use Rattle.tables.specs.declared.kinds.Kind.{Kind}
 use Rattle.tables.specs.declared.kinds.Kind.TheVariants as kinds
 use Rattle.tables.specs.declared.kinds.Value.{Value}
 use Rattle.tables.specs.declared.kinds.Value.TheVariants as values
-use Rattle.tables.specs.Kinds.{IsValue, spell_value}
-use Rattle.publication.specs.Kinds.{cell_of, type_oid}
+use Rattle.tables.specs.Kinds.{IsValue, spell_value, uuid_bytes}
+use Rattle.tables.proofs.Values.{length-uuid}
+use Rattle.uuid.specs.Text.{lower}
+use Rattle.uuid.proofs.TextLemmas.{by_index_length, hyphenated_ascii}
+use Rattle.publication.specs.Kinds.{cell_of, type_oid, uuid_text}
 
 pub type_fits : (k : Kind) → type_oid k < 2 ^ 32
 type_fits kinds.Bool = omega arith
@@ -26,13 +29,22 @@ type_fits kinds.Int2 = omega arith
 type_fits kinds.Int4 = omega arith
 type_fits kinds.Int8 = omega arith
 type_fits kinds.Text = omega arith
+type_fits kinds.Uuid = omega arith
 
 both_true : (a b : Bool) → (a && b) ≡ true → (a ≡ true) × (b ≡ true)
 both_true true b e = (refl, e)
 both_true false b e = absurd cc
 
--- a cell is at most 16 bytes longer than the value in the log
-pub cell_near : (v : Value) → IsValue v → length (cell (cell_of v)) ≤ 16 + length (spell_value v)
+pub length-uuid_text : (n : ℕ) → length (uuid_text n) ≡ 36
+unfolding uuid_text
+length-uuid_text n = by_index_length 36 _
+
+uuid_text_fits : (n : ℕ) → is_utf8 (uuid_text n) ≡ true
+unfolding uuid_text
+uuid_text_fits n = is_utf8-from_IsUtf8 (uuid_text n) (IsUtf8-from_ascii (uuid_text n) (hyphenated_ascii lower (uuid_bytes n) (inl refl)))
+
+-- a cell is at most 24 bytes longer than the value in the log
+pub cell_near : (v : Value) → IsValue v → length (cell (cell_of v)) ≤ 24 + length (spell_value v)
 cell_near values.Null in_range = omega arith
 cell_near (values.Bool true) in_range = omega (arith, length-append (int32 1) (codes "t"), length-int32 1)
 cell_near (values.Bool false) in_range = omega (arith, length-append (int32 1) (codes "f"), length-int32 1)
@@ -46,6 +58,7 @@ cell_near (values.Int8 z) in_range =
     let twenty : length (signed_decimal z) ≤ 20 = length_signed_le 19 z (omega (arith, in_range.sfits)) in_range.sfits in
     omega (arith, twenty, length-append (int32 (length (signed_decimal z))) (signed_decimal z), length-int32 (length (signed_decimal z)), length-int64 (cast_unsigned w64 z))
 cell_near (values.Text text) in_range = omega (arith, length-append (int32 (length text)) text, length-int32 (length text))
+cell_near (values.Uuid n) in_range = omega (arith, length-uuid n, length-uuid_text n, length-append (int32 (length (uuid_text n))) (uuid_text n), length-int32 (length (uuid_text n)))
 
 decimal_text : (z : ℤ) → FitsSigned w64 z → (length (signed_decimal z) ≤ 20) × (is_utf8 (signed_decimal z) ≡ true)
 decimal_text z fits =
@@ -88,6 +101,8 @@ cell_fits (values.Int8 z) in_range short =
 cell_fits (values.Text text) in_range short =
     let len : length (int32 (length text) ++ text) ≡ 4 + length text = omega (arith, length-append (int32 (length text)) text, length-int32 (length text)) in
     record { fits = (omega (arith, len, short), in_range); short = omega (arith, len) }
+cell_fits (values.Uuid n) in_range short =
+    record { fits = (omega (arith, length-uuid_text n), uuid_text_fits n); short = omega (arith, length-uuid n, length-uuid_text n, length-append (int32 (length (uuid_text n))) (uuid_text n), length-int32 (length (uuid_text n))) }
 
 pub sent_cell : (v : Value) → FitsCell (cell_of v) → FitsSentCell (cell_of v)
 sent_cell values.Null fits = tt
@@ -96,3 +111,4 @@ sent_cell (values.Int2 z) fits = fits
 sent_cell (values.Int4 z) fits = fits
 sent_cell (values.Int8 z) fits = fits
 sent_cell (values.Text text) fits = fits
+sent_cell (values.Uuid n) fits = fits

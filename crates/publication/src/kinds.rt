@@ -4,14 +4,16 @@ ghost use Rattle.std.specs.Prelude.{◌≡◌, ◌+◌, ◌<◌, ◌≤◌, ◌^
 ghost use Rattle.pgoutput.specs.Tuple.{cell};
 ghost use Rattle.pgoutput.specs.declared.tuple.Cell.TheVariants as cells;
 ghost use Rattle.pqformat.specs.Writing.{FitsRoom, Writes};
-ghost use Rattle.publication.specs.Kinds.{cell_of, is_long, same_value, type_oid};
+ghost use Rattle.publication.specs.declared.kinds.TheConstants.{UUID_TEXT_LENGTH};
+ghost use Rattle.publication.specs.Kinds.{cell_of, is_long, is_the_uuid, same_value, type_oid, uuid_text};
 ghost use Rattle.tables.specs.Kinds.{value_of};
 
 use itoa::Buffer;
 use pgoutput::{Cell, NULL, TEXT};
 use pqformat::{Text, write_byte, write_bytes, write_int32};
 use std::alloc::{AllocError, Global};
-use tables::{Kind, Value, ValueRef};
+use tables::{Kind, Value, ValueRef, uuid_of_halves};
+use uuid::Uuid;
 
 /// The OIDs of the types (PostgreSQL 15, pg_type).
 pub const BOOL_OID: u32 = 16;
@@ -23,6 +25,8 @@ pub const INT2_OID: u32 = 21;
 pub const INT4_OID: u32 = 23;
 
 pub const TEXT_OID: u32 = 25;
+
+pub const UUID_OID: u32 = 2950;
 
 /// The longest text that the new tuple of an Update repeats though it didn't change, in bytes. PostgreSQL leaves out what it keeps
 /// out of line, which begins at about this length.
@@ -37,10 +41,12 @@ pub(crate) fn oid_of(kind: Kind) -> u32
         Kind::Int4 => INT4_OID,
         Kind::Int8 => INT8_OID,
         Kind::Text => TEXT_OID,
+        Kind::Uuid => UUID_OID,
     }
 }
 
-/// The cell of a value: bool is `t` or `f`, an integer its decimal digits, a text its bytes.
+/// The cell of a value: bool is `t` or `f`, an integer its decimal digits, a text its bytes, a UUID its digits
+/// between hyphens.
 pub(crate) fn cell(alloc: Global, value: &Value) -> Result<Cell, AllocError>
     ensures { IfOk result (λ c. c ≡ cell_of value.now) }
 {
@@ -52,7 +58,22 @@ pub(crate) fn cell(alloc: Global, value: &Value) -> Result<Cell, AllocError>
         Value::Int4(n) => Cell::Text(Text::new(n.to_string(alloc)?)),
         Value::Int8(n) => Cell::Text(Text::new(n.to_string(alloc)?)),
         Value::Text(text) => Cell::Text(text.copy(alloc)?),
+        Value::Uuid(n) => {
+            let mut room = [0; UUID_TEXT_LENGTH];
+            Cell::Text(Text::copy_of(alloc, uuid_text(*n, &mut room))?)
+        }
     })
+}
+
+/// How long the text of a UUID is.
+pub(crate) const UUID_TEXT_LENGTH: usize = 36;
+
+#[tactic(auto, unfolding(crate::specs::Kinds::uuid_text, tables::specs::Kinds::uuid_bytes))]
+fn uuid_text<'r>(n: u128, room: &'r mut [u8]) -> &'r str
+    requires { UUID_TEXT_LENGTH ≤ length room.old }
+    ensures { result.now ≡ uuid_text n }
+{
+    Uuid::from_u128(n).hyphenated().encode_lower(room)
 }
 
 /// The cell of a text.
@@ -90,6 +111,11 @@ pub(crate) fn put_cell(out: &mut [u8], at: usize, value: ValueRef<'_>) -> usize
             put_text(out, at, digits.format(n).as_bytes())
         }
         ValueRef::Text(text) => put_text(out, at, text),
+        ValueRef::Uuid(high, low) => {
+            let mut room = [0; UUID_TEXT_LENGTH];
+            let text = uuid_text(uuid_of_halves(high, low), &mut room);
+            put_text(out, at, text.as_bytes())
+        }
     }
 }
 
@@ -101,6 +127,7 @@ pub(crate) fn is_long(value: ValueRef<'_>) -> bool
         ValueRef::Null | ValueRef::Bool(_) => false,
         ValueRef::Int2(_) | ValueRef::Int4(_) | ValueRef::Int8(_) => false,
         ValueRef::Text(text) => text.len() > MOST_RESENT,
+        ValueRef::Uuid(_, _) => false,
     }
 }
 
@@ -114,5 +141,15 @@ pub(crate) fn is_same(a: ValueRef<'_>, b: ValueRef<'_>) -> bool
         ValueRef::Int4(a) => matches!(b, ValueRef::Int4(b) if a == b),
         ValueRef::Int8(a) => matches!(b, ValueRef::Int8(b) if a == b),
         ValueRef::Text(a) => matches!(b, ValueRef::Text(b) if a == b),
+        ValueRef::Uuid(high, low) => is_the_uuid(uuid_of_halves(high, low), b),
+    }
+}
+
+fn is_the_uuid(a: u128, b: ValueRef<'_>) -> bool
+    ensures { result ≡ is_the_uuid a (value_of b.entry) }
+{
+    match b {
+        ValueRef::Uuid(high, low) => a == uuid_of_halves(high, low),
+        _ => false,
     }
 }

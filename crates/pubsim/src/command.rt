@@ -38,8 +38,8 @@ A configuration names the server, the tables and their publications, as in
   tables = [{ name = 'public.item', where = 'id > 0', columns = ['id', 'qty'] }]
 
 The log has room for that number of records, and a sender for changes of transactions in
-progress in that number of chunks, each of 16,384 bytes. The types are bool, int2, int4, int8
-and text. A table of a publication may have a filter and a column list; without them all its rows
+progress in that number of chunks, each of 16,384 bytes. The types are bool, int2, int4, int8,
+text and uuid. A table of a publication may have a filter and a column list; without them all its rows
 and columns are published. A publication has tables = [..], or schemas = [..], or
 all_tables = true, and publishes what publish = [..] names of insert, update, delete and
 truncate, or all of them.

@@ -2,6 +2,7 @@
 use Rattle.std.proofs.Common.{◌≡◌, ℕ, zero, suc, List, [], ◌∷◌, None, Ok, Err, refl, lit≤, true, false, pos}
 use Rattle.std.specs.Prelude.{codes}
 use Rattle.tables.specs.declared.column.Column.{Column as TableColumn}
+use Rattle.tables.specs.Kinds.{uuid_of_text}
 use Rattle.tables.specs.declared.kinds.Kind.TheVariants as kinds
 use Rattle.tables.specs.declared.kinds.Value.TheVariants as values
 use Rattle.conditions.specs.declared.comparison.Comparison.TheVariants.{Equal, Greater}
@@ -90,6 +91,7 @@ not_at_null = refl
 
 -- v = 'a' compares kinds that don't go together
 unlike : sort_of columns (meant columns (InCompare Equal (InName (codes "v")) (InText (codes "a")))) ≡ None
+unfolding uuid_of_text
 unlike = refl
 
 -- w = 1 names no column of the table
@@ -122,7 +124,7 @@ unfolding read_filter token_at
 read_unknown = refl
 
 read_unlike : read_filter tag (codes "v = 'a'") ≡ Err TypeMismatch
-unfolding read_filter token_at
+unfolding read_filter token_at uuid_of_text
 read_unlike = refl
 
 -- a number of over 64 bits comes before an unknown column

@@ -1,11 +1,12 @@
--- The row or the key that the literals of a line spell. An integer takes the kind of its column; what doesn't fit the column becomes a
--- value of another kind, so that no table takes the row.
-use Rattle.std.specs.Prelude.{ℤ, pos, negsuc, ◌^◌, Bool, false, nat_lt, drop, filter, List, [], ◌∷◌, if◌then◌else◌}
+-- The row or the key that the literals of a line spell. An integer takes the kind of its column, and a text in a column of UUIDs is the
+-- UUID that it spells; what doesn't fit the column becomes a value of another kind, so that no table takes the row.
+use Rattle.std.specs.Prelude.{ℕ, Option, Some, None, ℤ, pos, negsuc, ◌^◌, Bool, false, nat_lt, drop, filter, List, [], ◌∷◌, if◌then◌else◌}
 use Rattle.tables.specs.declared.kinds.Kind.{Kind}
 use Rattle.tables.specs.declared.kinds.Kind.TheVariants as kinds
 use Rattle.tables.specs.declared.kinds.Value.{Value}
 use Rattle.tables.specs.declared.kinds.Value.TheVariants as values
 use Rattle.tables.specs.declared.column.Column.{Column}
+use Rattle.tables.specs.Kinds.{uuid_of_text}
 use Rattle.schedule.specs.declared.event.Literal.{Literal}
 use Rattle.schedule.specs.declared.event.Literal.TheVariants as literals
 
@@ -23,6 +24,7 @@ integer_in kinds.Int4 n = if is_int4 n then values.Int4 n else values.Int8 n
 integer_in kinds.Int8 n = values.Int8 n
 integer_in kinds.Bool n = values.Int8 n
 integer_in kinds.Text n = values.Int8 n
+integer_in kinds.Uuid n = values.Int8 n
 
 -- an integer that no column holds
 abbrev pub huge_in : Kind → Value
@@ -31,13 +33,22 @@ huge_in kinds.Int2 = values.Bool false
 huge_in kinds.Int4 = values.Bool false
 huge_in kinds.Int8 = values.Bool false
 huge_in kinds.Text = values.Bool false
+huge_in kinds.Uuid = values.Bool false
+
+abbrev pub uuid_or : Option ℕ → List ℕ → Value
+uuid_or None text = values.Text text
+uuid_or (Some n) text = values.Uuid n
+
+abbrev pub text_in : Kind → List ℕ → Value
+text_in kinds.Uuid text = uuid_or (uuid_of_text text) text
+text_in kind text = values.Text text
 
 abbrev pub value_in : Kind → Literal → Value
 value_in kind literals.Null = values.Null
 value_in kind (literals.Bool b) = values.Bool b
 value_in kind (literals.Integer n) = integer_in kind n
 value_in kind literals.Huge = huge_in kind
-value_in kind (literals.Text text) = values.Text text
+value_in kind (literals.Text text) = text_in kind text
 
 abbrev pub first_kind : List Column → Kind
 first_kind [] = kinds.Int8

@@ -1,11 +1,12 @@
 //! The rows and keys of lines.
 
 ghost use Rattle.std.specs.Prelude.{◌≡◌, ◌++◌, IfOk, drop, length};
-ghost use Rattle.sessions.specs.Rows.{row_in, value_in, integer_in, huge_in, first_kind, key_columns};
+ghost use Rattle.sessions.specs.Rows.{row_in, value_in, text_in, integer_in, huge_in, first_kind, key_columns};
 
+use pqformat::Text;
 use schedule::Literal;
 use std::alloc::{AllocError, Global};
-use tables::{Column, Kind, Row, Value};
+use tables::{Column, Kind, Row, Value, uuid_of_text};
 
 /// The row of these literals. A literal that doesn't fit its column becomes a value of another kind, so that no table takes
 /// the row.
@@ -78,8 +79,23 @@ fn value_of(alloc: Global, kind: Kind, literal: &Literal) -> Result<Value, Alloc
         Literal::Bool(b) => Value::Bool(*b),
         Literal::Integer(n) => integer_of(kind, *n),
         Literal::Huge => huge_of(kind),
-        Literal::Text(text) => Value::Text(text.copy(alloc)?),
+        Literal::Text(text) => return text_of(alloc, kind, text),
     })
+}
+
+/// A UUID where the column is of UUIDs and the text spells one.
+fn text_of(alloc: Global, kind: Kind, text: &Text) -> Result<Value, AllocError>
+    ensures { IfOk result (λ v. v ≡ text_in kind text.now) }
+{
+    match kind {
+        Kind::Uuid => match uuid_of_text(text.as_str().as_bytes()) {
+            Some(n) => Ok(Value::Uuid(n)),
+            None => Ok(Value::Text(text.copy(alloc)?)),
+        },
+        Kind::Bool | Kind::Int2 | Kind::Int4 | Kind::Int8 | Kind::Text => {
+            Ok(Value::Text(text.copy(alloc)?))
+        }
+    }
 }
 
 /// Of the column's kind where it fits, else of one that the column doesn't take.
@@ -95,7 +111,7 @@ fn integer_of(kind: Kind, n: i64) -> Value
             Ok(small) => Value::Int4(small),
             Err(_) => Value::Int8(n),
         },
-        Kind::Bool | Kind::Int8 | Kind::Text => Value::Int8(n),
+        Kind::Bool | Kind::Int8 | Kind::Text | Kind::Uuid => Value::Int8(n),
     }
 }
 
@@ -105,6 +121,6 @@ fn huge_of(kind: Kind) -> Value
 {
     match kind {
         Kind::Bool => Value::Int8(0),
-        Kind::Int2 | Kind::Int4 | Kind::Int8 | Kind::Text => Value::Bool(false),
+        Kind::Int2 | Kind::Int4 | Kind::Int8 | Kind::Text | Kind::Uuid => Value::Bool(false),
     }
 }

@@ -9,3 +9,4 @@ pub mod Names
 pub mod RowBodies
 pub mod Sides
 pub mod Values
+mod Wide

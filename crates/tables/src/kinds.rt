@@ -1,13 +1,13 @@
 //! The kinds of columns, and all that this crate knows of each: its values, its name in a configuration, and how the log keeps it.
 
-ghost use Rattle.std.specs.Prelude.{◌≡◌, ◌≢◌, ◌+◌, ◌++◌, ◌∷◌, [], ◌<◌, ◌≤◌, ◌^◌, Err, Ok, IfErr, IfOk, IsOk, OnErr, OnOk, length, if◌then◌else◌};
+ghost use Rattle.std.specs.Prelude.{◌≡◌, ◌≢◌, ◌*◌, ◌+◌, ◌++◌, ◌∷◌, [], ◌<◌, ◌≤◌, ◌^◌, Err, Ok, IfErr, IfOk, IsOk, OnErr, OnOk, length, if◌then◌else◌};
 ghost use Rattle.std.specs.Int.{w16, w32, w64};
 ghost use Rattle.pqformat.specs.Putting.{Puts};
 ghost use Rattle.pqformat.specs.Steps.{letter_at, signed_at};
 ghost use Rattle.pqformat.specs.Writing.{FitsRoom, Writes};
 ghost use Rattle.tables.specs.declared.fault.BodyFault.TheVariants.{Short, BadBool, Memory};
 ghost use Rattle.tables.specs.declared.row.TheConstants.{MAX_ROW_LENGTH};
-ghost use Rattle.tables.specs.Kinds.{IsValue, bool_of, has_no_zero, is_of_kind, kind_named, spell_value, text_at, value_at, value_of};
+ghost use Rattle.tables.specs.Kinds.{IsValue, bool_of, has_no_zero, is_of_kind, kind_named, spell_value, text_at, uuid_at, uuid_bytes, uuid_of_text, value_at, value_of};
 ghost use Rattle.tables.specs.Reading.{Gives};
 
 use crate::fault::BodyFault;
@@ -17,6 +17,7 @@ use pqformat::{
     write_int32, write_int64,
 };
 use std::alloc::{AllocError, Global};
+use uuid::Uuid;
 
 /// The type of a column.
 #[derive(Clone, Copy, Debug)]
@@ -26,9 +27,10 @@ pub enum Kind {
     Int4,
     Int8,
     Text,
+    Uuid,
 }
 
-/// What a row holds in one column.
+/// What a row holds in one column; a UUID is the number of its bytes, the highest first.
 #[derive(Debug, Drop, PartialEq)]
 pub enum Value {
     Null,
@@ -37,9 +39,11 @@ pub enum Value {
     Int4(i32),
     Int8(i64),
     Text(Text),
+    Uuid(u128),
 }
 
-/// What a row holds in one column; a text is its bytes, where they lie.
+/// What a row holds in one column; a text is its bytes, where they lie, and a UUID two halves, with which a value is 24 bytes long, and
+/// not 32.
 #[derive(Clone, Copy)]
 pub enum ValueRef<'a> {
     Null,
@@ -48,6 +52,7 @@ pub enum ValueRef<'a> {
     Int4(i32),
     Int8(i64),
     Text(&'a [u8]),
+    Uuid(u64, u64),
 }
 
 /// The first byte of a value in a row, by its kind.
@@ -63,6 +68,8 @@ pub const TEXT_TAG: u8 = 4;
 
 pub const INT2_TAG: u8 = 5;
 
+pub const UUID_TAG: u8 = 6;
+
 impl Kind {
     /// The kind of this name in a configuration.
     pub(crate) fn named(name: &str) -> Option<Kind>
@@ -74,6 +81,7 @@ impl Kind {
             "int4" => Some(Kind::Int4),
             "int8" => Some(Kind::Int8),
             "text" => Some(Kind::Text),
+            "uuid" => Some(Kind::Uuid),
             _ => None,
         }
     }
@@ -88,6 +96,7 @@ impl Kind {
             Kind::Int4 => matches!(value, ValueRef::Int4(_)),
             Kind::Int8 => matches!(value, ValueRef::Int8(_)),
             Kind::Text => matches!(value, ValueRef::Text(text) if is_without_zero(text)),
+            Kind::Uuid => matches!(value, ValueRef::Uuid(_, _)),
         }
     }
 }
@@ -109,6 +118,7 @@ impl Value {
             Value::Int4(n) => Ok(Value::Int4(*n)),
             Value::Int8(n) => Ok(Value::Int8(*n)),
             Value::Text(text) => Ok(Value::Text(text.copy(alloc)?)),
+            Value::Uuid(n) => Ok(Value::Uuid(*n)),
         }
     }
 
@@ -123,6 +133,10 @@ impl Value {
             Value::Int4(n) => ValueRef::Int4(*n),
             Value::Int8(n) => ValueRef::Int8(*n),
             Value::Text(text) => ValueRef::Text(text.as_str().as_bytes()),
+            Value::Uuid(n) => {
+                let (high, low) = halves_of_uuid(*n);
+                ValueRef::Uuid(high, low)
+            }
         }
     }
 }
@@ -150,6 +164,10 @@ pub(crate) fn coded_len_of(value: &Value) -> usize
             9
         }
         Value::Text(text) => 5 + text.as_str().len(),
+        Value::Uuid(n) => {
+            let _in_range = *n;
+            17
+        }
     }
 }
 
@@ -182,7 +200,19 @@ pub(crate) fn put_value(value: &Value, out: &mut BytesMut) -> Result<(), AllocEr
             put_int32(out, bytes.len() as u32)?;
             out.put_slice(bytes)
         }
+        Value::Uuid(n) => {
+            out.put_u8(UUID_TAG)?;
+            put_uuid(out, *n)
+        }
     }
+}
+
+#[tactic(auto, unfolding(crate::specs::Kinds::uuid_bytes))]
+fn put_uuid(out: &mut BytesMut, n: u128) -> Result<(), AllocError>
+    ensures ok { OnOk result (out.new.items ≡ out.old.items ++ uuid_bytes n) }
+    ensures err { OnErr result (out.new.items ≡ out.old.items) }
+{
+    out.put_u128(n)
 }
 
 /// Writes the value's coding at a place of a slice, and answers where it ends.
@@ -215,7 +245,19 @@ pub fn write_value(value: &Value, out: &mut [u8], at: usize) -> usize
             let sized = write_int32(out, tagged, bytes.len() as u32);
             write_bytes(out, sized, bytes)
         }
+        Value::Uuid(n) => {
+            let tagged = write_byte(out, at, UUID_TAG);
+            write_uuid(out, tagged, *n)
+        }
     }
+}
+
+#[tactic(auto, unfolding(crate::specs::Kinds::uuid_bytes))]
+fn write_uuid(out: &mut [u8], at: usize, n: u128) -> usize
+    requires { at + 16 ≤ length out.old }
+    ensures { Writes at result out.old out.new (uuid_bytes n) }
+{
+    write_bytes(out, at, &n.to_be_bytes())
 }
 
 /// The value at the front of the bytes, copied.
@@ -231,6 +273,7 @@ pub(crate) fn read_value(alloc: Global, cursor: &mut Cursor<'_>) -> Result<Value
         INT8_TAG => Ok(Value::Int8(i64_in(cursor)?)),
         TEXT_TAG => Ok(Value::Text(text_of(alloc, cursor)?)),
         INT2_TAG => Ok(Value::Int2(i16_in(cursor)?)),
+        UUID_TAG => Ok(Value::Uuid(uuid_in(cursor)?)),
         _ => Err(BodyFault::UnknownTag),
     }
 }
@@ -248,6 +291,10 @@ pub(crate) fn lend_value<'a>(cursor: &mut Cursor<'a>) -> Result<ValueRef<'a>, Bo
         INT8_TAG => Ok(ValueRef::Int8(i64_in(cursor)?)),
         TEXT_TAG => Ok(ValueRef::Text(text_in(cursor)?)),
         INT2_TAG => Ok(ValueRef::Int2(i16_in(cursor)?)),
+        UUID_TAG => {
+            let (high, low) = halves_of_uuid(uuid_in(cursor)?);
+            Ok(ValueRef::Uuid(high, low))
+        }
         _ => Err(BodyFault::UnknownTag),
     }
 }
@@ -285,6 +332,42 @@ fn i64_in(cursor: &mut Cursor<'_>) -> Result<i64, BodyFault>
 {
     let n = cursor.u64().ok_or(BodyFault::Short)?;
     Ok(n.cast_signed())
+}
+
+fn uuid_in(cursor: &mut Cursor<'_>) -> Result<u128, BodyFault>
+    ensures exact { Gives result cursor.new (uuid_at cursor.old) }
+    ensures no_memory { result ≢ Err Memory }
+{
+    let bytes = cursor.take(16).ok_or(BodyFault::Short)?;
+    let uuid = Uuid::from_slice(bytes).map_err(|_| BodyFault::Short)?;
+    Ok(uuid.as_u128())
+}
+
+fn halves_of_uuid(n: u128) -> (u64, u64)
+    ensures { result.0 * 2 ^ 64 + result.1 ≡ n }
+{
+    ((n / (1 << 64)) as u64, (n % (1 << 64)) as u64)
+}
+
+/// The UUID of these halves.
+pub fn uuid_of_halves(high: u64, low: u64) -> u128
+    ensures { result ≡ high * 2 ^ 64 + low }
+{
+    u128::from(high) * (1 << 64) + u128::from(low)
+}
+
+/// The UUID of a text in its plain form, as `6ba7b810-9dad-11d1-80b4-00c04fd430c8`, in either case.
+#[tactic(auto, unfolding(crate::specs::Kinds::uuid_of_text))]
+pub fn uuid_of_text(text: &[u8]) -> Option<u128>
+    ensures { result ≡ uuid_of_text text.now }
+{
+    if text.len() != 36 {
+        return None;
+    }
+    match Uuid::try_parse_ascii(text) {
+        Ok(uuid) => Some(uuid.as_u128()),
+        Err(_) => None,
+    }
 }
 
 #[tactic(auto, unfolding(crate::specs::Kinds::text_at))]

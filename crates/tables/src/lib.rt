@@ -38,7 +38,7 @@ pub use config_table::MAX_COLUMNS;
 pub use document::read_document;
 pub use fault::BodyFault;
 pub use identity::Identity;
-pub use kinds::{Kind, Value, ValueRef, write_value};
+pub use kinds::{Kind, Value, ValueRef, uuid_of_halves, uuid_of_text, write_value};
 pub use lending::lend_oids;
 pub use message::{
     MAX_CONTENT_LENGTH, MAX_PREFIX_LENGTH, Message, MessageRef, is_prefix, lend_message,
