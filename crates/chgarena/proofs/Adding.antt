@@ -6,7 +6,7 @@ use Rattle.std.proofs.lemmas.List.{length-set, length-take-le, get_or-take, get_
 use Rattle.std.proofs.lemmas.List.Elements.{Contains-append_left}
 use Rattle.std.proofs.lemmas.List.Sums.{sum_by-set}
 use Rattle.chgarena.specs.Books.{Books, IsBooks, IsHeld, IsOwned, IsRun, at, chunks_of, count_to, run}
-use Rattle.chgarena.specs.Links.{IsPopped, begun, grown}
+use Rattle.chgarena.specs.Links.{IsPopped, books_with_chunk, books_with_strand}
 use Rattle.chgarena.proofs.Runs.{Same, last_in, run_first, run_last, same_run, longer_run, sum_by_same, count_of_strand, count_of_none, count_same}
 
 -- a free chunk c becomes the last of the strand h, k of whose chunks stand before it
@@ -167,10 +167,10 @@ module _ (b : Books) (good : IsBooks b) (c : ℕ) (popped : IsPopped b c) where
       (λ (high : b.chunks ≤ at b.last c). high)
       (cases_lt (at b.last c) b.chunks)
 
-  pub begun_run : IsRun (begun b c) c c 0 0 c
+  pub begun_run : IsRun (books_with_strand b c) c c 0 0 c
   begun_run = (((was_free b good c c 0 b.next popped).0, owner_is b good c c 0 b.next popped, rank_is b good c c 0 b.next popped), refl)
 
-  pub begun_good : IsBooks (begun b c)
+  pub begun_good : IsBooks (books_with_strand b c)
   begun_good = added_good b good c c 0 b.next popped good.nexts (λ x low ne. refl) (was_free b good c c 0 b.next popped).0 (count_of_none b (at b.last c) no_strand) begun_run
       (λ x has is. let high = no_strand in absurd (omega arith))
 
@@ -192,7 +192,7 @@ module _ (b : Books) (good : IsBooks b) (h c : ℕ) (popped : IsPopped b c) (low
   next_else x in' ne = get_or-set_other b.next l x c 0 (λ e. ne (ap (at b.owner) e ∙ ends.1))
 
   -- the chunks of h before its last one stay
-  before : (y : ℕ) → y < b.chunks → at b.owner y ≡ h → at b.rank y < k → Same b (grown b h c) y
+  before : (y : ℕ) → y < b.chunks → at b.owner y ≡ h → at b.rank y < k → Same b (books_with_chunk b h c) y
   before y in' owned less =
       let ne : y ≢ c = other b good h c (k + 1) next popped y h low owned in
       record {
@@ -201,20 +201,20 @@ module _ (b : Books) (good : IsBooks b) (h c : ℕ) (popped : IsPopped b c) (low
         next = get_or-set_other b.next l y c 0 (λ e. let r : at b.rank y ≡ k = ap (at b.rank) e in absurd (omega arith));
       }
 
-  pub grown_run : IsRun (grown b h c) h c 0 (suc k) h × (run next (suc k) h ≡ run b.next k h ++ c ∷ [])
+  pub grown_run : IsRun (books_with_chunk b h c) h c 0 (suc k) h × (run next (suc k) h ≡ run b.next k h ++ c ∷ [])
   grown_run =
       let free = was_free b good h c (k + 1) next popped in
       let ne : l ≢ c = other b good h c (k + 1) next popped l h low ends.1 in
-      longer_run b (grown b h c) h l k c refl before
+      longer_run b (books_with_chunk b h c) h l k c refl before
       (owner_else b good h c (k + 1) next popped l ne ∙ ends.1)
       (rank_else b good h c (k + 1) next popped l ne)
       (get_or-set_same b.next l c 0 (omega (arith, good.nexts)))
       (free.0, owner_is b good h c (k + 1) next popped, rank_is b good h c (k + 1) next popped)
       0 k h (omega arith) (good.strands h low has)
 
-  pub grown_good : IsBooks (grown b h c)
+  pub grown_good : IsBooks (books_with_chunk b h c)
   grown_good =
-      let P : ℕ → Type 0 = λ j. IsRun (grown b h c) h c 0 j h in
+      let P : ℕ → Type 0 = λ j. IsRun (books_with_chunk b h c) h c 0 j h in
       let more : suc k ≡ k + 1 = omega arith in
       let C : ℕ → ℕ → Type 0 = λ x j. Contains (run next j h) x in
       let D : ℕ → List ℕ → Type 0 = λ x cs. Contains cs x in

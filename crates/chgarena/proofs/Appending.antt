@@ -4,7 +4,7 @@ use Rattle.std.proofs.lemmas.Bool.{cases_eq, cases_lt}
 use Rattle.std.proofs.lemmas.List.{length-append, length-set, length-replicate, get_or_append_left, get_or_default, get_or_push, get_or-set_same, get_or-set_other, get_or-replicate, ext_get_or}
 use Rattle.std.proofs.lemmas.List.FromFn.{length-map-range_with_len, get_or-map-range_with_len}
 use Rattle.chgarena.specs.Places.{with_bytes}
-use Rattle.chgarena.specs.Pages.{IsPage, IsPages, Lies, begins, line_of, line_place, page, pages, places_of, taken, with_entry}
+use Rattle.chgarena.specs.Pages.{IsPage, IsPages, Lies, begins, bytes_taken, line_of, line_place, page, pages, places_of, with_entry}
 use Rattle.chgarena.proofs.Coding.{begins_last, begins_push, bytes_of, entry_within, length-page, page_is, taken_is, taken_push}
 use Rattle.chgarena.proofs.Written.{length-with_bytes, before_it, behind_it, in_chunk, in_it}
 
@@ -22,8 +22,8 @@ module _ (places : List (Option ℕ)) (used counts : List ℕ) (good : IsPages p
   pub page_seen : get_or seen c [] ≡ page (get_or counts c 0) (places_of places c)
   page_seen = ap (λ ps. get_or ps c []) (sym view) ∙ page_at places counts c (let low = low_seen in omega (arith, good.counted))
 
-  pub used_seen : taken (get_or seen c []) ≡ get_or used c 0
-  used_seen = ap (λ es. taken es) page_seen ∙ (good.each c low_seen).long
+  pub used_seen : bytes_taken (get_or seen c []) ≡ get_or used c 0
+  used_seen = ap (λ es. bytes_taken es) page_seen ∙ (good.each c low_seen).long
 
   pub fits_seen : get_or used c 0 ≤ 16384
   fits_seen = (good.each c low_seen).fits
@@ -46,7 +46,7 @@ pub record HasRoom (places : List (Option ℕ)) (used counts : List ℕ) (c u n 
   pub room : c * 16384 + 16384 ≤ length places
 
 pub has_room : (places : List (Option ℕ)) (used counts : List ℕ) (good : IsPages places used counts) (seen : List (List (List ℕ))) (view : pages places counts ≡ seen) (c : ℕ) (in' : c < length seen)
-    (u n size : ℕ) → u ≡ get_or used c u → n ≡ get_or counts c n → taken (get_or seen c []) + (size + 4) ≤ 16384 → HasRoom places used counts c u n size
+    (u n size : ℕ) → u ≡ get_or used c u → n ≡ get_or counts c n → bytes_taken (get_or seen c []) + (size + 4) ≤ 16384 → HasRoom places used counts c u n size
 has_room places used counts good seen view c in' u n size e e' room =
     let low' : c < length used = low_seen places used counts good seen view c in' in
     let used' : u ≡ get_or used c 0 = e ∙ get_or_default used c u 0 low' in
@@ -129,7 +129,7 @@ no_page places = record { fits = omega arith; long = refl; lies = λ k low. absu
 
 -- an entry is added to a chunk that has room for it
 module _ (places : List (Option ℕ)) (used counts : List ℕ) (good : IsPages places used counts) (c : ℕ) (e : List ℕ) (low : c < length used)
-    (room : taken (get_or (pages places counts) c []) + (length e + 4) ≤ 16384) where
+    (room : bytes_taken (get_or (pages places counts) c []) + (length e + 4) ≤ 16384) where
   abbrev u : ℕ
   u = get_or used c 0
 
@@ -166,7 +166,7 @@ module _ (places : List (Option ℕ)) (used counts : List ℕ) (good : IsPages p
 
   pub entry_fits : from + length e + (n + 1) * 4 ≤ 16384
   entry_fits =
-      let is : taken (get_or (pages places counts) c []) ≡ taken es = ap (λ xs. taken xs) (page_at places counts c (omega (arith, good.counted))) in
+      let is : bytes_taken (get_or (pages places counts) c []) ≡ bytes_taken es = ap (λ xs. bytes_taken xs) (page_at places counts c (omega (arith, good.counted))) in
       let long = was.long in
       omega (arith, all_before)
 
@@ -251,7 +251,7 @@ module _ (places : List (Option ℕ)) (used counts : List ℕ) (good : IsPages p
       let P : List (List ℕ) → Type 0 = λ xs. (k : ℕ) → k < n + 1 → Lies (places_of places₂ c) k (begins xs k) (get_or xs k []) in
       record {
         fits = omega (arith, entry_fits, all_before);
-        long = let size = taken_push es e in let old = was.long in ap (λ xs. taken xs) page_is_all ∙ omega arith;
+        long = let size = taken_push es e in let old = was.long in ap (λ xs. bytes_taken xs) page_is_all ∙ omega arith;
         lies = subst P (sym page_is_all) all_lie;
       }
 

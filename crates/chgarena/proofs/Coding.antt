@@ -6,7 +6,7 @@ use Rattle.std.proofs.lemmas.List.{ext_get_or, take-append-le, take_at}
 use Rattle.std.proofs.lemmas.List.FromFn.{length-map-range_with_len, get_or-map-range_with_len}
 use Rattle.std.proofs.lemmas.List.Sums.{sum_by-append, sum_by-cons, sum_by_more_le}
 use Rattle.std.proofs.lemmas.Nat.{from_be_bytes-to_be_bytes_2}
-use Rattle.chgarena.specs.Pages.{Lies, begins, entry_in, entry_of, known, line_of, line_place, page, taken}
+use Rattle.chgarena.specs.Pages.{Lies, begins, bytes_taken, entry_in, entry_of, known, line_of, line_place, page}
 
 pub known_some : (xs : List ℕ) → known (map (λ x. Some x) xs) ≡ xs
 known_some [] = refl
@@ -19,11 +19,11 @@ length-page count places = length-map-range_with_len (entry_in places) 0 count
 abbrev pub bytes_of : List (List ℕ) → ℕ
 bytes_of es = sum_by (λ e. length e) es
 
-pub taken_is : (es : List (List ℕ)) → taken es ≡ bytes_of es + length es * 4
+pub taken_is : (es : List (List ℕ)) → bytes_taken es ≡ bytes_of es + length es * 4
 taken_is [] = refl
 taken_is (e ∷ es) = let rest = taken_is es in omega (arith, sum_by-cons (λ (x : List ℕ). length x + 4) e es, sum_by-cons (λ (x : List ℕ). length x) e es)
 
-pub taken_push : (es : List (List ℕ)) (e : List ℕ) → taken (es ++ e ∷ []) ≡ taken es + (length e + 4)
+pub taken_push : (es : List (List ℕ)) (e : List ℕ) → bytes_taken (es ++ e ∷ []) ≡ bytes_taken es + (length e + 4)
 taken_push es e = omega (arith, sum_by-append (λ (x : List ℕ). length x + 4) es (e ∷ []), sum_by-cons (λ (x : List ℕ). length x + 4) e [])
 
 -- an entry ends where the next begins, or before the end of all
@@ -44,7 +44,7 @@ read_back ps k from e is low low' =
     ap (entry_of ps) there ∙ (ap (λ n. known (take n (drop (from_be_bytes w16 (to_be_bytes w16 from)) ps))) (from_be_bytes-to_be_bytes_2 (length e) low') ∙
     (ap (λ n. known (take (length e) (drop n ps))) (from_be_bytes-to_be_bytes_2 from low) ∙ (ap known is.bytes ∙ known_some e)))
 
-pub page_is : (ps : List (Option ℕ)) (es : List (List ℕ)) (n : ℕ) → length es ≡ n → taken es ≤ 16384 → ((k : ℕ) → k < n → Lies ps k (begins es k) (get_or es k [])) → page n ps ≡ es
+pub page_is : (ps : List (Option ℕ)) (es : List (List ℕ)) (n : ℕ) → length es ≡ n → bytes_taken es ≤ 16384 → ((k : ℕ) → k < n → Lies ps k (begins es k) (get_or es k [])) → page n ps ≡ es
 page_is ps es n many fits lies = ext_get_or [] (page n ps) es (length-page n ps ∙ omega arith) (λ k in'.
     let low : k < n = omega (arith, length-page n ps) in
     let part = entry_within es k (omega arith) in

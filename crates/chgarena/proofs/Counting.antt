@@ -6,9 +6,9 @@ use Rattle.std.proofs.lemmas.List.{append-nil, get_or_append_left, get_or-append
 use Rattle.std.proofs.lemmas.List.Sums.{get_or-le-sum_by}
 use Rattle.chgarena.specs.Books.{Books, IsBooks, IsRun, at, chunks_of, count_to, run}
 use Rattle.chgarena.specs.Fill.{sizes, with_size}
-use Rattle.chgarena.specs.Joined.{AreCounted, IsFilled, joined}
-use Rattle.chgarena.specs.Links.{IsPopped, IsReleased, begun, grown}
-use Rattle.chgarena.specs.Pages.{taken}
+use Rattle.chgarena.specs.Joined.{AreCounted, IsFilled, joined_entries}
+use Rattle.chgarena.specs.Links.{IsPopped, IsReleased, books_with_chunk, books_with_strand}
+use Rattle.chgarena.specs.Pages.{bytes_taken}
 use Rattle.chgarena.proofs.Adding.{other, was_free}
 use Rattle.chgarena.proofs.Joining.{Kept, joined_same}
 use Rattle.chgarena.proofs.Pushing as pushing
@@ -28,22 +28,22 @@ counted_same b ps ps' ns ns' h l k same pages r (suc m) c n e is counted =
     (same c is.0.0 is.0.1 ∙ counted.0, subst P (sym (pages c is.0.0 is.0.1 (omega (arith, is.0.2)))) rest)
 
 -- one chunk more at the end
-pub counted_end : (ps : Pages) (ns : List ℕ) (x : ℕ) (cs : List ℕ) (n : ℕ) → AreCounted ps ns n cs → at ns x ≡ n + length (joined ps cs) → AreCounted ps ns n (cs ++ x ∷ [])
+pub counted_end : (ps : Pages) (ns : List ℕ) (x : ℕ) (cs : List ℕ) (n : ℕ) → AreCounted ps ns n cs → at ns x ≡ n + length (joined_entries ps cs) → AreCounted ps ns n (cs ++ x ∷ [])
 counted_end ps ns x [] n counted is = (is ∙ omega arith, tt)
 counted_end ps ns x (c ∷ cs) n counted is =
-    let long = length-append (get_or ps c []) (joined ps cs) in
+    let long = length-append (get_or ps c []) (joined_entries ps cs) in
     (counted.0, counted_end ps ns x cs (n + length (get_or ps c [])) counted.1 (omega arith))
 
 -- with those of the last chunk they are all
 pub counted_last : (b : Books) (ps : Pages) (ns : List ℕ) (h l r m c n : ℕ) → IsRun b h l r m c → AreCounted ps ns n (run b.next m c) →
-    at ns l + length (get_or ps l []) ≡ n + length (joined ps (run b.next m c))
+    at ns l + length (get_or ps l []) ≡ n + length (joined_entries ps (run b.next m c))
 counted_last b ps ns h l r zero c n is counted =
-    let P : ℕ → Type 0 = λ x. at ns x + length (get_or ps x []) ≡ n + length (joined ps (c ∷ [])) in
+    let P : ℕ → Type 0 = λ x. at ns x + length (get_or ps x []) ≡ n + length (joined_entries ps (c ∷ [])) in
     let long : length (get_or ps c [] ++ []) ≡ length (get_or ps c []) = ap length (append-nil (get_or ps c [])) in
     let first = counted.0 in
     subst P is.1 (omega arith)
 counted_last b ps ns h l r (suc m) c n is counted =
-    let long = length-append (get_or ps c []) (joined ps (run b.next m (at b.next c))) in
+    let long = length-append (get_or ps c []) (joined_entries ps (run b.next m (at b.next c))) in
     counted_last b ps ns h l (r + 1) m (at b.next c) (n + length (get_or ps c [])) is.1 counted.1 ∙ omega arith
 
 above : (ps : Pages) (ns cs : List ℕ) (n x i : ℕ) → AreCounted ps ns n cs → i < length cs → get_or cs i x ≡ x → n ≤ at ns x
@@ -53,20 +53,20 @@ above ps ns (c ∷ cs) n x (suc i) counted low is = let rest = above ps ns cs (n
 
 -- an entry of a chunk stands behind those before the chunk
 found : (ps : Pages) (ns cs : List ℕ) (n x i j k : ℕ) → AreCounted ps ns n cs → i < length cs → get_or cs i x ≡ x → j < length (get_or ps x []) → at ns x + j ≡ n + k →
-    get_or (joined ps cs) k [] ≡ get_or (get_or ps x []) j []
+    get_or (joined_entries ps cs) k [] ≡ get_or (get_or ps x []) j []
 found ps ns [] n x i j k counted low is in' e = absurd (omega arith)
 found ps ns (c ∷ cs) n x zero j k counted low is in' e =
     let first : at ns x ≡ n = ap (at ns) (sym is) ∙ counted.0 in
     let same : k ≡ j = omega arith in
-    let P : ℕ → Type 0 = λ y. get_or (get_or ps y [] ++ joined ps cs) k [] ≡ get_or (get_or ps x []) j [] in
-    subst P (sym is) (get_or_append_left (get_or ps x []) (joined ps cs) [] k (omega arith) ∙ ap (λ i. get_or (get_or ps x []) i []) same)
+    let P : ℕ → Type 0 = λ y. get_or (get_or ps y [] ++ joined_entries ps cs) k [] ≡ get_or (get_or ps x []) j [] in
+    subst P (sym is) (get_or_append_left (get_or ps x []) (joined_entries ps cs) [] k (omega arith) ∙ ap (λ i. get_or (get_or ps x []) i []) same)
 found ps ns (c ∷ cs) n x (suc i) j k counted low is in' e =
     let size = length (get_or ps c []) in
     let behind = above ps ns cs (n + size) x i counted.1 (omega arith) is in
-    get_or-append_right (get_or ps c []) (joined ps cs) size k [] refl (omega arith) ∙ found ps ns cs (n + size) x i j (k - size) counted.1 (omega arith) is in' (omega arith)
+    get_or-append_right (get_or ps c []) (joined_entries ps cs) size k [] refl (omega arith) ∙ found ps ns cs (n + size) x i j (k - size) counted.1 (omega arith) is in' (omega arith)
 
 pub found_near : (ps : Pages) (ns cs : List ℕ) (x k : ℕ) → AreCounted ps ns 0 cs → Contains cs x → at ns x ≤ k → k - at ns x < length (get_or ps x []) →
-    get_or (get_or ps x []) (k - at ns x) [] ≡ get_or (joined ps cs) k []
+    get_or (get_or ps x []) (k - at ns x) [] ≡ get_or (joined_entries ps cs) k []
 found_near ps ns cs x k counted is first within = sym (found ps ns cs 0 x is.0 (k - at ns x) k counted is.1 is.2 within (omega arith))
 
 -- so many chunks hold few entries
@@ -89,7 +89,7 @@ module _ (b : Books) (good : IsBooks b) (ps : Pages) (long : length ps ≡ b.chu
   pub few_counted : (h : ℕ) → h < b.chunks → at b.last h < b.chunks → at ns (at b.last h) + length (get_or ps (at b.last h) []) ≤ b.chunks * 16384
   few_counted h low has =
       let l = at b.last h in
-      let es = joined ps (chunks_of b h) in
+      let es = joined_entries ps (chunks_of b h) in
       let all = counted_last b ps ns h l 0 (at b.rank l) h 0 (good.strands h low has) (counted h low has) in
       let sized : length (sizes es) ≡ length es = length-map es (λ (e : List ℕ). length e) in
       let few = few_entries (sizes es) 0 16384 16384 0 (omega arith) (omega arith) (omega arith) in
@@ -140,31 +140,31 @@ module _ (b : Books) (good : IsBooks b) (ps : Pages) (long : length ps ≡ b.chu
         subst P (sym (kept.chunks has')) (old_counted x low has')
 
     -- the last of the strand h
-    pub grown_counted : (h : ℕ) (low : h < b.chunks) (has : at b.last h < b.chunks) (over : 16384 < taken (get_or ps (at b.last h) []) + (length e + 4)) →
-        n ≡ at ns (at b.last h) + length (get_or ps (at b.last h) []) → (x : ℕ) → x < b.chunks → at (grown b h c).last x < b.chunks → AreCounted ps' ns' 0 (chunks_of (grown b h c) x)
+    pub grown_counted : (h : ℕ) (low : h < b.chunks) (has : at b.last h < b.chunks) (over : 16384 < bytes_taken (get_or ps (at b.last h) []) + (length e + 4)) →
+        n ≡ at ns (at b.last h) + length (get_or ps (at b.last h) []) → (x : ℕ) → x < b.chunks → at (books_with_chunk b h c).last x < b.chunks → AreCounted ps' ns' 0 (chunks_of (books_with_chunk b h c) x)
     grown_counted h low has over is x low' has' = ⊎_elim
         (λ (same : x ≡ h).
-        let P : ℕ → Type 0 = λ y. AreCounted ps' ns' 0 (chunks_of (grown b h c) y) in
+        let P : ℕ → Type 0 = λ y. AreCounted ps' ns' 0 (chunks_of (books_with_chunk b h c) y) in
         let Q : List ℕ → Type 0 = λ cs. AreCounted ps' ns' 0 cs in
         let l = at b.last h in
         let run = good.strands h low has in
         let all = counted_last b ps ns h l 0 (at b.rank l) h 0 run (counted h low has) in
-        let stay : length (joined ps' (chunks_of b h)) ≡ length (joined ps (chunks_of b h)) =
+        let stay : length (joined_entries ps' (chunks_of b h)) ≡ length (joined_entries ps (chunks_of b h)) =
         ap length (joined_same b ps ps' h l 0 (at b.rank l) h (λ y _ owned. get_or-set_other ps c y (e ∷ []) [] (another h y low owned)) run) in
         let new = new_count in
         subst P (sym same) (subst Q (sym (pushing.chunks_grown b good ps long full c popped e fits h low has over))
         (counted_end ps' ns' c (chunks_of b h) 0 (old_counted h low has) (omega arith))))
-        (λ (ne : x ≢ h). kept_counted (grown b h c) refl x low' (pushing.grown_kept b good ps long full c popped e fits h low has over x low' ne) has')
+        (λ (ne : x ≢ h). kept_counted (books_with_chunk b h c) refl x low' (pushing.grown_kept b good ps long full c popped e fits h low has over x low' ne) has')
         (cases_eq x h)
 
     -- a strand of its own
-    pub begun_counted : n ≡ 0 → (x : ℕ) → x < b.chunks → at (begun b c).last x < b.chunks → AreCounted ps' ns' 0 (chunks_of (begun b c) x)
+    pub begun_counted : n ≡ 0 → (x : ℕ) → x < b.chunks → at (books_with_strand b c).last x < b.chunks → AreCounted ps' ns' 0 (chunks_of (books_with_strand b c) x)
     begun_counted is x low has = ⊎_elim
         (λ (same : x ≡ c).
-        let P : ℕ → Type 0 = λ y. AreCounted ps' ns' 0 (chunks_of (begun b c) y) in
+        let P : ℕ → Type 0 = λ y. AreCounted ps' ns' 0 (chunks_of (books_with_strand b c) y) in
         let Q : List ℕ → Type 0 = λ cs. AreCounted ps' ns' 0 cs in
         subst P (sym same) (subst Q (sym (pushing.chunks_begun b good ps long full c popped e fits)) (new_count ∙ is, tt)))
-        (λ (ne : x ≢ c). kept_counted (begun b c) refl x low (pushing.begun_kept b good ps long full c popped e fits x low ne) has)
+        (λ (ne : x ≢ c). kept_counted (books_with_strand b c) refl x low (pushing.begun_kept b good ps long full c popped e fits x low ne) has)
         (cases_eq x c)
 
   -- a strand is gone

@@ -3,7 +3,7 @@ use Rattle.std.proofs.Common.{◌≡◌, ℕ, zero, suc, ◌+◌, ◌-◌, ◌<�
 use Rattle.std.proofs.lemmas.List.{drop_all, drop_at, drop_more, get_or_append_left, length-append}
 use Rattle.chgarena.specs.Books.{Books, IsRun, at, run}
 use Rattle.chgarena.specs.Entries.{AreBelow, IsReading, from_on}
-use Rattle.chgarena.specs.Joined.{joined}
+use Rattle.chgarena.specs.Joined.{joined_entries}
 use Rattle.chgarena.specs.Links.{books}
 use Rattle.chgarena.specs.declared.links.Links.{Links}
 
@@ -11,7 +11,7 @@ pub below_run : (b : Books) (h l r m c : ℕ) → IsRun b h l r m c → AreBelow
 below_run b h l r zero c is = (is.0.0, tt)
 below_run b h l r (suc m) c is = (is.0.0, below_run b h l (r + 1) m (at b.next c) is.1)
 
-pub from_on_run : (next : List ℕ) (ps : List (List (List ℕ))) (m c : ℕ) → from_on next ps (suc m) c ≡ joined ps (run next m c)
+pub from_on_run : (next : List ℕ) (ps : List (List (List ℕ))) (m c : ℕ) → from_on next ps (suc m) c ≡ joined_entries ps (run next m c)
 from_on_run next ps zero c = refl
 from_on_run next ps (suc m) c = ap (λ es. get_or ps c [] ++ es) (from_on_run next ps m (at next c))
 

@@ -7,17 +7,17 @@ use Rattle.std.proofs.lemmas.List.FromFn.{length-map-range_with_len, get_or-map-
 use Rattle.std.proofs.lemmas.List.Sums.{sum_by-cons}
 use Rattle.chgarena.specs.Books.{Books, IsBooks, IsRun, at, chunks_of, count_to, run}
 use Rattle.chgarena.specs.Fill.{fill, filled, sizes}
-use Rattle.chgarena.specs.Joined.{IsFilled, joined, strand_at, strands}
-use Rattle.chgarena.specs.Pages.{taken}
+use Rattle.chgarena.specs.Joined.{IsFilled, joined_entries, strand_at, strands}
+use Rattle.chgarena.specs.Pages.{bytes_taken}
 use Rattle.chgarena.specs.Strands.{IsOf, entries_at, entries_of, fills}
 use Rattle.chgarena.proofs.Runs.{count_of_strand, count_of_none}
 
 module _ (b : Books) (ps : List (List (List ℕ))) where
-  pub some_strand : (h : ℕ) → at b.last h < b.chunks → strand_at b ps h ≡ Some (joined ps (chunks_of b h))
-  some_strand h has = ap (λ t. cond t (Some (joined ps (chunks_of b h))) None) (lt-ltb (at b.last h) b.chunks has)
+  pub some_strand : (h : ℕ) → at b.last h < b.chunks → strand_at b ps h ≡ Some (joined_entries ps (chunks_of b h))
+  some_strand h has = ap (λ t. cond t (Some (joined_entries ps (chunks_of b h))) None) (lt-ltb (at b.last h) b.chunks has)
 
   pub no_strand : (h : ℕ) → b.chunks ≤ at b.last h → strand_at b ps h ≡ None
-  no_strand h high = ap (λ t. cond t (Some (joined ps (chunks_of b h))) None) (le-ltb (at b.last h) b.chunks high)
+  no_strand h high = ap (λ t. cond t (Some (joined_entries ps (chunks_of b h))) None) (le-ltb (at b.last h) b.chunks high)
 
   pub length-strands : length (strands b ps) ≡ b.chunks
   length-strands = length-map-range_with_len (strand_at b ps) 0 b.chunks
@@ -35,7 +35,7 @@ module _ (b : Books) (ps : List (List (List ℕ))) where
             (cases_lt (at b.last h) b.chunks),
       )
 
-  pub entries_are : (h : ℕ) → h < b.chunks → at b.last h < b.chunks → entries_of (strands b ps) (Some h) ≡ joined ps (chunks_of b h)
+  pub entries_are : (h : ℕ) → h < b.chunks → at b.last h < b.chunks → entries_of (strands b ps) (Some h) ≡ joined_entries ps (chunks_of b h)
   entries_are h low has = ap entries_at (strands_at h low ∙ some_strand h has)
 
 -- two sums of as many numbers
@@ -64,44 +64,44 @@ counted b ps good full =
 
 -- the entries of a run whose chunks stay
 pub joined_same : (b : Books) (ps ps' : List (List (List ℕ))) (x l r m c : ℕ) → ((y : ℕ) → y < b.chunks → at b.owner y ≡ x → get_or ps' y [] ≡ get_or ps y []) → IsRun b x l r m c →
-    joined ps' (run b.next m c) ≡ joined ps (run b.next m c)
+    joined_entries ps' (run b.next m c) ≡ joined_entries ps (run b.next m c)
 joined_same b ps ps' x l r zero c same is = ap (λ es. es ++ []) (same c is.0.0 is.0.1)
 joined_same b ps ps' x l r (suc m) c same is =
-    ap (λ es. es ++ joined ps' (run b.next m (at b.next c))) (same c is.0.0 is.0.1) ∙
+    ap (λ es. es ++ joined_entries ps' (run b.next m (at b.next c))) (same c is.0.0 is.0.1) ∙
     ap (λ es. get_or ps c [] ++ es) (joined_same b ps ps' x l (r + 1) m (at b.next c) same is.1)
 
 -- the entries of a run whose last chunk has one more
 pub joined_more : (b : Books) (ps ps' : List (List (List ℕ))) (h l k r m c : ℕ) (e : List ℕ) → ((y : ℕ) → y < b.chunks → at b.owner y ≡ h → at b.rank y < k → get_or ps' y [] ≡ get_or ps y []) →
-    get_or ps' l [] ≡ get_or ps l [] ++ e ∷ [] → r + m ≡ k → IsRun b h l r m c → joined ps' (run b.next m c) ≡ joined ps (run b.next m c) ++ e ∷ []
+    get_or ps' l [] ≡ get_or ps l [] ++ e ∷ [] → r + m ≡ k → IsRun b h l r m c → joined_entries ps' (run b.next m c) ≡ joined_entries ps (run b.next m c) ++ e ∷ []
 joined_more b ps ps' h l k r zero c e same more end is =
-    let P : ℕ → Type 0 = λ y. joined ps' (y ∷ []) ≡ joined ps (y ∷ []) ++ e ∷ [] in
+    let P : ℕ → Type 0 = λ y. joined_entries ps' (y ∷ []) ≡ joined_entries ps (y ∷ []) ++ e ∷ [] in
     subst P (sym is.1) (append-nil (get_or ps' l []) ∙ (more ∙ ap (λ es. es ++ e ∷ []) (sym (append-nil (get_or ps l [])))))
 joined_more b ps ps' h l k r (suc m) c e same more end is =
-    ap (λ es. es ++ joined ps' (run b.next m (at b.next c))) (same c is.0.0 is.0.1 (omega (arith, is.0.2))) ∙
+    ap (λ es. es ++ joined_entries ps' (run b.next m (at b.next c))) (same c is.0.0 is.0.1 (omega (arith, is.0.2))) ∙
     (ap (λ es. get_or ps c [] ++ es) (joined_more b ps ps' h l k (r + 1) m (at b.next c) e same more (omega arith) is.1) ∙
-    sym (append_assoc (get_or ps c []) (joined ps (run b.next m (at b.next c))) (e ∷ [])))
+    sym (append_assoc (get_or ps c []) (joined_entries ps (run b.next m (at b.next c))) (e ∷ [])))
 
 -- a strand stays
 pub record Kept (b b' : Books) (ps ps' : List (List (List ℕ))) (x : ℕ) : Type 0 where
   pub last : at b'.last x ≡ at b.last x
   pub chunks : at b.last x < b.chunks → chunks_of b' x ≡ chunks_of b x
   pub rank : at b.last x < b.chunks → at b'.rank (at b.last x) ≡ at b.rank (at b.last x)
-  pub entries : at b.last x < b.chunks → joined ps' (chunks_of b x) ≡ joined ps (chunks_of b x)
+  pub entries : at b.last x < b.chunks → joined_entries ps' (chunks_of b x) ≡ joined_entries ps (chunks_of b x)
   pub end : at b.last x < b.chunks → get_or ps' (at b.last x) [] ≡ get_or ps (at b.last x) []
 
 module _ (b b' : Books) (ps ps' : List (List (List ℕ))) (n : b'.chunks ≡ b.chunks) where
   strand_kept : (x : ℕ) → Kept b b' ps ps' x → strand_at b' ps' x ≡ strand_at b ps x
   strand_kept x kept = ⊎_elim
       (λ (has : at b.last x < b.chunks).
-      some_strand b' ps' x (omega (arith, kept.last)) ∙ (ap (λ cs. Some (joined ps' cs)) (kept.chunks has) ∙ (ap (λ es. Some es) (kept.entries has) ∙ sym (some_strand b ps x has))))
+      some_strand b' ps' x (omega (arith, kept.last)) ∙ (ap (λ cs. Some (joined_entries ps' cs)) (kept.chunks has) ∙ (ap (λ es. Some es) (kept.entries has) ∙ sym (some_strand b ps x has))))
       (λ (high : b.chunks ≤ at b.last x). no_strand b' ps' x (omega (arith, kept.last)) ∙ sym (no_strand b ps x high))
       (cases_lt (at b.last x) b.chunks)
 
   filled_kept : (x : ℕ) → Kept b b' ps ps' x → at b.last x < b.chunks → IsFilled b ps x → IsFilled b' ps' x
   filled_kept x kept has full =
-      ap (λ cs. filled (sizes (joined ps' cs))) (kept.chunks has) ∙ (ap (λ es. filled (sizes es)) (kept.entries has) ∙ (full ∙
-      sym (ap (λ l. (at b'.rank l + 1, taken (get_or ps' l []))) kept.last ∙
-      (ap (λ k. (k + 1, taken (get_or ps' (at b.last x) []))) (kept.rank has) ∙ ap (λ es. (at b.rank (at b.last x) + 1, taken es)) (kept.end has)))))
+      ap (λ cs. filled (sizes (joined_entries ps' cs))) (kept.chunks has) ∙ (ap (λ es. filled (sizes es)) (kept.entries has) ∙ (full ∙
+      sym (ap (λ l. (at b'.rank l + 1, bytes_taken (get_or ps' l []))) kept.last ∙
+      (ap (λ k. (k + 1, bytes_taken (get_or ps' (at b.last x) []))) (kept.rank has) ∙ ap (λ es. (at b.rank (at b.last x) + 1, bytes_taken es)) (kept.end has)))))
 
   -- one strand changes, and every other stays
   pub one_changed : (h : ℕ) (new : Option (List (List ℕ))) → h < b.chunks → ((x : ℕ) → x < b.chunks → x ≢ h → Kept b b' ps ps' x) → strand_at b' ps' h ≡ new →

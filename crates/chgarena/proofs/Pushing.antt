@@ -6,9 +6,9 @@ use Rattle.std.proofs.lemmas.List.Concat.{flat_map-append}
 use Rattle.std.proofs.lemmas.List.Sums.{fold-append}
 use Rattle.chgarena.specs.Books.{Books, IsBooks, IsRun, at, chunks_of, run}
 use Rattle.chgarena.specs.Fill.{filled, sizes, with_size}
-use Rattle.chgarena.specs.Joined.{IsFilled, joined, strands}
-use Rattle.chgarena.specs.Links.{IsPopped, IsReleased, begun, grown}
-use Rattle.chgarena.specs.Pages.{taken}
+use Rattle.chgarena.specs.Joined.{IsFilled, joined_entries, strands}
+use Rattle.chgarena.specs.Links.{IsPopped, IsReleased, books_with_chunk, books_with_strand}
+use Rattle.chgarena.specs.Pages.{bytes_taken}
 use Rattle.chgarena.proofs.Runs.{run_last}
 use Rattle.chgarena.proofs.Adding.{other, other_run, was_free, rank_is, rank_else, last_is, last_else, last_other, grown_good, grown_run}
 use Rattle.chgarena.proofs.Coding.{taken_push}
@@ -32,7 +32,7 @@ module _ (b : Books) (good : IsBooks b) (ps : List (List (List ℕ))) (long : le
   owner_of_last x low has = (run_last b x (at b.last x) 0 (at b.rank (at b.last x)) x (run_of x low has)).1
 
   -- the last chunk of the strand h has one entry more
-  module _ (h : ℕ) (low : h < b.chunks) (has : at b.last h < b.chunks) (e : List ℕ) (fits : taken (get_or ps (at b.last h) []) + (length e + 4) ≤ 16384) where
+  module _ (h : ℕ) (low : h < b.chunks) (has : at b.last h < b.chunks) (e : List ℕ) (fits : bytes_taken (get_or ps (at b.last h) []) + (length e + 4) ≤ 16384) where
     abbrev l : ℕ
     l = at b.last h
 
@@ -56,18 +56,18 @@ module _ (b : Books) (good : IsBooks b) (ps : List (List (List ℕ))) (long : le
           end = λ has'. page_else (at b.last x) (another (at b.last x) (owner_of_last x low' has'));
         }
 
-    joined_entry : joined with_entry (chunks_of b h) ≡ joined ps (chunks_of b h) ++ e ∷ []
+    joined_entry : joined_entries with_entry (chunks_of b h) ≡ joined_entries ps (chunks_of b h) ++ e ∷ []
     joined_entry = joined_more b ps with_entry h l (at b.rank l) 0 (at b.rank l) h e
         (λ y _ _ less. page_else y (λ is. let same : at b.rank y ≡ at b.rank l = ap (at b.rank) is in absurd (omega arith))) page_is (omega arith) (run_of h low has)
 
     filled_entry : IsFilled b with_entry h
     filled_entry =
-        ap (λ es. filled (sizes es)) joined_entry ∙ (filled_more (joined ps (chunks_of b h)) e ∙ (ap (λ p. with_size p (length e)) (full h low has) ∙
-        (fits_in (at b.rank l + 1) (taken (get_or ps l [])) (length e) fits ∙
-        ap (λ n. (at b.rank l + 1, n)) (sym (taken_push (get_or ps l []) e) ∙ ap (λ es. taken es) (sym page_is)))))
+        ap (λ es. filled (sizes es)) joined_entry ∙ (filled_more (joined_entries ps (chunks_of b h)) e ∙ (ap (λ p. with_size p (length e)) (full h low has) ∙
+        (fits_in (at b.rank l + 1) (bytes_taken (get_or ps l [])) (length e) fits ∙
+        ap (λ n. (at b.rank l + 1, n)) (sym (taken_push (get_or ps l []) e) ∙ ap (λ es. bytes_taken es) (sym page_is)))))
 
-    pub entry_strands : strands b with_entry ≡ set (strands b ps) h (Some (joined ps (chunks_of b h) ++ e ∷ []))
-    entry_strands = one_changed b b ps with_entry refl h (Some (joined ps (chunks_of b h) ++ e ∷ [])) low entry_kept (some_strand b with_entry h has ∙ ap (λ es. Some es) joined_entry)
+    pub entry_strands : strands b with_entry ≡ set (strands b ps) h (Some (joined_entries ps (chunks_of b h) ++ e ∷ []))
+    entry_strands = one_changed b b ps with_entry refl h (Some (joined_entries ps (chunks_of b h) ++ e ∷ [])) low entry_kept (some_strand b with_entry h has ∙ ap (λ es. Some es) joined_entry)
 
     pub entry_filled : (x : ℕ) → x < b.chunks → at b.last x < b.chunks → IsFilled b with_entry x
     entry_filled = all_filled b b ps with_entry refl h entry_kept full (λ _. filled_entry)
@@ -83,16 +83,16 @@ module _ (b : Books) (good : IsBooks b) (ps : List (List (List ℕ))) (long : le
     old_page : (y : ℕ) → y ≢ c → get_or with_page y [] ≡ get_or ps y []
     old_page y ne = get_or-set_other ps c y (e ∷ []) [] ne
 
-    new_length : taken (get_or with_page c []) ≡ length e + 4
-    new_length = let n : taken (e ∷ []) ≡ 0 + (length e + 4) = taken_push [] e in ap (λ es. taken es) new_page ∙ omega arith
+    new_length : bytes_taken (get_or with_page c []) ≡ length e + 4
+    new_length = let n : bytes_taken (e ∷ []) ≡ 0 + (length e + 4) = taken_push [] e in ap (λ es. bytes_taken es) new_page ∙ omega arith
 
     -- the last of the strand h
-    module _ (h : ℕ) (low : h < b.chunks) (has : at b.last h < b.chunks) (over : 16384 < taken (get_or ps (at b.last h) []) + (length e + 4)) where
+    module _ (h : ℕ) (low : h < b.chunks) (has : at b.last h < b.chunks) (over : 16384 < bytes_taken (get_or ps (at b.last h) []) + (length e + 4)) where
       abbrev k : ℕ
       k = at b.rank (at b.last h)
 
       abbrev b' : Books
-      b' = grown b h c
+      b' = books_with_chunk b h c
 
       else_next : (x : ℕ) → x < b.chunks → at b.owner x ≢ h → at b'.next x ≡ at b.next x
       else_next x in' ne = get_or-set_other b.next (at b.last h) x c 0 (λ is. ne (ap (at b.owner) is ∙ owner_of_last h low has))
@@ -124,20 +124,20 @@ module _ (b : Books) (good : IsBooks b) (ps : List (List (List ℕ))) (long : le
           let more : k + 1 ≡ suc k = omega arith in
           ap (λ l. run b'.next (at b'.rank l) h) last_grown ∙ (ap (λ j. run b'.next j h) (rank_grown ∙ more) ∙ (grown_run b good h c popped low has).1)
 
-      joined_grown : joined with_page (chunks_of b' h) ≡ joined ps (chunks_of b h) ++ e ∷ []
+      joined_grown : joined_entries with_page (chunks_of b' h) ≡ joined_entries ps (chunks_of b h) ++ e ∷ []
       joined_grown =
-          ap (joined with_page) chunks_grown ∙ (flat_map-append (λ y. get_or with_page y []) (chunks_of b h) (c ∷ []) ∙
+          ap (joined_entries with_page) chunks_grown ∙ (flat_map-append (λ y. get_or with_page y []) (chunks_of b h) (c ∷ []) ∙
           (ap (λ es. es ++ (get_or with_page c [] ++ [])) (joined_same b ps with_page h (at b.last h) 0 k h (λ y _ owned. old_page y (other b good h c (k + 1) b'.next popped y h low owned)) (run_of h low has)) ∙
-          ap (λ es. joined ps (chunks_of b h) ++ es) (append-nil (get_or with_page c []) ∙ new_page)))
+          ap (λ es. joined_entries ps (chunks_of b h) ++ es) (append-nil (get_or with_page c []) ∙ new_page)))
 
       filled_grown : IsFilled b' with_page h
       filled_grown =
-          ap (λ es. filled (sizes es)) joined_grown ∙ (filled_more (joined ps (chunks_of b h)) e ∙ (ap (λ p. with_size p (length e)) (full h low has) ∙
-          (opens_next (k + 1) (taken (get_or ps (at b.last h) [])) (length e) over ∙
-          sym (ap (λ l. (at b'.rank l + 1, taken (get_or with_page l []))) last_grown ∙ (ap (λ j. (j + 1, taken (get_or with_page c []))) rank_grown ∙ ap (λ n. (k + 1 + 1, n)) new_length)))))
+          ap (λ es. filled (sizes es)) joined_grown ∙ (filled_more (joined_entries ps (chunks_of b h)) e ∙ (ap (λ p. with_size p (length e)) (full h low has) ∙
+          (opens_next (k + 1) (bytes_taken (get_or ps (at b.last h) [])) (length e) over ∙
+          sym (ap (λ l. (at b'.rank l + 1, bytes_taken (get_or with_page l []))) last_grown ∙ (ap (λ j. (j + 1, bytes_taken (get_or with_page c []))) rank_grown ∙ ap (λ n. (k + 1 + 1, n)) new_length)))))
 
-      pub grown_strands : strands b' with_page ≡ set (strands b ps) h (Some (joined ps (chunks_of b h) ++ e ∷ []))
-      grown_strands = one_changed b b' ps with_page refl h (Some (joined ps (chunks_of b h) ++ e ∷ [])) low grown_kept
+      pub grown_strands : strands b' with_page ≡ set (strands b ps) h (Some (joined_entries ps (chunks_of b h) ++ e ∷ []))
+      grown_strands = one_changed b b' ps with_page refl h (Some (joined_entries ps (chunks_of b h) ++ e ∷ [])) low grown_kept
           (some_strand b' with_page h (omega (arith, last_grown, (was_free b good c c 0 b.next popped).0)) ∙ ap (λ es. Some es) joined_grown)
 
       pub grown_filled : (x : ℕ) → x < b.chunks → at b'.last x < b.chunks → IsFilled b' with_page x
@@ -145,7 +145,7 @@ module _ (b : Books) (good : IsBooks b) (ps : List (List (List ℕ))) (long : le
 
     -- a strand of its own
     abbrev b₀ : Books
-    b₀ = begun b c
+    b₀ = books_with_strand b c
 
     pub begun_kept : (x : ℕ) → x < b.chunks → x ≢ c → Kept b b₀ ps with_page x
     begun_kept x low' ne =
@@ -171,13 +171,13 @@ module _ (b : Books) (good : IsBooks b) (ps : List (List (List ℕ))) (long : le
     pub chunks_begun : chunks_of b₀ c ≡ c ∷ []
     chunks_begun = ap (λ l. run b.next (at b₀.rank l) c) last_begun ∙ ap (λ j. run b.next j c) rank_begun
 
-    joined_begun : joined with_page (chunks_of b₀ c) ≡ e ∷ []
-    joined_begun = ap (joined with_page) chunks_begun ∙ (append-nil (get_or with_page c []) ∙ new_page)
+    joined_begun : joined_entries with_page (chunks_of b₀ c) ≡ e ∷ []
+    joined_begun = ap (joined_entries with_page) chunks_begun ∙ (append-nil (get_or with_page c []) ∙ new_page)
 
     filled_begun : IsFilled b₀ with_page c
     filled_begun =
         ap (λ es. filled (sizes es)) joined_begun ∙ (opens_next 0 16384 (length e) (omega arith) ∙
-        sym (ap (λ l. (at b₀.rank l + 1, taken (get_or with_page l []))) last_begun ∙ (ap (λ j. (j + 1, taken (get_or with_page c []))) rank_begun ∙ ap (λ n. (1, n)) new_length)))
+        sym (ap (λ l. (at b₀.rank l + 1, bytes_taken (get_or with_page l []))) last_begun ∙ (ap (λ j. (j + 1, bytes_taken (get_or with_page c []))) rank_begun ∙ ap (λ n. (1, n)) new_length)))
 
     pub begun_strands : strands b₀ with_page ≡ set (strands b ps) c (Some (e ∷ []))
     begun_strands = one_changed b b₀ ps with_page refl c (Some (e ∷ [])) in_range begun_kept (some_strand b₀ with_page c (omega (arith, last_begun, in_range)) ∙ ap (λ es. Some es) joined_begun)

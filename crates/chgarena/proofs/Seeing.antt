@@ -5,9 +5,9 @@ use Rattle.std.proofs.lemmas.Bool.{le-leb, lt-leb}
 use Rattle.std.proofs.lemmas.List.{length-set, length-replicate, get_or-replicate, ext_get_or}
 use Rattle.chgarena.specs.Books.{Books, at, chunks_of}
 use Rattle.chgarena.specs.Fill.{filled, sizes}
-use Rattle.chgarena.specs.Joined.{AreCounted, IsArena, IsFilled, joined, strands}
-use Rattle.chgarena.specs.Links.{IsLinks, IsPopped, IsReleased, begun, books, grown}
-use Rattle.chgarena.specs.Pages.{taken}
+use Rattle.chgarena.specs.Joined.{AreCounted, IsArena, IsFilled, joined_entries, strands}
+use Rattle.chgarena.specs.Links.{IsLinks, IsPopped, IsReleased, books, books_with_chunk, books_with_strand}
+use Rattle.chgarena.specs.Pages.{bytes_taken}
 use Rattle.chgarena.specs.Strands.{IsOf, entries_of, fills, has_room}
 use Rattle.chgarena.specs.declared.links.Links.{Links}
 use Rattle.chgarena.proofs.Adding as adding
@@ -47,24 +47,24 @@ module _ (l : Links) (ps : Pages) (ns : List ℕ) (good : IsArena l ps ns) (seen
       let P : Strands → Type 0 = λ s. IsOf s (Some h) in
       joining.has_chunks b ps h (subst P (sym view) is)
 
-  pub entries_seen : (h : ℕ) → IsOf seen (Some h) → entries_of seen (Some h) ≡ joined ps (chunks_of b h)
+  pub entries_seen : (h : ℕ) → IsOf seen (Some h) → entries_of seen (Some h) ≡ joined_entries ps (chunks_of b h)
   entries_seen h is =
       let has = of_seen h is in
       ap (λ s. entries_of s (Some h)) (sym view) ∙ joining.entries_are b ps h has.0 has.1
 
-  pub used_seen : (h : ℕ) → IsOf seen (Some h) → (filled (sizes (entries_of seen (Some h)))).1 ≡ taken (get_or ps (at b.last h) [])
+  pub used_seen : (h : ℕ) → IsOf seen (Some h) → (filled (sizes (entries_of seen (Some h)))).1 ≡ bytes_taken (get_or ps (at b.last h) [])
   used_seen h is =
       let has = of_seen h is in
       ap (λ es. (filled (sizes es)).1) (entries_seen h is) ∙ ap (λ p. p.1) (good.filled h has.0 has.1)
 
-  pub room_is : (h size : ℕ) → IsOf seen (Some h) → taken (get_or ps (at b.last h) []) + (size + 4) ≤ 16384 → has_room (entries_of seen (Some h)) size ≡ true
+  pub room_is : (h size : ℕ) → IsOf seen (Some h) → bytes_taken (get_or ps (at b.last h) []) + (size + 4) ≤ 16384 → has_room (entries_of seen (Some h)) size ≡ true
   room_is h size is fits = let u = used_seen h is in le-leb ((filled (sizes (entries_of seen (Some h)))).1 + (size + 4)) 16384 (omega arith)
 
-  pub no_room_is : (h size : ℕ) → IsOf seen (Some h) → 16384 < taken (get_or ps (at b.last h) []) + (size + 4) → has_room (entries_of seen (Some h)) size ≡ false
+  pub no_room_is : (h size : ℕ) → IsOf seen (Some h) → 16384 < bytes_taken (get_or ps (at b.last h) []) + (size + 4) → has_room (entries_of seen (Some h)) size ≡ false
   no_room_is h size is over = let u = used_seen h is in lt-leb ((filled (sizes (entries_of seen (Some h)))).1 + (size + 4)) 16384 (omega arith)
 
   -- one entry more in the last chunk of a strand
-  module _ (h : ℕ) (is : IsOf seen (Some h)) (e : List ℕ) (fits : taken (get_or ps (at b.last h) []) + (length e + 4) ≤ 16384) (ps' : Pages)
+  module _ (h : ℕ) (is : IsOf seen (Some h)) (e : List ℕ) (fits : bytes_taken (get_or ps (at b.last h) []) + (length e + 4) ≤ 16384) (ps' : Pages)
       (added : ps' ≡ set ps (at b.last h) (get_or ps (at b.last h) [] ++ e ∷ [])) where
     has : (h < l.chunks) × (at b.last h < l.chunks)
     has = of_seen h is
@@ -85,7 +85,7 @@ module _ (l : Links) (ps : Pages) (ns : List ℕ) (good : IsArena l ps ns) (seen
     pub added_strands : strands b ps' ≡ set seen h (Some (entries_of seen (Some h) ++ e ∷ []))
     added_strands =
         ap (strands b) added ∙ (pushing.entry_strands b good.links.books ps good.pages good.filled h has.0 has.1 e fits ∙
-        (ap (λ s. set s h (Some (joined ps (chunks_of b h) ++ e ∷ []))) view ∙ ap (λ es. set seen h (Some (es ++ e ∷ []))) (sym (entries_seen h is))))
+        (ap (λ s. set s h (Some (joined_entries ps (chunks_of b h) ++ e ∷ []))) view ∙ ap (λ es. set seen h (Some (es ++ e ∷ []))) (sym (entries_seen h is))))
 
     pub added_says : (strands b ps' ≡ set seen h (Some (entries_of seen (Some h) ++ e ∷ []))) × (has_room (entries_of seen (Some h)) (length e) ≡ false → fills seen < length seen)
     added_says = (added_strands, λ no. let yes = room_is h (length e) is fits in absurd cc)
@@ -100,9 +100,9 @@ module _ (l : Links) (ps : Pages) (ns : List ℕ) (good : IsArena l ps ns) (seen
   pub count_seen : (h : ℕ) → IsOf seen (Some h) → at ns (at b.last h) + length (get_or ps (at b.last h) []) ≡ length (entries_of seen (Some h))
   count_seen h is =
       let has = of_seen h is in
-      let all : at ns (at b.last h) + length (get_or ps (at b.last h) []) ≡ 0 + length (joined ps (chunks_of b h)) =
+      let all : at ns (at b.last h) + length (get_or ps (at b.last h) []) ≡ 0 + length (joined_entries ps (chunks_of b h)) =
       counting.counted_last b ps ns h (at b.last h) 0 (at b.rank (at b.last h)) h 0 (good.links.books.strands h has.0 has.1) (good.counted h has.0 has.1) in
-      let long : length (entries_of seen (Some h)) ≡ length (joined ps (chunks_of b h)) = ap length (entries_seen h is) in
+      let long : length (entries_of seen (Some h)) ≡ length (joined_entries ps (chunks_of b h)) = ap length (entries_seen h is) in
       omega (arith, all, long)
 
   -- how many entries stand before the next chunk of a strand
@@ -113,9 +113,9 @@ module _ (l : Links) (ps : Pages) (ns : List ℕ) (good : IsArena l ps ns) (seen
       omega (arith, good.few)
 
   -- a chunk more at the end of a strand, or none
-  module _ (h : ℕ) (is : IsOf seen (Some h)) (e : List ℕ) (fits : length e ≤ 16380) (over : 16384 < taken (get_or ps (at b.last h) []) + (length e + 4)) (l' : Links) (links' : IsLinks l') (ps' : Pages) where
+  module _ (h : ℕ) (is : IsOf seen (Some h)) (e : List ℕ) (fits : length e ≤ 16380) (over : 16384 < bytes_taken (get_or ps (at b.last h) []) + (length e + 4)) (l' : Links) (links' : IsLinks l') (ps' : Pages) where
     abbrev Behind : Option ℕ → Type 0
-    Behind r = MatchOption r ((books l' ≡ b) × (ps' ≡ ps) × (length b.free ≡ 0)) (λ c. IsPopped b c × (books l' ≡ grown b h c) × (ps' ≡ set ps c (e ∷ [])))
+    Behind r = MatchOption r ((books l' ≡ b) × (ps' ≡ ps) × (length b.free ≡ 0)) (λ c. IsPopped b c × (books l' ≡ books_with_chunk b h c) × (ps' ≡ set ps c (e ∷ [])))
 
     had : (h < l.chunks) × (at b.last h < l.chunks)
     had = of_seen h is
@@ -123,7 +123,7 @@ module _ (l : Links) (ps : Pages) (ns : List ℕ) (good : IsArena l ps ns) (seen
     pub behind_arena : (c n : ℕ) → Behind (Some c) → n ≡ at ns (at b.last h) + length (get_or ps (at b.last h) []) → IsArena l' ps' (set ns c n)
     behind_arena c n done is =
         let P : Pages → Type 0 = λ qs. IsArena l' qs (set ns c n) in
-        subst P (sym done.2) (arena_by l' (grown b h c) (set ps c (e ∷ [])) (set ns c n) done.1 links' good.few (length-set ps c (e ∷ []) ∙ good.pages) (length-set ns c n ∙ good.befores) (λ x low has. (
+        subst P (sym done.2) (arena_by l' (books_with_chunk b h c) (set ps c (e ∷ [])) (set ns c n) done.1 links' good.few (length-set ps c (e ∷ []) ∙ good.pages) (length-set ns c n ∙ good.befores) (λ x low has. (
           pushing.grown_filled b good.links.books ps good.pages good.filled c done.0 e fits h had.0 had.1 over x low has,
           counting.grown_counted b good.links.books ps good.pages good.filled ns good.befores good.counted c done.0 e fits n h had.0 had.1 over is x low has,
         )))
@@ -134,20 +134,20 @@ module _ (l : Links) (ps : Pages) (ns : List ℕ) (good : IsArena l ps ns) (seen
     behind_says None done =
         (ap (λ b'. strands b' ps') done.0 ∙ (ap (strands b) done.1 ∙ view), no_room_is h (length e) is over, let f = free_seen in omega (arith, done.2))
     behind_says (Some c) done = (
-      ap (λ b'. strands b' ps') done.1 ∙ (ap (strands (grown b h c)) done.2 ∙ (pushing.grown_strands b good.links.books ps good.pages good.filled c done.0 e fits h had.0 had.1 over ∙
-          (ap (λ s. set s h (Some (joined ps (chunks_of b h) ++ e ∷ []))) view ∙ ap (λ es. set seen h (Some (es ++ e ∷ []))) (sym (entries_seen h is))))),
+      ap (λ b'. strands b' ps') done.1 ∙ (ap (strands (books_with_chunk b h c)) done.2 ∙ (pushing.grown_strands b good.links.books ps good.pages good.filled c done.0 e fits h had.0 had.1 over ∙
+          (ap (λ s. set s h (Some (joined_entries ps (chunks_of b h) ++ e ∷ []))) view ∙ ap (λ es. set seen h (Some (es ++ e ∷ []))) (sym (entries_seen h is))))),
       λ _. let f = free_seen in omega (arith, done.0.0),
     )
 
   -- a strand of its own, or none
   module _ (e : List ℕ) (fits : length e ≤ 16380) (l' : Links) (links' : IsLinks l') (ps' : Pages) where
     abbrev First : Option ℕ → Type 0
-    First r = MatchOption r ((books l' ≡ b) × (ps' ≡ ps) × (length b.free ≡ 0)) (λ c. IsPopped b c × (books l' ≡ begun b c) × (ps' ≡ set ps c (e ∷ [])))
+    First r = MatchOption r ((books l' ≡ b) × (ps' ≡ ps) × (length b.free ≡ 0)) (λ c. IsPopped b c × (books l' ≡ books_with_strand b c) × (ps' ≡ set ps c (e ∷ [])))
 
     pub first_arena : (c : ℕ) → First (Some c) → IsArena l' ps' (set ns c 0)
     first_arena c done =
         let P : Pages → Type 0 = λ qs. IsArena l' qs (set ns c 0) in
-        subst P (sym done.2) (arena_by l' (begun b c) (set ps c (e ∷ [])) (set ns c 0) done.1 links' good.few (length-set ps c (e ∷ []) ∙ good.pages) (length-set ns c 0 ∙ good.befores) (λ x low has. (
+        subst P (sym done.2) (arena_by l' (books_with_strand b c) (set ps c (e ∷ [])) (set ns c 0) done.1 links' good.few (length-set ps c (e ∷ []) ∙ good.pages) (length-set ns c 0 ∙ good.befores) (λ x low has. (
           pushing.begun_filled b good.links.books ps good.pages good.filled c done.0 e fits x low has,
           counting.begun_counted b good.links.books ps good.pages good.filled ns good.befores good.counted c done.0 e fits 0 refl x low has,
         )))
@@ -161,7 +161,7 @@ module _ (l : Links) (ps : Pages) (ns : List ℕ) (good : IsArena l ps ns) (seen
         let f = free_seen in (
           omega (arith, low, length_seen),
           ap (λ s. get_or s c None) (sym view) ∙ (joining.strands_at b ps c low ∙ joining.no_strand b ps c (adding.no_strand b good.links.books c done.0)),
-          ap (λ b'. strands b' ps') done.1 ∙ (ap (strands (begun b c)) done.2 ∙ (pushing.begun_strands b good.links.books ps good.pages good.filled c done.0 e fits ∙ ap (λ s. set s c (Some (e ∷ []))) view)),
+          ap (λ b'. strands b' ps') done.1 ∙ (ap (strands (books_with_strand b c)) done.2 ∙ (pushing.begun_strands b good.links.books ps good.pages good.filled c done.0 e fits ∙ ap (λ s. set s c (Some (e ∷ []))) view)),
           omega (arith, done.0.0),
         )
 

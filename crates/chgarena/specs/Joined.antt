@@ -4,22 +4,22 @@ use Rattle.std.specs.List.{flat_map, range_with_len}
 use Rattle.chgarena.specs.Books.{Books, at, chunks_of}
 use Rattle.chgarena.specs.Fill.{filled, sizes}
 use Rattle.chgarena.specs.Links.{IsLinks, books}
-use Rattle.chgarena.specs.Pages.{taken}
+use Rattle.chgarena.specs.Pages.{bytes_taken}
 use Rattle.chgarena.specs.declared.links.Links.{Links}
 
 -- the entries of chunks, one chunk after another
-abbrev pub joined : List (List (List ℕ)) → List ℕ → List (List ℕ)
-joined pages chunks = flat_map (λ chunk. get_or pages chunk []) chunks
+abbrev pub joined_entries : List (List (List ℕ)) → List ℕ → List (List ℕ)
+joined_entries pages chunks = flat_map (λ chunk. get_or pages chunk []) chunks
 
 abbrev pub strand_at : Books → List (List (List ℕ)) → ℕ → Option (List (List ℕ))
-strand_at b pages head = if nat_lt (at b.last head) b.chunks then Some (joined pages (chunks_of b head)) else None
+strand_at b pages head = if nat_lt (at b.last head) b.chunks then Some (joined_entries pages (chunks_of b head)) else None
 
 abbrev pub strands : Books → List (List (List ℕ)) → List (Option (List (List ℕ)))
 strands b pages = map (strand_at b pages) (range_with_len 0 b.chunks)
 
 -- the chunks of a strand are as many as its entries need, and its last one has as much left
 abbrev pub IsFilled : Books → List (List (List ℕ)) → ℕ → Type 0
-IsFilled b pages head = filled (sizes (joined pages (chunks_of b head))) ≡ (at b.rank (at b.last head) + 1, taken (get_or pages (at b.last head) []))
+IsFilled b pages head = filled (sizes (joined_entries pages (chunks_of b head))) ≡ (at b.rank (at b.last head) + 1, bytes_taken (get_or pages (at b.last head) []))
 
 -- `before` has for each of these chunks how many entries stand before it, where n stand before the first
 abbrev pub AreCounted : List (List (List ℕ)) → List ℕ → ℕ → List ℕ → Type 0

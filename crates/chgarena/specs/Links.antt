@@ -19,12 +19,12 @@ abbrev rest : Books → List ℕ
 rest b = take (length b.free - 1) b.free
 
 -- the chunk is a strand of its own
-abbrev pub begun : Books → ℕ → Books
-begun b chunk = record b { owner = set b.owner chunk chunk; rank = set b.rank chunk 0; last = set b.last chunk chunk; free = rest b }
+abbrev pub books_with_strand : Books → ℕ → Books
+books_with_strand b chunk = record b { owner = set b.owner chunk chunk; rank = set b.rank chunk 0; last = set b.last chunk chunk; free = rest b }
 
 -- the chunk is the last of this strand
-abbrev pub grown : Books → ℕ → ℕ → Books
-grown b head chunk = let last = at b.last head in
+abbrev pub books_with_chunk : Books → ℕ → ℕ → Books
+books_with_chunk b head chunk = let last = at b.last head in
     record b { owner = set b.owner chunk head; next = set b.next last chunk; rank = set b.rank chunk (at b.rank last + 1); last = set b.last head chunk; free = rest b }
 
 -- the strand is gone, and every other stays

@@ -6,8 +6,8 @@ use Rattle.std.specs.List.{range_with_len}
 use Rattle.chgarena.specs.Places.{with_bytes}
 
 -- how many bytes of a chunk entries take
-abbrev pub taken : List (List ℕ) → ℕ
-taken entries = sum_by (λ entry. length entry + 4) entries
+abbrev pub bytes_taken : List (List ℕ) → ℕ
+bytes_taken entries = sum_by (λ entry. length entry + 4) entries
 
 -- where the k-th entry begins
 abbrev pub begins : List (List ℕ) → ℕ → ℕ
@@ -50,7 +50,7 @@ pub record Lies (places : List (Option ℕ)) (k from : ℕ) (entry : List ℕ) :
 -- the places of a chunk hold its entries
 pub record IsPage (used count : ℕ) (places : List (Option ℕ)) : Type 0 where
   pub fits : used ≤ 16384
-  pub long : taken (page count places) ≡ used
+  pub long : bytes_taken (page count places) ≡ used
   pub lies : (k : ℕ) → k < count → Lies places k (begins (page count places) k) (get_or (page count places) k [])
 
 pub record IsPages (places : List (Option ℕ)) (used counts : List ℕ) : Type 0 where

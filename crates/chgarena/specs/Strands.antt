@@ -42,6 +42,6 @@ pub record IsPushed (old : Strands) (strand : Option ℕ) (entry : List ℕ) (ne
   pub strands : new ≡ set old head (Some (entries_of old strand ++ entry ∷ []))
 
 -- the strand is gone, and every other strand stays
-abbrev pub without : Strands → Option ℕ → Strands
-without arena None = arena
-without arena (Some head) = set arena head None
+abbrev pub arena_without : Strands → Option ℕ → Strands
+arena_without arena None = arena
+arena_without arena (Some head) = set arena head None

@@ -2,9 +2,9 @@
 
 ghost use Rattle.std.specs.Prelude.{◌≡◌, ◌↔◌, ℕ, ◌+◌, ◌<◌, ◌≤◌, ◌^◌, ◌++◌, ◌∷◌, [], None, Some, false, get_or, length, IfOk, IfSome, IsErr, MatchOption, MatchBool, OnErr, OnOk, replicate, slice_set};
 ghost use Rattle.chgarena.specs.Books.{at, chunks_of};
-ghost use Rattle.chgarena.specs.Joined.{AreCounted, joined};
-ghost use Rattle.chgarena.specs.Links.{IsLinks, IsPopped, begun, books, grown};
-ghost use Rattle.chgarena.specs.Pages.{taken};
+ghost use Rattle.chgarena.specs.Joined.{AreCounted, joined_entries};
+ghost use Rattle.chgarena.specs.Links.{IsLinks, IsPopped, books, books_with_chunk, books_with_strand};
+ghost use Rattle.chgarena.specs.Pages.{bytes_taken};
 
 use crate::entries::Entries;
 use crate::full::Full;
@@ -36,7 +36,7 @@ impl Model for Arena {
 }
 
 impl Arena {
-    ghost use Rattle.chgarena.specs.Strands.{IsOf, IsPushed, entries_of, fills, has_room, without};
+    ghost use Rattle.chgarena.specs.Strands.{IsOf, IsPushed, arena_without, entries_of, fills, has_room};
 
     /// An arena of this many chunks, each 16,384 bytes, without strands. No other call takes memory.
     pub fn new(alloc: Global, chunks: usize) -> Result<Self, AllocError>
@@ -197,7 +197,7 @@ impl Arena {
     /// Makes the chunks of a strand of this arena free.
     pub fn give_back(&mut self, strand: Strand)
         requires { IsOf self.old strand }
-        ensures { self.new ≡ without self.old strand }
+        ensures { self.new ≡ arena_without self.old strand }
     {
         let Strand { head } = strand;
         if let Some(head) = head {
@@ -225,7 +225,8 @@ fn push_first(links: &mut Links, pages: &mut Pages, entry: &[u8]) -> Option<usiz
     ensures done { MatchOption result
         ((books links.new ≡ books links.old) × (pages.new ≡ pages.old)
         × (length (books links.old).free ≡ 0))
-        (λ c. IsPopped (books links.old) c × (books links.new ≡ begun (books links.old) c)
+        (λ c. IsPopped (books links.old) c
+        × (books links.new ≡ books_with_strand (books links.old) c)
         × (pages.new ≡ slice_set pages.old c (entry.now ∷ []))) }
 {
     let chunk = links.begin()?;
@@ -244,7 +245,8 @@ fn push_behind(links: &mut Links, pages: &mut Pages, head: usize, entry: &[u8]) 
     ensures done { MatchOption result
         ((books links.new ≡ books links.old) × (pages.new ≡ pages.old)
         × (length (books links.old).free ≡ 0))
-        (λ c. IsPopped (books links.old) c × (books links.new ≡ grown (books links.old) head c)
+        (λ c. IsPopped (books links.old) c
+        × (books links.new ≡ books_with_chunk (books links.old) head c)
         × (pages.new ≡ slice_set pages.old c (entry.now ∷ []))) }
 {
     let chunk = links.grow(head)?;
@@ -268,11 +270,11 @@ fn find_near(
     requires pages { length pages.now ≡ (books links.now).chunks }
     requires before { (length before.now ≡ (books links.now).chunks)
         × AreCounted pages.now before.now 0 (chunks_of (books links.now) head) }
-    requires entry { k < length (joined pages.now (chunks_of (books links.now) head)) }
+    requires entry { k < length (joined_entries pages.now (chunks_of (books links.now) head)) }
     ensures within { (result.0 < length pages.now)
         × (result.1 < length (get_or pages.now result.0 [])) }
     ensures entry { get_or (get_or pages.now result.0 []) result.1 []
-        ≡ get_or (joined pages.now (chunks_of (books links.now) head)) k [] }
+        ≡ get_or (joined_entries pages.now (chunks_of (books links.now) head)) k [] }
 {
     if let Some(place) = place_in(links, pages, before, head, k, near) {
         return (near, place);
@@ -304,7 +306,7 @@ fn place_in(
     ensures within { IfSome result (λ place. (chunk < length pages.now)
         × (place < length (get_or pages.now chunk []))) }
     ensures entry { IfSome result (λ place. get_or (get_or pages.now chunk []) place []
-        ≡ get_or (joined pages.now (chunks_of (books links.now) head)) k []) }
+        ≡ get_or (joined_entries pages.now (chunks_of (books links.now) head)) k []) }
 {
     if chunk >= links.chunks() || links.owner(chunk) != head {
         return None;
@@ -322,11 +324,11 @@ fn find(links: &Links, pages: &Pages, head: usize, k: usize) -> (usize, usize)
     requires strand { (head < (books links.now).chunks)
         × (at (books links.now).last head < (books links.now).chunks) }
     requires pages { length pages.now ≡ (books links.now).chunks }
-    requires entry { k < length (joined pages.now (chunks_of (books links.now) head)) }
+    requires entry { k < length (joined_entries pages.now (chunks_of (books links.now) head)) }
     ensures within { (result.0 < length pages.now)
         × (result.1 < length (get_or pages.now result.0 [])) }
     ensures entry { get_or (get_or pages.now result.0 []) result.1 []
-        ≡ get_or (joined pages.now (chunks_of (books links.now) head)) k [] }
+        ≡ get_or (joined_entries pages.now (chunks_of (books links.now) head)) k [] }
 {
     let mut chunk = head;
     let mut rest = k;

@@ -3,7 +3,7 @@
 ghost use Rattle.std.specs.Prelude.{◌≡◌, ◌<◌, [], length};
 ghost use Rattle.std.specs.Iterator.{YieldsFirstRef, item_count};
 ghost use Rattle.chgarena.specs.Books.{at, chunks_of};
-ghost use Rattle.chgarena.specs.Joined.{joined};
+ghost use Rattle.chgarena.specs.Joined.{joined_entries};
 ghost use Rattle.chgarena.specs.Links.{IsLinks, books};
 
 use crate::links::Links;
@@ -41,7 +41,7 @@ impl<'a> Entries<'a> {
         requires strand { (head < (books links.now).chunks)
             × (at (books links.now).last head < (books links.now).chunks) }
         requires pages { length pages.now ≡ (books links.now).chunks }
-        ensures { result ≡ joined pages.now (chunks_of (books links.now) head) }
+        ensures { result ≡ joined_entries pages.now (chunks_of (books links.now) head) }
     {
         let left = links.rank(links.last(head)) + 1;
         Entries {

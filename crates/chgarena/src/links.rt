@@ -2,7 +2,7 @@
 
 ghost use Rattle.std.specs.Prelude.{◌≡◌, ℕ, ◌<◌, ◌^◌, IfOk, MatchOption, length, replicate};
 ghost use Rattle.chgarena.specs.Books.{at};
-ghost use Rattle.chgarena.specs.Links.{IsLinks, IsPopped, IsReleased, begun, books, grown};
+ghost use Rattle.chgarena.specs.Links.{IsLinks, IsPopped, IsReleased, books, books_with_chunk, books_with_strand};
 
 use std::alloc::{AllocError, Global};
 
@@ -91,7 +91,8 @@ impl Links {
         ensures links { IsLinks self.new }
         ensures chunk { MatchOption result
             ((books self.new ≡ books self.old) × (length (books self.old).free ≡ 0))
-            (λ c. IsPopped (books self.old) c × (books self.new ≡ begun (books self.old) c)) }
+            (λ c. IsPopped (books self.old) c
+            × (books self.new ≡ books_with_strand (books self.old) c)) }
     {
         let chunk = self.free.pop()?;
         self.owner[chunk] = chunk;
@@ -108,7 +109,8 @@ impl Links {
         ensures links { IsLinks self.new }
         ensures chunk { MatchOption result
             ((books self.new ≡ books self.old) × (length (books self.old).free ≡ 0))
-            (λ c. IsPopped (books self.old) c × (books self.new ≡ grown (books self.old) head c)) }
+            (λ c. IsPopped (books self.old) c
+            × (books self.new ≡ books_with_chunk (books self.old) head c)) }
     {
         let chunk = self.free.pop()?;
         let last = self.last[head];

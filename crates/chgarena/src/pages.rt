@@ -1,7 +1,7 @@
 //! The entries of each chunk, one after another from its front on, and the line of each in a directory that grows down from its end.
 
 ghost use Rattle.std.specs.Prelude.{◌≡◌, ℕ, ◌+◌, ◌*◌, ◌<◌, ◌≤◌, ◌^◌, ◌++◌, ◌∷◌, [], IfOk, List, Some, drop, get_or, length, map, replicate, slice_set, take};
-ghost use Rattle.chgarena.specs.Pages.{line_of, line_place, taken, with_entry};
+ghost use Rattle.chgarena.specs.Pages.{bytes_taken, line_of, line_place, with_entry};
 
 use crate::region::Region;
 use std::alloc::{AllocError, Global};
@@ -48,7 +48,7 @@ impl Pages {
     /// How many bytes of a chunk are left.
     pub(crate) fn left(&self, chunk: usize) -> usize
         requires { chunk < length self.now }
-        ensures { result + taken (get_or self.now chunk []) ≡ 16384 }
+        ensures { result + bytes_taken (get_or self.now chunk []) ≡ 16384 }
     {
         CHUNK - self.used[chunk]
     }
@@ -73,7 +73,7 @@ impl Pages {
     /// Adds an entry to a chunk that has room for it.
     pub(crate) fn append(&mut self, chunk: usize, entry: &[u8])
         requires chunk { chunk < length self.old }
-        requires room { taken (get_or self.old chunk []) + (length entry.now + 4) ≤ 16384 }
+        requires room { bytes_taken (get_or self.old chunk []) + (length entry.now + 4) ≤ 16384 }
         ensures { self.new ≡ slice_set self.old chunk (get_or self.old chunk [] ++ entry.now ∷ []) }
     {
         let used = self.used[chunk];

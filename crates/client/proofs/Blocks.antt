@@ -22,8 +22,8 @@ use Rattle.stream.specs.declared.published.PublishedChange.{PublishedChange}
 use Rattle.stream.specs.Items.{Item, KeepaliveItem, Block, words_by, note_words, xlogdata_word, tables_of, is_relation_sent, relations_due, relations_sent_by, relations_sent_by_all, relation_words, change_words, changes_words, commit_message, item_words, relations_sent_after, FitsRelationOf, IsOldOf, IsOfChange, FitsChange, FitsNote, FitChanges, FitsItem}
 use Rattle.client.specs.declared.fault.ClientFault.{ClientFault}
 use Rattle.client.specs.declared.fault.ClientFault.TheVariants.{Order, UnknownRelation}
-use Rattle.client.specs.Subscriber.{Subscriber, HalfTransaction, tell, columns_of, fits, fits_old, are_told, judged, with_change, note_of, heard, after_word, after_words}
-use Rattle.client.specs.Law.{position_after, gained}
+use Rattle.client.specs.Subscriber.{Subscriber, HalfTransaction, tables_with_relation, columns_of, fits, fits_old, are_told, judgement_of_change, with_change, note_of, after_logical_message, after_word, after_words}
+use Rattle.client.specs.Law.{position_after, gained_transactions}
 use Rattle.client.proofs.Reaching.{after_append}
 
 abbrev pub at : ℕ → List Published → List (ℕ × ℕ) → Option HalfTransaction → Subscriber
@@ -55,7 +55,7 @@ lookup_inserted x k n (e ∷ es) = by_key (eqb k e.0) refl (lookup_inserted x k 
 
 -- one more
 told_more : (relation : ℕ → Relation) (relations_sent : List ℕ) (tables : List (ℕ × ℕ)) (oid : ℕ) → FitsRelationOf relation oid → Told relation relations_sent tables
-    → Told relation (oid ∷ relations_sent) (tell tables (relation oid))
+    → Told relation (oid ∷ relations_sent) (tables_with_relation tables (relation oid))
 told_more relation relations_sent tables oid fits told x sent =
     ap (λ (o : Option ℕ). ok_or o UnknownRelation) (lookup_inserted x (relation oid).oid (length (relation oid).columns) tables)
     ∙ by_key (eqb x oid) refl
@@ -116,7 +116,7 @@ relations_go : (relation : ℕ → Relation) (relations_sent : List ℕ) (p : �
     → Goes relation (reverse oids ++ relations_sent) (at p a tables (Some half)) (relation_words relation position clock oids) (Some half)
 relations_go relation relations_sent p a tables half position clock [] fit told = record { tables = tables; steps = refl; told = told }
 relations_go relation relations_sent p a tables half position clock (oid ∷ oids) fit told =
-    let inner = relations_go relation (oid ∷ relations_sent) p a (tell tables (relation oid)) half position clock oids fit.1 (told_more relation relations_sent tables oid fit.0 told) in
+    let inner = relations_go relation (oid ∷ relations_sent) p a (tables_with_relation tables (relation oid)) half position clock oids fit.1 (told_more relation relations_sent tables oid fit.0 told) in
     record { tables = inner.tables; steps = inner.steps; told = subst (λ (l : List ℕ). Told relation l inner.tables) (sym (onto_reversed oid oids relations_sent)) inner.told }
 
 abbrev fitting : Result (Unit {0}) ClientFault
@@ -140,7 +140,7 @@ old_fits : (relation : ℕ → Relation) (oid : ℕ) (old : Option OldTuple) →
 old_fits relation oid None is = refl
 old_fits relation oid (Some old) is = cells_fit (length (relation oid).columns) (cells_of old) is
 
-change_fits : (relation : ℕ → Relation) (tables : List (ℕ × ℕ)) (m : Logical) → IsOfChange relation m → AllByRecursion (IsKnown relation tables) (tables_of m) → judged tables m ≡ fitting
+change_fits : (relation : ℕ → Relation) (tables : List (ℕ × ℕ)) (m : Logical) → IsOfChange relation m → AllByRecursion (IsKnown relation tables) (tables_of m) → judgement_of_change tables m ≡ fitting
 change_fits relation tables (logical.Insert m) of known = rw known.0 (cells_fit (length (relation m.oid).columns) m.new of)
 change_fits relation tables (logical.Update m) of known = rw (known.0, old_fits relation m.oid m.old of.0) (cells_fit (length (relation m.oid).columns) m.new of.1)
 change_fits relation tables (logical.Delete m) of known = rw known.0 (cells_fit (length (relation m.oid).columns) (cells_of m.old) of)
@@ -150,7 +150,7 @@ change_fits relation tables (logical.Begin m) of known = absurd of
 change_fits relation tables (logical.Commit m) of known = absurd of
 change_fits relation tables (logical.Relation m) of known = absurd of
 
-message_goes : (relation : ℕ → Relation) (p : ℕ) (a : List Published) (tables : List (ℕ × ℕ)) (half : HalfTransaction) (position : ℕ) (clock : ℤ) (m : Logical) → IsOfChange relation m → judged tables m ≡ fitting
+message_goes : (relation : ℕ → Relation) (p : ℕ) (a : List Published) (tables : List (ℕ × ℕ)) (half : HalfTransaction) (position : ℕ) (clock : ℤ) (m : Logical) → IsOfChange relation m → judgement_of_change tables m ≡ fitting
     → after_word (at p a tables (Some half)) (xlogdata_word position clock m) ≡ Ok (at p a tables (Some (with_change half position m)))
 message_goes relation p a tables half position clock (logical.Insert m) of fit = rw fit refl
 message_goes relation p a tables half position clock (logical.Update m) of fit = rw fit refl
@@ -202,7 +202,7 @@ changes_go relation relations_sent p a tables begin before clock (c ∷ cs) fit 
 -- what an item's words make of a subscriber between transactions
 pub record GoesOn (relation : ℕ → Relation) (relations_sent : List ℕ) (p : ℕ) (a : List Published) (tables : List (ℕ × ℕ)) (item : Item) : Type 0 where
   pub after : List (ℕ × ℕ)
-  pub steps : after_words (at p a tables None) (item_words relation relations_sent item) ≡ Ok (at (position_after p (item ∷ [])) (a ++ gained p (item ∷ [])) after None)
+  pub steps : after_words (at p a tables None) (item_words relation relations_sent item) ≡ Ok (at (position_after p (item ∷ [])) (a ++ gained_transactions p (item ∷ [])) after None)
   pub told : Told relation (relations_sent_after relations_sent item) after
 
 abbrev published_of : Bool → ℕ → ℕ → ℤ → ℕ → List PublishedChange → Published
@@ -237,7 +237,7 @@ notes : (p : ℕ) (a : List Published) (tables : List (ℕ × ℕ)) (clock : ℤ
     → after_words (at p a tables None) (note_words clock t) ≡ Ok (at (max p t.end) (a ++ new_one p t.start t) tables None)
 notes p a tables clock t kind fits =
     ap (λ (cs : List PublishedChange). after_words s (map (λ c. xlogdata_word t.end clock c.message) cs)) fits.is
-    ∙ ap (λ (b : Bool). heard b s t.end t.end fits.message >>= λ u. after_words u []) fits.outside
+    ∙ ap (λ (b : Bool). after_logical_message b s t.end t.end fits.message >>= λ u. after_words u []) fits.outside
     ∙ ap (λ (n : ℕ). gone (at (max p t.end) (a ++ new_one p n (note_of t.end fits.message)) tables None)) fits.position
     ∙ ap (λ (u : Published). gone (at (max p t.end) (a ++ new_one p t.start u) tables None)) (note_is t kind fits)
   where

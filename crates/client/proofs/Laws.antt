@@ -11,12 +11,12 @@ use Rattle.pqformat.proofs.Codec.{ok_is}
 use Rattle.pgoutput.specs.declared.relation.Relation.{Relation}
 use Rattle.stream.specs.declared.word.Word.{Word}
 use Rattle.stream.specs.Words.{word_bytes, frames_of, FitsWord}
-use Rattle.stream.specs.Items.{Item, item_words, words_of, spelled, FitItems}
+use Rattle.stream.specs.Items.{Item, item_words, words_of, bytes_of_items, FitItems}
 use Rattle.stream.proofs.OneReading.{words_fit}
 use Rattle.client.specs.declared.fault.ClientFault.{ClientFault}
 use Rattle.client.specs.declared.fault.ClientFault.TheVariants as faults
 use Rattle.client.specs.Words.{Waits, IsNoWord, IsError, Holds}
-use Rattle.client.specs.Subscriber.{Subscriber, resting, after_word, after_words}
+use Rattle.client.specs.Subscriber.{Subscriber, subscriber_at_rest, after_word, after_words}
 use Rattle.client.specs.Taking.{ApplierState, Reached, IsRefused, Stops, StopsAfter}
 use Rattle.client.specs.Law.{relations_sent_with, IsLess, Gained, Follows}
 use Rattle.client.proofs.Reaching.{after_append, reached_on}
@@ -70,12 +70,12 @@ abbrev Begins : (ℕ → Relation) → List Item → (base : Subscriber) (bytes 
 Begins relation items base bytes new rest more r = Aligned r.text r.words (words_of relation [] items) (rest ++ more)
 
 begun_by : (relation : ℕ → Relation) (items : List Item) (base : Subscriber) (bytes : List ℕ) (new : Subscriber) (rest more : List ℕ) (r : Reached base bytes new rest)
-    → FitItems relation items → bytes ++ more ≡ spelled relation [] items → Begins relation items base bytes new rest more r
+    → FitItems relation items → bytes ++ more ≡ bytes_of_items relation [] items → Begins relation items base bytes new rest more r
 begun_by relation items base bytes new rest more r fit e =
     aligned r.text r.words (words_of relation [] items) (rest ++ more) r.spells (words_fit relation [] items fit) (sym (append_assoc r.text rest more) ∙ ap (λ (l : List ℕ). l ++ more) (sym r.is) ∙ e)
 
-no_fault : (relation : ℕ → Relation) (items : List Item) (base : Subscriber) (bytes : List ℕ) (new : Subscriber) (more : List ℕ) (e : ClientFault) → base ≡ resting base.position base.applied → FitItems relation items
-    → bytes ++ more ≡ spelled relation [] items → StopsAfter base bytes new e → e ≡ faults.Memory
+no_fault : (relation : ℕ → Relation) (items : List Item) (base : Subscriber) (bytes : List ℕ) (new : Subscriber) (more : List ℕ) (e : ClientFault) → base ≡ subscriber_at_rest base.position base.applied → FitItems relation items
+    → bytes ++ more ≡ bytes_of_items relation [] items → StopsAfter base bytes new e → e ≡ faults.Memory
 no_fault relation items base bytes new more e rests fit is stops =
     let r = stops.reached in
     let b = begun_by relation items base bytes new stops.rest more r fit is in
@@ -89,18 +89,18 @@ standing : (relation : ℕ → Relation) (items : List Item) (base : Subscriber)
     → (b : Begins relation items base bytes new rest more r) → Stands relation [] base.position base.applied (at base.position base.applied [] None) r.words b.more items
 standing relation items base bytes new rest more r fit b = stands relation [] base.position base.applied [] r.words b.more items fit (none_told relation) (sym b.is)
 
-same_subscriber : (relation : ℕ → Relation) (items : List Item) (base : Subscriber) (bytes : List ℕ) (new : Subscriber) (rest : List ℕ) (vs : List Word) (r : Reached base bytes new rest) → base ≡ resting base.position base.applied
+same_subscriber : (relation : ℕ → Relation) (items : List Item) (base : Subscriber) (bytes : List ℕ) (new : Subscriber) (rest : List ℕ) (vs : List Word) (r : Reached base bytes new rest) → base ≡ subscriber_at_rest base.position base.applied
     → (s : Stands relation [] base.position base.applied (at base.position base.applied [] None) r.words vs items) → new ≡ s.new
 same_subscriber relation items base bytes new rest vs r rests s = ok_is ClientFault new s.new (sym r.steps ∙ ap (λ (b : Subscriber). after_words b r.words) rests ∙ s.steps)
 
-abbrev gains_of : (relation : ℕ → Relation) (items : List Item) (base : Subscriber) (bytes : List ℕ) (new : Subscriber) (rest more : List ℕ) (r : Reached base bytes new rest) → base ≡ resting base.position base.applied
+abbrev gains_of : (relation : ℕ → Relation) (items : List Item) (base : Subscriber) (bytes : List ℕ) (new : Subscriber) (rest more : List ℕ) (r : Reached base bytes new rest) → base ≡ subscriber_at_rest base.position base.applied
     → (b : Begins relation items base bytes new rest more r) (s : Stands relation [] base.position base.applied (at base.position base.applied [] None) r.words b.more items) → Gained relation base bytes items new
 gains_of relation items base bytes new rest more r rests b s = record {
   done = s.done;
   others = s.others;
   part = frames_of s.part ++ rest;
   is = s.is;
-  text = r.is ∙ ap (λ (l : List ℕ). l ++ rest) (b.front ∙ ap frames_of s.words ∙ flat_map-append word_bytes (words_of relation [] s.done) s.part) ∙ append_assoc (spelled relation [] s.done) (frames_of s.part) rest;
+  text = r.is ∙ ap (λ (l : List ℕ). l ++ rest) (b.front ∙ ap frames_of s.words ∙ flat_map-append word_bytes (words_of relation [] s.done) s.part) ∙ append_assoc (bytes_of_items relation [] s.done) (frames_of s.part) rest;
   position = ap (λ (t : Subscriber). t.position) (same_subscriber relation items base bytes new rest b.more r rests s) ∙ s.position;
   applied = ap (λ (t : Subscriber). t.applied) (same_subscriber relation items base bytes new rest b.more r rests s) ∙ s.applied;
 }

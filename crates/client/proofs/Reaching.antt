@@ -21,7 +21,7 @@ use Rattle.stream.specs.declared.word.Word.TheVariants as words
 use Rattle.client.specs.declared.fault.ClientFault.{ClientFault}
 use Rattle.client.specs.declared.fault.ClientFault.TheVariants as faults
 use Rattle.client.specs.Words.{SpellsWord, AreSpelled, IsUnread}
-use Rattle.client.specs.Subscriber.{Subscriber, HalfTransaction, columns_of, fits, fits_old, are_told, judged, begun, told, changed, noted, heard, committed, finished, with_change, after_message, after_word, after_words, Makes}
+use Rattle.client.specs.Subscriber.{Subscriber, HalfTransaction, columns_of, fits, fits_old, are_told, judgement_of_change, after_begin, after_relation, after_change, after_note, after_logical_message, after_commit, after_transaction, with_change, after_message, after_word, after_words, Makes}
 use Rattle.client.specs.Taking.{Reached, Stops}
 
 -- a step that fails, or the one behind it
@@ -119,7 +119,7 @@ refused_tables tables (oid ∷ oids) e is = elim (refused_at (columns_of tables 
   | inr later ↦ refused_tables tables oids e later.2
 ]
 
-refused_change : (tables : List (ℕ × ℕ)) (m : Logical) (e : ClientFault) → judged tables m ≡ Err e → IsRefusal e
+refused_change : (tables : List (ℕ × ℕ)) (m : Logical) (e : ClientFault) → judgement_of_change tables m ≡ Err e → IsRefusal e
 refused_change tables (logical.Insert m) e is = elim (refused_at (columns_of tables m.oid) (λ n. fits n m.new) e is) [
   | inl here ↦ refused_columns tables m.oid e here
   | inr later ↦ refused_cells later.0 m.new e later.2
@@ -147,34 +147,34 @@ refused_change tables (logical.Relation m) e is = absurd cc
 out_of_order : (e : ClientFault) (r : Result Subscriber ClientFault) → r ≡ Err faults.Order → r ≡ Err e → IsRefusal e
 out_of_order e r is is_e = let same : faults.Order ≡ e = cc in subst IsRefusal same tt
 
-refused_begin : (half : Option HalfTransaction) (s : Subscriber) (m : Begin) (e : ClientFault) → begun half s m ≡ Err e → IsRefusal e
+refused_begin : (half : Option HalfTransaction) (s : Subscriber) (m : Begin) (e : ClientFault) → after_begin half s m ≡ Err e → IsRefusal e
 refused_begin None s m e is = absurd cc
-refused_begin (Some half) s m e is = out_of_order e (begun (Some half) s m) refl is
+refused_begin (Some half) s m e is = out_of_order e (after_begin (Some half) s m) refl is
 
-refused_relation : (half : Option HalfTransaction) (s : Subscriber) (m : Relation) (e : ClientFault) → told half s m ≡ Err e → IsRefusal e
-refused_relation None s m e is = out_of_order e (told None s m) refl is
+refused_relation : (half : Option HalfTransaction) (s : Subscriber) (m : Relation) (e : ClientFault) → after_relation half s m ≡ Err e → IsRefusal e
+refused_relation None s m e is = out_of_order e (after_relation None s m) refl is
 refused_relation (Some half) s m e is = absurd cc
 
-refused_commit : (half : Option HalfTransaction) (s : Subscriber) (m : Commit) (e : ClientFault) → committed half s m ≡ Err e → IsRefusal e
-refused_commit None s m e is = out_of_order e (committed None s m) refl is
+refused_commit : (half : Option HalfTransaction) (s : Subscriber) (m : Commit) (e : ClientFault) → after_commit half s m ≡ Err e → IsRefusal e
+refused_commit None s m e is = out_of_order e (after_commit None s m) refl is
 refused_commit (Some half) s m e is = by_test (eqb m.position half.begin.position) is
   where
-    by_test : (b : Bool) → cond b (Ok (finished s half m)) (Err faults.Order) ≡ Err e → IsRefusal e
+    by_test : (b : Bool) → cond b (Ok (after_transaction s half m)) (Err faults.Order) ≡ Err e → IsRefusal e
     by_test true is = absurd cc
     by_test false is = let same : faults.Order ≡ e = cc in subst IsRefusal same tt
 
-refused_changed : (half : Option HalfTransaction) (s : Subscriber) (position : ℕ) (m : Logical) (e : ClientFault) → changed half s position m ≡ Err e → IsRefusal e
-refused_changed None s position m e is = out_of_order e (changed None s position m) refl is
-refused_changed (Some half) s position m e is = elim (refused_at (judged s.tables m) (λ _. Ok (record s { half = Some (with_change half position m) })) e is) [
+refused_changed : (half : Option HalfTransaction) (s : Subscriber) (position : ℕ) (m : Logical) (e : ClientFault) → after_change half s position m ≡ Err e → IsRefusal e
+refused_changed None s position m e is = out_of_order e (after_change None s position m) refl is
+refused_changed (Some half) s position m e is = elim (refused_at (judgement_of_change s.tables m) (λ _. Ok (record s { half = Some (with_change half position m) })) e is) [
   | inl here ↦ refused_change s.tables m e here
   | inr later ↦ absurd cc
 ]
 
-refused_note : (half : Option HalfTransaction) (s : Subscriber) (end : ℕ) (m : Message) (e : ClientFault) → noted half s end m ≡ Err e → IsRefusal e
+refused_note : (half : Option HalfTransaction) (s : Subscriber) (end : ℕ) (m : Message) (e : ClientFault) → after_note half s end m ≡ Err e → IsRefusal e
 refused_note None s end m e is = absurd cc
-refused_note (Some half) s end m e is = out_of_order e (noted (Some half) s end m) refl is
+refused_note (Some half) s end m e is = out_of_order e (after_note (Some half) s end m) refl is
 
-refused_heard : (is_transactional : Bool) (s : Subscriber) (start end : ℕ) (m : Message) (e : ClientFault) → heard is_transactional s start end m ≡ Err e → IsRefusal e
+refused_heard : (is_transactional : Bool) (s : Subscriber) (start end : ℕ) (m : Message) (e : ClientFault) → after_logical_message is_transactional s start end m ≡ Err e → IsRefusal e
 refused_heard true s start end m e is = refused_changed s.half s start (logical.Message m) e is
 refused_heard false s start end m e is = refused_note s.half s end m e is
 

@@ -14,8 +14,8 @@ use Rattle.stream.specs.declared.published.PublishedChange.{PublishedChange}
 use Rattle.stream.proofs.Lists.{all_of_both}
 use Rattle.stream.specs.Items.{Item, KeepaliveItem, Block, words_by, note_words, xlogdata_word, tables_of, relations_due, relations_sent_by, relation_words, change_words, changes_words, begin_message, commit_message, item_words, words_of, relations_sent_after, IsOfChange, FitsChange, FitChanges, FitsItem, FitItems}
 use Rattle.client.specs.declared.fault.ClientFault.{ClientFault}
-use Rattle.client.specs.Subscriber.{Subscriber, HalfTransaction, judged, begun, told, changed, with_change, heard, after_message, after_word, after_words}
-use Rattle.client.specs.Law.{position_after, gained, relations_sent_with}
+use Rattle.client.specs.Subscriber.{Subscriber, HalfTransaction, judgement_of_change, after_begin, after_relation, after_change, with_change, after_logical_message, after_message, after_word, after_words}
+use Rattle.client.specs.Law.{position_after, gained_transactions, relations_sent_with}
 use Rattle.client.proofs.Reaching.{after_append}
 use Rattle.client.proofs.Blocks.{at, Told, item_goes}
 
@@ -43,17 +43,17 @@ KeepsStill s (Err e) = Unit {0}
 still : (s : Subscriber) → Same s s
 still s = record { position = refl; applied = refl }
 
-begun_still : (half : Option HalfTransaction) (s : Subscriber) (m : _) → KeepsStill s (begun half s m)
+begun_still : (half : Option HalfTransaction) (s : Subscriber) (m : _) → KeepsStill s (after_begin half s m)
 begun_still None s m = record { position = refl; applied = refl }
 begun_still (Some half) s m = tt
 
-told_still : (half : Option HalfTransaction) (s : Subscriber) (m : Relation) → KeepsStill s (told half s m)
+told_still : (half : Option HalfTransaction) (s : Subscriber) (m : Relation) → KeepsStill s (after_relation half s m)
 told_still None s m = tt
 told_still (Some half) s m = record { position = refl; applied = refl }
 
-changed_still : (half : Option HalfTransaction) (s : Subscriber) (position : ℕ) (m : Logical) → KeepsStill s (changed half s position m)
+changed_still : (half : Option HalfTransaction) (s : Subscriber) (position : ℕ) (m : Logical) → KeepsStill s (after_change half s position m)
 changed_still None s position m = tt
-changed_still (Some half) s position m = by_judged (judged s.tables m)
+changed_still (Some half) s position m = by_judged (judgement_of_change s.tables m)
   where
     by_judged : (r : Result (Unit {0}) ClientFault) → KeepsStill s (r >>= λ _. Ok (record s { half = Some (with_change half position m) }))
     by_judged (Ok u) = record { position = refl; applied = refl }
@@ -68,7 +68,7 @@ message_still s position end (logical.Update m) quiet = changed_still s.half s p
 message_still s position end (logical.Delete m) quiet = changed_still s.half s position (logical.Delete m)
 message_still s position end (logical.Truncate m) quiet = changed_still s.half s position (logical.Truncate m)
 message_still s position end (logical.Message m) quiet =
-    subst (λ (b : Bool). KeepsStill s (heard b s position end m)) (sym quiet) (changed_still s.half s position (logical.Message m))
+    subst (λ (b : Bool). KeepsStill s (after_logical_message b s position end m)) (sym quiet) (changed_still s.half s position (logical.Message m))
 
 word_still : (s : Subscriber) (w : Word) → IsQuiet w → KeepsStill s (after_word s w)
 word_still s (words.Keepalive k) quiet = absurd quiet
@@ -185,7 +185,7 @@ pub record Stands (relation : ℕ → Relation) (relations_sent : List ℕ) (p :
   pub new : Subscriber
   pub steps : after_words s ws ≡ Ok new
   pub position : new.position ≡ position_after p done
-  pub applied : new.applied ≡ a ++ gained p done
+  pub applied : new.applied ≡ a ++ gained_transactions p done
 
 -- what goes through as a whole goes through in part
 through : (s : Subscriber) (ws vs : List Word) (end : Subscriber) → after_words s (ws ++ vs) ≡ Ok end → (t : Subscriber) × (after_words s ws ≡ Ok t) × (after_words t vs ≡ Ok end)
@@ -206,9 +206,9 @@ behind_one : (p : ℕ) (item : Item) (items : List Item) → position_after p (i
 behind_one p (KeepaliveItem k) items = refl
 behind_one p (Block clock t) items = refl
 
-gained_one : (p : ℕ) (item : Item) (items : List Item) → gained p (item ∷ items) ≡ gained p (item ∷ []) ++ gained (position_after p (item ∷ [])) items
+gained_one : (p : ℕ) (item : Item) (items : List Item) → gained_transactions p (item ∷ items) ≡ gained_transactions p (item ∷ []) ++ gained_transactions (position_after p (item ∷ [])) items
 gained_one p (KeepaliveItem k) items = refl
-gained_one p (Block clock t) items = ap (λ (l : List Published). l ++ gained (max p t.end) items) (sym (append-nil (cond (leb p t.start) (t ∷ []) [])))
+gained_one p (Block clock t) items = ap (λ (l : List Published). l ++ gained_transactions (max p t.end) items) (sym (append-nil (cond (leb p t.start) (t ∷ []) [])))
 
 pub stands : (relation : ℕ → Relation) (relations_sent : List ℕ) (p : ℕ) (a : List Published) (tables : List (ℕ × ℕ)) (ws more : List Word) (items : List Item) → FitItems relation items → Told relation relations_sent tables
     → ws ++ more ≡ words_of relation relations_sent items → Stands relation relations_sent p a (at p a tables None) ws more items
@@ -221,7 +221,7 @@ stands relation relations_sent p a tables ws more (item ∷ items) fit told e =
     let goes = item_goes relation relations_sent p a tables item fit.0 told in
     elim (meet ws more own behind e) [
       | inl past ↦
-          let inner = stands relation (relations_sent_after relations_sent item) (position_after p (item ∷ [])) (a ++ gained p (item ∷ [])) goes.after past.rest more items fit.1 goes.told past.behind in
+          let inner = stands relation (relations_sent_after relations_sent item) (position_after p (item ∷ [])) (a ++ gained_transactions p (item ∷ [])) goes.after past.rest more items fit.1 goes.told past.behind in
           record {
             done = item ∷ inner.done;
             others = inner.others;
@@ -230,12 +230,12 @@ stands relation relations_sent p a tables ws more (item ∷ items) fit told e =
             words = past.is ∙ ap (λ (l : List Word). own ++ l) inner.words ∙ sym (append_assoc own (words_of relation (relations_sent_after relations_sent item) inner.done) inner.part);
             begun = inner.begun;
             new = inner.new;
-            steps = ap (after_words (at p a tables None)) past.is ∙ after_append (at p a tables None) own past.rest (at (position_after p (item ∷ [])) (a ++ gained p (item ∷ [])) goes.after None) goes.steps ∙ inner.steps;
+            steps = ap (after_words (at p a tables None)) past.is ∙ after_append (at p a tables None) own past.rest (at (position_after p (item ∷ [])) (a ++ gained_transactions p (item ∷ [])) goes.after None) goes.steps ∙ inner.steps;
             position = inner.position ∙ sym (behind_one p item inner.done);
-            applied = inner.applied ∙ append_assoc a (gained p (item ∷ [])) (gained (position_after p (item ∷ [])) inner.done) ∙ ap (λ (l : List Published). a ++ l) (sym (gained_one p item inner.done));
+            applied = inner.applied ∙ append_assoc a (gained_transactions p (item ∷ [])) (gained_transactions (position_after p (item ∷ [])) inner.done) ∙ ap (λ (l : List Published). a ++ l) (sym (gained_one p item inner.done));
           }
       | inr within ↦
-          let end = at (position_after p (item ∷ [])) (a ++ gained p (item ∷ [])) goes.after None in
+          let end = at (position_after p (item ∷ [])) (a ++ gained_transactions p (item ∷ [])) goes.after None in
           let ending = item_ending relation relations_sent item fit.0 in
           let quiet = part_quiet ws within.next within.others ending.front ending.last (sym within.is ∙ ending.is) ending.quiet in
           let part = through (at p a tables None) ws (within.next ∷ within.others) end (ap (after_words (at p a tables None)) (sym within.is) ∙ goes.steps) in

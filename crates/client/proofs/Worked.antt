@@ -10,8 +10,8 @@ use Rattle.stream.specs.declared.published.Published.{Published}
 use Rattle.stream.specs.Items.{Item, KeepaliveItem, Block, xlogdata_word, keepalive_word, begin_message, commit_message, words_of}
 use Rattle.client.specs.declared.fault.ClientFault.{ClientFault}
 use Rattle.client.specs.declared.fault.ClientFault.TheVariants.{Order, UnknownRelation}
-use Rattle.client.specs.Subscriber.{Subscriber, resting, after_words}
-use Rattle.client.specs.Law.{position_after, gained}
+use Rattle.client.specs.Subscriber.{Subscriber, subscriber_at_rest, after_words}
+use Rattle.client.specs.Law.{position_after, gained_transactions}
 
 -- public.item: id int4, the key; name text; qty int8
 abbrev item : ℕ → Relation
@@ -44,24 +44,24 @@ abbrev applied : Subscriber → List Word → Result Subscriber ClientFault
 applied = after_words
 
 -- applied once, and once more it is not
-once : applied (resting 0 []) (sent (block ∷ block ∷ [])) ≡ Ok (record { position = 0x1000050; applied = transaction ∷ []; tables = (16384, 3) ∷ []; half = None })
+once : applied (subscriber_at_rest 0 []) (sent (block ∷ block ∷ [])) ≡ Ok (record { position = 0x1000050; applied = transaction ∷ []; tables = (16384, 3) ∷ []; half = None })
 once = refl
 
-once_by_law : gained 0 (block ∷ block ∷ []) ≡ transaction ∷ []
+once_by_law : gained_transactions 0 (block ∷ block ∷ []) ≡ transaction ∷ []
 once_by_law = refl
 
 -- at its commit record's own position it is applied, and one behind it is not
-at_its_position : gained 0 (keepalive 0x1000030 ∷ block ∷ []) ≡ transaction ∷ []
+at_its_position : gained_transactions 0 (keepalive 0x1000030 ∷ block ∷ []) ≡ transaction ∷ []
 at_its_position = refl
 
-behind_its_position : gained 0 (keepalive 0x1000031 ∷ block ∷ []) ≡ []
+behind_its_position : gained_transactions 0 (keepalive 0x1000031 ∷ block ∷ []) ≡ []
 behind_its_position = refl
 
 never_back : position_after 0 (keepalive 0x1000100 ∷ block ∷ keepalive 0x1000000 ∷ []) ≡ 0x1000100
 never_back = refl
 
 -- a keepalive inside a transaction moves nothing
-inside : applied (resting 0 []) (xlogdata_word 0x1000030 (pos 9) (begin_message transaction) ∷ keepalive_word 0x1000100 (pos 9) false ∷ xlogdata_word 0x1000050 (pos 9) (commit_message transaction) ∷ [])
+inside : applied (subscriber_at_rest 0 []) (xlogdata_word 0x1000030 (pos 9) (begin_message transaction) ∷ keepalive_word 0x1000100 (pos 9) false ∷ xlogdata_word 0x1000050 (pos 9) (commit_message transaction) ∷ [])
     ≡ Ok (record { position = 0x1000050; applied = record transaction { changes = [] } ∷ []; tables = []; half = None })
 inside = refl
 
@@ -81,13 +81,13 @@ abbrev note_block : Item
 note_block = Block (pos 9) note
 
 -- applied once, by the position at which it starts
-note_once : applied (resting 0 []) (sent (block ∷ note_block ∷ note_block ∷ [])) ≡ Ok (record { position = 0x1000070; applied = transaction ∷ note ∷ []; tables = (16384, 3) ∷ []; half = None })
+note_once : applied (subscriber_at_rest 0 []) (sent (block ∷ note_block ∷ note_block ∷ [])) ≡ Ok (record { position = 0x1000070; applied = transaction ∷ note ∷ []; tables = (16384, 3) ∷ []; half = None })
 note_once = refl
 
-note_at_its_position : gained 0x1000050 (note_block ∷ []) ≡ note ∷ []
+note_at_its_position : gained_transactions 0x1000050 (note_block ∷ []) ≡ note ∷ []
 note_at_its_position = refl
 
-note_below_the_position : gained 0x1000051 (note_block ∷ []) ≡ []
+note_below_the_position : gained_transactions 0x1000051 (note_block ∷ []) ≡ []
 note_below_the_position = refl
 
 abbrev message : Bool → Logical
@@ -96,32 +96,32 @@ message is_transactional = logical.Message (record { is_transactional = is_trans
 abbrev begun_with : Logical → List Word
 begun_with m = xlogdata_word 0x1000030 (pos 9) (begin_message transaction) ∷ xlogdata_word 0x1000000 (pos 9) m ∷ xlogdata_word 0x1000050 (pos 9) (commit_message transaction) ∷ []
 
-message_within : applied (resting 0 []) (begun_with (message true))
+message_within : applied (subscriber_at_rest 0 []) (begun_with (message true))
     ≡ Ok (record { position = 0x1000050; applied = record transaction { changes = record { position = 0x1000000; message = message true } ∷ [] } ∷ []; tables = []; half = None })
 message_within = refl
 
-note_within : applied (resting 0 []) (begun_with (message false)) ≡ Err Order
+note_within : applied (subscriber_at_rest 0 []) (begun_with (message false)) ≡ Err Order
 note_within = refl
 
-message_alone : applied (resting 0 []) (xlogdata_word 0x1000050 (pos 9) (message true) ∷ []) ≡ Err Order
+message_alone : applied (subscriber_at_rest 0 []) (xlogdata_word 0x1000050 (pos 9) (message true) ∷ []) ≡ Err Order
 message_alone = refl
 
 -- ---- out of order
 
-begin_twice : applied (resting 0 []) (xlogdata_word 0 (pos 9) (begin_message transaction) ∷ xlogdata_word 0 (pos 9) (begin_message transaction) ∷ []) ≡ Err Order
+begin_twice : applied (subscriber_at_rest 0 []) (xlogdata_word 0 (pos 9) (begin_message transaction) ∷ xlogdata_word 0 (pos 9) (begin_message transaction) ∷ []) ≡ Err Order
 begin_twice = refl
 
-commit_alone : applied (resting 0 []) (xlogdata_word 0 (pos 9) (commit_message transaction) ∷ []) ≡ Err Order
+commit_alone : applied (subscriber_at_rest 0 []) (xlogdata_word 0 (pos 9) (commit_message transaction) ∷ []) ≡ Err Order
 commit_alone = refl
 
-insert_alone : applied (resting 0 []) (xlogdata_word 0 (pos 9) insert ∷ []) ≡ Err Order
+insert_alone : applied (subscriber_at_rest 0 []) (xlogdata_word 0 (pos 9) insert ∷ []) ≡ Err Order
 insert_alone = refl
 
-never_told : applied (resting 0 []) (xlogdata_word 0 (pos 9) (begin_message transaction) ∷ xlogdata_word 0 (pos 9) insert ∷ []) ≡ Err UnknownRelation
+never_told : applied (subscriber_at_rest 0 []) (xlogdata_word 0 (pos 9) (begin_message transaction) ∷ xlogdata_word 0 (pos 9) insert ∷ []) ≡ Err UnknownRelation
 never_told = refl
 
-too_short : applied (resting 0 []) (xlogdata_word 0 (pos 9) (begin_message transaction) ∷ xlogdata_word 0 (pos 9) (logical.Relation (item 16384)) ∷ xlogdata_word 0 (pos 9) (logical.Insert (record { oid = 16384; new = [] })) ∷ []) ≡ Err Order
+too_short : applied (subscriber_at_rest 0 []) (xlogdata_word 0 (pos 9) (begin_message transaction) ∷ xlogdata_word 0 (pos 9) (logical.Relation (item 16384)) ∷ xlogdata_word 0 (pos 9) (logical.Insert (record { oid = 16384; new = [] })) ∷ []) ≡ Err Order
 too_short = refl
 
-another_commit : applied (resting 0 []) (xlogdata_word 0 (pos 9) (begin_message transaction) ∷ xlogdata_word 0 (pos 9) (logical.Commit (record { position = 0x1000031; end = 0x1000050; time = pos 5 })) ∷ []) ≡ Err Order
+another_commit : applied (subscriber_at_rest 0 []) (xlogdata_word 0 (pos 9) (begin_message transaction) ∷ xlogdata_word 0 (pos 9) (logical.Commit (record { position = 0x1000031; end = 0x1000050; time = pos 5 })) ∷ []) ≡ Err Order
 another_commit = refl

@@ -3,10 +3,10 @@ use Rattle.std.specs.Prelude.{◌≡◌, ℕ, ◌<◌, List, [], ◌∷◌, ◌+
 use Rattle.pgoutput.specs.declared.relation.Relation.{Relation}
 use Rattle.stream.specs.declared.published.Published.{Published}
 use Rattle.stream.specs.Words.{frames_of}
-use Rattle.stream.specs.Items.{Item, KeepaliveItem, Block, item_words, relations_sent_after, spelled, FitItems}
+use Rattle.stream.specs.Items.{Item, KeepaliveItem, Block, bytes_of_items, item_words, relations_sent_after, FitItems}
 use Rattle.client.specs.declared.fault.ClientFault.{ClientFault}
 use Rattle.client.specs.declared.fault.ClientFault.TheVariants.{Memory}
-use Rattle.client.specs.Subscriber.{Subscriber, resting}
+use Rattle.client.specs.Subscriber.{Subscriber, subscriber_at_rest}
 use Rattle.client.specs.Taking.{ApplierState, HasTaken}
 
 -- the position behind these items: the greatest of the old one, the ends of the blocks and the numbers of the keepalives
@@ -16,10 +16,10 @@ position_after p (KeepaliveItem k ∷ items) = position_after (max p k.position)
 position_after p (Block clock t ∷ items) = position_after (max p t.end) items
 
 -- the transactions and notes of these items whose record doesn't start below the position that stood before the block
-abbrev pub gained : ℕ → List Item → List Published
-gained p [] = []
-gained p (KeepaliveItem k ∷ items) = gained (max p k.position) items
-gained p (Block clock t ∷ items) = (if nat_le p t.start then t ∷ [] else []) ++ gained (max p t.end) items
+abbrev pub gained_transactions : ℕ → List Item → List Published
+gained_transactions p [] = []
+gained_transactions p (KeepaliveItem k ∷ items) = gained_transactions (max p k.position) items
+gained_transactions p (Block clock t ∷ items) = (if nat_le p t.start then t ∷ [] else []) ++ gained_transactions (max p t.end) items
 
 -- the Relations that were sent with these items
 abbrev pub relations_sent_with : List ℕ → List Item → List ℕ
@@ -37,9 +37,9 @@ pub record Gained (relation : ℕ → Relation) (base : Subscriber) (bytes : Lis
   pub others : List Item
   pub part : List ℕ
   pub is : items ≡ done ++ others
-  pub text : bytes ≡ spelled relation [] done ++ part
+  pub text : bytes ≡ bytes_of_items relation [] done ++ part
   pub position : new.position ≡ position_after base.position done
-  pub applied : new.applied ≡ base.applied ++ gained base.position done
+  pub applied : new.applied ≡ base.applied ++ gained_transactions base.position done
 
 -- exactly those that stand whole
 pub record GainedAll (relation : ℕ → Relation) (base : Subscriber) (bytes : List ℕ) (items : List Item) (new : Subscriber) : Type 0 where
@@ -56,6 +56,6 @@ Ends relation base a bytes items (Err e) = (e ≡ Memory) × Gained relation bas
 abbrev pub Follows : ApplierState → ApplierState → List ℕ → Result (Unit {0}) ClientFault → Type 0
 Follows old new bytes result =
     (relation : ℕ → Relation) (base : Subscriber) (before more : List ℕ) (items : List Item)
-    → base ≡ resting base.position base.applied → HasTaken base old before
-    → FitItems relation items → (before ++ bytes) ++ more ≡ spelled relation [] items
+    → base ≡ subscriber_at_rest base.position base.applied → HasTaken base old before
+    → FitItems relation items → (before ++ bytes) ++ more ≡ bytes_of_items relation [] items
     → Ends relation base new (before ++ bytes) items result

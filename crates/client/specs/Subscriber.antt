@@ -35,13 +35,13 @@ pub record Subscriber : Type 0 where
   pub half : Option HalfTransaction
 
 -- as it is when it connects
-abbrev pub resting : ℕ → List Published → Subscriber
-resting position applied = record { position = position; applied = applied; tables = []; half = None }
+abbrev pub subscriber_at_rest : ℕ → List Published → Subscriber
+subscriber_at_rest position applied = record { position = position; applied = applied; tables = []; half = None }
 
 -- ---- tables that were told
 
-abbrev pub tell : List (ℕ × ℕ) → Relation → List (ℕ × ℕ)
-tell tables m = insert_entry nat_eq tables m.oid (length m.columns)
+abbrev pub tables_with_relation : List (ℕ × ℕ) → Relation → List (ℕ × ℕ)
+tables_with_relation tables m = insert_entry nat_eq tables m.oid (length m.columns)
 
 abbrev pub columns_of : List (ℕ × ℕ) → ℕ → Result ℕ ClientFault
 columns_of tables oid = ok_or (lookup (nat_eq oid) tables) UnknownRelation
@@ -59,77 +59,77 @@ are_told tables [] = Ok tt
 are_told tables (oid ∷ oids) = columns_of tables oid >>= λ _. are_told tables oids
 
 -- whether a change fits the tables that were told
-abbrev pub judged : List (ℕ × ℕ) → Logical → Result (Unit {0}) ClientFault
-judged tables (logical.Insert m) = columns_of tables m.oid >>= λ n. fits n m.new
-judged tables (logical.Update m) = columns_of tables m.oid >>= λ n. fits_old n m.old >>= λ _. fits n m.new
-judged tables (logical.Delete m) = columns_of tables m.oid >>= λ n. fits n (cells_of m.old)
-judged tables (logical.Truncate m) = are_told tables m.oids
-judged tables _ = Ok tt
+abbrev pub judgement_of_change : List (ℕ × ℕ) → Logical → Result (Unit {0}) ClientFault
+judgement_of_change tables (logical.Insert m) = columns_of tables m.oid >>= λ n. fits n m.new
+judgement_of_change tables (logical.Update m) = columns_of tables m.oid >>= λ n. fits_old n m.old >>= λ _. fits n m.new
+judgement_of_change tables (logical.Delete m) = columns_of tables m.oid >>= λ n. fits n (cells_of m.old)
+judgement_of_change tables (logical.Truncate m) = are_told tables m.oids
+judgement_of_change tables _ = Ok tt
 
 -- ---- words. Outside a transaction only Begin, keepalives and notes come in order, inside one all but Begin and notes.
 
-abbrev pub begun : Option HalfTransaction → Subscriber → Begin → Result Subscriber ClientFault
-begun None s m = Ok (record s { half = Some (record { begin = m; changes = [] }) })
-begun (Some half) s m = Err Order
+abbrev pub after_begin : Option HalfTransaction → Subscriber → Begin → Result Subscriber ClientFault
+after_begin None s m = Ok (record s { half = Some (record { begin = m; changes = [] }) })
+after_begin (Some half) s m = Err Order
 
-abbrev pub told : Option HalfTransaction → Subscriber → Relation → Result Subscriber ClientFault
-told None s m = Err Order
-told (Some half) s m = Ok (record s { tables = tell s.tables m })
+abbrev pub after_relation : Option HalfTransaction → Subscriber → Relation → Result Subscriber ClientFault
+after_relation None s m = Err Order
+after_relation (Some half) s m = Ok (record s { tables = tables_with_relation s.tables m })
 
 -- a change goes behind the others
 abbrev pub with_change : HalfTransaction → ℕ → Logical → HalfTransaction
 with_change half position message = record half { changes = half.changes ++ record { position = position; message = message } ∷ [] }
 
-abbrev pub changed : Option HalfTransaction → Subscriber → ℕ → Logical → Result Subscriber ClientFault
-changed None s position message = Err Order
-changed (Some half) s position message = judged s.tables message >>= λ _. Ok (record s { half = Some (with_change half position message) })
+abbrev pub after_change : Option HalfTransaction → Subscriber → ℕ → Logical → Result Subscriber ClientFault
+after_change None s position message = Err Order
+after_change (Some half) s position message = judgement_of_change s.tables message >>= λ _. Ok (record s { half = Some (with_change half position message) })
 
 abbrev pub transaction_of : HalfTransaction → Commit → Published
 transaction_of half m = record { is_note = false; start = half.begin.position; end = m.end; time = half.begin.time; xid = half.begin.xid; changes = half.changes }
 
 -- A transaction that is whole is applied, unless its commit record starts below the position: then it was applied before.
-abbrev pub finished : Subscriber → HalfTransaction → Commit → Subscriber
-finished s half m = record s {
+abbrev pub after_transaction : Subscriber → HalfTransaction → Commit → Subscriber
+after_transaction s half m = record s {
   half = None;
   position = max s.position m.end;
   applied = s.applied ++ (if nat_le s.position half.begin.position then transaction_of half m ∷ [] else []);
 }
 
-abbrev pub committed : Option HalfTransaction → Subscriber → Commit → Result Subscriber ClientFault
-committed None s m = Err Order
-committed (Some half) s m = if m.position == half.begin.position then Ok (finished s half m) else Err Order
+abbrev pub after_commit : Option HalfTransaction → Subscriber → Commit → Result Subscriber ClientFault
+after_commit None s m = Err Order
+after_commit (Some half) s m = if m.position == half.begin.position then Ok (after_transaction s half m) else Err Order
 
 -- a note, a message outside of transactions, as it is applied
 abbrev pub note_of : ℕ → Message → Published
 note_of end m = record { is_note = true; start = m.position; end = end; time = pos 0; xid = 0; changes = record { position = m.position; message = logical.Message m } ∷ [] }
 
 -- It is whole by itself, and is applied unless it starts below the position.
-abbrev pub noted : Option HalfTransaction → Subscriber → ℕ → Message → Result Subscriber ClientFault
-noted None s end m = Ok (record s {
+abbrev pub after_note : Option HalfTransaction → Subscriber → ℕ → Message → Result Subscriber ClientFault
+after_note None s end m = Ok (record s {
   position = max s.position end;
   applied = s.applied ++ (if nat_le s.position m.position then note_of end m ∷ [] else []);
 })
-noted (Some half) s end m = Err Order
+after_note (Some half) s end m = Err Order
 
-abbrev pub heard : (is_transactional : Bool) → Subscriber → (start end : ℕ) → Message → Result Subscriber ClientFault
-heard true s start end m = changed s.half s start (logical.Message m)
-heard false s start end m = noted s.half s end m
+abbrev pub after_logical_message : (is_transactional : Bool) → Subscriber → (start end : ℕ) → Message → Result Subscriber ClientFault
+after_logical_message true s start end m = after_change s.half s start (logical.Message m)
+after_logical_message false s start end m = after_note s.half s end m
 
 -- the message of an XLogData, with its two positions
 abbrev pub after_message : Subscriber → (start end : ℕ) → Logical → Result Subscriber ClientFault
-after_message s start end (logical.Begin m) = begun s.half s m
-after_message s start end (logical.Relation m) = told s.half s m
-after_message s start end (logical.Commit m) = committed s.half s m
-after_message s start end (logical.Message m) = heard m.is_transactional s start end m
-after_message s start end message = changed s.half s start message
+after_message s start end (logical.Begin m) = after_begin s.half s m
+after_message s start end (logical.Relation m) = after_relation s.half s m
+after_message s start end (logical.Commit m) = after_commit s.half s m
+after_message s start end (logical.Message m) = after_logical_message m.is_transactional s start end m
+after_message s start end message = after_change s.half s start message
 
 -- A keepalive inside a transaction is passed over: what it tells may lie behind what is still to come of the transaction.
-abbrev pub kept_alive : Option HalfTransaction → Subscriber → Keepalive → Subscriber
-kept_alive None s k = record s { position = max s.position k.position }
-kept_alive (Some half) s k = s
+abbrev pub after_keepalive : Option HalfTransaction → Subscriber → Keepalive → Subscriber
+after_keepalive None s k = record s { position = max s.position k.position }
+after_keepalive (Some half) s k = s
 
 abbrev pub after_word : Subscriber → Word → Result Subscriber ClientFault
-after_word s (words.Keepalive k) = Ok (kept_alive s.half s k)
+after_word s (words.Keepalive k) = Ok (after_keepalive s.half s k)
 after_word s (words.XLogData x) = after_message s x.start x.end x.message
 
 -- one word after the other

@@ -4,7 +4,7 @@ ghost use Rattle.std.specs.Prelude.{◌≡◌, ◌<◌, ◌++◌, [], None, Ok, 
 ghost use Rattle.frames.specs.Frame.{frame};
 ghost use Rattle.frames.specs.declared.copy_data.TheConstants.{COPY_DATA};
 ghost use Rattle.copyboth.specs.Status.{status};
-ghost use Rattle.client.specs.Subscriber.{resting};
+ghost use Rattle.client.specs.Subscriber.{subscriber_at_rest};
 ghost use Rattle.client.specs.Taking.{HasTaken, Reached, Stops, StopsAfter, StopsForMemory, Takes};
 ghost use Rattle.client.specs.Words.{TakesMemory, Waits};
 ghost use Rattle.client.specs.Law.{Follows};
@@ -45,7 +45,8 @@ impl Model for Applier {
 impl Applier {
     /// The applier of a subscriber that has applied nothing, at position 0.
     pub fn new(alloc: Global) -> Self
-        ensures value { result ≡ record { subscriber = resting 0 []; unread = []; fault = None } }
+        ensures value { result
+            ≡ record { subscriber = subscriber_at_rest 0 []; unread = []; fault = None } }
         ensures taken { HasTaken result.subscriber result [] }
     {
         Applier {
@@ -59,7 +60,7 @@ impl Applier {
     /// The applier of a subscriber that has applied elsewhere all that commits below a position, and keeps none of it.
     pub fn at(alloc: Global, position: u64) -> Self
         ensures value { result
-            ≡ record { subscriber = resting position []; unread = []; fault = None } }
+            ≡ record { subscriber = subscriber_at_rest position []; unread = []; fault = None } }
         ensures taken { HasTaken result.subscriber result [] }
     {
         Applier {
@@ -113,7 +114,7 @@ impl Applier {
     pub fn reconnect(&mut self)
         ensures value { self.new
             ≡ record {
-              subscriber = resting self.old.subscriber.position
+              subscriber = subscriber_at_rest self.old.subscriber.position
                   self.old.subscriber.applied;
               unread = [];
               fault = None;

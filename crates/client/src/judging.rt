@@ -1,7 +1,7 @@
 //! Whether a change fits the tables that were told.
 
 ghost use Rattle.std.specs.Prelude.{◌≡◌};
-ghost use Rattle.client.specs.Subscriber.{are_told, columns_of, fits, fits_old, judged};
+ghost use Rattle.client.specs.Subscriber.{are_told, columns_of, fits, fits_old, judgement_of_change};
 ghost use Rattle.pgoutput.specs.OldTuple.{cells_of};
 
 use crate::fault::ClientFault;
@@ -16,7 +16,7 @@ pub(crate) type Tables = IndexMap<u32, usize>;
 ///
 /// K3 at a table that wasn't told, K2 at a tuple of another length.
 pub(crate) fn judge(tables: &Tables, message: &Logical) -> Result<(), ClientFault>
-    ensures { result ≡ judged tables.now.entries message.now }
+    ensures { result ≡ judgement_of_change tables.now.entries message.now }
 {
     match message {
         Logical::Insert(message) => judge_cells(columns_in(tables, message.oid)?, &message.new),

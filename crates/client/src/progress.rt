@@ -1,7 +1,7 @@
 //! How far a subscriber is, and what each word makes of it.
 
 ghost use Rattle.std.specs.Prelude.{◌≡◌, [], None};
-ghost use Rattle.client.specs.Subscriber.{after_word, after_message, begun, changed, committed, heard, kept_alive, noted, told, resting, Makes};
+ghost use Rattle.client.specs.Subscriber.{after_word, after_message, after_begin, after_change, after_commit, after_logical_message, after_keepalive, after_note, after_relation, subscriber_at_rest, Makes};
 
 use crate::fault::ClientFault;
 use crate::half::Half;
@@ -33,13 +33,13 @@ impl Model for Progress {
 
 impl Progress {
     pub(crate) fn new(alloc: Global) -> Self
-        ensures { result ≡ resting 0 [] }
+        ensures { result ≡ subscriber_at_rest 0 [] }
     {
         Progress::at(alloc, 0)
     }
 
     pub(crate) fn at(alloc: Global, position: u64) -> Self
-        ensures { result ≡ resting position [] }
+        ensures { result ≡ subscriber_at_rest position [] }
     {
         Progress {
             alloc,
@@ -70,7 +70,7 @@ impl Progress {
 
     /// Forgets what hangs on the connection.
     pub(crate) fn reconnect(&mut self)
-        ensures { self.new ≡ resting self.old.position self.old.applied }
+        ensures { self.new ≡ subscriber_at_rest self.old.position self.old.applied }
     {
         self.tables = IndexMap::new(self.alloc);
         self.half = None;
@@ -108,7 +108,7 @@ impl Progress {
     }
 
     fn keep_alive(&mut self, keepalive: &Keepalive)
-        ensures { self.new ≡ kept_alive self.old.half self.old keepalive.now }
+        ensures { self.new ≡ after_keepalive self.old.half self.old keepalive.now }
     {
         if self.half.is_none() {
             self.position = self.position.max(keepalive.position);
@@ -116,7 +116,7 @@ impl Progress {
     }
 
     fn begin(&mut self, begin: Begin) -> Result<(), ClientFault>
-        ensures { Makes result self.old self.new (begun self.old.half self.old begin) }
+        ensures { Makes result self.old self.new (after_begin self.old.half self.old begin) }
     {
         if self.half.is_some() {
             return Err(ClientFault::Order);
@@ -126,7 +126,8 @@ impl Progress {
     }
 
     fn tell(&mut self, relation: &Relation) -> Result<(), ClientFault>
-        ensures { Makes result self.old self.new (told self.old.half self.old relation.now) }
+        ensures { Makes result self.old self.new
+            (after_relation self.old.half self.old relation.now) }
     {
         if self.half.is_none() {
             return Err(ClientFault::Order);
@@ -136,7 +137,8 @@ impl Progress {
     }
 
     fn change(&mut self, position: u64, message: Logical) -> Result<(), ClientFault>
-        ensures { Makes result self.old self.new (changed self.old.half self.old position message) }
+        ensures { Makes result self.old self.new
+            (after_change self.old.half self.old position message) }
     {
         let Some(half) = &mut self.half else {
             drop(message);
@@ -153,7 +155,7 @@ impl Progress {
 
     fn message(&mut self, start: u64, end: u64, message: Message) -> Result<(), ClientFault>
         ensures { Makes result self.old self.new
-            (heard message.is_transactional self.old start end message) }
+            (after_logical_message message.is_transactional self.old start end message) }
     {
         if message.is_transactional {
             self.change(start, Logical::Message(message))
@@ -163,7 +165,7 @@ impl Progress {
     }
 
     fn note(&mut self, end: u64, message: Message) -> Result<(), ClientFault>
-        ensures { Makes result self.old self.new (noted self.old.half self.old end message) }
+        ensures { Makes result self.old self.new (after_note self.old.half self.old end message) }
     {
         if self.half.is_some() {
             drop(message);
@@ -180,7 +182,7 @@ impl Progress {
 
     /// Memory is asked for before anything changes.
     fn commit(&mut self, commit: &Commit) -> Result<(), ClientFault>
-        ensures { Makes result self.old self.new (committed self.old.half self.old commit.now) }
+        ensures { Makes result self.old self.new (after_commit self.old.half self.old commit.now) }
     {
         let Some(half) = &self.half else {
             return Err(ClientFault::Order);

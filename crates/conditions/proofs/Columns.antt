@@ -6,7 +6,7 @@ use Rattle.std.proofs.Math.Bool.{or_assoc}
 use Rattle.std.specs.Prelude.{count_by}
 use Rattle.std.specs.List.{list_any}
 use Rattle.conditions.specs.Conditions.{Condition, Column, Literal, Compare, Is, Not, And, Or, names, AreNamed}
-use Rattle.conditions.specs.Shapes.{gathered}
+use Rattle.conditions.specs.Shapes.{with_places_of}
 
 -- how often a place stands in the list
 abbrev pub times : List ℕ → ℕ → ℕ
@@ -71,17 +71,17 @@ added f xs holds place other false t =
     behind_zero (times (xs ++ place ∷ []) other) (times xs other) (cond (place == other) 1 0) (sum_by-append (λ p. cond (p == other) 1 0) xs (place ∷ [])) ∙ ap (λ n. n + cond (place == other) 1 0) (holds other)
     ∙ one_more (f other) (place == other) (λ e. ap f (sym (eqb-true place other e)) ∙ sym t)
 
-pub gathered_names : (condition : Condition) (xs : List ℕ) (f : ℕ → Bool) → Holds xs f → Holds (gathered condition xs) (λ place. f place || names condition place)
+pub gathered_names : (condition : Condition) (xs : List ℕ) (f : ℕ → Bool) → Holds xs f → Holds (with_places_of condition xs) (λ place. f place || names condition place)
 gathered_names (Column place) xs f holds other = added f xs holds place other (list_any (λ p. p == place) xs) (stands xs f holds place)
 gathered_names (Literal value) xs f holds other = holds other ∙ ap once (sym (or_false (f other)))
 gathered_names (Compare how a b) xs f holds other =
-    gathered_names b (gathered a xs) (λ p. f p || names a p) (gathered_names a xs f holds) other ∙ ap once (or_assoc (f other) (names a other) (names b other))
+    gathered_names b (with_places_of a xs) (λ p. f p || names a p) (gathered_names a xs f holds) other ∙ ap once (or_assoc (f other) (names a other) (names b other))
 gathered_names (Is question negated a) xs f holds other = gathered_names a xs f holds other
 gathered_names (Not a) xs f holds other = gathered_names a xs f holds other
 gathered_names (And a b) xs f holds other =
-    gathered_names b (gathered a xs) (λ p. f p || names a p) (gathered_names a xs f holds) other ∙ ap once (or_assoc (f other) (names a other) (names b other))
+    gathered_names b (with_places_of a xs) (λ p. f p || names a p) (gathered_names a xs f holds) other ∙ ap once (or_assoc (f other) (names a other) (names b other))
 gathered_names (Or a b) xs f holds other =
-    gathered_names b (gathered a xs) (λ p. f p || names a p) (gathered_names a xs f holds) other ∙ ap once (or_assoc (f other) (names a other) (names b other))
+    gathered_names b (with_places_of a xs) (λ p. f p || names a p) (gathered_names a xs f holds) other ∙ ap once (or_assoc (f other) (names a other) (names b other))
 
-pub are_named : (condition : Condition) (places : List ℕ) → places ≡ gathered condition [] → AreNamed condition places
+pub are_named : (condition : Condition) (places : List ℕ) → places ≡ with_places_of condition [] → AreNamed condition places
 are_named condition places is place = ap (λ xs. times xs place) is ∙ gathered_names condition [] (λ _. false) (λ _. refl) place

@@ -9,7 +9,7 @@ use Rattle.conditions.specs.declared.fault.FilterFault.TheVariants.{NumberRange,
 use Rattle.conditions.specs.declared.joint.Joint.TheVariants as joints
 use Rattle.conditions.specs.Conditions.{Condition, Literal, Compare, Is, Not, And, Or, Number}
 use Rattle.conditions.specs.Words.{Saying, SayAnd, SayOr, SayNot, SayIs, SayNull, SayBool, SayUnknown, SayName, SayNumber, SayText, SayComparison, SayOpen, SayClose}
-use Rattle.conditions.specs.Grammar.{Phrase, InName, InUnknown, InNumber, InText, InBool, InNull, InParentheses, InCompare, InIs, InNot, InAnd, InOr, tightness, meant, levels, IsInRange}
+use Rattle.conditions.specs.Grammar.{Phrase, InName, InUnknown, InNumber, InText, InBool, InNull, InParentheses, InCompare, InIs, InNot, InAnd, InOr, tightness, meaning_of, levels, IsInRange}
 use Rattle.conditions.specs.Stacks.{binds, left_of, Word, Joins, Denies, Asks, Opens, Closes, Operand, Stray, Pending, Enclosing, Denying, Joining, wants, completed, State, Wanting, Having, Asking, wanted_by, folded, joins, asks, closes_over, ends_over, step, outcome, run, word_of}
 use Rattle.conditions.specs.Parts.{phrases, leaf_of, Grown, raised, over, beside, parts, fits_64, integer_if, number_if, grown}
 
@@ -76,19 +76,19 @@ number_tree n = by_test (fits_64 n) refl
     by_test true is = (refl, refl, (fits_tested n is, lit≤ tt))
     by_test false is = λ fits. absurd (let never : true ≡ false = sym (tested_fits n fits) ∙ is in cc)
 
-pub grown_tree : (columns : List TableColumn) (a : Phrase) → IsTree (IsInRange a) (levels a) (meant columns a) (grown columns a).tree
+pub grown_tree : (columns : List TableColumn) (a : Phrase) → IsTree (IsInRange a) (levels a) (meaning_of columns a) (grown columns a).tree
 grown_tree columns (InName name) = (refl, refl, (tt, lit≤ tt))
 grown_tree columns InUnknown = (refl, refl, (tt, lit≤ tt))
 grown_tree columns (InNumber n) = number_tree n
 grown_tree columns (InText text) = (refl, refl, (tt, lit≤ tt))
 grown_tree columns (InBool b) = (refl, refl, (tt, lit≤ tt))
 grown_tree columns InNull = (refl, refl, (tt, lit≤ tt))
-grown_tree columns (InParentheses a) = over_tree (λ c. c) (IsInRange a) (levels a) (meant columns a) (grown columns a).tree (grown_tree columns a)
-grown_tree columns (InCompare how a b) = beside_tree (λ c d. Compare how c d) (IsInRange a) (IsInRange b) (levels a) (levels b) (meant columns a) (meant columns b) (grown columns a).tree (grown columns b).tree (grown_tree columns a) (grown_tree columns b)
-grown_tree columns (InIs question negated a) = over_tree (λ c. Is question negated c) (IsInRange a) (levels a) (meant columns a) (grown columns a).tree (grown_tree columns a)
-grown_tree columns (InNot a) = over_tree (λ c. Not c) (IsInRange a) (levels a) (meant columns a) (grown columns a).tree (grown_tree columns a)
-grown_tree columns (InAnd a b) = beside_tree (λ c d. And c d) (IsInRange a) (IsInRange b) (levels a) (levels b) (meant columns a) (meant columns b) (grown columns a).tree (grown columns b).tree (grown_tree columns a) (grown_tree columns b)
-grown_tree columns (InOr a b) = beside_tree (λ c d. Or c d) (IsInRange a) (IsInRange b) (levels a) (levels b) (meant columns a) (meant columns b) (grown columns a).tree (grown columns b).tree (grown_tree columns a) (grown_tree columns b)
+grown_tree columns (InParentheses a) = over_tree (λ c. c) (IsInRange a) (levels a) (meaning_of columns a) (grown columns a).tree (grown_tree columns a)
+grown_tree columns (InCompare how a b) = beside_tree (λ c d. Compare how c d) (IsInRange a) (IsInRange b) (levels a) (levels b) (meaning_of columns a) (meaning_of columns b) (grown columns a).tree (grown columns b).tree (grown_tree columns a) (grown_tree columns b)
+grown_tree columns (InIs question negated a) = over_tree (λ c. Is question negated c) (IsInRange a) (levels a) (meaning_of columns a) (grown columns a).tree (grown_tree columns a)
+grown_tree columns (InNot a) = over_tree (λ c. Not c) (IsInRange a) (levels a) (meaning_of columns a) (grown columns a).tree (grown_tree columns a)
+grown_tree columns (InAnd a b) = beside_tree (λ c d. And c d) (IsInRange a) (IsInRange b) (levels a) (levels b) (meaning_of columns a) (meaning_of columns b) (grown columns a).tree (grown columns b).tree (grown_tree columns a) (grown_tree columns b)
+grown_tree columns (InOr a b) = beside_tree (λ c d. Or c d) (IsInRange a) (IsInRange b) (levels a) (levels b) (meaning_of columns a) (meaning_of columns b) (grown columns a).tree (grown columns b).tree (grown_tree columns a) (grown_tree columns b)
 
 -- ---- the same words
 

@@ -11,15 +11,15 @@ use Rattle.conditions.specs.declared.class.Class.TheVariants as classes
 use Rattle.conditions.specs.declared.token.Token.{Token}
 use Rattle.conditions.specs.declared.token.Token.TheVariants.{Word, Number, Quoted, Text, Mark, Pair, Stray}
 use Rattle.conditions.specs.declared.token.TheConstants.{NAME_QUOTE, TEXT_QUOTE, MINUS}
-use Rattle.conditions.specs.Tokens.{is_blank, is_first, is_later, is_mark, is_pair, doubled, spelled, without_minus, Each, begins, IsWhole, StartsWith, Spells}
-use Rattle.conditions.specs.Lexing.{is_of, run_of, after_run, quoted_at, closed, signed_at, one_mark, mark_at, token_behind, token_from, token_at, Lexes, lent, is_stray}
+use Rattle.conditions.specs.Tokens.{is_blank, is_first, is_later, is_mark, is_pair, with_doubled_quotes, spelling_of_token, without_minus, Each, begins, IsWhole, StartsWith, Spells}
+use Rattle.conditions.specs.Lexing.{is_of, run_of, after_run, quoted_at, closed_token, signed_at, one_mark, mark_at, token_behind, token_from, token_at, Lexes, lent, is_stray}
 use Rattle.conditions.proofs.Pieces.{if_true, if_false, run_takes, run_again, found, quoted_takes, quoted_again}
 
 -- ---- what is read is spelled
 
 -- what stands at the front, behind the blanks
 pub record Front (bytes : List ℕ) (token : Token) (rest : List ℕ) : Type 0 where
-  pub parts : bytes ≡ spelled token ++ rest
+  pub parts : bytes ≡ spelling_of_token token ++ rest
   pub whole : IsWhole token rest
 
 -- a token was taken from the front of these bytes, or none begins there; it is not nothing
@@ -91,19 +91,19 @@ took_mark : (b : ℕ) (bytes : List ℕ) → Took (b ∷ bytes) (mark_at b bytes
 took_mark b [] = took_one b [] refl
 took_mark b (c ∷ bytes) = either_way (b ∷ c ∷ bytes) (is_pair b c) (Pair b c, bytes) (one_mark b (c ∷ bytes)) (λ is. record { front = λ some. record { parts = refl; whole = is }; less = omega arith }) (λ other. took_one b (c ∷ bytes) other)
 
-quoted_parts : (b quote : ℕ) (bytes n rest : List ℕ) → eqb b quote ≡ true → bytes ≡ doubled quote n ++ (quote ∷ rest) → b ∷ bytes ≡ (quote ∷ (doubled quote n ++ quote ∷ [])) ++ rest
-quoted_parts b quote bytes n rest same parts = ap (λ (c : ℕ). c ∷ bytes) (eqb-true b quote same) ∙ ap (λ (l : List ℕ). quote ∷ l) (parts ∙ sym (append_assoc (doubled quote n) (quote ∷ []) rest))
+quoted_parts : (b quote : ℕ) (bytes n rest : List ℕ) → eqb b quote ≡ true → bytes ≡ with_doubled_quotes quote n ++ (quote ∷ rest) → b ∷ bytes ≡ (quote ∷ (with_doubled_quotes quote n ++ quote ∷ [])) ++ rest
+quoted_parts b quote bytes n rest same parts = ap (λ (c : ℕ). c ∷ bytes) (eqb-true b quote same) ∙ ap (λ (l : List ℕ). quote ∷ l) (parts ∙ sym (append_assoc (with_doubled_quotes quote n) (quote ∷ []) rest))
 
-quoted_less : (b quote : ℕ) (bytes n rest : List ℕ) → bytes ≡ doubled quote n ++ (quote ∷ rest) → length rest < length (b ∷ bytes)
-quoted_less b quote bytes n rest parts = omega (arith, ap (length {A = ℕ}) parts, length-append (doubled quote n) (quote ∷ rest))
+quoted_less : (b quote : ℕ) (bytes n rest : List ℕ) → bytes ≡ with_doubled_quotes quote n ++ (quote ∷ rest) → length rest < length (b ∷ bytes)
+quoted_less b quote bytes n rest parts = omega (arith, ap (length {A = ℕ}) parts, length-append (with_doubled_quotes quote n) (quote ∷ rest))
 
-took_quoted : (b : ℕ) (bytes : List ℕ) → eqb b NAME_QUOTE ≡ true → (o : Option (List ℕ × List ℕ)) → quoted_at false NAME_QUOTE bytes ≡ o → Took (b ∷ bytes) (closed (λ n. Quoted n) o)
+took_quoted : (b : ℕ) (bytes : List ℕ) → eqb b NAME_QUOTE ≡ true → (o : Option (List ℕ × List ℕ)) → quoted_at false NAME_QUOTE bytes ≡ o → Took (b ∷ bytes) (closed_token (λ n. Quoted n) o)
 took_quoted b bytes same None is = stray b bytes
 took_quoted b bytes same (Some x) is =
     let taken = quoted_takes false NAME_QUOTE bytes x.0 x.1 is in
     record { front = λ some. record { parts = quoted_parts b NAME_QUOTE bytes x.0 x.1 same taken.parts; whole = taken.end }; less = quoted_less b NAME_QUOTE bytes x.0 x.1 taken.parts }
 
-took_text : (b : ℕ) (bytes : List ℕ) → eqb b TEXT_QUOTE ≡ true → (o : Option (List ℕ × List ℕ)) → quoted_at false TEXT_QUOTE bytes ≡ o → Took (b ∷ bytes) (closed (λ t. Text t) o)
+took_text : (b : ℕ) (bytes : List ℕ) → eqb b TEXT_QUOTE ≡ true → (o : Option (List ℕ × List ℕ)) → quoted_at false TEXT_QUOTE bytes ≡ o → Took (b ∷ bytes) (closed_token (λ t. Text t) o)
 took_text b bytes same None is = stray b bytes
 took_text b bytes same (Some x) is =
     let taken = quoted_takes false TEXT_QUOTE bytes x.0 x.1 is in
@@ -236,19 +236,19 @@ integer_reads (b ∷ w) rest whole = by_test (eqb b MINUS) refl whole.0
     by_test true is digits = subst (λ (c : ℕ). Reads (c ∷ (w ++ rest)) (Number (c ∷ w)) rest) (sym (eqb-true b MINUS is)) (signed_reads w rest digits whole.1)
     by_test false is digits = number_reads b w rest digits whole.1
 
-quoted_reads : (n rest : List ℕ) → IsWhole (Quoted n) rest → Reads (spelled (Quoted n) ++ rest) (Quoted n) rest
+quoted_reads : (n rest : List ℕ) → IsWhole (Quoted n) rest → Reads (spelling_of_token (Quoted n) ++ rest) (Quoted n) rest
 quoted_reads n rest whole =
-    let behind : quoted_at false NAME_QUOTE ((doubled NAME_QUOTE n ++ NAME_QUOTE ∷ []) ++ rest) ≡ found n rest =
-    ap (quoted_at false NAME_QUOTE) (append_assoc (doubled NAME_QUOTE n) (NAME_QUOTE ∷ []) rest) ∙ quoted_again NAME_QUOTE n rest whole in
-    record { begins_so = refl; read = ap (λ (o : Option (List ℕ × List ℕ)). some_of (closed (λ m. Quoted m) o)) behind }
+    let behind : quoted_at false NAME_QUOTE ((with_doubled_quotes NAME_QUOTE n ++ NAME_QUOTE ∷ []) ++ rest) ≡ found n rest =
+    ap (quoted_at false NAME_QUOTE) (append_assoc (with_doubled_quotes NAME_QUOTE n) (NAME_QUOTE ∷ []) rest) ∙ quoted_again NAME_QUOTE n rest whole in
+    record { begins_so = refl; read = ap (λ (o : Option (List ℕ × List ℕ)). some_of (closed_token (λ m. Quoted m) o)) behind }
 
-text_reads : (t rest : List ℕ) → IsWhole (Text t) rest → Reads (spelled (Text t) ++ rest) (Text t) rest
+text_reads : (t rest : List ℕ) → IsWhole (Text t) rest → Reads (spelling_of_token (Text t) ++ rest) (Text t) rest
 text_reads t rest whole =
-    let behind : quoted_at false TEXT_QUOTE ((doubled TEXT_QUOTE t ++ TEXT_QUOTE ∷ []) ++ rest) ≡ found t rest =
-    ap (quoted_at false TEXT_QUOTE) (append_assoc (doubled TEXT_QUOTE t) (TEXT_QUOTE ∷ []) rest) ∙ quoted_again TEXT_QUOTE t rest whole in
-    record { begins_so = refl; read = ap (λ (o : Option (List ℕ × List ℕ)). some_of (closed (λ m. Text m) o)) behind }
+    let behind : quoted_at false TEXT_QUOTE ((with_doubled_quotes TEXT_QUOTE t ++ TEXT_QUOTE ∷ []) ++ rest) ≡ found t rest =
+    ap (quoted_at false TEXT_QUOTE) (append_assoc (with_doubled_quotes TEXT_QUOTE t) (TEXT_QUOTE ∷ []) rest) ∙ quoted_again TEXT_QUOTE t rest whole in
+    record { begins_so = refl; read = ap (λ (o : Option (List ℕ × List ℕ)). some_of (closed_token (λ m. Text m) o)) behind }
 
-token_reads : (token : Token) (rest : List ℕ) → IsWhole token rest → Reads (spelled token ++ rest) token rest
+token_reads : (token : Token) (rest : List ℕ) → IsWhole token rest → Reads (spelling_of_token token ++ rest) token rest
 token_reads (Word w) rest whole = word_reads w rest whole
 token_reads (Number w) rest whole = integer_reads w rest whole
 token_reads (Quoted n) rest whole = quoted_reads n rest whole
@@ -261,8 +261,8 @@ pub token_again : (text : List ℕ) (token : Token) (rest : List ℕ) → Starts
 unfolding token_at
 token_again text token rest starts =
     let reads = token_reads token rest starts.whole in
-    let front : after_run classes.Blank text ≡ spelled token ++ rest =
-    ap (after_run classes.Blank) starts.parts ∙ (run_again classes.Blank starts.blanks (spelled token ++ rest) starts.are_blank reads.begins_so).1 in
+    let front : after_run classes.Blank text ≡ spelling_of_token token ++ rest =
+    ap (after_run classes.Blank) starts.parts ∙ (run_again classes.Blank starts.blanks (spelling_of_token token ++ rest) starts.are_blank reads.begins_so).1 in
     ap token_from front ∙ reads.read
 
 -- ---- whole texts

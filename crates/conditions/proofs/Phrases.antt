@@ -8,7 +8,7 @@ use Rattle.conditions.specs.declared.joint.Joint.TheVariants as joints
 use Rattle.conditions.specs.declared.question.Question.{Question}
 use Rattle.conditions.specs.declared.question.Question.TheVariants as questions
 use Rattle.conditions.specs.Words.{Saying, SayAnd, SayOr, SayNot, SayIs, SayNull, SayBool, SayUnknown, SayName, SayNumber, SayText, SayComparison, SayOpen, SayClose}
-use Rattle.conditions.specs.Grammar.{Phrase, InName, InUnknown, InNumber, InText, InBool, InNull, InParentheses, InCompare, InIs, InNot, InAnd, InOr, asking, is_or_is_not, written, tightness, IsBound}
+use Rattle.conditions.specs.Grammar.{Phrase, InName, InUnknown, InNumber, InText, InBool, InNull, InParentheses, InCompare, InIs, InNot, InAnd, InOr, saying_of_question, is_or_is_not, sayings_of, tightness, IsBound}
 use Rattle.conditions.specs.Stacks.{binds, left_of, Word, Joins, Denies, Asks, Opens, Closes, Operand, Stray, Pending, Enclosing, Denying, Joining, wants, completed, State, Wanting, Having, Asking, wanted_by, folded, joins, asks, closes_over, ends_over, step, outcome, run, word_of}
 use Rattle.conditions.specs.Parts.{phrases, leaf_of}
 use Rattle.conditions.proofs.Pieces.{if_true, if_false}
@@ -28,12 +28,12 @@ abbrev before : Items → List Saying → List Saying
 before [] tail = tail
 before (Enclosing ∷ stack) tail = before stack (SayOpen ∷ tail)
 before (Denying ∷ stack) tail = before stack (SayNot ∷ tail)
-before (Joining joint a ∷ stack) tail = before stack (written a ++ said_joint joint ∷ tail)
+before (Joining joint a ∷ stack) tail = before stack (sayings_of a ++ said_joint joint ∷ tail)
 
 abbrev said : State Phrase → List Saying → List Saying
 said (Wanting stack) tail = before stack tail
-said (Having stack a) tail = before stack (written a ++ tail)
-said (Asking stack a negated) tail = before stack (written a ++ (is_or_is_not negated ++ tail))
+said (Having stack a) tail = before stack (sayings_of a ++ tail)
+said (Asking stack a negated) tail = before stack (sayings_of a ++ (is_or_is_not negated ++ tail))
 
 -- what waits will fit where the one below it wants something
 abbrev AreFit : Items → Type 0
@@ -64,7 +64,7 @@ record Completed (item : Pending Phrase) (stack : Items) (a : Phrase) : Type 0 w
   tight : wanted_by stack ≤ tightness (completed phrases item a)
   bound : IsBound (completed phrases item a)
   fit : AreFit stack
-  words : (tail : List Saying) → before stack (written (completed phrases item a) ++ tail) ≡ before (item ∷ stack) (written a ++ tail)
+  words : (tail : List Saying) → before stack (sayings_of (completed phrases item a) ++ tail) ≡ before (item ∷ stack) (sayings_of a ++ tail)
 
 completes : (item : Pending Phrase) (stack : Items) (a : Phrase) → 0 < wants item → wants item ≤ tightness a → IsBound a → AreFit (item ∷ stack) → Completed item stack a
 completes Enclosing stack a some tight bound fit = absurd (omega (arith, some))
@@ -73,19 +73,19 @@ completes (Joining joints.Or b) stack a some tight bound fit = record {
   tight = fit.0;
   bound = (tight, (fit.2.0, bound));
   fit = fit.2.1;
-  words = λ tail. ap (before stack) (append_assoc (written b) (SayOr ∷ written a) tail);
+  words = λ tail. ap (before stack) (append_assoc (sayings_of b) (SayOr ∷ sayings_of a) tail);
 }
 completes (Joining joints.And b) stack a some tight bound fit = record {
   tight = fit.0;
   bound = (fit.1, tight, (fit.2.0, bound));
   fit = fit.2.1;
-  words = λ tail. ap (before stack) (append_assoc (written b) (SayAnd ∷ written a) tail);
+  words = λ tail. ap (before stack) (append_assoc (sayings_of b) (SayAnd ∷ sayings_of a) tail);
 }
 completes (Joining (joints.Comparison how) b) stack a some tight bound fit = record {
   tight = fit.0;
   bound = (fit.1, tight, (fit.2.0, bound));
   fit = fit.2.1;
-  words = λ tail. ap (before stack) (append_assoc (written b) (SayComparison how ∷ written a) tail);
+  words = λ tail. ap (before stack) (append_assoc (sayings_of b) (SayComparison how ∷ sayings_of a) tail);
 }
 
 -- what is left of a stack and a tree behind it, once what waits for a tighter one is completed
@@ -94,7 +94,7 @@ record Folded (use_tight : ℕ) (stack : Items) (a : Phrase) (left : Items) (b :
   stops : wanted_by left ≤ use_tight
   bound : IsBound b
   fit : AreFit left
-  words : (tail : List Saying) → before left (written b ++ tail) ≡ before stack (written a ++ tail)
+  words : (tail : List Saying) → before left (sayings_of b ++ tail) ≡ before stack (sayings_of a ++ tail)
 
 folds : (use_tight : ℕ) (stack : Items) (a : Phrase) → wanted_by stack ≤ tightness a → IsBound a → AreFit stack
     → Folded use_tight stack a (folded phrases use_tight stack a).0 (folded phrases use_tight stack a).1
@@ -121,7 +121,7 @@ Says saying Denies = saying ≡ SayNot
 Says saying Asks = saying ≡ SayIs
 Says saying Opens = saying ≡ SayOpen
 Says saying Closes = saying ≡ SayClose
-Says saying (Operand a question) = (written a ≡ saying ∷ []) × (5 ≤ tightness a) × (IsBound a × MatchOption question (Unit {0}) (λ q. saying ≡ asking q))
+Says saying (Operand a question) = (sayings_of a ≡ saying ∷ []) × (5 ≤ tightness a) × (IsBound a × MatchOption question (Unit {0}) (λ q. saying ≡ saying_of_question q))
 Says saying Stray = ⊥
 
 says : (saying : Saying) → Says saying (word_of leaf_of saying)
@@ -176,7 +176,7 @@ closes_moves stack a (Denying ∷ left) b to all e = absurd cc
 closes_moves stack a (Joining joint c ∷ left) b to all e = absurd cc
 closes_moves stack a (Enclosing ∷ left) b to all e = subst (Moved (Having stack a) SayClose) (some_same (Having left (InParentheses b)) to e) (record {
   fit = (wanted_most left, all.bound, all.fit);
-  words = λ tail. ap (λ (l : List Saying). before left (SayOpen ∷ l)) (append_assoc (written b) (SayClose ∷ []) tail) ∙ all.words (SayClose ∷ tail);
+  words = λ tail. ap (λ (l : List Saying). before left (SayOpen ∷ l)) (append_assoc (sayings_of b) (SayClose ∷ []) tail) ∙ all.words (SayClose ∷ tail);
 })
 
 moves : (from : State Phrase) → IsFit from → (word : Word Phrase) (saying : Saying) → Says saying word → (to : State Phrase) → step phrases from word ≡ Some to → Moved from saying to
@@ -201,10 +201,10 @@ moves (Having stack a) fit word saying says to e = absurd cc
 moves (Asking stack a false) fit Denies saying says to e = subst (λ (s : Saying). Moved (Asking stack a false) s to) (sym says)
     (subst (Moved (Asking stack a false) SayNot) (some_same (Asking stack a true) to e) (record { fit = fit; words = λ tail. refl }))
 moves (Asking stack a negated) fit (Operand b (Some question)) saying says to e = subst (λ (s : Saying). Moved (Asking stack a negated) s to) (sym says.2.1)
-    (subst (Moved (Asking stack a negated) (asking question)) (some_same (Having stack (InIs question negated a)) to e) (record {
+    (subst (Moved (Asking stack a negated) (saying_of_question question)) (some_same (Having stack (InIs question negated a)) to e) (record {
       fit = (fit.0, (fit.1, fit.2.0), fit.2.1);
-      words = λ tail. ap (before stack) (append_assoc (written a) (is_or_is_not negated ++ asking question ∷ []) tail)
-          ∙ ap (λ (l : List Saying). before stack (written a ++ l)) (append_assoc (is_or_is_not negated) (asking question ∷ []) tail);
+      words = λ tail. ap (before stack) (append_assoc (sayings_of a) (is_or_is_not negated ++ saying_of_question question ∷ []) tail)
+          ∙ ap (λ (l : List Saying). before stack (sayings_of a ++ l)) (append_assoc (is_or_is_not negated) (saying_of_question question ∷ []) tail);
     }))
 moves (Asking stack a negated) fit word saying says to e = absurd cc
 
@@ -212,10 +212,10 @@ moves (Asking stack a negated) fit word saying says to e = absurd cc
 
 pub record IsReading (words : List Saying) (phrase : Phrase) : Type 0 where
   pub bound : IsBound phrase
-  pub parts : written phrase ≡ words
+  pub parts : sayings_of phrase ≡ words
 
-ended : (stack : Items) (a : Phrase) (left : Items) (b phrase : Phrase) → Folded 0 stack a left b → ends_over left b ≡ Some phrase → IsReading (before stack (written a ++ [])) phrase
-ended stack a [] b phrase all e = subst (IsReading (before stack (written a ++ []))) (some_same b phrase e) (record { bound = all.bound; parts = sym (append-nil (written b)) ∙ all.words [] })
+ended : (stack : Items) (a : Phrase) (left : Items) (b phrase : Phrase) → Folded 0 stack a left b → ends_over left b ≡ Some phrase → IsReading (before stack (sayings_of a ++ [])) phrase
+ended stack a [] b phrase all e = subst (IsReading (before stack (sayings_of a ++ []))) (some_same b phrase e) (record { bound = all.bound; parts = sym (append-nil (sayings_of b)) ∙ all.words [] })
 ended stack a (item ∷ left) b phrase all e = absurd cc
 
 ends_sound : (state : State Phrase) → IsFit state → (phrase : Phrase) → outcome phrases state ≡ Some phrase → IsReading (said state []) phrase
@@ -290,7 +290,7 @@ opens_as k InNull tight small = omega (arith, small)
 opens_as k (InParentheses a) tight small = omega (arith, small)
 
 abbrev Reads : Phrase → Type 0
-Reads a = (stack : Items) (rest : Sayings) → wanted_by stack ≤ tightness a → uses rest < opening a → reads (Wanting stack) (written a ++ rest) ≡ reads (Having stack a) rest
+Reads a = (stack : Items) (rest : Sayings) → wanted_by stack ≤ tightness a → uses rest < opening a → reads (Wanting stack) (sayings_of a ++ rest) ≡ reads (Having stack a) rest
 
 pair_of : Items → Phrase → Items × Phrase
 pair_of stack a = (stack, a)
@@ -326,7 +326,7 @@ asks_on stack a rest most tight =
     ∙ ap (option_and_then (λ to. reads to rest)) (if_false (nat_lt (tightness a) 4) None (Some (Asking stack a false)) (le-ltb (tightness a) 4 tight))
 
 answers_on : (stack : Items) (a : Phrase) (question : Question) (negated : Bool) (rest : Sayings)
-    → reads (Asking stack a false) ((if negated then (SayNot ∷ []) else []) ++ asking question ∷ rest) ≡ reads (Having stack (InIs question negated a)) rest
+    → reads (Asking stack a false) ((if negated then (SayNot ∷ []) else []) ++ saying_of_question question ∷ rest) ≡ reads (Having stack (InIs question negated a)) rest
 answers_on stack a questions.Null false rest = refl
 answers_on stack a questions.True false rest = refl
 answers_on stack a questions.False false rest = refl
@@ -379,42 +379,42 @@ complete (InBool false) bound stack rest most less = refl
 complete InNull bound stack rest most less = refl
 complete (InParentheses a) bound stack rest most less =
     let opened : 0 < opening a = opens_tighter 0 a (at_least_zero (tightness a)) (lit≤ tt) in
-    moved (Wanting stack) (SayOpen ∷ written a) SayClose [] rest
+    moved (Wanting stack) (SayOpen ∷ sayings_of a) SayClose [] rest
     ∙ complete a bound (Enclosing ∷ stack) (SayClose ∷ rest) (at_least_zero (tightness a)) opened
 complete (InNot a) bound stack rest most less =
-    ap (option_and_then (λ to. reads to (written a ++ rest))) (if_false (nat_lt 2 (wanted_by stack)) None (Some (Wanting (Denying ∷ stack))) (le-ltb 2 (wanted_by stack) most))
+    ap (option_and_then (λ to. reads to (sayings_of a ++ rest))) (if_false (nat_lt 2 (wanted_by stack)) None (Some (Wanting (Denying ∷ stack))) (le-ltb 2 (wanted_by stack) most))
     ∙ complete a bound.1 (Denying ∷ stack) rest bound.0 (omega (arith, less, opens_as 2 a bound.0 (lit≤ tt)))
     ∙ completes_first Denying stack a rest less
 complete (InAnd a b) bound stack rest most less =
-    moved (Wanting stack) (written a) SayAnd (written b) rest
-    ∙ complete a bound.2.0 stack (SayAnd ∷ (written b ++ rest)) (omega (arith, most, bound.0)) (opens_tighter 1 a bound.0 (lit≤ tt))
-    ∙ joins_on joints.And stack a (written b ++ rest) most bound.0
+    moved (Wanting stack) (sayings_of a) SayAnd (sayings_of b) rest
+    ∙ complete a bound.2.0 stack (SayAnd ∷ (sayings_of b ++ rest)) (omega (arith, most, bound.0)) (opens_tighter 1 a bound.0 (lit≤ tt))
+    ∙ joins_on joints.And stack a (sayings_of b ++ rest) most bound.0
     ∙ complete b bound.2.1 (Joining joints.And a ∷ stack) rest bound.1 (omega (arith, less, opens_as 2 b bound.1 (lit≤ tt)))
     ∙ completes_first (Joining joints.And a) stack b rest less
 complete (InOr a b) bound stack rest most less =
-    moved (Wanting stack) (written a) SayOr (written b) rest
-    ∙ complete a bound.1.0 stack (SayOr ∷ (written b ++ rest)) (omega (arith, most)) (opens_tighter 0 a (at_least_zero (tightness a)) (lit≤ tt))
-    ∙ joins_on joints.Or stack a (written b ++ rest) most (at_least_zero (tightness a))
+    moved (Wanting stack) (sayings_of a) SayOr (sayings_of b) rest
+    ∙ complete a bound.1.0 stack (SayOr ∷ (sayings_of b ++ rest)) (omega (arith, most)) (opens_tighter 0 a (at_least_zero (tightness a)) (lit≤ tt))
+    ∙ joins_on joints.Or stack a (sayings_of b ++ rest) most (at_least_zero (tightness a))
     ∙ complete b bound.1.1 (Joining joints.Or a ∷ stack) rest bound.0 (omega (arith, less, opens_as 1 b bound.0 (lit≤ tt)))
     ∙ completes_first (Joining joints.Or a) stack b rest less
 complete (InCompare how a b) bound stack rest most less =
-    moved (Wanting stack) (written a) (SayComparison how) (written b) rest
-    ∙ complete a bound.2.0 stack (SayComparison how ∷ (written b ++ rest)) (omega (arith, most, bound.0)) (rw (opens_all a bound.0) (lit≤ tt))
-    ∙ joins_on (joints.Comparison how) stack a (written b ++ rest) most bound.0
+    moved (Wanting stack) (sayings_of a) (SayComparison how) (sayings_of b) rest
+    ∙ complete a bound.2.0 stack (SayComparison how ∷ (sayings_of b ++ rest)) (omega (arith, most, bound.0)) (rw (opens_all a bound.0) (lit≤ tt))
+    ∙ joins_on (joints.Comparison how) stack a (sayings_of b ++ rest) most bound.0
     ∙ complete b bound.2.1 (Joining (joints.Comparison how) a ∷ stack) rest bound.1 (rw (opens_all b bound.1) less)
     ∙ completes_first (Joining (joints.Comparison how) a) stack b rest less
 complete (InIs question false a) bound stack rest most less =
-    moved (Wanting stack) (written a) SayIs (asking question ∷ []) rest
-    ∙ complete a bound.1 stack (SayIs ∷ (asking question ∷ rest)) (omega (arith, most, bound.0)) (rw (opens_four a bound.0) (lit≤ tt))
-    ∙ asks_on stack a (asking question ∷ rest) most bound.0
+    moved (Wanting stack) (sayings_of a) SayIs (saying_of_question question ∷ []) rest
+    ∙ complete a bound.1 stack (SayIs ∷ (saying_of_question question ∷ rest)) (omega (arith, most, bound.0)) (rw (opens_four a bound.0) (lit≤ tt))
+    ∙ asks_on stack a (saying_of_question question ∷ rest) most bound.0
     ∙ answers_on stack a question false rest
 complete (InIs question true a) bound stack rest most less =
-    moved (Wanting stack) (written a) SayIs (SayNot ∷ asking question ∷ []) rest
-    ∙ complete a bound.1 stack (SayIs ∷ SayNot ∷ (asking question ∷ rest)) (omega (arith, most, bound.0)) (rw (opens_four a bound.0) (lit≤ tt))
-    ∙ asks_on stack a (SayNot ∷ asking question ∷ rest) most bound.0
+    moved (Wanting stack) (sayings_of a) SayIs (SayNot ∷ saying_of_question question ∷ []) rest
+    ∙ complete a bound.1 stack (SayIs ∷ SayNot ∷ (saying_of_question question ∷ rest)) (omega (arith, most, bound.0)) (rw (opens_four a bound.0) (lit≤ tt))
+    ∙ asks_on stack a (SayNot ∷ saying_of_question question ∷ rest) most bound.0
     ∙ answers_on stack a question true rest
 
-pub again : (phrase : Phrase) → IsBound phrase → run phrases (Wanting []) (map (word_of leaf_of) (written phrase)) ≡ Some phrase
+pub again : (phrase : Phrase) → IsBound phrase → run phrases (Wanting []) (map (word_of leaf_of) (sayings_of phrase)) ≡ Some phrase
 again phrase bound =
-    ap (reads (Wanting [])) (sym (append-nil (written phrase)))
+    ap (reads (Wanting [])) (sym (append-nil (sayings_of phrase)))
     ∙ complete phrase bound [] [] (at_least_zero (tightness phrase)) (opens_tighter 0 phrase (at_least_zero (tightness phrase)) (lit≤ tt))

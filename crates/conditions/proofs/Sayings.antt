@@ -4,7 +4,7 @@ use Rattle.std.specs.Prelude.{unwrap_or, option_and_then, option_map}
 use Rattle.tables.specs.declared.column.Column.{Column as TableColumn}
 use Rattle.conditions.specs.declared.token.Token.{Token}
 use Rattle.conditions.specs.Words.{Saying, said_by, said_by_all, with_first}
-use Rattle.conditions.specs.Grammar.{Phrase, written, IsBound}
+use Rattle.conditions.specs.Grammar.{Phrase, sayings_of, IsBound}
 use Rattle.conditions.specs.Stacks.{Word, Stray, State, Wanting, Having, Asking, step, run, word_of, word_said}
 use Rattle.conditions.specs.Parts.{phrases, leaf_of, Grown, parts, grown, word_at, word_said_of}
 use Rattle.conditions.proofs.Phrases.{sound, again}
@@ -63,14 +63,14 @@ reading_of columns tokens = run parts (Wanting []) (map (word_at columns) tokens
 
 pub record IsRead (columns : List TableColumn) (tokens : List Token) (g : Grown) : Type 0 where
   pub phrase : Phrase
-  pub say : said_by_all tokens ≡ Some (written phrase)
+  pub say : said_by_all tokens ≡ Some (sayings_of phrase)
   pub bound : IsBound phrase
   pub is : g ≡ grown columns phrase
 
-pub read_once : (columns : List TableColumn) (tokens : List Token) (phrase : Phrase) → said_by_all tokens ≡ Some (written phrase) → IsBound phrase → reading_of columns tokens ≡ Some (grown columns phrase)
+pub read_once : (columns : List TableColumn) (tokens : List Token) (phrase : Phrase) → said_by_all tokens ≡ Some (sayings_of phrase) → IsBound phrase → reading_of columns tokens ≡ Some (grown columns phrase)
 read_once columns tokens phrase say bound =
-    ap (run parts (Wanting [])) (words_said columns tokens (written phrase) say)
-    ∙ grown_run columns (written phrase) ∙ ap (option_map (grown columns)) (again phrase bound)
+    ap (run parts (Wanting [])) (words_said columns tokens (sayings_of phrase) say)
+    ∙ grown_run columns (sayings_of phrase) ∙ ap (option_map (grown columns)) (again phrase bound)
 
 pub read_found : (columns : List TableColumn) (tokens : List Token) (g : Grown) → reading_of columns tokens ≡ Some g → IsRead columns tokens g
 read_found columns tokens g e =
@@ -88,8 +88,8 @@ read_found columns tokens g e =
         record { phrase = phrase; say = said ∙ ap (λ (l : List Saying). Some l) (sym reading.parts); bound = reading.bound; is = sym (ap (λ o. unwrap_or o g) e) }
 
 -- one list of tokens says one phrase
-pub one_phrase : (tokens : List Token) (a b : Phrase) → said_by_all tokens ≡ Some (written a) → IsBound a → said_by_all tokens ≡ Some (written b) → IsBound b → a ≡ b
+pub one_phrase : (tokens : List Token) (a b : Phrase) → said_by_all tokens ≡ Some (sayings_of a) → IsBound a → said_by_all tokens ≡ Some (sayings_of b) → IsBound b → a ≡ b
 one_phrase tokens a b say bound other fits =
-    let same : written a ≡ written b = same_list (written a) (written b) (sym say ∙ other) in
+    let same : sayings_of a ≡ sayings_of b = same_list (sayings_of a) (sayings_of b) (sym say ∙ other) in
     let runs : Some a ≡ Some b = sym (again a bound) ∙ ap (λ (l : List Saying). run phrases (Wanting []) (map (word_of leaf_of) l)) same ∙ again b fits in
     ap (λ o. unwrap_or o a) runs

@@ -32,29 +32,29 @@ pub data Phrase : Type 0 where
 
 -- ---- how it is written
 
-abbrev pub asking : Question → Saying
-asking questions.Null = SayNull
-asking questions.True = SayBool true
-asking questions.False = SayBool false
-asking questions.Unknown = SayUnknown
+abbrev pub saying_of_question : Question → Saying
+saying_of_question questions.Null = SayNull
+saying_of_question questions.True = SayBool true
+saying_of_question questions.False = SayBool false
+saying_of_question questions.Unknown = SayUnknown
 
 abbrev pub is_or_is_not : Bool → List Saying
 is_or_is_not false = SayIs ∷ []
 is_or_is_not true = SayIs ∷ SayNot ∷ []
 
-abbrev pub written : Phrase → List Saying
-written (InName name) = SayName name ∷ []
-written InUnknown = SayUnknown ∷ []
-written (InNumber n) = SayNumber n ∷ []
-written (InText text) = SayText text ∷ []
-written (InBool b) = SayBool b ∷ []
-written InNull = SayNull ∷ []
-written (InParentheses a) = SayOpen ∷ (written a ++ SayClose ∷ [])
-written (InCompare how a b) = written a ++ SayComparison how ∷ written b
-written (InIs question negated a) = written a ++ (is_or_is_not negated ++ asking question ∷ [])
-written (InNot a) = SayNot ∷ written a
-written (InAnd a b) = written a ++ SayAnd ∷ written b
-written (InOr a b) = written a ++ SayOr ∷ written b
+abbrev pub sayings_of : Phrase → List Saying
+sayings_of (InName name) = SayName name ∷ []
+sayings_of InUnknown = SayUnknown ∷ []
+sayings_of (InNumber n) = SayNumber n ∷ []
+sayings_of (InText text) = SayText text ∷ []
+sayings_of (InBool b) = SayBool b ∷ []
+sayings_of InNull = SayNull ∷ []
+sayings_of (InParentheses a) = SayOpen ∷ (sayings_of a ++ SayClose ∷ [])
+sayings_of (InCompare how a b) = sayings_of a ++ SayComparison how ∷ sayings_of b
+sayings_of (InIs question negated a) = sayings_of a ++ (is_or_is_not negated ++ saying_of_question question ∷ [])
+sayings_of (InNot a) = SayNot ∷ sayings_of a
+sayings_of (InAnd a b) = sayings_of a ++ SayAnd ∷ sayings_of b
+sayings_of (InOr a b) = sayings_of a ++ SayOr ∷ sayings_of b
 
 -- ---- what binds tighter
 
@@ -85,19 +85,19 @@ abbrev pub place_of : List TableColumn → List ℕ → ℕ
 place_of [] name = 0
 place_of (column ∷ columns) name = if bytes_eq column.name name then 0 else suc (place_of columns name)
 
-abbrev pub meant : List TableColumn → Phrase → Condition
-meant columns (InName name) = Column (place_of columns name)
-meant columns InUnknown = Column (place_of columns (codes "unknown"))
-meant columns (InNumber n) = Literal (Number n)
-meant columns (InText text) = Literal (Bytes text)
-meant columns (InBool b) = Literal (Flag b)
-meant columns InNull = Literal Missing
-meant columns (InParentheses a) = meant columns a
-meant columns (InCompare how a b) = Compare how (meant columns a) (meant columns b)
-meant columns (InIs question negated a) = Is question negated (meant columns a)
-meant columns (InNot a) = Not (meant columns a)
-meant columns (InAnd a b) = And (meant columns a) (meant columns b)
-meant columns (InOr a b) = Or (meant columns a) (meant columns b)
+abbrev pub meaning_of : List TableColumn → Phrase → Condition
+meaning_of columns (InName name) = Column (place_of columns name)
+meaning_of columns InUnknown = Column (place_of columns (codes "unknown"))
+meaning_of columns (InNumber n) = Literal (Number n)
+meaning_of columns (InText text) = Literal (Bytes text)
+meaning_of columns (InBool b) = Literal (Flag b)
+meaning_of columns InNull = Literal Missing
+meaning_of columns (InParentheses a) = meaning_of columns a
+meaning_of columns (InCompare how a b) = Compare how (meaning_of columns a) (meaning_of columns b)
+meaning_of columns (InIs question negated a) = Is question negated (meaning_of columns a)
+meaning_of columns (InNot a) = Not (meaning_of columns a)
+meaning_of columns (InAnd a b) = And (meaning_of columns a) (meaning_of columns b)
+meaning_of columns (InOr a b) = Or (meaning_of columns a) (meaning_of columns b)
 
 -- ---- limits
 
@@ -135,7 +135,7 @@ pub record SpellsPhrase (text : List ℕ) (phrase : Phrase) : Type 0 where
   pub short : length text ≤ MOST_BYTES
   pub tokens : List Token
   pub are_spelled : Spells text tokens
-  pub say : said_by_all tokens ≡ Some (written phrase)
+  pub say : said_by_all tokens ≡ Some (sayings_of phrase)
   pub bound : IsBound phrase
 
 -- The text is within the limits, and means this condition over these columns.
@@ -144,7 +144,7 @@ pub record SpellsCondition (columns : List TableColumn) (text : List ℕ) (condi
   pub spells : SpellsPhrase text phrase
   pub in_range : IsInRange phrase
   pub flat : levels phrase ≤ MOST_LEVELS
-  pub is_meant : condition ≡ meant columns phrase
+  pub is_meant : condition ≡ meaning_of columns phrase
 
 -- The text spells this filter of the table.
 pub record SpellsFilter (table : Table) (text : List ℕ) (condition : Condition) : Type 0 where

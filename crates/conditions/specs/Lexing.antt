@@ -37,9 +37,9 @@ quoted_at true quote [] = Some ([], [])
 quoted_at false quote (b ∷ bytes) = if b == quote then quoted_at true quote bytes else in_front (b ∷ []) (quoted_at false quote bytes)
 quoted_at true quote (b ∷ bytes) = if b == quote then in_front (b ∷ []) (quoted_at false quote bytes) else Some ([], b ∷ bytes)
 
-abbrev pub closed : (List ℕ → Token) → Option (List ℕ × List ℕ) → Token × List ℕ
-closed make None = (Stray, [])
-closed make (Some found) = (make found.0, found.1)
+abbrev pub closed_token : (List ℕ → Token) → Option (List ℕ × List ℕ) → Token × List ℕ
+closed_token make None = (Stray, [])
+closed_token make (Some found) = (make found.0, found.1)
 
 -- the digits behind a minus
 abbrev pub signed_at : List ℕ → Token × List ℕ
@@ -54,8 +54,8 @@ mark_at b (c ∷ bytes) = if is_pair b c then (Pair b c, bytes) else one_mark b 
 
 abbrev pub token_behind : ℕ → List ℕ → Token × List ℕ
 token_behind b bytes =
-    if b == NAME_QUOTE then closed (λ n. Quoted n) (quoted_at false NAME_QUOTE bytes)
-    else if b == TEXT_QUOTE then closed (λ t. Text t) (quoted_at false TEXT_QUOTE bytes)
+    if b == NAME_QUOTE then closed_token (λ n. Quoted n) (quoted_at false NAME_QUOTE bytes)
+    else if b == TEXT_QUOTE then closed_token (λ t. Text t) (quoted_at false TEXT_QUOTE bytes)
     else if is_first b then (Word (run_of classes.Later (b ∷ bytes)), after_run classes.Later (b ∷ bytes))
     else if is_ascii_digit b then (Number (run_of classes.Digit (b ∷ bytes)), after_run classes.Digit (b ∷ bytes))
     else if b == MINUS then signed_at bytes

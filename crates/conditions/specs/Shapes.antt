@@ -27,23 +27,23 @@ shape (expressions.And' p a q b) = And (shape a) (shape b)
 shape (expressions.Or' p a q b) = Or (shape a) (shape b)
 
 -- the value of an operand, whose text is lent
-abbrev pub seen : Operand → Datum
-seen operands.Null = Missing
-seen (operands.Bool b) = Flag b
-seen (operands.Number n) = Number n
-seen (operands.Text text) = Bytes text.now
-seen (operands.Uuid n) = Uuid n
+abbrev pub datum_of_operand : Operand → Datum
+datum_of_operand operands.Null = Missing
+datum_of_operand (operands.Bool b) = Flag b
+datum_of_operand (operands.Number n) = Number n
+datum_of_operand (operands.Text text) = Bytes text.now
+datum_of_operand (operands.Uuid n) = Uuid n
 
 -- a place behind others, unless it is there
 abbrev pub with_place : ℕ → List ℕ → List ℕ
 with_place place places = if list_any (λ p. p == place) places then places else places ++ place ∷ []
 
 -- the places that a condition names, in the order of its text, behind others
-abbrev pub gathered : Condition → List ℕ → List ℕ
-gathered (Column place) places = with_place place places
-gathered (Literal value) places = places
-gathered (Compare how a b) places = gathered b (gathered a places)
-gathered (Is question negated a) places = gathered a places
-gathered (Not a) places = gathered a places
-gathered (And a b) places = gathered b (gathered a places)
-gathered (Or a b) places = gathered b (gathered a places)
+abbrev pub with_places_of : Condition → List ℕ → List ℕ
+with_places_of (Column place) places = with_place place places
+with_places_of (Literal value) places = places
+with_places_of (Compare how a b) places = with_places_of b (with_places_of a places)
+with_places_of (Is question negated a) places = with_places_of a places
+with_places_of (Not a) places = with_places_of a places
+with_places_of (And a b) places = with_places_of b (with_places_of a places)
+with_places_of (Or a b) places = with_places_of b (with_places_of a places)

@@ -28,18 +28,18 @@ abbrev pub is_pair : ℕ → ℕ → Bool
 is_pair b c = (b == 60 && c == 62) || ((b == 33 && c == 61) || ((b == 60 && c == 61) || (b == 62 && c == 61)))
 
 -- the text between quotes: a quote that is meant stands twice
-abbrev pub doubled : ℕ → List ℕ → List ℕ
-doubled quote [] = []
-doubled quote (b ∷ bytes) = if b == quote then b ∷ b ∷ doubled quote bytes else b ∷ doubled quote bytes
+abbrev pub with_doubled_quotes : ℕ → List ℕ → List ℕ
+with_doubled_quotes quote [] = []
+with_doubled_quotes quote (b ∷ bytes) = if b == quote then b ∷ b ∷ with_doubled_quotes quote bytes else b ∷ with_doubled_quotes quote bytes
 
-abbrev pub spelled : Token → List ℕ
-spelled (Word w) = w
-spelled (Number w) = w
-spelled (Quoted n) = NAME_QUOTE ∷ (doubled NAME_QUOTE n ++ NAME_QUOTE ∷ [])
-spelled (Text t) = TEXT_QUOTE ∷ (doubled TEXT_QUOTE t ++ TEXT_QUOTE ∷ [])
-spelled (Mark b) = b ∷ []
-spelled (Pair b c) = b ∷ c ∷ []
-spelled Stray = []
+abbrev pub spelling_of_token : Token → List ℕ
+spelling_of_token (Word w) = w
+spelling_of_token (Number w) = w
+spelling_of_token (Quoted n) = NAME_QUOTE ∷ (with_doubled_quotes NAME_QUOTE n ++ NAME_QUOTE ∷ [])
+spelling_of_token (Text t) = TEXT_QUOTE ∷ (with_doubled_quotes TEXT_QUOTE t ++ TEXT_QUOTE ∷ [])
+spelling_of_token (Mark b) = b ∷ []
+spelling_of_token (Pair b c) = b ∷ c ∷ []
+spelling_of_token Stray = []
 
 abbrev pub Each : (ℕ → Bool) → List ℕ → Type 0
 Each is bytes = AllByRecursion (λ b. is b ≡ true) bytes
@@ -72,7 +72,7 @@ IsWhole Stray rest = ⊥
 pub record StartsWith (text : List ℕ) (token : Token) (rest : List ℕ) : Type 0 where
   pub blanks : List ℕ
   pub are_blank : Each is_blank blanks
-  pub parts : text ≡ blanks ++ (spelled token ++ rest)
+  pub parts : text ≡ blanks ++ (spelling_of_token token ++ rest)
   pub whole : IsWhole token rest
 
 -- The whole text spells these tokens, with blanks round them.

@@ -75,16 +75,16 @@ abbrev pub compared_by : Comparison → Option Ordering → Truth
 compared_by how None = Unknown
 compared_by how (Some order) = certain (holds how order)
 
-abbrev pub compared : Comparison → Datum → Datum → Truth
-compared how a b = compared_by how (ordering_of a b)
+abbrev pub truth_of_comparison : Comparison → Datum → Datum → Truth
+truth_of_comparison how a b = compared_by how (ordering_of a b)
 
 -- IS is never unknown.
-abbrev pub asked : Question → Datum → Bool
-asked questions.Null Missing = true
-asked questions.Unknown Missing = true
-asked questions.True (Flag b) = b
-asked questions.False (Flag b) = not b
-asked _ _ = false
+abbrev pub answer_to_question : Question → Datum → Bool
+answer_to_question questions.Null Missing = true
+answer_to_question questions.Unknown Missing = true
+answer_to_question questions.True (Flag b) = b
+answer_to_question questions.False (Flag b) = not b
+answer_to_question _ _ = false
 
 abbrev pub negated_if : Bool → Bool → Bool
 negated_if false b = b
@@ -100,8 +100,8 @@ datum_at (Some value) = datum_of value
 abbrev pub value_in : List Value → Condition → Datum
 value_in row (Column place) = datum_at (slice_get row place)
 value_in row (Literal datum) = datum
-value_in row (Compare how a b) = datum_of_truth (compared how (value_in row a) (value_in row b))
-value_in row (Is question negated a) = Flag (negated_if negated (asked question (value_in row a)))
+value_in row (Compare how a b) = datum_of_truth (truth_of_comparison how (value_in row a) (value_in row b))
+value_in row (Is question negated a) = Flag (negated_if negated (answer_to_question question (value_in row a)))
 value_in row (Not a) = datum_of_truth (opposite (truth_of (value_in row a)))
 value_in row (And a b) = datum_of_truth (both (truth_of (value_in row a)) (truth_of (value_in row b)))
 value_in row (Or a b) = datum_of_truth (either (truth_of (value_in row a)) (truth_of (value_in row b)))

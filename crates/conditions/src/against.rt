@@ -4,7 +4,7 @@ ghost use Rattle.std.specs.Prelude.{◌≡◌, slice_get};
 ghost use Rattle.conditions.specs.Shapes.{literal_datum};
 ghost use Rattle.tables.specs.Kinds.{value_of};
 ghost use Rattle.conditions.specs.Kinds.{datum_of};
-ghost use Rattle.conditions.specs.Truth.{compared, datum_at};
+ghost use Rattle.conditions.specs.Truth.{datum_at, truth_of_comparison};
 
 use crate::comparison::Comparison;
 use crate::kinds::{number_against, text_against};
@@ -21,7 +21,7 @@ pub(crate) fn column_against(
     literal: &Literal,
 ) -> Truth
     ensures { result
-        ≡ compared how (datum_at (slice_get row.now place)) (literal_datum literal.now) }
+        ≡ truth_of_comparison how (datum_at (slice_get row.now place)) (literal_datum literal.now) }
 {
     match row.get(place) {
         Some(value) => value_against(how, value, literal),
@@ -30,7 +30,8 @@ pub(crate) fn column_against(
 }
 
 fn value_against(how: Comparison, value: ValueRef<'_>, literal: &Literal) -> Truth
-    ensures { result ≡ compared how (datum_of (value_of value.entry)) (literal_datum literal.now) }
+    ensures { result
+        ≡ truth_of_comparison how (datum_of (value_of value.entry)) (literal_datum literal.now) }
 {
     match literal {
         Literal::Number(number) => number_against(how, value, *number),

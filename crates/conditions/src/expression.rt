@@ -1,10 +1,10 @@
 //! A condition as a tree, and what it is in a row.
 
 ghost use Rattle.std.specs.Prelude.{◌≡◌, IfOk, OnOk};
-ghost use Rattle.conditions.specs.Truth.{compared, is_true, truth as truth_in, value_in};
+ghost use Rattle.conditions.specs.Truth.{is_true, truth as truth_in, truth_of_comparison, value_in};
 ghost use Rattle.conditions.specs.Conditions.{names};
 ghost use Rattle.conditions.specs.Kinds.{are_known, sort_of};
-ghost use Rattle.conditions.specs.Shapes.{gathered, literal_datum, seen, shape};
+ghost use Rattle.conditions.specs.Shapes.{datum_of_operand, literal_datum, shape, with_places_of};
 
 use crate::against::column_against;
 use crate::comparison::Comparison;
@@ -59,7 +59,7 @@ impl Expression {
 
     /// What it is in the row.
     pub(crate) fn evaluate<'a>(&'a self, row: &RowRef<'a>) -> Operand<'a>
-        ensures { seen result ≡ value_in row.now (shape self.now) }
+        ensures { datum_of_operand result ≡ value_in row.now (shape self.now) }
     {
         match self {
             Expression::Column(place) => match row.get(*place) {
@@ -130,7 +130,8 @@ impl Expression {
     /// How it compares with the literal in the row.
     fn against(&self, how: Comparison, literal: &Literal, row: &RowRef<'_>) -> Truth
         ensures { result
-            ≡ compared how (value_in row.now (shape self.now)) (literal_datum literal.now) }
+            ≡ truth_of_comparison how (value_in row.now (shape self.now))
+            (literal_datum literal.now) }
     {
         match self {
             Expression::Column(place) => column_against(how, row, *place, literal),
@@ -142,7 +143,7 @@ impl Expression {
 
     /// The same as `evaluate`, where it's mostly a column or a literal.
     fn operand<'a>(&'a self, row: &RowRef<'a>) -> Operand<'a>
-        ensures { seen result ≡ value_in row.now (shape self.now) }
+        ensures { datum_of_operand result ≡ value_in row.now (shape self.now) }
     {
         match self {
             Expression::Column(place) => match row.get(*place) {
@@ -156,7 +157,8 @@ impl Expression {
 
     /// Adds the columns that it names and that aren't there yet.
     pub fn gather(&self, columns: &mut Vec<usize>) -> Result<(), AllocError>
-        ensures { OnOk result (columns.new.items ≡ gathered (shape self.now) columns.old.items) }
+        ensures { OnOk result
+            (columns.new.items ≡ with_places_of (shape self.now) columns.old.items) }
     {
         match self {
             Expression::Column(place) => {

@@ -4,8 +4,8 @@ ghost use Rattle.std.specs.Prelude.{◌≡◌};
 ghost use Rattle.tables.specs.Kinds.{value_of};
 ghost use Rattle.conditions.specs.Conditions.{Bytes, Number};
 ghost use Rattle.conditions.specs.Kinds.{datum_of, sort_of_kind};
-ghost use Rattle.conditions.specs.Shapes.{seen};
-ghost use Rattle.conditions.specs.Truth.{compared};
+ghost use Rattle.conditions.specs.Shapes.{datum_of_operand};
+ghost use Rattle.conditions.specs.Truth.{truth_of_comparison};
 
 use crate::comparison::Comparison;
 use crate::operand::Operand;
@@ -28,7 +28,7 @@ impl Sort {
 
 impl<'a> Operand<'a> {
     pub(crate) fn of_value(value: ValueRef<'a>) -> Operand<'a>
-        ensures { seen result ≡ datum_of (value_of value.entry) }
+        ensures { datum_of_operand result ≡ datum_of (value_of value.entry) }
     {
         match value {
             ValueRef::Null => Operand::Null,
@@ -43,7 +43,7 @@ impl<'a> Operand<'a> {
 }
 
 pub(crate) fn number_against(how: Comparison, value: ValueRef<'_>, number: i64) -> Truth
-    ensures { result ≡ compared how (datum_of (value_of value.entry)) (Number number) }
+    ensures { result ≡ truth_of_comparison how (datum_of (value_of value.entry)) (Number number) }
 {
     match value {
         ValueRef::Int2(n) => Truth::of(how.holds(i64::from(n).cmp(&number))),
@@ -54,7 +54,7 @@ pub(crate) fn number_against(how: Comparison, value: ValueRef<'_>, number: i64) 
 }
 
 pub(crate) fn text_against(how: Comparison, value: ValueRef<'_>, text: &[u8]) -> Truth
-    ensures { result ≡ compared how (datum_of (value_of value.entry)) (Bytes text.now) }
+    ensures { result ≡ truth_of_comparison how (datum_of (value_of value.entry)) (Bytes text.now) }
 {
     match value {
         ValueRef::Text(value) => Truth::of(how.holds(value.cmp(text))),

@@ -9,7 +9,7 @@ ghost use Rattle.conditions.specs.declared.fault.FilterFault.TheVariants.{Memory
 ghost use Rattle.conditions.specs.declared.token.TheConstants.{NAME_QUOTE, TEXT_QUOTE};
 ghost use Rattle.conditions.specs.declared.class.Class.TheVariants as classes;
 ghost use Rattle.conditions.specs.Tokens.{Spells, begins, is_first, is_mark, is_pair};
-ghost use Rattle.conditions.specs.Lexing.{GivesTokens, is_stray, Lexes, after_run, closed, in_front, lent, lent_token, mark_at, one_mark, quoted_at, run_of, signed_at, token_at, token_behind, token_from};
+ghost use Rattle.conditions.specs.Lexing.{GivesTokens, is_stray, Lexes, after_run, closed_token, in_front, lent, lent_token, mark_at, one_mark, quoted_at, run_of, signed_at, token_at, token_behind, token_from};
 
 use crate::class::Class;
 use crate::fault::FilterFault;
@@ -115,7 +115,7 @@ fn quoted_bytes(
 /// The token of a name in quotes, where its first quote was read.
 fn quoted_name(alloc: Global, text: &[u8]) -> Result<(Token, &[u8]), AllocError>
     ensures { IfOk result
-        (λ x. lent_token x ≡ closed (λ n. Quoted n) (quoted_at false NAME_QUOTE text.now)) }
+        (λ x. lent_token x ≡ closed_token (λ n. Quoted n) (quoted_at false NAME_QUOTE text.now)) }
 {
     let Some((bytes, rest)) = quoted_bytes(alloc, NAME_QUOTE, text)? else {
         return Ok((Token::Stray, nothing_of(text)));
@@ -126,7 +126,7 @@ fn quoted_name(alloc: Global, text: &[u8]) -> Result<(Token, &[u8]), AllocError>
 /// The token of a text in quotes, where its first quote was read.
 fn quoted_text(alloc: Global, text: &[u8]) -> Result<(Token, &[u8]), AllocError>
     ensures { IfOk result
-        (λ x. lent_token x ≡ closed (λ t. Text t) (quoted_at false TEXT_QUOTE text.now)) }
+        (λ x. lent_token x ≡ closed_token (λ t. Text t) (quoted_at false TEXT_QUOTE text.now)) }
 {
     let Some((bytes, rest)) = quoted_bytes(alloc, TEXT_QUOTE, text)? else {
         return Ok((Token::Stray, nothing_of(text)));

@@ -1,8 +1,8 @@
 //! What an operand of a condition is in a row.
 
 ghost use Rattle.std.specs.Prelude.{◌≡◌, option_map};
-ghost use Rattle.conditions.specs.Truth.{asked, compared, datum_of_truth, ordering_of, truth_of};
-ghost use Rattle.conditions.specs.Shapes.{literal_datum, seen};
+ghost use Rattle.conditions.specs.Truth.{answer_to_question, datum_of_truth, ordering_of, truth_of, truth_of_comparison};
+ghost use Rattle.conditions.specs.Shapes.{datum_of_operand, literal_datum};
 
 use crate::comparison::Comparison;
 use crate::literal::Literal;
@@ -23,7 +23,7 @@ pub(crate) enum Operand<'a> {
 
 impl<'a> Operand<'a> {
     pub(crate) fn of_literal(literal: &'a Literal) -> Operand<'a>
-        ensures { seen result ≡ literal_datum literal.now }
+        ensures { datum_of_operand result ≡ literal_datum literal.now }
     {
         match literal {
             Literal::Null => Operand::Null,
@@ -34,7 +34,7 @@ impl<'a> Operand<'a> {
     }
 
     pub(crate) fn of_truth(truth: Truth) -> Operand<'a>
-        ensures { seen result ≡ datum_of_truth truth }
+        ensures { datum_of_operand result ≡ datum_of_truth truth }
     {
         match truth {
             Truth::True => Operand::Bool(true),
@@ -44,7 +44,7 @@ impl<'a> Operand<'a> {
     }
 
     pub(crate) fn truth(self) -> Truth
-        ensures { result ≡ truth_of (seen self.entry) }
+        ensures { result ≡ truth_of (datum_of_operand self.entry) }
     {
         match self {
             Operand::Bool(holds) => Truth::of(holds),
@@ -54,7 +54,8 @@ impl<'a> Operand<'a> {
 
     /// How the two stand to each other; None where one is null, or they are of kinds that aren't compared.
     fn order(self, other: Operand<'a>) -> Option<Ordering>
-        ensures { result ≡ ordering_of (seen self.entry) (seen other.entry) }
+        ensures { result
+            ≡ ordering_of (datum_of_operand self.entry) (datum_of_operand other.entry) }
     {
         match (self, other) {
             (Operand::Bool(a), Operand::Bool(b)) => Some(a.cmp(&b)),
@@ -68,7 +69,8 @@ impl<'a> Operand<'a> {
     }
 
     pub(crate) fn compared(self, how: Comparison, other: Operand<'a>) -> Truth
-        ensures { result ≡ compared how (seen self.entry) (seen other.entry) }
+        ensures { result
+            ≡ truth_of_comparison how (datum_of_operand self.entry) (datum_of_operand other.entry) }
     {
         match self.order(other) {
             Some(order) => Truth::of(how.holds(order)),
@@ -78,7 +80,7 @@ impl<'a> Operand<'a> {
 
     /// The answer to what IS asks of it, which is never unknown.
     pub(crate) fn is(self, question: Question) -> bool
-        ensures { result ≡ asked question (seen self.entry) }
+        ensures { result ≡ answer_to_question question (datum_of_operand self.entry) }
     {
         match (question, self) {
             (Question::Null | Question::Unknown, Operand::Null) => true,

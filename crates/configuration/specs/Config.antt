@@ -7,7 +7,7 @@ use Rattle.pqformat.specs.Steps.{◌>>=◌}
 use Rattle.tables.specs.declared.table.Table.{Table}
 use Rattle.tables.specs.declared.config_fault.Misfit.{Misfit}
 use Rattle.tables.specs.declared.config_fault.CatalogFault.TheVariants as catalog_faults
-use Rattle.tables.specs.Config.{and_then, told, tables_in, document_of}
+use Rattle.tables.specs.Config.{and_then, told_member, tables_in, document_of}
 use Rattle.txlog.specs.declared.limits.TheConstants.{MAX_RECORDS}
 use Rattle.publication_config.specs.declared.fault.PubFault.{PubFault}
 use Rattle.publication_config.specs.declared.fault.PubFault.TheVariants as pubs
@@ -57,9 +57,9 @@ is_of_server name = bytes_eq name (codes "systemid") || (bytes_eq name (codes "r
 
 unfoldable pub server_in : Data → Result Server ServerMisfit
 server_in d = do
-  systemid ← told misfits.Systemid (codes "systemid") (text_in MAX_SYSTEMID) d
-  records ← told misfits.Records (codes "records") (number_in MAX_RECORDS) d
-  chunks ← told misfits.Chunks (codes "chunks") (number_in MAX_CHUNKS) d
+  systemid ← told_member misfits.Systemid (codes "systemid") (text_in MAX_SYSTEMID) d
+  records ← told_member misfits.Records (codes "records") (number_in MAX_RECORDS) d
+  chunks ← told_member misfits.Chunks (codes "chunks") (number_in MAX_CHUNKS) d
   if has_another_in is_of_server (as_table d) then Err misfits.Other
       else Ok (record { systemid = systemid; records = records; chunks = chunks })
 

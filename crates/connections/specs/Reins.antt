@@ -5,16 +5,16 @@ use Rattle.connections.specs.declared.reins.Rein.{Rein}
 use Rattle.connections.specs.declared.reins.Rein.TheVariants as reins
 
 -- each word changes what it names, and nothing else
-abbrev pub steered : Reins → Rein → Reins
-steered old reins.Hold = record old { is_held = true }
-steered old reins.LetGo = record old { is_held = false }
-steered old reins.Ask = record old { asks = true }
-steered old (reins.Cut bytes) = record old { cut_behind = Some bytes }
+abbrev pub reins_after : Reins → Rein → Reins
+reins_after old reins.Hold = record old { is_held = true }
+reins_after old reins.LetGo = record old { is_held = false }
+reins_after old reins.Ask = record old { asks = true }
+reins_after old (reins.Cut bytes) = record old { cut_behind = Some bytes }
 
 -- how many of so many bytes pass
-abbrev pub passing : Option ℕ → ℕ → ℕ
-passing None count = count
-passing (Some left) count = min left count
+abbrev pub count_that_passes : Option ℕ → ℕ → ℕ
+count_that_passes None count = count
+count_that_passes (Some left) count = min left count
 
 -- how many are left to pass behind so many
 abbrev pub left_behind : Option ℕ → ℕ → Option ℕ

@@ -1,7 +1,7 @@
 //! How a stream is steered on purpose, as a test of its client needs it.
 
 ghost use Rattle.std.specs.Prelude.{◌≡◌, ◌≤◌, ◌↔◌, Some, None, false, true};
-ghost use Rattle.connections.specs.Reins.{left_behind, passing, steered};
+ghost use Rattle.connections.specs.Reins.{count_that_passes, left_behind, reins_after};
 
 use std::mem;
 
@@ -41,7 +41,7 @@ impl Reins {
     }
 
     pub fn steer(&mut self, rein: Rein)
-        ensures { self.new ≡ steered self.old rein }
+        ensures { self.new ≡ reins_after self.old rein }
     {
         match rein {
             Rein::Hold => self.is_held = true,
@@ -67,7 +67,7 @@ impl Reins {
 
     /// How many of so many bytes pass before a cut.
     pub fn passing(&self, count: usize) -> usize
-        ensures passing { result ≡ passing self.now.cut_behind count }
+        ensures passing { result ≡ count_that_passes self.now.cut_behind count }
         ensures few { result ≤ count }
     {
         match self.cut_behind {

@@ -19,7 +19,7 @@ use Rattle.copyboth.specs.declared.fault.CopyFault.TheVariants.{Short, UnknownKi
 use Rattle.copyboth.specs.XLogData.{XLogDataBody, xlogdata}
 use Rattle.copyboth.specs.Server.{SpellsServer, SpellsXLogData, SpellsKeepalive}
 use Rattle.copyboth.specs.Status.{SpellsStatus, status_with}
-use Rattle.copyboth.specs.Reading.{int64_at, ask_at, ended, xlogdata_at, keepalive_at, status_at, server_at, client_at}
+use Rattle.copyboth.specs.Reading.{int64_at, ask_at, nothing_left, xlogdata_at, keepalive_at, status_at, server_at, client_at}
 
 -- ---- XLogData
 
@@ -48,7 +48,7 @@ data_takes rest m fits e =
 
 -- ---- the last byte
 
-ask_takes : {X : Type 0} (rest : List ℕ) (make : Bool → X) (x : X) → (ask_at rest >>= λ ask. ended ask.1 >>= λ done. Ok (make ask.0)) ≡ Ok x
+ask_takes : {X : Type 0} (rest : List ℕ) (make : Bool → X) (x : X) → (ask_at rest >>= λ ask. nothing_left ask.1 >>= λ done. Ok (make ask.0)) ≡ Ok x
     → (b : ℕ) × (rest ≡ b ∷ []) × (make (eqb b ASKS) ≡ x)
 ask_takes [] make x e = absurd cc
 ask_takes (b ∷ []) make x e = (b, refl, ok_is CopyFault (make (eqb b ASKS)) x e)
@@ -60,7 +60,7 @@ abbrev keepalive_made : ℕ → ℤ → Bool → Keepalive
 keepalive_made end clock ask = record { end = end; clock = clock; ask = ask }
 
 abbrev keepalive_ask : ℕ → ℤ × List ℕ → Result Keepalive CopyFault
-keepalive_ask end clock = ask_at clock.1 >>= λ ask. ended ask.1 >>= λ done. Ok (keepalive_made end clock.0 ask.0)
+keepalive_ask end clock = ask_at clock.1 >>= λ ask. nothing_left ask.1 >>= λ done. Ok (keepalive_made end clock.0 ask.0)
 
 abbrev keepalive_clock : ℕ × List ℕ → Result Keepalive CopyFault
 keepalive_clock end = signed_at Short w64 end.1 >>= keepalive_ask end.0
@@ -83,7 +83,7 @@ abbrev status_made : ℕ → ℕ → ℕ → ℤ → Bool → Status
 status_made written flushed applied clock ask = record { written = written; flushed = flushed; applied = applied; clock = clock; ask = ask }
 
 abbrev status_ask : ℕ → ℕ → ℕ → ℤ × List ℕ → Result Status CopyFault
-status_ask written flushed applied clock = ask_at clock.1 >>= λ ask. ended ask.1 >>= λ done. Ok (status_made written flushed applied clock.0 ask.0)
+status_ask written flushed applied clock = ask_at clock.1 >>= λ ask. nothing_left ask.1 >>= λ done. Ok (status_made written flushed applied clock.0 ask.0)
 
 abbrev status_clock : ℕ → ℕ → ℕ × List ℕ → Result Status CopyFault
 status_clock written flushed applied = signed_at Short w64 applied.1 >>= status_ask written flushed applied.0

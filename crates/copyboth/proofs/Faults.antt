@@ -18,7 +18,7 @@ use Rattle.copyboth.specs.declared.fault.CopyFault.TheVariants.{Short, UnknownKi
 use Rattle.copyboth.specs.XLogData.{XLogDataBody}
 use Rattle.copyboth.specs.Server.{at_least, exactly, server_fault}
 use Rattle.copyboth.specs.Status.{client_fault}
-use Rattle.copyboth.specs.Reading.{FaultIs, int64_at, ask_at, ended, xlogdata_at, keepalive_at, status_at, server_at, client_at}
+use Rattle.copyboth.specs.Reading.{FaultIs, int64_at, ask_at, nothing_left, xlogdata_at, keepalive_at, status_at, server_at, client_at}
 
 -- ---- what is due, behind a number
 
@@ -69,7 +69,7 @@ signed_fault {X} bytes k fault after = by_test (ltb (length bytes) 8)
     by_test false = after (cast_signed w64 (from_be_bytes w64 (take 8 bytes)))
 
 -- the last byte, and nothing behind it
-ask_fault : {X : Type 0} (bytes : List ℕ) (make : Bool → X) → FaultIs (ask_at bytes >>= λ ask. ended ask.1 >>= λ done. Ok (make ask.0)) (exactly 1 bytes)
+ask_fault : {X : Type 0} (bytes : List ℕ) (make : Bool → X) → FaultIs (ask_at bytes >>= λ ask. nothing_left ask.1 >>= λ done. Ok (make ask.0)) (exactly 1 bytes)
 ask_fault [] make = refl
 ask_fault (b ∷ []) make = refl
 ask_fault (b ∷ c ∷ rest) make = rw (le-ltb (length (b ∷ c ∷ rest)) 1 (omega arith), lt-ltb 1 (length (b ∷ c ∷ rest)) (omega arith)) refl

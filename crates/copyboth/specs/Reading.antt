@@ -31,9 +31,9 @@ int64_at bytes = ok_or (number_at w64 bytes) Short
 abbrev pub ask_at : List ℕ → Result (Bool × List ℕ) CopyFault
 ask_at bytes = ok_or (byte_at bytes) Short >>= λ b. Ok (b.0 == ASKS, b.1)
 
-abbrev pub ended : List ℕ → Result (Unit {0}) CopyFault
-ended [] = Ok tt
-ended (b ∷ rest) = Err Trailing
+abbrev pub nothing_left : List ℕ → Result (Unit {0}) CopyFault
+nothing_left [] = Ok tt
+nothing_left (b ∷ rest) = Err Trailing
 
 abbrev pub xlogdata_at : List ℕ → Result XLogDataBody CopyFault
 xlogdata_at bytes = do
@@ -47,7 +47,7 @@ keepalive_at bytes = do
   end ← int64_at bytes
   clock ← signed_at Short w64 end.1
   ask ← ask_at clock.1
-  done ← ended ask.1
+  done ← nothing_left ask.1
   Ok (record { end = end.0; clock = clock.0; ask = ask.0 })
 
 abbrev pub status_at : List ℕ → Result Status CopyFault
@@ -57,7 +57,7 @@ status_at bytes = do
   applied ← int64_at flushed.1
   clock ← signed_at Short w64 applied.1
   ask ← ask_at clock.1
-  done ← ended ask.1
+  done ← nothing_left ask.1
   Ok (record { written = written.0; flushed = flushed.0; applied = applied.0; clock = clock.0; ask = ask.0 })
 
 abbrev pub server_at : List ℕ → Result ServerBody CopyFault

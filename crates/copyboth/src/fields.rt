@@ -2,7 +2,7 @@
 
 ghost use Rattle.std.specs.Int.{w64};
 ghost use Rattle.pqformat.specs.Steps.{signed_at};
-ghost use Rattle.copyboth.specs.Reading.{Gives, ask_at, ended, int64_at};
+ghost use Rattle.copyboth.specs.Reading.{Gives, ask_at, int64_at, nothing_left};
 ghost use Rattle.copyboth.specs.declared.fault.CopyFault.TheVariants.{Short};
 ghost use Rattle.std.specs.Prelude.{◌≡◌};
 
@@ -33,7 +33,7 @@ pub(crate) fn ask_of(cursor: &mut Cursor<'_>) -> Result<bool, CopyFault>
 
 /// Nothing may stand behind a body.
 pub(crate) fn end_of(cursor: &Cursor<'_>) -> Result<(), CopyFault>
-    ensures { result ≡ ended cursor.now }
+    ensures { result ≡ nothing_left cursor.now }
 {
     if cursor.rest().is_empty() {
         Ok(())

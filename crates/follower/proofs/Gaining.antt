@@ -17,7 +17,7 @@ use Rattle.stream.specs.declared.word.Keepalive.{Keepalive}
 use Rattle.stream.specs.declared.published.Published.{Published}
 use Rattle.client.specs.declared.fault.ClientFault.{ClientFault}
 use Rattle.client.specs.declared.fault.ClientFault.TheVariants as faults
-use Rattle.client.specs.Subscriber.{Subscriber, HalfTransaction, judged, begun, tell, told, changed, committed, finished, kept_alive, with_change, note_of, noted, heard, transaction_of, after_message, after_word, after_words}
+use Rattle.client.specs.Subscriber.{Subscriber, HalfTransaction, judgement_of_change, after_begin, tables_with_relation, after_relation, after_change, after_commit, after_transaction, after_keepalive, with_change, note_of, after_note, after_logical_message, transaction_of, after_message, after_word, after_words}
 use Rattle.client.specs.Taking.{ApplierState, Reached, Takes, TakesFrom}
 use Rattle.follower.specs.Once.{EachOnce, Gains}
 
@@ -53,21 +53,21 @@ done s = Ok s
 gains_same : (s u t : Subscriber) → done u ≡ done t → u.applied ≡ s.applied → s.position ≤ u.position → Gains s t
 gains_same s u t is same more = subst (λ (v : Subscriber). Gains s v) (ok_is ClientFault u t is) (gains_none s u same more)
 
-gains_keepalive : (half : Option HalfTransaction) (s : Subscriber) (k : Keepalive) → Gains s (kept_alive half s k)
-gains_keepalive None s k = gains_none s (kept_alive None s k) refl (omega arith)
+gains_keepalive : (half : Option HalfTransaction) (s : Subscriber) (k : Keepalive) → Gains s (after_keepalive half s k)
+gains_keepalive None s k = gains_none s (after_keepalive None s k) refl (omega arith)
 gains_keepalive (Some half) s k = gains_nothing s
 
-gains_begin : (half : Option HalfTransaction) (s t : Subscriber) (m : Begin) → begun half s m ≡ Ok t → Gains s t
+gains_begin : (half : Option HalfTransaction) (s t : Subscriber) (m : Begin) → after_begin half s m ≡ Ok t → Gains s t
 gains_begin None s t m is = gains_same s (record s { half = Some (record { begin = m; changes = [] }) }) t is refl (omega arith)
 gains_begin (Some half) s t m is = absurd cc
 
-gains_relation : (half : Option HalfTransaction) (s t : Subscriber) (m : Relation) → told half s m ≡ Ok t → Gains s t
+gains_relation : (half : Option HalfTransaction) (s t : Subscriber) (m : Relation) → after_relation half s m ≡ Ok t → Gains s t
 gains_relation None s t m is = absurd cc
-gains_relation (Some half) s t m is = gains_same s (record s { tables = tell s.tables m }) t is refl (omega arith)
+gains_relation (Some half) s t m is = gains_same s (record s { tables = tables_with_relation s.tables m }) t is refl (omega arith)
 
-gains_change : (half : Option HalfTransaction) (s t : Subscriber) (position : ℕ) (m : Logical) → changed half s position m ≡ Ok t → Gains s t
+gains_change : (half : Option HalfTransaction) (s t : Subscriber) (position : ℕ) (m : Logical) → after_change half s position m ≡ Ok t → Gains s t
 gains_change None s t position m is = absurd cc
-gains_change (Some half) s t position m is = by_judging (judged s.tables m) is
+gains_change (Some half) s t position m is = by_judging (judgement_of_change s.tables m) is
   where
     with : Subscriber
     with = record s { half = Some (with_change half position m) }
@@ -76,7 +76,7 @@ gains_change (Some half) s t position m is = by_judging (judged s.tables m) is
     by_judging (Ok u) is = gains_same s with t is refl (omega arith)
     by_judging (Err e) is = absurd cc
 
-gains_finished : (s : Subscriber) (half : HalfTransaction) (m : Commit) → Gains s (finished s half m)
+gains_finished : (s : Subscriber) (half : HalfTransaction) (m : Commit) → Gains s (after_transaction s half m)
 gains_finished s half m = by_test (nat_le s.position half.begin.position) refl
   where
     one : List Published
@@ -86,15 +86,15 @@ gains_finished s half m = by_test (nat_le s.position half.begin.position) refl
     by_test true is = record { fresh = one; applied = refl; once = (leb-true s.position half.begin.position is, omega arith) }
     by_test false is = record { fresh = []; applied = refl; once = omega arith }
 
-gains_commit : (half : Option HalfTransaction) (s t : Subscriber) (m : Commit) → committed half s m ≡ Ok t → Gains s t
+gains_commit : (half : Option HalfTransaction) (s t : Subscriber) (m : Commit) → after_commit half s m ≡ Ok t → Gains s t
 gains_commit None s t m is = absurd cc
 gains_commit (Some half) s t m is = by_test (eqb m.position half.begin.position) is
   where
-    by_test : (b : Bool) → cond b (Ok (finished s half m)) (Err faults.Order) ≡ Ok t → Gains s t
-    by_test true is = subst (λ (v : Subscriber). Gains s v) (ok_is ClientFault (finished s half m) t is) (gains_finished s half m)
+    by_test : (b : Bool) → cond b (Ok (after_transaction s half m)) (Err faults.Order) ≡ Ok t → Gains s t
+    by_test true is = subst (λ (v : Subscriber). Gains s v) (ok_is ClientFault (after_transaction s half m) t is) (gains_finished s half m)
     by_test false is = absurd cc
 
-gains_note : (half : Option HalfTransaction) (s t : Subscriber) (end : ℕ) (m : Message) → noted half s end m ≡ Ok t → Gains s t
+gains_note : (half : Option HalfTransaction) (s t : Subscriber) (end : ℕ) (m : Message) → after_note half s end m ≡ Ok t → Gains s t
 gains_note None s t end m is = subst (λ (v : Subscriber). Gains s v) (ok_is ClientFault (with (nat_le s.position m.position)) t is) (by_test (nat_le s.position m.position) refl)
   where
     one : List Published
@@ -108,7 +108,7 @@ gains_note None s t end m is = subst (λ (v : Subscriber). Gains s v) (ok_is Cli
     by_test false is = record { fresh = []; applied = refl; once = omega arith }
 gains_note (Some half) s t end m is = absurd cc
 
-gains_heard : (is_transactional : Bool) (s t : Subscriber) (start end : ℕ) (m : Message) → heard is_transactional s start end m ≡ Ok t → Gains s t
+gains_heard : (is_transactional : Bool) (s t : Subscriber) (start end : ℕ) (m : Message) → after_logical_message is_transactional s start end m ≡ Ok t → Gains s t
 gains_heard true s t start end m is = gains_change s.half s t start (logical.Message m) is
 gains_heard false s t start end m is = gains_note s.half s t end m is
 
@@ -123,7 +123,7 @@ gains_message s t position end (logical.Truncate m) is = gains_change s.half s t
 gains_message s t position end (logical.Message m) is = gains_heard m.is_transactional s t position end m is
 
 gains_word : (s t : Subscriber) (w : Word) → after_word s w ≡ Ok t → Gains s t
-gains_word s t (words.Keepalive k) is = subst (λ (v : Subscriber). Gains s v) (ok_is ClientFault (kept_alive s.half s k) t is) (gains_keepalive s.half s k)
+gains_word s t (words.Keepalive k) is = subst (λ (v : Subscriber). Gains s v) (ok_is ClientFault (after_keepalive s.half s k) t is) (gains_keepalive s.half s k)
 gains_word s t (words.XLogData x) is = gains_message s t x.start x.end x.message is
 
 -- ---- By words, and by bytes.

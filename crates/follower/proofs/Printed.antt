@@ -14,7 +14,7 @@ use Rattle.stream.specs.declared.word.Keepalive.{Keepalive}
 use Rattle.stream.specs.declared.published.Published.{Published}
 use Rattle.client.specs.declared.fault.ClientFault.{ClientFault}
 use Rattle.client.specs.declared.fault.ClientFault.TheVariants as faults
-use Rattle.client.specs.Subscriber.{Subscriber, HalfTransaction, judged, begun, told, changed, committed, finished, kept_alive, with_change, note_of, noted, heard, transaction_of, after_message, after_word, after_words}
+use Rattle.client.specs.Subscriber.{Subscriber, HalfTransaction, judgement_of_change, after_begin, after_relation, after_change, after_commit, after_transaction, after_keepalive, with_change, note_of, after_note, after_logical_message, transaction_of, after_message, after_word, after_words}
 use Rattle.client.specs.Taking.{ApplierState, Reached, Stops, Takes, TakesFrom}
 use Rattle.client.specs.Law.{Follows}
 use Rattle.client.proofs.Laws.{follows_ok, follows_err}
@@ -26,21 +26,21 @@ after printed (Err e) = Err e
 
 -- ---- By a word.
 
-keepalive_before : (printed : List Published) (half : Option HalfTransaction) (s : Subscriber) (k : Keepalive) → kept_alive half (before printed s) k ≡ before printed (kept_alive half s k)
+keepalive_before : (printed : List Published) (half : Option HalfTransaction) (s : Subscriber) (k : Keepalive) → after_keepalive half (before printed s) k ≡ before printed (after_keepalive half s k)
 keepalive_before printed None s k = refl
 keepalive_before printed (Some half) s k = refl
 
-begin_before : (printed : List Published) (half : Option HalfTransaction) (s : Subscriber) (m : Begin) → begun half (before printed s) m ≡ after printed (begun half s m)
+begin_before : (printed : List Published) (half : Option HalfTransaction) (s : Subscriber) (m : Begin) → after_begin half (before printed s) m ≡ after printed (after_begin half s m)
 begin_before printed None s m = refl
 begin_before printed (Some half) s m = refl
 
-relation_before : (printed : List Published) (half : Option HalfTransaction) (s : Subscriber) (m : Relation) → told half (before printed s) m ≡ after printed (told half s m)
+relation_before : (printed : List Published) (half : Option HalfTransaction) (s : Subscriber) (m : Relation) → after_relation half (before printed s) m ≡ after printed (after_relation half s m)
 relation_before printed None s m = refl
 relation_before printed (Some half) s m = refl
 
-change_before : (printed : List Published) (half : Option HalfTransaction) (s : Subscriber) (position : ℕ) (m : Logical) → changed half (before printed s) position m ≡ after printed (changed half s position m)
+change_before : (printed : List Published) (half : Option HalfTransaction) (s : Subscriber) (position : ℕ) (m : Logical) → after_change half (before printed s) position m ≡ after printed (after_change half s position m)
 change_before printed None s position m = refl
-change_before printed (Some half) s position m = by_judging (judged s.tables m)
+change_before printed (Some half) s position m = by_judging (judgement_of_change s.tables m)
   where
     with : Subscriber → Subscriber
     with u = record u { half = Some (with_change half position m) }
@@ -49,23 +49,23 @@ change_before printed (Some half) s position m = by_judging (judged s.tables m)
     by_judging (Ok u) = refl
     by_judging (Err e) = refl
 
-commit_before : (printed : List Published) (half : Option HalfTransaction) (s : Subscriber) (m : Commit) → committed half (before printed s) m ≡ after printed (committed half s m)
+commit_before : (printed : List Published) (half : Option HalfTransaction) (s : Subscriber) (m : Commit) → after_commit half (before printed s) m ≡ after printed (after_commit half s m)
 commit_before printed None s m = refl
 commit_before printed (Some half) s m = by_test (eqb m.position half.begin.position)
   where
     gained_now : List Published
     gained_now = cond (nat_le s.position half.begin.position) (transaction_of half m ∷ []) []
 
-    by_test : (b : Bool) → cond b (Ok (finished (before printed s) half m)) (Err faults.Order) ≡ after printed (cond b (Ok (finished s half m)) (Err faults.Order))
+    by_test : (b : Bool) → cond b (Ok (after_transaction (before printed s) half m)) (Err faults.Order) ≡ after printed (cond b (Ok (after_transaction s half m)) (Err faults.Order))
     by_test true = ap (λ (l : List Published). Ok (record s { half = None; position = max s.position m.end; applied = l })) (append_assoc printed s.applied gained_now)
     by_test false = refl
 
-note_before : (printed : List Published) (half : Option HalfTransaction) (s : Subscriber) (end : ℕ) (m : Message) → noted half (before printed s) end m ≡ after printed (noted half s end m)
+note_before : (printed : List Published) (half : Option HalfTransaction) (s : Subscriber) (end : ℕ) (m : Message) → after_note half (before printed s) end m ≡ after printed (after_note half s end m)
 note_before printed None s end m =
     ap (λ (l : List Published). Ok (record s { position = max s.position end; applied = l })) (append_assoc printed s.applied (cond (nat_le s.position m.position) (note_of end m ∷ []) []))
 note_before printed (Some half) s end m = refl
 
-heard_before : (printed : List Published) (is_transactional : Bool) (s : Subscriber) (start end : ℕ) (m : Message) → heard is_transactional (before printed s) start end m ≡ after printed (heard is_transactional s start end m)
+heard_before : (printed : List Published) (is_transactional : Bool) (s : Subscriber) (start end : ℕ) (m : Message) → after_logical_message is_transactional (before printed s) start end m ≡ after printed (after_logical_message is_transactional s start end m)
 heard_before printed true s start end m = change_before printed s.half s start (logical.Message m)
 heard_before printed false s start end m = note_before printed s.half s end m
 

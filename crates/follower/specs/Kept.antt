@@ -4,9 +4,9 @@ use Rattle.follower.specs.declared.kept.Kept.{Kept}
 use Rattle.follower.specs.declared.line.Line.{Line}
 
 -- behind a Commit or a note all lines up to it count
-abbrev pub ended : Kept → Option ℕ → Kept
-ended k None = k
-ended k (Some end) = record {
+abbrev pub kept_up_to_end : Kept → Option ℕ → Kept
+kept_up_to_end k None = k
+kept_up_to_end k (Some end) = record {
   length = min (k.length + k.rest) (2 ^ 64 - 1);
   transactions = min (k.transactions + 1) (2 ^ 32 - 1);
   changes = min (k.changes + k.rest_changes) (2 ^ 64 - 1);
@@ -21,4 +21,4 @@ more_by count is_one = if is_one then min (count + 1) (2 ^ 64 - 1) else count
 
 -- behind whole transactions and notes only one that begins is a run's own, and within a transaction no note
 abbrev pub with_line : Kept → Line → Kept
-with_line k line = ended (record k { rest = min (k.rest + line.length) (2 ^ 64 - 1); rest_changes = more_by k.rest_changes line.is_change; is_foreign = k.is_foreign || (k.rest == 0 && not line.begins) || (not (k.rest == 0) && line.is_note) }) line.end
+with_line k line = kept_up_to_end (record k { rest = min (k.rest + line.length) (2 ^ 64 - 1); rest_changes = more_by k.rest_changes line.is_change; is_foreign = k.is_foreign || (k.rest == 0 && not line.begins) || (not (k.rest == 0) && line.is_note) }) line.end

@@ -1,7 +1,7 @@
 -- Each transaction once: what a follower gains over its connections, printed and not yet printed.
 use Rattle.std.specs.Prelude.{◌≡◌, ℕ, ◌≤◌, List, [], ◌∷◌, ◌++◌, max, None}
 use Rattle.stream.specs.declared.published.Published.{Published}
-use Rattle.client.specs.Subscriber.{Subscriber, resting}
+use Rattle.client.specs.Subscriber.{Subscriber, subscriber_at_rest}
 use Rattle.client.specs.Taking.{ApplierState}
 
 -- Between two positions these transactions come one behind the other: each commit record starts where the one before it ends, or
@@ -17,12 +17,12 @@ pub record Gains (old new : Subscriber) : Type 0 where
   pub once : EachOnce old.position fresh new.position
 
 -- as it is when a connection begins
-abbrev pub connected : ApplierState → ApplierState
-connected a = record { subscriber = resting a.subscriber.position a.subscriber.applied; unread = []; fault = None }
+abbrev pub applier_at_connection : ApplierState → ApplierState
+applier_at_connection a = record { subscriber = subscriber_at_rest a.subscriber.position a.subscriber.applied; unread = []; fault = None }
 
 -- as it is without the transactions that it has applied
-abbrev pub forgotten : ApplierState → ApplierState
-forgotten a = record a { subscriber = record a.subscriber { applied = [] } }
+abbrev pub applier_without_applied : ApplierState → ApplierState
+applier_without_applied a = record a { subscriber = record a.subscriber { applied = [] } }
 
 -- and with others before them, which were printed
 abbrev pub before : List Published → Subscriber → Subscriber

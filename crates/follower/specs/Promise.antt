@@ -2,9 +2,9 @@
 use Rattle.std.specs.Prelude.{◌≡◌, ℕ, List, [], ◌∷◌, ◌++◌, None, Result, Ok, Err}
 use Rattle.stream.specs.declared.published.Published.{Published}
 use Rattle.client.specs.declared.fault.ClientFault.{ClientFault}
-use Rattle.client.specs.Subscriber.{resting}
+use Rattle.client.specs.Subscriber.{subscriber_at_rest}
 use Rattle.client.specs.Taking.{ApplierState, Takes}
-use Rattle.follower.specs.Once.{connected, forgotten}
+use Rattle.follower.specs.Once.{applier_at_connection, applier_without_applied}
 
 -- a connection begins; bytes come, of which this is answered; what is there is printed
 pub data Deed : Type 0 where
@@ -13,9 +13,9 @@ pub data Deed : Type 0 where
   Prints : Deed
 
 abbrev pub Does : Deed → ApplierState → ApplierState → Type 0
-Does Connects old new = new ≡ connected old
+Does Connects old new = new ≡ applier_at_connection old
 Does (Receives bytes result) old new = Takes old new bytes result
-Does Prints old new = new ≡ forgotten old
+Does Prints old new = new ≡ applier_without_applied old
 
 abbrev pub Runs : ApplierState → List Deed → ApplierState → Type 0
 Runs old [] new = new ≡ old
@@ -23,7 +23,7 @@ Runs old (deed ∷ deeds) new = (next : ApplierState) × Does deed old next × R
 
 -- before anything is done
 abbrev pub begun_at : ℕ → ApplierState
-begun_at start = record { subscriber = resting start []; unread = []; fault = None }
+begun_at start = record { subscriber = subscriber_at_rest start []; unread = []; fault = None }
 
 -- the transactions that were printed, in order
 abbrev pub printed_in : (old : ApplierState) (deeds : List Deed) (new : ApplierState) → Runs old deeds new → List Published
@@ -41,8 +41,8 @@ AreReceived (Receives bytes (Err e) ∷ deeds) = ⊥
 AreReceived (Prints ∷ deeds) = AreReceived deeds
 
 -- the bytes that came
-abbrev pub received : List Deed → List ℕ
-received [] = []
-received (Receives bytes result ∷ deeds) = bytes ++ received deeds
-received (Connects ∷ deeds) = received deeds
-received (Prints ∷ deeds) = received deeds
+abbrev pub received_bytes : List Deed → List ℕ
+received_bytes [] = []
+received_bytes (Receives bytes result ∷ deeds) = bytes ++ received_bytes deeds
+received_bytes (Connects ∷ deeds) = received_bytes deeds
+received_bytes (Prints ∷ deeds) = received_bytes deeds

@@ -5,10 +5,10 @@ ghost use Rattle.frames.specs.Frame.{frame};
 ghost use Rattle.frames.specs.declared.copy_data.TheConstants.{COPY_DATA};
 ghost use Rattle.copyboth.specs.Status.{status};
 ghost use Rattle.stream.specs.declared.published.Published.{Published};
-ghost use Rattle.client.specs.Subscriber.{resting};
+ghost use Rattle.client.specs.Subscriber.{subscriber_at_rest};
 ghost use Rattle.client.specs.Taking.{HasTaken, Takes};
 ghost use Rattle.client.specs.Law.{Follows};
-ghost use Rattle.follower.specs.Once.{Gains, connected, forgotten, with_printed};
+ghost use Rattle.follower.specs.Once.{Gains, applier_at_connection, applier_without_applied, with_printed};
 
 use client::{Applied, Applier, ClientFault};
 use std::alloc::Global;
@@ -26,7 +26,7 @@ impl Intake {
     /// Of a subscriber that has all that commits below the position, and waits for so many transactions.
     pub(crate) fn new(alloc: Global, position: u64, count: u32) -> Self
         ensures applier { result.applier
-            ≡ record { subscriber = resting position []; unread = []; fault = None } }
+            ≡ record { subscriber = subscriber_at_rest position []; unread = []; fault = None } }
         ensures left { result.left ≡ count }
     {
         Intake {
@@ -44,7 +44,8 @@ impl Intake {
     /// For a connection that begins: where its stream is to begin. Of the one before, only whole transactions count.
     pub(crate) fn connect(&mut self) -> u64
         ensures start { result ≡ self.old.applier.subscriber.position }
-        ensures new { self.new ≡ record self.old { applier = connected self.old.applier } }
+        ensures new { self.new
+            ≡ record self.old { applier = applier_at_connection self.old.applier } }
     {
         let start = self.applier.position();
         self.applier.reconnect();
@@ -77,7 +78,7 @@ impl Intake {
     pub(crate) fn printed(&mut self)
         ensures { self.new
             ≡ record {
-              applier = forgotten self.old.applier;
+              applier = applier_without_applied self.old.applier;
               left = self.old.left - length self.old.applier.subscriber.applied;
             } }
     {

@@ -3,11 +3,11 @@
 ghost use Rattle.std.specs.Prelude.{◌≡◌, ℕ, List, [], ◌++◌};
 ghost use Rattle.pgoutput.specs.declared.relation.Relation.{Relation};
 ghost use Rattle.stream.specs.declared.published.Published.{Published};
-ghost use Rattle.stream.specs.Items.{Item, spelled, FitItems};
+ghost use Rattle.stream.specs.Items.{Item, bytes_of_items, FitItems};
 ghost use Rattle.client.specs.Taking.{ApplierState};
 ghost use Rattle.client.specs.Law.{GainedAll};
-ghost use Rattle.follower.specs.Once.{EachOnce, before, connected};
-ghost use Rattle.follower.specs.Promise.{Deed, Runs, begun_at, printed_in, AreReceived, received};
+ghost use Rattle.follower.specs.Once.{EachOnce, applier_at_connection, before};
+ghost use Rattle.follower.specs.Promise.{Deed, Runs, begun_at, printed_in, AreReceived, received_bytes};
 
 /// Whatever servers send, wherever connections are cut, and whenever something is printed: what was printed, and then what wasn't
 /// yet, came one behind the other from where it began up to the position, each transaction once.
@@ -22,10 +22,12 @@ pub fn each_transaction_is_printed_once()
 /// but for the transactions that stood below the position already.
 pub fn no_transaction_is_lost()
     ensures { (printed : List Published) (old : ApplierState) (deeds : List Deed)
-        (now : ApplierState) (run : Runs (connected old) deeds now) (relation : ℕ → Relation)
+        (now : ApplierState) (run : Runs (applier_at_connection old) deeds now)
+        (relation : ℕ → Relation)
         (items : List Item) (more : List ℕ) →
         AreReceived deeds → FitItems relation items →
-        received deeds ++ more ≡ spelled relation [] items →
-        GainedAll relation (before printed (connected old).subscriber) (received deeds) items
-        (before (printed ++ printed_in (connected old) deeds now run) now.subscriber) }
+        received_bytes deeds ++ more ≡ bytes_of_items relation [] items →
+        GainedAll relation (before printed (applier_at_connection old).subscriber)
+        (received_bytes deeds) items
+        (before (printed ++ printed_in (applier_at_connection old) deeds now run) now.subscriber) }
 {}

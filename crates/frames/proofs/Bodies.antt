@@ -37,10 +37,10 @@ use Rattle.frames.specs.declared.front.Front.TheVariants as fronts
 use Rattle.frames.specs.declared.back.Back.{Back}
 use Rattle.frames.specs.declared.back.Back.TheVariants as backs
 use Rattle.pqformat.specs.Fields.{int32, string, has_zero, number_at, bytes_at}
-use Rattle.pqformat.specs.Steps.{◌>>=◌, repeat_at, until_at, closed}
-use Rattle.frames.specs.Body.{whole, checked, always, there, text_at}
+use Rattle.pqformat.specs.Steps.{◌>>=◌, repeat_at, until_at, closed_list}
+use Rattle.frames.specs.Body.{whole, checked_text, always, there, text_at}
 use Rattle.frames.specs.Parameter.{is_parameter_text}
-use Rattle.frames.specs.Plain.{authentication_at, status_letter, status_of, status_at, counted, counted_at, copy_both, copy_both_at}
+use Rattle.frames.specs.Plain.{authentication_at, status_letter, status_of, status_at, counted_items, counted_at, copy_both, copy_both_at}
 use Rattle.frames.specs.RowDescription.{column, column_type, column_at, type_at, FitsColumn, FitsType, is_column_text}
 use Rattle.frames.specs.DataRow.{data_value, value_at, sized_value, no_length, FitsValue}
 use Rattle.frames.specs.ErrorResponse.{error_field, error_field_at, FitsErrorField, is_error_text}
@@ -77,7 +77,7 @@ front_cases =
     case COPY_FAIL FRAME_LIMIT text_body is_utf8 (λ reason. fronts.CopyFail (record { reason = reason })) (λ reason fits. (refl, refl, fits)) (λ _. refl) (
     no_case front_kind front_body IsShapedFront is_front_text UnknownType)))))
 
-front_again : (f : Front) → IsShapedFront f → front_at (front_kind f) (front_body f) ≡ checked is_front_text f
+front_again : (f : Front) → IsShapedFront f → front_at (front_kind f) (front_body f) ≡ checked_text is_front_text f
 front_again (fronts.Query m) shaped = ap (λ (r : Result (List ℕ) FrameFault). r >>= λ text. done FrameFault (fronts.Query (record { text = text }))) (whole_again text_body is_utf8 m.text shaped) ∙ made (λ text. fronts.Query (record { text = text })) (is_utf8 m.text) m.text
 front_again fronts.Terminate shaped = refl
 front_again (fronts.CopyData m) shaped = refl
@@ -105,7 +105,7 @@ status_again Failed = refl
 status_codec : Codec status_at (λ s. status_letter s ∷ []) (λ _. Unit {0})
 status_codec = letter_codec tt tt status_of status_letter status_there status_again
 
-counted_codec : {A : Type 0} {f : List ℕ → Result (A × List ℕ) (Unit {0})} {t : A → List ℕ} {F : A → Type 0} → Codec f t F → Codec (counted_at f) (counted t) (λ xs. (length xs < 2 ^ 15) × AllByRecursion F xs)
+counted_codec : {A : Type 0} {f : List ℕ → Result (A × List ℕ) (Unit {0})} {t : A → List ℕ} {F : A → Type 0} → Codec f t F → Codec (counted_at f) (counted_items t) (λ xs. (length xs < 2 ^ 15) × AllByRecursion F xs)
 counted_codec {A} {f} {t} {F} c = codec.counted (count_codec (2 ^ 15) (2 ^ 16) tt (number16 tt) (lit≤ tt)) length (λ n. repeat_at f n) (flat_map t) (AllByRecursion F) (λ n. repeated c n)
 
 type_codec : Codec type_at column_type FitsType
@@ -193,7 +193,7 @@ error_codec = codec_of (
 long_field : (f : ErrorField) → 0 < length (error_field f)
 long_field f = omega arith
 
-errors_body : Body (λ body. until_at tt error_field_at (length body) body) (closed error_field) (AllByRecursion FitsErrorField)
+errors_body : Body (λ body. until_at tt error_field_at (length body) body) (closed_list error_field) (AllByRecursion FitsErrorField)
 errors_body = until_body error_codec long_field
 
 copy_both_codec : Codec copy_both_at copy_both (λ m. (m.format < 256) × ((length m.formats < 2 ^ 15) × AllByRecursion (λ n. n < 2 ^ 16) m.formats))
@@ -224,7 +224,7 @@ made_again : {X : Type 0} {read : List ℕ → Result (X × List ℕ) (Unit {0})
     → Shaped x → (whole test (read (text x)) >>= λ y. done FrameFault (make y)) ≡ cond (test x) (Ok (make x)) (Err NotUtf8)
 made_again {X} body test make x shaped = ap (λ (r : Result X FrameFault). r >>= λ y. done FrameFault (make y)) (whole_again body test x shaped) ∙ made make (test x) x
 
-back_again : (f : Back) → IsShapedBack f → back_at (back_kind f) (back_body f) ≡ checked is_back_text f
+back_again : (f : Back) → IsShapedBack f → back_at (back_kind f) (back_body f) ≡ checked_text is_back_text f
 unfolding back_at list_at
 back_again backs.AuthenticationOk shaped = made_again (body_of_codec authentication_codec) always (λ _. backs.AuthenticationOk) 0 (omega arith, refl)
 back_again (backs.ParameterStatus m) shaped = made_again (body_of_codec parameter_codec) is_parameter_text (λ m. backs.ParameterStatus m) m shaped.1

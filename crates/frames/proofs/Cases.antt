@@ -4,7 +4,7 @@ use Rattle.std.specs.Prelude.{◌⊎◌}
 use Rattle.std.proofs.lemmas.Bool.{eqb-true}
 use Rattle.std.proofs.lemmas.List.{append-nil}
 use Rattle.pqformat.specs.Steps.{◌>>=◌}
-use Rattle.frames.specs.Body.{ended, checked, whole}
+use Rattle.frames.specs.Body.{nothing_left, checked_text, whole}
 use Rattle.frames.specs.Frame.{HasBody}
 use Rattle.frames.specs.declared.fault.FrameFault.{FrameFault}
 use Rattle.frames.specs.declared.fault.FrameFault.TheVariants.{BadBody, NotUtf8}
@@ -27,14 +27,14 @@ body_of_codec {X} {read} {text} {Shaped} c = record {
   again = λ x fits. ap read (sym (append-nil (text x))) ∙ c.again x [] fits;
 }
 
-check_takes : {X : Type 0} (is_text : X → Bool) (x y : X) → checked is_text x ≡ Ok y → (is_text x ≡ true) × (x ≡ y)
+check_takes : {X : Type 0} (is_text : X → Bool) (x y : X) → checked_text is_text x ≡ Ok y → (is_text x ≡ true) × (x ≡ y)
 check_takes {X} is_text x y e = by_test (is_text x) e
   where
     by_test : (b : Bool) → cond b (Ok x) (Err NotUtf8) ≡ done FrameFault y → (b ≡ true) × (x ≡ y)
     by_test true e = (refl, cc)
     by_test false e = absurd cc
 
-check_fails : {X : Type 0} (is_text : X → Bool) (x : X) (e : FrameFault) → checked is_text x ≡ Err e → (is_text x ≡ false) × (e ≡ NotUtf8)
+check_fails : {X : Type 0} (is_text : X → Bool) (x : X) (e : FrameFault) → checked_text is_text x ≡ Err e → (is_text x ≡ false) × (e ≡ NotUtf8)
 check_fails {X} is_text x e is = by_test (is_text x) is
   where
     by_test : (b : Bool) → cond b (done FrameFault x) (Err NotUtf8) ≡ Err e → (b ≡ false) × (e ≡ NotUtf8)
@@ -45,7 +45,7 @@ pub whole_takes : {X : Type 0} {read : List ℕ → Result (X × List ℕ) (Unit
     → IsBytes body → whole is_text (read body) ≡ Ok x → (text x ≡ body) × Shaped x × (is_text x ≡ true)
 whole_takes {X} {read} {text} {Shaped} c is_text body x fits e = by_read (read body) refl e
   where
-    by_rest : (y : X) (rest : List ℕ) → read body ≡ Ok (y, rest) → (ended rest >>= λ _. checked is_text y) ≡ Ok x → (text x ≡ body) × Shaped x × (is_text x ≡ true)
+    by_rest : (y : X) (rest : List ℕ) → read body ≡ Ok (y, rest) → (nothing_left rest >>= λ _. checked_text is_text y) ≡ Ok x → (text x ≡ body) × Shaped x × (is_text x ≡ true)
     by_rest y [] is e =
         let t = c.takes body y [] fits is in
         let g = check_takes is_text y x e in
@@ -58,7 +58,7 @@ whole_takes {X} {read} {text} {Shaped} c is_text body x fits e = by_read (read b
     by_read (Err u) is e = absurd cc
 
 pub whole_again : {X : Type 0} {read : List ℕ → Result (X × List ℕ) (Unit {0})} {text : X → List ℕ} {Shaped : X → Type 0} → Body read text Shaped → (is_text : X → Bool) (x : X)
-    → Shaped x → whole is_text (read (text x)) ≡ checked is_text x
+    → Shaped x → whole is_text (read (text x)) ≡ checked_text is_text x
 whole_again {X} {read} {text} {Shaped} c is_text x fits =
     rw (c.again x fits) refl
 
@@ -71,7 +71,7 @@ pub whole_fails : {X : Type 0} {read : List ℕ → Result (X × List ℕ) (Unit
     → IsBytes body → whole is_text (read body) ≡ Err e → IsBadBody text Shaped is_text body e
 whole_fails {X} {read} {text} {Shaped} c is_text body e fits is = by_read (read body) refl is
   where
-    by_rest : (y : X) (rest : List ℕ) → read body ≡ Ok (y, rest) → (ended rest >>= λ _. checked is_text y) ≡ Err e → IsBadBody text Shaped is_text body e
+    by_rest : (y : X) (rest : List ℕ) → read body ≡ Ok (y, rest) → (nothing_left rest >>= λ _. checked_text is_text y) ≡ Err e → IsBadBody text Shaped is_text body e
     by_rest y [] there is =
         let t = c.takes body y [] fits there in
         let g = check_fails is_text y e is in

@@ -10,7 +10,7 @@ use Rattle.pqformat.specs.Fields.{int32, bytes_at, number_at}
 use Rattle.pqformat.specs.Steps.{◌>>=◌}
 use Rattle.frames.specs.declared.fault.FrameFault.{FrameFault}
 use Rattle.frames.specs.declared.fault.FrameFault.TheVariants.{BadLength, BadVersion, UnknownType, BadBody, NotUtf8, TooLong, Memory}
-use Rattle.frames.specs.Body.{checked}
+use Rattle.frames.specs.Body.{checked_text}
 use Rattle.frames.specs.Frame.{frame, FitsLength, with_size, with_kind, Fits, SpellsFrame, IsShort, Fails, Gives, sized_at, body_at, raw_at, whole_of, framed_at, IsWhole, IsKept, HasBody, BeginsWith, StandsAt}
 use Rattle.pqformat.proofs.Codec.{IsBytes, IsBytes-take, IsBytes-rest, bind_ok, found_some, some_is, done, ok_is}
 use Rattle.pqformat.proofs.Numbers.{number32, bytes_codec, length-int32}
@@ -222,7 +222,7 @@ frame_begins k l a b x y fits_a fits_b e =
 
 pub record AreBodies {F : Type 0} (limit : ℕ → Option ℕ) (kind_of : F → ℕ) (body_of : F → List ℕ) (Shaped : F → Type 0) (is_text : F → Bool) (of : ℕ → List ℕ → Result F FrameFault) : Type 0 where
   pub cases : Cases kind_of body_of Shaped is_text limit of
-  pub again : (f : F) → Shaped f → of (kind_of f) (body_of f) ≡ checked is_text f
+  pub again : (f : F) → Shaped f → of (kind_of f) (body_of f) ≡ checked_text is_text f
 
 read_again : {F : Type 0} {limit : ℕ → Option ℕ} {kind_of : F → ℕ} {body_of : F → List ℕ} {Shaped : F → Type 0} {is_text : F → Bool} {of : ℕ → List ℕ → Result F FrameFault} → AreBodies limit kind_of body_of Shaped is_text of
     → (f : F) → Fits Shaped is_text f → of (kind_of f) (body_of f) ≡ Ok f
@@ -355,9 +355,9 @@ is_fault {F} {limit} {kind_of} {body_of} {Shaped} {is_text} {of} bodies needs_me
 
     none_has : (kind : ℕ) (body : List ℕ) → of kind body ≡ Err BadBody → (f : F) → HasBody kind_of body_of Shaped kind body f → ⊥
     none_has kind body bad f has =
-        let P : ℕ → Type 0 = λ k. of k body ≡ checked is_text f in
-        let Q : List ℕ → Type 0 = λ b. of (kind_of f) b ≡ checked is_text f in
-        let read : of kind body ≡ checked is_text f = subst P has.0 (subst Q has.1 (bodies.again f has.2)) in
+        let P : ℕ → Type 0 = λ k. of k body ≡ checked_text is_text f in
+        let Q : List ℕ → Type 0 = λ b. of (kind_of f) b ≡ checked_text is_text f in
+        let read : of kind body ≡ checked_text is_text f = subst P has.0 (subst Q has.1 (bodies.again f has.2)) in
         never_bad f (is_text f) (sym read ∙ bad)
 
     by_body : (raw : (ℕ × List ℕ) × ℕ) (e : FrameFault) → IsRaw limit bytes raw.0.0 raw.0.1 raw.1 → of raw.0.0 raw.0.1 ≡ Err e

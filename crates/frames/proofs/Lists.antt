@@ -5,8 +5,8 @@ use Rattle.std.specs.List.{flat_map, AllByRecursion, list_all}
 use Rattle.std.proofs.lemmas.Bool.{eqb-true}
 use Rattle.std.proofs.lemmas.List.{length-append}
 use Rattle.std.proofs.lemmas.List.Concat.{flat_map-cons}
-use Rattle.pqformat.specs.Steps.{◌>>=◌, repeat_at, next_at, go_on, until_at, closed}
-use Rattle.frames.specs.Body.{ended, checked, checked_at, passed, whole, always, starts, GivesAt}
+use Rattle.pqformat.specs.Steps.{◌>>=◌, repeat_at, next_at, go_on, until_at, closed_list}
+use Rattle.frames.specs.Body.{nothing_left, checked_text, checked_at, passed_part, whole, always, starts, GivesAt}
 use Rattle.frames.specs.Frame.{Fails, Gives}
 use Rattle.frames.specs.declared.fault.FrameFault.{FrameFault}
 use Rattle.frames.specs.declared.fault.FrameFault.TheVariants.{BadLength, BadVersion, UnknownType, BadBody, NotUtf8, TooLong, Memory}
@@ -92,7 +92,7 @@ next_again {A} f x (b ∷ text) rest begins read = by_test (eqb b 0) begins (f (
 -- ---- how many there are
 
 abbrev pub counted_on : {A : Type 0} → ℕ → Result (List A × List ℕ) (Unit {0}) → Result (ℕ × List ℕ) FrameFault
-counted_on i read = passed (λ xs. i + length xs) read
+counted_on i read = passed_part (λ xs. i + length xs) read
 
 one_less : (limit i : ℕ) → i < limit → limit - i ≡ suc (limit - (i + 1))
 one_less limit i lt = omega arith
@@ -100,7 +100,7 @@ one_less limit i lt = omega arith
 never : false ≡ true → ⊥
 never e = absurd cc
 
-pub stops : {A : Type 0} (f : Reader A) (limit i : ℕ) (bytes rest : List ℕ) (total : Result (ℕ × List ℕ) FrameFault) → i < limit → passed is_none (next_at tt f bytes) ≡ Ok (true, rest)
+pub stops : {A : Type 0} (f : Reader A) (limit i : ℕ) (bytes rest : List ℕ) (total : Result (ℕ × List ℕ) FrameFault) → i < limit → passed_part is_none (next_at tt f bytes) ≡ Ok (true, rest)
     → counted_on i (until_at tt f (limit - i) bytes) ≡ total → total ≡ Ok (i, rest)
 unfolding until_at
 stops {A} f limit i bytes rest total lt over so_far =
@@ -108,7 +108,7 @@ stops {A} f limit i bytes rest total lt over so_far =
     let one : counted_on i (until_at tt f (limit - i) bytes) ≡ Ok (i, rest) = rw k (by_next (next_at tt f bytes) over) in
     sym so_far ∙ one
   where
-    by_next : (r : Result (Option A × List ℕ) (Unit {0})) → passed is_none r ≡ Ok (true, rest) → counted_on i (r >>= λ x. go_on x.0 x.1 (until_at tt f (limit - (i + 1)) x.1)) ≡ Ok (i, rest)
+    by_next : (r : Result (Option A × List ℕ) (Unit {0})) → passed_part is_none r ≡ Ok (true, rest) → counted_on i (r >>= λ x. go_on x.0 x.1 (until_at tt f (limit - (i + 1)) x.1)) ≡ Ok (i, rest)
     by_next (Ok (None, tail)) is =
         let same : tail ≡ rest = (same_pair true true tail rest is).1 in
         let n : i + 0 ≡ i = omega arith in
@@ -116,7 +116,7 @@ stops {A} f limit i bytes rest total lt over so_far =
     by_next (Ok (Some x, tail)) is = absurd (never (same_pair false true tail rest is).0)
     by_next (Err u) is = absurd cc
 
-pub goes_on : {A : Type 0} (f : Reader A) (limit i : ℕ) (bytes rest : List ℕ) (total : Result (ℕ × List ℕ) FrameFault) → i < limit → passed is_none (next_at tt f bytes) ≡ Ok (false, rest)
+pub goes_on : {A : Type 0} (f : Reader A) (limit i : ℕ) (bytes rest : List ℕ) (total : Result (ℕ × List ℕ) FrameFault) → i < limit → passed_part is_none (next_at tt f bytes) ≡ Ok (false, rest)
     → counted_on i (until_at tt f (limit - i) bytes) ≡ total → counted_on (i + 1) (until_at tt f (limit - (i + 1)) rest) ≡ total
 unfolding until_at
 goes_on {A} f limit i bytes rest total lt more so_far =
@@ -130,7 +130,7 @@ goes_on {A} f limit i bytes rest total lt more so_far =
         rw n refl
     longer x (Err u) = refl
 
-    by_next : (r : Result (Option A × List ℕ) (Unit {0})) → passed is_none r ≡ Ok (false, rest)
+    by_next : (r : Result (Option A × List ℕ) (Unit {0})) → passed_part is_none r ≡ Ok (false, rest)
         → counted_on i (r >>= λ x. go_on x.0 x.1 (until_at tt f (limit - (i + 1)) x.1)) ≡ counted_on (i + 1) (until_at tt f (limit - (i + 1)) rest)
     by_next (Ok (None, tail)) is = absurd (never (sym (same_pair true false tail rest is).0))
     by_next (Ok (Some x, tail)) is =
@@ -138,7 +138,7 @@ goes_on {A} f limit i bytes rest total lt more so_far =
         rw same (longer x (until_at tt f (limit - (i + 1)) rest))
     by_next (Err u) is = absurd cc
 
-pub fails : {A : Type 0} (d : FrameFault) (f : Reader A) (limit i : ℕ) (bytes : List ℕ) (total : Result (ℕ × List ℕ) FrameFault) → i < limit → passed is_none (next_at tt f bytes) ≡ Err d
+pub fails : {A : Type 0} (d : FrameFault) (f : Reader A) (limit i : ℕ) (bytes : List ℕ) (total : Result (ℕ × List ℕ) FrameFault) → i < limit → passed_part is_none (next_at tt f bytes) ≡ Err d
     → counted_on i (until_at tt f (limit - i) bytes) ≡ total → total ≡ Err d
 unfolding until_at
 fails {A} d f limit i bytes total lt failed so_far =
@@ -146,7 +146,7 @@ fails {A} d f limit i bytes total lt failed so_far =
     let one : counted_on i (until_at tt f (limit - i) bytes) ≡ Err d = rw k (by_next (next_at tt f bytes) failed) in
     sym so_far ∙ one
   where
-    by_next : (r : Result (Option A × List ℕ) (Unit {0})) → passed is_none r ≡ Err d → counted_on i (r >>= λ x. go_on x.0 x.1 (until_at tt f (limit - (i + 1)) x.1)) ≡ Err d
+    by_next : (r : Result (Option A × List ℕ) (Unit {0})) → passed_part is_none r ≡ Err d → counted_on i (r >>= λ x. go_on x.0 x.1 (until_at tt f (limit - (i + 1)) x.1)) ≡ Err d
     by_next (Ok x) is = absurd cc
     by_next (Err u) is = cc
 
@@ -214,7 +214,7 @@ repeat_repeats {A} is_text f (suc n) bytes xs rest e =
     subst P (ok_is (Unit {0}) made (xs, rest) b.2) (first_and_others is_text f n bytes a.0.0 a.0.1 b.0.0 b.0.1 a.1 (repeat_repeats is_text f n a.0.1 b.0.0 b.0.1 b.1))
 
 -- what a reader answers, without where it stands
-pub forget_place : {X : Type 0} (is_text : X → Bool) (r : Result X FrameFault) (x : X) (place after : List ℕ) → GivesAt r place (checked_at is_text (Ok (x, after))) → Gives r (checked is_text x)
+pub forget_place : {X : Type 0} (is_text : X → Bool) (r : Result X FrameFault) (x : X) (place after : List ℕ) → GivesAt r place (checked_at is_text (Ok (x, after))) → Gives r (checked_text is_text x)
 forget_place {X} is_text r x place after given = by_test (is_text x) r given
   where
     by_fault : (e : FrameFault) → Fails e (done FrameFault (pair x after)) → Fails e (done FrameFault x)
@@ -252,25 +252,25 @@ pub record IsListed {A : Type 0} (f : Reader A) (count : ℕ) (bytes : List ℕ)
   pub all : read ≡ Ok (items, [])
   pub again : repeat_at f count bytes ≡ Ok (items, after)
 
-at_end : (rest : List ℕ) → ended rest ≡ Ok tt → rest ≡ []
+at_end : (rest : List ℕ) → nothing_left rest ≡ Ok tt → rest ≡ []
 at_end [] is = refl
 at_end (b ∷ bytes) is = absurd cc
 
-pub are_listed : {A : Type 0} (f : Reader A) (n count : ℕ) (bytes rest : List ℕ) → passed length (until_at tt f n bytes) ≡ Ok (count, rest) → ended rest ≡ Ok tt → IsListed f count bytes (until_at tt f n bytes)
+pub are_listed : {A : Type 0} (f : Reader A) (n count : ℕ) (bytes rest : List ℕ) → passed_part length (until_at tt f n bytes) ≡ Ok (count, rest) → nothing_left rest ≡ Ok tt → IsListed f count bytes (until_at tt f n bytes)
 are_listed {A} f n count bytes rest counted end = by_read (until_at tt f n bytes) refl counted
   where
-    by_read : (u : Result (List A × List ℕ) (Unit {0})) → until_at tt f n bytes ≡ u → passed length u ≡ Ok (count, rest) → IsListed f count bytes u
+    by_read : (u : Result (List A × List ℕ) (Unit {0})) → until_at tt f n bytes ≡ u → passed_part length u ≡ Ok (count, rest) → IsListed f count bytes u
     by_read (Ok (xs, tail)) is counted =
         let same = same_pair (length xs) count tail rest counted in
         let no_more : tail ≡ [] = same.1 ∙ at_end rest end in
         record { items = xs; after = 0 ∷ tail; all = rw no_more refl; again = rw (← same.0) (until_repeats f n bytes xs tail is) }
     by_read (Err u) is counted = absurd cc
 
-pub are_counted : {A B : Type 0} (told : List A → B) (f : Reader A) (n : ℕ) (bytes rest : List ℕ) (answer : B) → passed told (repeat_at f n bytes) ≡ Ok (answer, rest) → ended rest ≡ Ok tt
+pub are_counted : {A B : Type 0} (told : List A → B) (f : Reader A) (n : ℕ) (bytes rest : List ℕ) (answer : B) → passed_part told (repeat_at f n bytes) ≡ Ok (answer, rest) → nothing_left rest ≡ Ok tt
     → IsListed f n bytes (repeat_at f n bytes)
 are_counted {A} {B} told f n bytes rest answer over end = by_read (repeat_at f n bytes) refl over
   where
-    by_read : (u : Result (List A × List ℕ) (Unit {0})) → repeat_at f n bytes ≡ u → passed told u ≡ Ok (answer, rest) → IsListed f n bytes u
+    by_read : (u : Result (List A × List ℕ) (Unit {0})) → repeat_at f n bytes ≡ u → passed_part told u ≡ Ok (answer, rest) → IsListed f n bytes u
     by_read (Ok (xs, tail)) is over =
         let no_more : tail ≡ [] = (same_pair (told xs) answer tail rest over).1 ∙ at_end rest end in
         record { items = xs; after = tail; all = rw no_more refl; again = is }
@@ -278,16 +278,16 @@ are_counted {A} {B} told f n bytes rest answer over end = by_read (repeat_at f n
 
 -- so passing over it doesn't fail
 pub passes : {A B : Type 0} {f : Reader A} {count : ℕ} {bytes : List ℕ} {read : Result (List A × List ℕ) (Unit {0})} → IsListed f count bytes read → (told : List A → B) (e : FrameFault)
-    → passed told (repeat_at f count bytes) ≡ Err e → ⊥
+    → passed_part told (repeat_at f count bytes) ≡ Err e → ⊥
 passes {A} {B} {f} {count} {bytes} {read} l told e failed =
-    let read_again : passed told (repeat_at f count bytes) ≡ Ok (told l.items, l.after) = ap (λ (r : Result (List A × List ℕ) (Unit {0})). passed told r) l.again in
+    let read_again : passed_part told (repeat_at f count bytes) ≡ Ok (told l.items, l.after) = ap (λ (r : Result (List A × List ℕ) (Unit {0})). passed_part told r) l.again in
     absurd cc
 
 -- and tells its texts
 pub judges : {A : Type 0} (is_text : A → Bool) {f : Reader A} {count : ℕ} {bytes : List ℕ} {read : Result (List A × List ℕ) (Unit {0})} → (l : IsListed f count bytes read) → (t : Bool) (rest : List ℕ)
-    → passed (list_all is_text) (repeat_at f count bytes) ≡ Ok (t, rest) → whole (list_all is_text) read ≡ cond t (Ok l.items) (Err NotUtf8)
+    → passed_part (list_all is_text) (repeat_at f count bytes) ≡ Ok (t, rest) → whole (list_all is_text) read ≡ cond t (Ok l.items) (Err NotUtf8)
 judges {A} is_text {f} {count} {bytes} {read} l t rest over =
-    let read_again : passed (list_all is_text) (repeat_at f count bytes) ≡ Ok (list_all is_text l.items, l.after) = ap (λ (r : Result (List A × List ℕ) (Unit {0})). passed (list_all is_text) r) l.again in
+    let read_again : passed_part (list_all is_text) (repeat_at f count bytes) ≡ Ok (list_all is_text l.items, l.after) = ap (λ (r : Result (List A × List ℕ) (Unit {0})). passed_part (list_all is_text) r) l.again in
     let told : list_all is_text l.items ≡ t = (same_pair (list_all is_text l.items) t l.after rest (sym read_again ∙ over)).0 in
     rw (l.all, told) refl
 
@@ -302,9 +302,9 @@ are_items {A} is_text {f} {count} {bytes} {read} l place r given =
 
 -- so far t, and then whether all the others' texts are right
 abbrev pub judged_on : {A : Type 0} → (A → Bool) → Bool → Result (List A × List ℕ) (Unit {0}) → Result (Bool × List ℕ) FrameFault
-judged_on is_text t read = passed (λ xs. t && list_all is_text xs) read
+judged_on is_text t read = passed_part (λ xs. t && list_all is_text xs) read
 
-pub passes_on : {A : Type 0} (is_text : A → Bool) (f : Reader A) (t u : Bool) (count i : ℕ) (bytes rest : List ℕ) (total : Result (Bool × List ℕ) FrameFault) → i < count → passed is_text (f bytes) ≡ Ok (u, rest)
+pub passes_on : {A : Type 0} (is_text : A → Bool) (f : Reader A) (t u : Bool) (count i : ℕ) (bytes rest : List ℕ) (total : Result (Bool × List ℕ) FrameFault) → i < count → passed_part is_text (f bytes) ≡ Ok (u, rest)
     → judged_on is_text t (repeat_at f (count - i) bytes) ≡ total → judged_on is_text (t && u) (repeat_at f (count - (i + 1)) rest) ≡ total
 unfolding repeat_at
 passes_on {A} is_text f t u count i bytes rest total lt over so_far =
@@ -320,14 +320,14 @@ passes_on {A} is_text f t u count i bytes rest total lt over so_far =
     longer x (Ok y) = ap (λ (b : Bool). Ok (b, y.1)) (regrouped t (is_text x) (list_all is_text y.0))
     longer x (Err u) = refl
 
-    by_first : (r : Result (A × List ℕ) (Unit {0})) → passed is_text r ≡ Ok (u, rest)
+    by_first : (r : Result (A × List ℕ) (Unit {0})) → passed_part is_text r ≡ Ok (u, rest)
         → judged_on is_text t (r >>= λ first. repeat_at f (count - (i + 1)) first.1 >>= λ others. Ok (first.0 ∷ others.0, others.1)) ≡ judged_on is_text (t && u) (repeat_at f (count - (i + 1)) rest)
     by_first (Ok (x, tail)) is =
         let same = same_pair (is_text x) u tail rest is in
         rw (← same.0, same.1) (longer x (repeat_at f (count - (i + 1)) rest))
     by_first (Err e) is = absurd cc
 
-pub passing_fails : {A : Type 0} (is_text : A → Bool) (d : FrameFault) (f : Reader A) (t : Bool) (count i : ℕ) (bytes : List ℕ) (total : Result (Bool × List ℕ) FrameFault) → i < count → passed is_text (f bytes) ≡ Err d
+pub passing_fails : {A : Type 0} (is_text : A → Bool) (d : FrameFault) (f : Reader A) (t : Bool) (count i : ℕ) (bytes : List ℕ) (total : Result (Bool × List ℕ) FrameFault) → i < count → passed_part is_text (f bytes) ≡ Err d
     → judged_on is_text t (repeat_at f (count - i) bytes) ≡ total → total ≡ Err d
 unfolding repeat_at
 passing_fails {A} is_text d f t count i bytes total lt failed so_far =
@@ -335,7 +335,7 @@ passing_fails {A} is_text d f t count i bytes total lt failed so_far =
     let one : judged_on is_text t (repeat_at f (count - i) bytes) ≡ Err d = rw k (by_first (f bytes) failed) in
     sym so_far ∙ one
   where
-    by_first : (r : Result (A × List ℕ) (Unit {0})) → passed is_text r ≡ Err d
+    by_first : (r : Result (A × List ℕ) (Unit {0})) → passed_part is_text r ≡ Err d
         → judged_on is_text t (r >>= λ first. repeat_at f (count - (i + 1)) first.1 >>= λ others. Ok (first.0 ∷ others.0, others.1)) ≡ Err d
     by_first (Ok x) is = absurd cc
     by_first (Err u) is = cc
@@ -404,7 +404,7 @@ abbrev pub Starting : {A : Type 0} → (A → Type 0) → (A → List ℕ) → A
 Starting Fits text x = Fits x × (starts (text x) ≡ true)
 
 until_takes : {A : Type 0} {f : Reader A} {text : A → List ℕ} {Fits : A → Type 0} (c : Codec f text Fits) → ((x : A) → 0 < length (text x)) → (n : ℕ) (bytes : List ℕ) (xs : List A) (rest : List ℕ)
-    → IsBytes bytes → until_at tt f n bytes ≡ Ok (xs, rest) → Takes bytes (closed text xs) rest × AllByRecursion (Starting Fits text) xs
+    → IsBytes bytes → until_at tt f n bytes ≡ Ok (xs, rest) → Takes bytes (closed_list text xs) rest × AllByRecursion (Starting Fits text) xs
 unfolding until_at
 until_takes c long zero bytes xs rest fits e = absurd cc
 until_takes {A} {f} {text} {Fits} c long (suc n) bytes xs rest fits e =
@@ -412,10 +412,10 @@ until_takes {A} {f} {text} {Fits} c long (suc n) bytes xs rest fits e =
     by_next a.0.0 a.0.1 a.1 (λ ys after is_bytes. until_takes c long n a.0.1 ys after is_bytes) a.2
   where
     Taken : List A × List ℕ → Type 0
-    Taken y = Takes bytes (closed text y.0) y.1 × AllByRecursion (Starting Fits text) y.0
+    Taken y = Takes bytes (closed_list text y.0) y.1 × AllByRecursion (Starting Fits text) y.0
 
     by_next : (o : Option A) (after : List ℕ) → next_at tt f bytes ≡ Ok (o, after)
-        → ((ys : List A) (rest : List ℕ) → IsBytes after → until_at tt f n after ≡ Ok (ys, rest) → Takes after (closed text ys) rest × AllByRecursion (Starting Fits text) ys)
+        → ((ys : List A) (rest : List ℕ) → IsBytes after → until_at tt f n after ≡ Ok (ys, rest) → Takes after (closed_list text ys) rest × AllByRecursion (Starting Fits text) ys)
         → go_on o after (until_at tt f n after) ≡ Ok (xs, rest) → Taken (xs, rest)
     by_next None after next inner e =
         let read : List A × List ℕ = ([], after) in
@@ -430,7 +430,7 @@ until_takes {A} {f} {text} {Fits} c long (suc n) bytes xs rest fits e =
         let u = inner b.0.0 b.0.1 t.0.rest_fits b.1 in
         let S : List ℕ → Type 0 = λ l. starts l ≡ true in
         let first : starts (text x) ≡ true = begins_as (text x) after (long x) (subst S t.0.parts found.1) in
-        let both = Takes-then bytes (text x) after (closed text b.0.0) b.0.1 t.0 u.0 in
+        let both = Takes-then bytes (text x) after (closed_list text b.0.0) b.0.1 t.0 u.0 in
         let regrouped : text x ++ (flat_map text b.0.0 ++ 0 ∷ []) ≡ flat_map text (x ∷ b.0.0) ++ 0 ∷ [] = sym (append_assoc (text x) (flat_map text b.0.0) (0 ∷ [])) ∙ ap (λ (l : List ℕ). l ++ 0 ∷ []) (sym (flat_map-cons text x b.0.0)) in
         let Q : List ℕ → Type 0 = λ l. Takes bytes l b.0.1 in
         subst Taken (ok_is (Unit {0}) made (xs, rest) b.2) (subst Q regrouped both, ((t.1, first), u.1))
@@ -451,8 +451,8 @@ as_many text long [] = omega arith
 as_many text long (x ∷ xs) = omega (arith, long x, as_many text long xs, length-append (text x) (flat_map text xs), ap length (flat_map-cons text x xs))
 
 pub until_body : {A : Type 0} {f : Reader A} {text : A → List ℕ} {Fits : A → Type 0} → Codec f text Fits → ((x : A) → 0 < length (text x))
-    → Body (λ body. until_at tt f (length body) body) (closed text) (AllByRecursion (Starting Fits text))
+    → Body (λ body. until_at tt f (length body) body) (closed_list text) (AllByRecursion (Starting Fits text))
 until_body {A} {f} {text} {Fits} c long = record {
   takes = λ bytes xs rest fits e. until_takes c long (length bytes) bytes xs rest fits e;
-  again = λ xs fits. until_again c (length (closed text xs)) xs [] (omega (arith, as_many text long xs, length-append (flat_map text xs) (0 ∷ []))) fits;
+  again = λ xs fits. until_again c (length (closed_list text xs)) xs [] (omega (arith, as_many text long xs, length-append (flat_map text xs) (0 ∷ []))) fits;
 }

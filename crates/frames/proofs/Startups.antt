@@ -7,8 +7,8 @@ use Rattle.std.specs.List.{AllByRecursion, list_all}
 use Rattle.std.proofs.lemmas.Bool.{ltb-true, ltb-false, le-ltb, lt-ltb, cases_lt}
 use Rattle.std.proofs.lemmas.List.{take_at, drop_at, take-append-drop, take-append-le, length-append, length-drop}
 use Rattle.pqformat.specs.Fields.{int32, string, has_zero, bytes_at, number_at}
-use Rattle.pqformat.specs.Steps.{◌>>=◌, closed}
-use Rattle.frames.specs.Body.{checked, always, nothing_at, starts}
+use Rattle.pqformat.specs.Steps.{◌>>=◌, closed_list}
+use Rattle.frames.specs.Body.{checked_text, always, nothing_at, starts}
 use Rattle.frames.specs.Frame.{Fits, HasBody, Fails, Gives, whole_of, IsKept}
 use Rattle.frames.specs.Plain.{backend_key, backend_key_at}
 use Rattle.frames.specs.Parameter.{parameter, parameter_at, is_empty, FitsParameter, is_parameter_text}
@@ -61,7 +61,7 @@ all_named : (ps : List Parameter) → AllByRecursion FitsParameter ps → AllByR
 all_named [] all = tt
 all_named (p ∷ ps) all = (((all.0.1, all.0.2), named_starts p.name (string p.value) all.0.0 all.0.1), all_named ps all.1)
 
-session_body : Body parameters_at (closed parameter) (AllByRecursion FitsParameter)
+session_body : Body parameters_at (closed_list parameter) (AllByRecursion FitsParameter)
 session_body =
     let b = until_body parameter_codec long_parameter in
     record {
@@ -87,7 +87,7 @@ startup_cases =
     case CANCEL_REQUEST 16 (body_of_codec key_codec) always (λ m. Cancel m.0 m.1) (λ _ fits. (refl, refl, fits)) (λ _. refl) (
     no_case startup_number startup_body IsShapedStartup is_startup_text BadVersion))))
 
-startup_again : (f : Startup) → IsShapedStartup f → startup_at (startup_number f) (startup_body f) ≡ checked is_startup_text f
+startup_again : (f : Startup) → IsShapedStartup f → startup_at (startup_number f) (startup_body f) ≡ checked_text is_startup_text f
 startup_again (Session ps) shaped = ap (λ (r : Result (List Parameter) FrameFault). r >>= λ x. done FrameFault (Session x)) (whole_again session_body (list_all is_parameter_text) ps shaped) ∙ made Session (list_all is_parameter_text ps) ps
 startup_again Ssl shaped = refl
 startup_again Gss shaped = refl
@@ -336,9 +336,9 @@ raw_faults bytes e fits is = by_length (number_at w32 bytes) refl is
 
 none_has : (number : ℕ) (body : List ℕ) → startup_at number body ≡ Err BadBody → (f : Startup) → HasBody startup_number startup_body IsShapedStartup number body f → ⊥
 none_has number body bad f has =
-    let P : ℕ → Type 0 = λ k. startup_at k body ≡ checked is_startup_text f in
-    let Q : List ℕ → Type 0 = λ b. startup_at (startup_number f) b ≡ checked is_startup_text f in
-    let read : startup_at number body ≡ checked is_startup_text f = subst P has.0 (subst Q has.1 (startup_again f has.2)) in
+    let P : ℕ → Type 0 = λ k. startup_at k body ≡ checked_text is_startup_text f in
+    let Q : List ℕ → Type 0 = λ b. startup_at (startup_number f) b ≡ checked_text is_startup_text f in
+    let read : startup_at number body ≡ checked_text is_startup_text f = subst P has.0 (subst Q has.1 (startup_again f has.2)) in
     never_bad (is_startup_text f) (sym read ∙ bad)
   where
     never_bad : (b : Bool) → cond b (done FrameFault f) (Err NotUtf8) ≡ Err BadBody → ⊥

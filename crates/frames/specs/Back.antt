@@ -18,12 +18,12 @@ use Rattle.frames.specs.declared.copy_done.TheConstants.{COPY_DONE}
 use Rattle.frames.specs.declared.frame.TheConstants.{FRAME_LIMIT}
 use Rattle.frames.specs.declared.fault.FrameFault.{FrameFault}
 use Rattle.frames.specs.declared.fault.FrameFault.TheVariants.{UnknownType}
-use Rattle.pqformat.specs.Steps.{◌>>=◌, until_at, closed}
+use Rattle.pqformat.specs.Steps.{◌>>=◌, until_at, closed_list}
 use Rattle.pqformat.specs.Fields.{int32, string, has_zero}
 use Rattle.frames.specs.Body.{whole, always, nothing_at, text_at}
 use Rattle.frames.specs.Frame.{Fits, SpellsFrame, IsShort, StandsAt, framed_at}
 use Rattle.frames.specs.Parameter.{parameter, parameter_at, is_parameter_text}
-use Rattle.frames.specs.Plain.{authentication_at, backend_key, backend_key_at, status_letter, status_at, counted, counted_at, copy_both, copy_both_at}
+use Rattle.frames.specs.Plain.{authentication_at, backend_key, backend_key_at, status_letter, status_at, counted_items, counted_at, copy_both, copy_both_at}
 use Rattle.frames.specs.RowDescription.{column, column_at, FitsColumn, is_column_text}
 use Rattle.frames.specs.DataRow.{data_value, value_at, FitsValue}
 use Rattle.frames.specs.ErrorResponse.{error_field, error_field_at, FitsErrorField, is_error_text}
@@ -50,9 +50,9 @@ back_body (ParameterStatus m) = parameter m
 back_body (BackendKeyData m) = backend_key (m.process, m.key)
 back_body (ReadyForQuery m) = status_letter m ∷ []
 back_body (CommandComplete m) = string m.tag
-back_body (RowDescription m) = counted column m.columns
-back_body (DataRow m) = counted data_value m.values
-back_body (ErrorResponse m) = closed error_field m.fields
+back_body (RowDescription m) = counted_items column m.columns
+back_body (DataRow m) = counted_items data_value m.values
+back_body (ErrorResponse m) = closed_list error_field m.fields
 back_body (CopyBothResponse m) = copy_both m
 back_body (CopyData m) = copy_data m
 back_body CopyDone = []

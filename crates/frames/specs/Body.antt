@@ -20,27 +20,27 @@ abbrev pub text_at : List ℕ → Result (List ℕ × List ℕ) (Unit {0})
 text_at bytes = there (string_at bytes)
 
 -- nothing is left over
-abbrev pub ended : List ℕ → Result (Unit {0}) FrameFault
-ended [] = Ok tt
-ended (b ∷ bytes) = Err BadBody
+abbrev pub nothing_left : List ℕ → Result (Unit {0}) FrameFault
+nothing_left [] = Ok tt
+nothing_left (b ∷ bytes) = Err BadBody
 
 -- the texts are UTF-8
-abbrev pub checked : {X : Type 0} → (X → Bool) → X → Result X FrameFault
-checked is_text x = if is_text x then Ok x else Err NotUtf8
+abbrev pub checked_text : {X : Type 0} → (X → Bool) → X → Result X FrameFault
+checked_text is_text x = if is_text x then Ok x else Err NotUtf8
 
 abbrev pub whole : {X : Type 0} → (X → Bool) → Result (X × List ℕ) (Unit {0}) → Result X FrameFault
-whole is_text (Ok x) = ended x.1 >>= λ _. checked is_text x.0
+whole is_text (Ok x) = nothing_left x.1 >>= λ _. checked_text is_text x.0
 whole is_text (Err u) = Err BadBody
 
 -- A part that is read alone: it is there, and then its texts are judged.
 abbrev pub checked_at : {X : Type 0} → (X → Bool) → Result (X × List ℕ) (Unit {0}) → Result (X × List ℕ) FrameFault
-checked_at is_text (Ok x) = checked is_text x.0 >>= λ y. Ok (y, x.1)
+checked_at is_text (Ok x) = checked_text is_text x.0 >>= λ y. Ok (y, x.1)
 checked_at is_text (Err u) = Err BadBody
 
 -- A part that is passed over: what is told of it, and what follows it.
-abbrev pub passed : {X Y : Type 0} → (X → Y) → Result (X × List ℕ) (Unit {0}) → Result (Y × List ℕ) FrameFault
-passed told (Ok x) = Ok (told x.0, x.1)
-passed told (Err u) = Err BadBody
+abbrev pub passed_part : {X Y : Type 0} → (X → Y) → Result (X × List ℕ) (Unit {0}) → Result (Y × List ℕ) FrameFault
+passed_part told (Ok x) = Ok (told x.0, x.1)
+passed_part told (Err u) = Err BadBody
 
 -- A call that answers what reading gives, and has moved past it. It takes no memory.
 abbrev pub ReadsAt : {X : Type 0} → Result X FrameFault → List ℕ → Result (X × List ℕ) FrameFault → Type 0

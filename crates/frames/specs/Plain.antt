@@ -36,8 +36,8 @@ abbrev pub status_at : List ℕ → Result (Status × List ℕ) (Unit {0})
 status_at bytes = letter_at tt tt status_of bytes
 
 -- a count whose top bit isn't set, and as many items
-abbrev pub counted : {A : Type 0} → (A → List ℕ) → List A → List ℕ
-counted text xs = int16 (length xs) ++ flat_map text xs
+abbrev pub counted_items : {A : Type 0} → (A → List ℕ) → List A → List ℕ
+counted_items text xs = int16 (length xs) ++ flat_map text xs
 
 abbrev pub counted_at : {A : Type 0} → (List ℕ → Result (A × List ℕ) (Unit {0})) → List ℕ → Result (List A × List ℕ) (Unit {0})
 counted_at f bytes = count_at tt tt w16 (2 ^ 15) bytes >>= λ n. repeat_at f n.0 n.1
@@ -47,7 +47,7 @@ format_at bytes = there (number_at w16 bytes)
 
 -- the format of the stream, and that of each column
 abbrev pub copy_both : CopyBothResponse → List ℕ
-copy_both m = m.format ∷ [] ++ counted int16 m.formats
+copy_both m = m.format ∷ [] ++ counted_items int16 m.formats
 
 unfoldable pub copy_both_at : List ℕ → Result (CopyBothResponse × List ℕ) (Unit {0})
 copy_both_at bytes = do

@@ -11,7 +11,7 @@ use Rattle.frames.specs.declared.parameter.Parameter.{Parameter}
 use Rattle.frames.specs.declared.fault.FrameFault.{FrameFault}
 use Rattle.frames.specs.declared.fault.FrameFault.TheVariants.{BadLength, BadVersion, UnknownType, BadBody, NotUtf8, TooLong, Memory}
 use Rattle.pqformat.specs.Fields.{int32, number_at, bytes_at}
-use Rattle.pqformat.specs.Steps.{◌>>=◌, until_at, closed}
+use Rattle.pqformat.specs.Steps.{◌>>=◌, until_at, closed_list}
 use Rattle.frames.specs.Body.{whole, always, nothing_at}
 use Rattle.frames.specs.Frame.{Fits, HasBody, whole_of}
 use Rattle.frames.specs.Plain.{backend_key, backend_key_at}
@@ -26,7 +26,7 @@ startup_number Gss = GSS_REQUEST
 startup_number (Cancel process key) = CANCEL_REQUEST
 
 abbrev pub startup_body : Startup → List ℕ
-startup_body (Session parameters) = closed parameter parameters
+startup_body (Session parameters) = closed_list parameter parameters
 startup_body (Cancel process key) = backend_key (process, key)
 startup_body _ = []
 

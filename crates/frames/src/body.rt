@@ -2,7 +2,7 @@
 
 ghost use Rattle.std.specs.Prelude.{◌≡◌, Err, IsOk};
 ghost use Rattle.std.specs.Str.{is_utf8};
-ghost use Rattle.frames.specs.Body.{ended, checked, whole, always, nothing_at, text_at};
+ghost use Rattle.frames.specs.Body.{nothing_left, checked_text, whole, always, nothing_at, text_at};
 ghost use Rattle.frames.specs.Frame.{Gives};
 ghost use Rattle.frames.specs.Raw.{as_text};
 
@@ -13,7 +13,7 @@ use std::alloc::Global;
 
 /// That nothing is left over.
 pub(crate) fn end_of(cursor: &Cursor<'_>) -> Result<(), FrameFault>
-    ensures { result ≡ ended cursor.now }
+    ensures { result ≡ nothing_left cursor.now }
 {
     if cursor.rest().is_empty() {
         Ok(())
@@ -30,14 +30,14 @@ pub(crate) fn is_valid_text(bytes: &[u8]) -> bool
 
 /// The bytes as a text, which isn't copied yet.
 pub(crate) fn judged(bytes: &[u8]) -> Result<&str, FrameFault>
-    ensures { as_text result ≡ checked is_utf8 bytes.now }
+    ensures { as_text result ≡ checked_text is_utf8 bytes.now }
 {
     utf8_of(bytes).ok_or(FrameFault::NotUtf8)
 }
 
 pub(crate) fn text_of(alloc: Global, bytes: &[u8]) -> Result<Text, FrameFault>
-    ensures exact { Gives result (checked is_utf8 bytes.now) }
-    ensures memory { result ≡ Err FrameFault.Memory → IsOk (checked is_utf8 bytes.now) }
+    ensures exact { Gives result (checked_text is_utf8 bytes.now) }
+    ensures memory { result ≡ Err FrameFault.Memory → IsOk (checked_text is_utf8 bytes.now) }
 {
     let text = judged(bytes)?;
     Ok(Text::copy_of(alloc, text)?)

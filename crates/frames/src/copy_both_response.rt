@@ -2,7 +2,7 @@
 
 ghost use Rattle.std.specs.Prelude.{◌≡◌, Err, IsOk, length};
 ghost use Rattle.pqformat.specs.Fields.{int16};
-ghost use Rattle.frames.specs.Body.{GivesAt, ReadsAt, checked_at, passed, whole, always};
+ghost use Rattle.frames.specs.Body.{GivesAt, ReadsAt, checked_at, passed_part, whole, always};
 ghost use Rattle.frames.specs.Frame.{Gives};
 ghost use Rattle.frames.specs.Plain.{counted_at, format_at, copy_both_at};
 ghost use Rattle.pqformat.specs.Putting.{Puts};

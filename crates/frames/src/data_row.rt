@@ -1,7 +1,7 @@
 //! DataRow, the values of one row: its type, its reader and its writer.
 
 ghost use Rattle.std.specs.Prelude.{◌≡◌, Err, IsOk, length};
-ghost use Rattle.frames.specs.Body.{GivesAt, ReadsAt, checked_at, passed, whole, always};
+ghost use Rattle.frames.specs.Body.{GivesAt, ReadsAt, checked_at, passed_part, whole, always};
 ghost use Rattle.frames.specs.Frame.{Gives};
 ghost use Rattle.frames.specs.Plain.{counted_at};
 ghost use Rattle.frames.specs.Raw.{as_value};
@@ -45,7 +45,7 @@ pub enum DataValue {
 /// The bytes behind the length of a value; None: a null.
 #[tactic(auto, unfolding(crate::specs::DataRow::value_at))]
 fn lent_value<'a>(cursor: &mut Cursor<'a>) -> Result<Option<&'a [u8]>, FrameFault>
-    ensures { ReadsAt (as_value result) cursor.new (passed (λ v. v) (value_at cursor.old)) }
+    ensures { ReadsAt (as_value result) cursor.new (passed_part (λ v. v) (value_at cursor.old)) }
 {
     let length = int32(cursor)?;
     if length == NO_LENGTH {

@@ -1,7 +1,7 @@
 //! ErrorResponse, why a command or a session was refused: its type, its reader and its writer.
 
 ghost use Rattle.std.specs.Prelude.{◌≡◌, length};
-ghost use Rattle.frames.specs.Body.{GivesAt, ReadsAt, checked_at, passed};
+ghost use Rattle.frames.specs.Body.{GivesAt, ReadsAt, checked_at, passed_part};
 ghost use Rattle.pqformat.specs.Putting.{Puts};
 ghost use Rattle.frames.specs.ErrorResponse.{error_field, error_field_at, is_error_text};
 

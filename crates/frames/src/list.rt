@@ -3,10 +3,10 @@
 
 ghost use Rattle.std.specs.Prelude.{◌≡◌, ◌^◌, ◌<◌, ◌++◌, length, is_none, Err, IsOk};
 ghost use Rattle.std.specs.List.{list_all, flat_map, AllByRecursion};
-ghost use Rattle.pqformat.specs.Steps.{repeat_at, next_at, until_at, closed};
-ghost use Rattle.frames.specs.Plain.{counted, counted_at};
+ghost use Rattle.pqformat.specs.Steps.{repeat_at, next_at, until_at, closed_list};
+ghost use Rattle.frames.specs.Plain.{counted_at, counted_items};
 ghost use Rattle.pqformat.specs.Putting.{Puts};
-ghost use Rattle.frames.specs.Body.{ReadsAt, GivesAt, checked_at, passed, whole};
+ghost use Rattle.frames.specs.Body.{ReadsAt, GivesAt, checked_at, passed_part, whole};
 ghost use Rattle.frames.specs.Frame.{Gives};
 
 use crate::body::end_of;
@@ -26,7 +26,7 @@ pub(crate) trait Field: Sized {
 
     /// Moves past one, and tells whether its texts are UTF-8.
     fn pass(cursor: &mut Cursor<'_>) -> Result<bool, FrameFault>
-        ensures { ReadsAt result cursor.new (passed is_text (field_at cursor.old)) };
+        ensures { ReadsAt result cursor.new (passed_part is_text (field_at cursor.old)) };
 
     fn read(alloc: Global, cursor: &mut Cursor<'_>) -> Result<Self, FrameFault>
         ensures { GivesAt result cursor.new (checked_at is_text (field_at cursor.old)) };
@@ -52,7 +52,7 @@ fn items_of<T: Field + Drop>(
 /// Moves past one more, or past the zero byte that ends them, which it answers.
 #[tactic(auto, unfolding(pqformat::specs::Steps::next_at))]
 fn pass_next<T: Field>(cursor: &mut Cursor<'_>) -> Result<bool, FrameFault>
-    ensures { ReadsAt result cursor.new (passed is_none (next_at tt T.field_at cursor.old)) }
+    ensures { ReadsAt result cursor.new (passed_part is_none (next_at tt T.field_at cursor.old)) }
 {
     match cursor.rest().first() {
         None => Err(FrameFault::BadBody),
@@ -69,7 +69,8 @@ fn pass_next<T: Field>(cursor: &mut Cursor<'_>) -> Result<bool, FrameFault>
 
 /// How many stand before the zero byte that ends them; moves past it.
 fn count_of<T: Field>(cursor: &mut Cursor<'_>, limit: usize) -> Result<usize, FrameFault>
-    ensures { ReadsAt result cursor.new (passed length (until_at tt T.field_at limit cursor.old)) }
+    ensures { ReadsAt result cursor.new
+        (passed_part length (until_at tt T.field_at limit cursor.old)) }
 {
     for count in 0..limit {
         if pass_next::<T>(cursor)? {
@@ -99,7 +100,7 @@ pub(crate) fn listed<T: Field + Drop>(alloc: Global, body: &[u8]) -> Result<Item
 /// Moves past as many as the count says, and tells whether all their texts are UTF-8.
 fn pass_items<T: Field>(cursor: &mut Cursor<'_>, count: usize) -> Result<bool, FrameFault>
     ensures { ReadsAt result cursor.new
-        (passed (list_all T.is_text) (repeat_at T.field_at count cursor.old)) }
+        (passed_part (list_all T.is_text) (repeat_at T.field_at count cursor.old)) }
 {
     let mut are_texts = true;
     for _ in 0..count {
@@ -188,7 +189,7 @@ fn put_items<T: Put>(out: &mut BytesMut, items: &[T]) -> Result<(), AllocError>
 pub(crate) fn put_counted<T: Put>(out: &mut BytesMut, items: &[T]) -> Result<(), AllocError>
     requires count { length items.now < 2 ^ 15 }
     requires each { AllByRecursion T.is_short items.now }
-    ensures { Puts result out.old.items out.new.items (counted T.spelled items.now) }
+    ensures { Puts result out.old.items out.new.items (counted_items T.spelled items.now) }
 {
     put_int16(out, items.len() as u16)?;
     put_items(out, items)
@@ -198,7 +199,7 @@ pub(crate) fn put_counted<T: Put>(out: &mut BytesMut, items: &[T]) -> Result<(),
 #[tactic(auto, using(pqformat::proofs::Putting::in_place))]
 pub(crate) fn put_closed<T: Put>(out: &mut BytesMut, items: &[T]) -> Result<(), AllocError>
     requires { AllByRecursion T.is_short items.now }
-    ensures { Puts result out.old.items out.new.items (closed T.spelled items.now) }
+    ensures { Puts result out.old.items out.new.items (closed_list T.spelled items.now) }
 {
     put_items(out, items)?;
     put_byte(out, 0)

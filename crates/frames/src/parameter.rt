@@ -1,7 +1,7 @@
 //! A parameter of a session, as a client asks for it in its startup.
 
 ghost use Rattle.std.specs.Prelude.{◌≡◌};
-ghost use Rattle.frames.specs.Body.{GivesAt, ReadsAt, checked_at, passed};
+ghost use Rattle.frames.specs.Body.{GivesAt, ReadsAt, checked_at, passed_part};
 ghost use Rattle.frames.specs.Parameter.{parameter_at, is_parameter_text};
 
 use crate::body::{is_valid_text, text_of};

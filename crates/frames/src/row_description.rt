@@ -1,7 +1,7 @@
 //! RowDescription, the columns of the rows that follow: its type, its reader and its writer.
 
 ghost use Rattle.std.specs.Prelude.{◌≡◌, length};
-ghost use Rattle.frames.specs.Body.{GivesAt, ReadsAt, checked_at, passed};
+ghost use Rattle.frames.specs.Body.{GivesAt, ReadsAt, checked_at, passed_part};
 ghost use Rattle.pqformat.specs.Putting.{Puts};
 ghost use Rattle.frames.specs.RowDescription.{column, column_type, column_at, type_at, is_column_text};
 
@@ -54,7 +54,7 @@ pub struct ColumnType {
 
 #[tactic(auto, unfolding(crate::specs::RowDescription::type_at))]
 fn type_of(cursor: &mut Cursor<'_>) -> Result<ColumnType, FrameFault>
-    ensures { ReadsAt result cursor.new (passed (λ t. t) (type_at cursor.old)) }
+    ensures { ReadsAt result cursor.new (passed_part (λ t. t) (type_at cursor.old)) }
 {
     let oid = int32(cursor)?;
     let size = int16(cursor)?.cast_signed();

@@ -2,7 +2,7 @@
 use Rattle.std.specs.Prelude.{ℕ, nat_le, Bool, ◌&&◌, List, filter, length, Option, option_map}
 use Rattle.std.specs.List.{filter_map, list_any}
 use Rattle.std.specs.Str.{bytes_eq}
-use Rattle.publication.specs.Publications.{PublicationSet, selected}
+use Rattle.publication.specs.Publications.{PublicationSet, selected_publications}
 use Rattle.publication.specs.Selection.{selected_oids, selected_table}
 use Rattle.server.specs.declared.table_name.TableName.{TableName}
 use Rattle.hub.specs.declared.published.TheConstants.{MOST_NAME_BYTES}
@@ -21,4 +21,4 @@ tables_in selection = filter_map (told_table selection) (selected_oids selection
 
 -- the tables of the publications of these names
 abbrev pub tables_told : PublicationSet → List (List ℕ) → List TableName
-tables_told s names = tables_in (selected s (filter (is_publication s) names))
+tables_told s names = tables_in (selected_publications s (filter (is_publication s) names))

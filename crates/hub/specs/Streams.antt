@@ -4,7 +4,7 @@ use Rattle.std.specs.declared.option.Option.{Option}
 use Rattle.std.specs.Io.KnownBytes.{Appends}
 use Rattle.stream.specs.Words.{word_bytes}
 use Rattle.stream.specs.Items.{keepalive_word}
-use Rattle.publication.specs.Publications.{PublicationSet, selected}
+use Rattle.publication.specs.Publications.{PublicationSet, selected_publications}
 use Rattle.replcmd.specs.declared.setting.StreamOptions.{StreamOptions}
 use Rattle.shared_log.specs.Readers.{seen_of}
 use Rattle.walsender.specs.declared.walsender.Walsender.{Walsender}
@@ -13,7 +13,7 @@ use Rattle.hub.specs.declared.streaming.TheConstants.{CLOCK}
 
 -- what a START asks for: what its names select, with the messages of the log where its options ask for them
 abbrev pub asked_for : PublicationSet → List (List ℕ) → StreamOptions → PublicationSet
-asked_for publications names options = record (selected publications names) { messages = options.messages }
+asked_for publications names options = record (selected_publications publications names) { messages = options.messages }
 
 -- so many keepalives, one behind the other, which don't ask for an answer
 abbrev pub keepalives : ℕ → ℕ → List ℕ

@@ -12,7 +12,7 @@ use Rattle.pgoutput.specs.declared.old_tuple.OldTuple.{OldTuple}
 use Rattle.pgoutput.specs.declared.relation.Relation.{Relation}
 use Rattle.pgoutput.specs.declared.update.Update.{Update}
 use Rattle.json.specs.Json.{Json, boolean, string, object, no_members, member, document}
-use Rattle.replcmd.specs.Position.{printed}
+use Rattle.replcmd.specs.Position.{position_text}
 use Rattle.replcmd.specs.Reading.{position_of}
 use Rattle.replcmd.proofs.Halves.{printed_is_read}
 use Rattle.replcmd.proofs.Places.{position_again}
@@ -28,10 +28,10 @@ use Rattle.json_lines.proofs.ReadBack.{begin_reads, commit_reads, message_reads,
 of_value : (j : Json) (o : Option ℕ) → document (text_of j) ≡ Some j → end_in j ≡ o → end_of (text_of j) ≡ o
 of_value j o reads is = ap (λ (d : Option Json). option_and_then end_in d) reads ∙ is
 
-written : (position : ℕ) → position < 2 ^ 64 → position_of (printed position) ≡ Some position
-written position lt = position_again (printed position) position (printed_is_read position lt)
+written : (position : ℕ) → position < 2 ^ 64 → position_of (position_text position) ≡ Some position
+written position lt = position_again (position_text position) position (printed_is_read position lt)
 
-commit_end : (m : Commit) → end_in (commit_json m) ≡ position_of (printed m.end)
+commit_end : (m : Commit) → end_in (commit_json m) ≡ position_of (position_text m.end)
 unfolding end_in
 commit_end m = refl
 
@@ -41,9 +41,9 @@ commit_ends m lt time = of_value (commit_json m) (Some m.end) (commit_reads m ti
 -- ---- A message, whether its content is a text or not.
 
 abbrev pub said : (is_transactional is_text : Bool) → Message → Json
-said is_transactional is_text m = object (member (codes "action") (string (codes "M")) (member (codes "transactional") (boolean is_transactional) (member (codes "lsn") (string (printed m.position)) (member (codes "prefix") (string m.prefix) (member (content_key is_text) (string (content_text is_text m.content)) no_members)))))
+said is_transactional is_text m = object (member (codes "action") (string (codes "M")) (member (codes "transactional") (boolean is_transactional) (member (codes "lsn") (string (position_text m.position)) (member (codes "prefix") (string m.prefix) (member (content_key is_text) (string (content_text is_text m.content)) no_members)))))
 
-note_end : (is_text : Bool) (m : Message) → end_in (said false is_text m) ≡ option_and_then behind (position_of (printed m.position))
+note_end : (is_text : Bool) (m : Message) → end_in (said false is_text m) ≡ option_and_then behind (position_of (position_text m.position))
 unfolding end_in
 note_end true m = refl
 note_end false m = refl

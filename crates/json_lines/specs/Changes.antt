@@ -10,13 +10,13 @@ use Rattle.json.specs.Json.{Json, string, object, Members, no_members, member}
 use Rattle.json.specs.Token as token
 use Rattle.json.specs.Token.{Token}
 use Rattle.json.specs.Tree.{json_tokens}
-use Rattle.replcmd.specs.Position.{printed}
+use Rattle.replcmd.specs.Position.{position_text}
 use Rattle.json_lines.specs.Rows.{row_json}
 use Rattle.json_lines.specs.declared.part.Part.TheVariants.{Whole, Key}
 
 -- where in the log it is told, and of which table
 abbrev pub change_members : List ℕ → ℕ → Relation → Members → Members
-change_members action lsn r more = member (codes "action") (string action) (member (codes "lsn") (string (printed lsn)) (member (codes "schema") (string r.namespace) (member (codes "table") (string r.name) more)))
+change_members action lsn r more = member (codes "action") (string action) (member (codes "lsn") (string (position_text lsn)) (member (codes "schema") (string r.namespace) (member (codes "table") (string r.name) more)))
 
 -- the key, or the whole row
 abbrev pub old_json : Relation → OldTuple → Json
@@ -44,7 +44,7 @@ truncate_json lsn r = object (change_members (codes "T") lsn r no_members)
 -- ---- as they are written
 
 abbrev pub change_front : List ℕ → ℕ → Relation → List Token
-change_front action lsn r = token.begin_object ∷ token.key (codes "action") ∷ token.string action ∷ token.key (codes "lsn") ∷ token.string (printed lsn) ∷ token.key (codes "schema") ∷ token.string r.namespace ∷ token.key (codes "table") ∷ token.string r.name ∷ []
+change_front action lsn r = token.begin_object ∷ token.key (codes "action") ∷ token.string action ∷ token.key (codes "lsn") ∷ token.string (position_text lsn) ∷ token.key (codes "schema") ∷ token.string r.namespace ∷ token.key (codes "table") ∷ token.string r.name ∷ []
 
 abbrev pub old_tokens : Relation → Option OldTuple → List Token
 old_tokens r None = []

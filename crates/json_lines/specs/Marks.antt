@@ -7,13 +7,13 @@ use Rattle.pgoutput.specs.declared.begin.Begin.{Begin}
 use Rattle.pgoutput.specs.declared.commit.Commit.{Commit}
 use Rattle.pgoutput.specs.declared.message.Message.{Message}
 use Rattle.json.specs.Json.{Json, boolean, number, string, object, no_members, member}
-use Rattle.replcmd.specs.Position.{printed}
+use Rattle.replcmd.specs.Position.{position_text}
 
 abbrev pub begin_json : Begin → Json
-begin_json m = object (member (codes "action") (string (codes "B")) (member (codes "xid") (number (decimal m.xid)) (member (codes "lsn") (string (printed m.position)) (member (codes "timestamp") (number (signed_decimal m.time)) no_members))))
+begin_json m = object (member (codes "action") (string (codes "B")) (member (codes "xid") (number (decimal m.xid)) (member (codes "lsn") (string (position_text m.position)) (member (codes "timestamp") (number (signed_decimal m.time)) no_members))))
 
 abbrev pub commit_json : Commit → Json
-commit_json m = object (member (codes "action") (string (codes "C")) (member (codes "lsn") (string (printed m.position)) (member (codes "nextlsn") (string (printed m.end)) (member (codes "timestamp") (number (signed_decimal m.time)) no_members))))
+commit_json m = object (member (codes "action") (string (codes "C")) (member (codes "lsn") (string (position_text m.position)) (member (codes "nextlsn") (string (position_text m.end)) (member (codes "timestamp") (number (signed_decimal m.time)) no_members))))
 
 -- the content of a message: its text, or the bytes of what is no text in hexadecimal, under another name
 abbrev pub content_key : Bool → List ℕ
@@ -25,8 +25,8 @@ content_text true bytes = bytes
 content_text false bytes = encode_lower bytes
 
 abbrev pub message_json : Message → Json
-message_json m = object (member (codes "action") (string (codes "M")) (member (codes "transactional") (boolean m.is_transactional) (member (codes "lsn") (string (printed m.position)) (member (codes "prefix") (string m.prefix) (member (content_key (is_utf8 m.content)) (string (content_text (is_utf8 m.content) m.content)) no_members)))))
+message_json m = object (member (codes "action") (string (codes "M")) (member (codes "transactional") (boolean m.is_transactional) (member (codes "lsn") (string (position_text m.position)) (member (codes "prefix") (string m.prefix) (member (content_key (is_utf8 m.content)) (string (content_text (is_utf8 m.content) m.content)) no_members)))))
 
 -- what an output holds that has so many transactions and changes, and where it goes on
 abbrev pub summary_json : (transactions changes position : ℕ) → Json
-summary_json transactions changes position = object (member (codes "summary") (object (member (codes "transactions") (number (decimal transactions)) (member (codes "changes") (number (decimal changes)) (member (codes "lsn") (string (printed position)) no_members)))) no_members)
+summary_json transactions changes position = object (member (codes "summary") (object (member (codes "transactions") (number (decimal transactions)) (member (codes "changes") (number (decimal changes)) (member (codes "lsn") (string (position_text position)) no_members)))) no_members)

@@ -4,7 +4,7 @@ ghost use Rattle.std.specs.Prelude.{◌≡◌, [], ◌∷◌, ◌++◌, IfOk, On
 ghost use Rattle.std.specs.Str.{is_utf8};
 ghost use Rattle.json.specs.Token.{begin_object, end_object, key, number, string};
 ghost use Rattle.json_lines.specs.Line.{line_of};
-ghost use Rattle.replcmd.specs.Position.{printed};
+ghost use Rattle.replcmd.specs.Position.{position_text};
 ghost use Rattle.json_lines.specs.Marks.{begin_json, commit_json, content_key, content_text, message_json, summary_json};
 
 use crate::members::{closed, opened, put_number, put_position, put_text, put_time, put_truth};
@@ -89,7 +89,7 @@ fn put_summary(
         (out.new.tokens
         ≡ out.old.tokens ++ begin_object ∷ key (codes "summary") ∷ begin_object
         ∷ key (codes "transactions") ∷ number (decimal transactions) ∷ key (codes "changes")
-        ∷ number (decimal changes) ∷ key (codes "lsn") ∷ string (printed position)
+        ∷ number (decimal changes) ∷ key (codes "lsn") ∷ string (position_text position)
         ∷ end_object ∷ []) }
     ensures before { out.new.before ≡ out.old.before }
 {

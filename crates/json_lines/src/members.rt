@@ -4,7 +4,7 @@ ghost use Rattle.std.specs.Prelude.{◌≡◌, [], ◌∷◌, ◌++◌, decimal,
 ghost use Rattle.std.specs.Fmt.{signed_decimal};
 ghost use Rattle.json.specs.Print.{print};
 ghost use Rattle.json.specs.Token.{begin_object, end_object, key, string, number, boolean};
-ghost use Rattle.replcmd.specs.Position.{printed};
+ghost use Rattle.replcmd.specs.Position.{position_text};
 
 use json::Writer;
 use replcmd::write_position;
@@ -85,7 +85,7 @@ pub(crate) fn put_position(
     position: u64,
 ) -> Result<(), AllocError>
     ensures tokens { OnOk result
-        (out.new.tokens ≡ out.old.tokens ++ key name.now ∷ string (printed position) ∷ []) }
+        (out.new.tokens ≡ out.old.tokens ++ key name.now ∷ string (position_text position) ∷ []) }
     ensures before { out.new.before ≡ out.old.before }
 {
     let text = write_position(alloc, position)?;

@@ -12,8 +12,8 @@ use Rattle.slots.specs.Rule.{slot_step}
 use Rattle.slots.specs.Seats.{Did, Holds, IsRefusal}
 use Rattle.slots.specs.Standings.{held_by}
 use Rattle.named_slots.specs.declared.slot.Slot.{Slot}
-use Rattle.named_slots.specs.State.{IsOnlyAt, NamedSlot, SlotsState, RefusedExactly, claim_refusal, claim_refusal_of, claimed, holding, holds_at, if_at, if_named, is_in_use, place_of, slot_of}
-use Rattle.named_slots.specs.Keeping.{IsNamed, StandsIn, shown, shown_slot}
+use Rattle.named_slots.specs.State.{IsOnlyAt, NamedSlot, SlotsState, RefusedExactly, claim_refusal, claim_refusal_of, holds_at, if_at, if_named, is_in_use, place_of, slot_of, slot_with_hold, slots_after_claim}
+use Rattle.named_slots.specs.Keeping.{IsNamed, StandsIn, shown_slot, slots_in_view}
 use Rattle.named_slots.proofs.Facts.{Alike, Changes, one_step}
 use Rattle.named_slots.proofs.Names.{NamedThere, all_named_there, at_as_named, only_shown, slot_as_named, place_shown}
 use Rattle.named_slots.proofs.Standing.{SlotAt, slot_here, each_held, all_shown_held, still_stands, all_alike, stands_same, shown_same}
@@ -94,43 +94,43 @@ module _ {A : Type 0} (place : A → ℕ) (v w : View) (d : Directory) (ss : Lis
       (each_held v w p _ (won is.2) true refl refl refl ss stands.each)
   claim_stands (Err e) is = stands_same v w (ap (λ (z : View). z.number) is.2.0) (ap (λ (z : View). z.seats) is.2.0) (lost e is.0 is.1 is.2) ss places stands
 
-  now_held : Did Claim p 1 (held_by v.number) v w → shown w ss places ≡ claimed name (shown v ss places)
-  now_held did = ap (λ ts. record { slots = ts; places = places }) (all_shown_held v w p _ (won did) true refl refl refl ss ∙ at_as_named v name p (holding true) ss the.all)
+  now_held : Did Claim p 1 (held_by v.number) v w → slots_in_view w ss places ≡ slots_after_claim name (slots_in_view v ss places)
+  now_held did = ap (λ ts. record { slots = ts; places = places }) (all_shown_held v w p _ (won did) true refl refl refl ss ∙ at_as_named v name p (slot_with_hold true) ss the.all)
 
-  pub claim_ok : (s : SlotsState) → shown v ss places ≡ s → (r : Result A SlotFault) → IsClaim r → OnOk r (shown w ss places ≡ claimed name s)
-  claim_ok s old (Ok lease) is = now_held is.2 ∙ ap (claimed name) old
+  pub claim_ok : (s : SlotsState) → slots_in_view v ss places ≡ s → (r : Result A SlotFault) → IsClaim r → OnOk r (slots_in_view w ss places ≡ slots_after_claim name s)
+  claim_ok s old (Ok lease) is = now_held is.2 ∙ ap (slots_after_claim name) old
   claim_ok s old (Err e) is = tt
 
-  pub claim_err : (s : SlotsState) → shown v ss places ≡ s → (r : Result A SlotFault) → IsClaim r → OnErr r (shown w ss places ≡ s)
+  pub claim_err : (s : SlotsState) → slots_in_view v ss places ≡ s → (r : Result A SlotFault) → IsClaim r → OnErr r (slots_in_view w ss places ≡ s)
   claim_err s old (Ok lease) is = tt
   claim_err s old (Err e) is = ap (λ ts. record { slots = ts; places = places })
       (shown_same v w (ap (λ (z : View). z.number) is.2.0) (ap (λ (z : View). z.seats) is.2.0) (lost e is.0 is.1 is.2) ss)
       ∙ old
 
-  pub claim_lease : (s : SlotsState) → shown v ss places ≡ s → (r : Result A SlotFault) → IsClaim r
-      → IfOk r (λ lease. (place_of name (shown w ss places) ≡ Some (place lease)) × (holds_at (place lease) s ≡ false) × (holds_at (place lease) (shown w ss places) ≡ true))
+  pub claim_lease : (s : SlotsState) → slots_in_view v ss places ≡ s → (r : Result A SlotFault) → IsClaim r
+      → IfOk r (λ lease. (place_of name (slots_in_view w ss places) ≡ Some (place lease)) × (holds_at (place lease) s ≡ false) × (holds_at (place lease) (slots_in_view w ss places) ≡ true))
   claim_lease s old (Err e) is = tt
   claim_lease s old (Ok lease) is =
       let after = found_slot w d ss places name p named (claim_stands (Ok lease) is) found in (
         place_shown w name ss ∙ sym (named.same name) ∙ found ∙ ap (λ (q : ℕ). Option.Some q) (sym is.0),
-        ap (holds_at (place lease)) (sym old) ∙ ap (λ (q : ℕ). holds_at q (shown v ss places)) is.0
+        ap (holds_at (place lease)) (sym old) ∙ ap (λ (q : ℕ). holds_at q (slots_in_view v ss places)) is.0
             ∙ ap is_in_use (sym (slot_as_named v name p ss the.all) ∙ the.of) ∙ the.at.is_held ∙ free_there v.number (facts p v.steps) the.at.fits.1 (is.2.1.alone stands.alone),
-        ap (λ (q : ℕ). holds_at q (shown w ss places)) is.0
+        ap (λ (q : ℕ). holds_at q (slots_in_view w ss places)) is.0
             ∙ ap is_in_use (sym (slot_as_named w name p ss after.all) ∙ after.of) ∙ after.at.is_held ∙ is.1,
       )
 
-  pub claim_only : (s : SlotsState) → shown v ss places ≡ s → (r : Result A SlotFault) → IsClaim r → IfOk r (λ lease. IsOnlyAt name (place lease) s.slots)
+  pub claim_only : (s : SlotsState) → slots_in_view v ss places ≡ s → (r : Result A SlotFault) → IsClaim r → IfOk r (λ lease. IsOnlyAt name (place lease) s.slots)
   claim_only s old (Err e) is = tt
   claim_only s old (Ok lease) is = subst (λ (t : SlotsState). IsOnlyAt name (place lease) t.slots) old (subst (λ (q : ℕ). IsOnlyAt name q (map (shown_slot v) ss)) (sym is.0) (only_shown v name p ss the.all))
 
-  pub claim_refused : (r : Result A SlotFault) → IsClaim r → RefusedExactly (claim_refusal name (shown v ss places)) r
+  pub claim_refused : (r : Result A SlotFault) → IsClaim r → RefusedExactly (claim_refusal name (slots_in_view v ss places)) r
   claim_refused (Ok lease) is = ap claim_refusal_of the.of
       ∙ ap (λ (b : Bool). cond b (Option.Some faults.InUse) None) (the.at.is_held ∙ free_there v.number (facts p v.steps) the.at.fits.1 (is.2.1.alone stands.alone))
   claim_refused (Err e) is = let h = held_there v.number (facts p v.steps) the.at.fits.1 is.0 e (is.2.1.alone stands.alone) is.1 in
       ap claim_refusal_of the.of ∙ ap (λ (b : Bool). cond b (Option.Some faults.InUse) None) (the.at.is_held ∙ h.0) ∙ ap (λ (x : SlotFault). Option.Some x) (sym h.1)
 
 -- what is done at a name's place is done to the slot of the name
-pub done_by_name : (v : View) (d : Directory) (ss : List Slot) (places : ℕ) (s : SlotsState) (p : ℕ) (change : NamedSlot → NamedSlot) → IsNamed d ss places → StandsIn v ss places → shown v ss places ≡ s
+pub done_by_name : (v : View) (d : Directory) (ss : List Slot) (places : ℕ) (s : SlotsState) (p : ℕ) (change : NamedSlot → NamedSlot) → IsNamed d ss places → StandsIn v ss places → slots_in_view v ss places ≡ s
     → (name : List ℕ) → place_of name s ≡ Some p → map (if_at p change) s.slots ≡ map (if_named name change) s.slots
 done_by_name v d ss places s p change named stands old name found = subst (λ (t : SlotsState). map (if_at p change) t.slots ≡ map (if_named name change) t.slots) old
     (at_as_named v name p change ss (found_slot v d ss places name p named stands (named.same name ∙ sym (place_shown v name ss) ∙ ap (place_of name) old ∙ found)).all)

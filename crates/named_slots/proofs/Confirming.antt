@@ -6,8 +6,8 @@ use Rattle.slots.specs.Facts.{facts, facts_after}
 use Rattle.slots.specs.Rule.{slot_step}
 use Rattle.slots.specs.Seats.{DidAt}
 use Rattle.named_slots.specs.declared.slot.Slot.{Slot}
-use Rattle.named_slots.specs.State.{NamedSlot, confirmed_of, confirming, if_at, slot_at}
-use Rattle.named_slots.specs.Keeping.{StandsIn, noted, shown_slot}
+use Rattle.named_slots.specs.State.{NamedSlot, confirmed_of, if_at, slot_at, slot_with_confirmed}
+use Rattle.named_slots.specs.Keeping.{StandsIn, shown_slot, slot_with_noted_position}
 use Rattle.named_slots.proofs.Facts.{Alike, Changes, one_step}
 use Rattle.named_slots.proofs.Listing.{places_noted}
 use Rattle.named_slots.proofs.Standing.{IsHeldAt, all_alike, all_shown_noted, each_noted, is_made, still_stands}
@@ -16,16 +16,16 @@ use Rattle.named_slots.proofs.Standing.{IsHeldAt, all_alike, all_shown_noted, ea
 pub read_same : (v w : View) (p x : ℕ) → v.seats ≡ 1 → DidAt Read p x x v w → (q : ℕ) → Alike (facts q v.steps) (facts q w.steps)
 read_same v w p x one did = all_alike v w p _ (one_step v w (slot_step Read p x x) did.0) (record { state = refl; position = did.1.alone one; held = refl })
 
-confirmed_there : (p by : ℕ) (ss : List NamedSlot) → slot_at p (map (if_at p (confirming by)) ss) ≡ option_map (confirming by) (slot_at p ss)
+confirmed_there : (p by : ℕ) (ss : List NamedSlot) → slot_at p (map (if_at p (slot_with_confirmed by)) ss) ≡ option_map (slot_with_confirmed by) (slot_at p ss)
 confirmed_there p by [] = refl
 confirmed_there p by (s ∷ ss) = by_test (eqb s.place p) refl (confirmed_there p by ss)
   where
     rest : Option NamedSlot
-    rest = slot_at p (map (if_at p (confirming by)) ss)
+    rest = slot_at p (map (if_at p (slot_with_confirmed by)) ss)
 
-    by_test : (b : Bool) → eqb s.place p ≡ b → rest ≡ option_map (confirming by) (slot_at p ss)
-        → cond (eqb (cond b (confirming by s) s).place p) (Some (cond b (confirming by s) s)) rest ≡ option_map (confirming by) (cond b (Some s) (slot_at p ss))
-    by_test true is later = ap (λ (b : Bool). cond b (Some (confirming by s)) rest) is
+    by_test : (b : Bool) → eqb s.place p ≡ b → rest ≡ option_map (slot_with_confirmed by) (slot_at p ss)
+        → cond (eqb (cond b (slot_with_confirmed by s) s).place p) (Some (cond b (slot_with_confirmed by s) s)) rest ≡ option_map (slot_with_confirmed by) (cond b (Some s) (slot_at p ss))
+    by_test true is later = ap (λ (b : Bool). cond b (Some (slot_with_confirmed by s)) rest) is
     by_test false is later = ap (λ (b : Bool). cond b (Some s) rest) is ∙ later
 
 module _ (v w : View) (p by to : ℕ) (ss : List Slot) (places : ℕ) (stands : StandsIn v ss places) (is : IsHeldAt p v ss) (raised : (x : ℕ) × (to ≡ max x by) × DidAt Raise p x to v w) where
@@ -35,13 +35,13 @@ module _ (v w : View) (p by to : ℕ) (ss : List Slot) (places : ℕ) (stands : 
   is_to : to ≡ max (facts p v.steps).position by
   is_to = raised.1 ∙ ap (λ (x : ℕ). max x by) (raised.2.1.alone stands.alone)
 
-  pub raised_stands : StandsIn w (map (noted p to) ss) places
-  raised_stands = still_stands v w p _ changes ss (map (noted p to) ss) places stands (is_made v p ss places stands is) (places_noted p to ss) (λ gone. gone)
+  pub raised_stands : StandsIn w (map (slot_with_noted_position p to) ss) places
+  raised_stands = still_stands v w p _ changes ss (map (slot_with_noted_position p to) ss) places stands (is_made v p ss places stands is) (places_noted p to ss) (λ gone. gone)
       (each_noted v w p _ changes to by is_to refl refl refl ss stands.each)
 
-  pub raised_shown : map (shown_slot w) (map (noted p to) ss) ≡ map (if_at p (confirming by)) (map (shown_slot v) ss)
+  pub raised_shown : map (shown_slot w) (map (slot_with_noted_position p to) ss) ≡ map (if_at p (slot_with_confirmed by)) (map (shown_slot v) ss)
   raised_shown = all_shown_noted v w p _ changes to by is_to refl refl refl ss stands.each
 
-  pub raised_value : to ≡ confirmed_of (slot_at p (map (shown_slot w) (map (noted p to) ss)))
-  raised_value = is_to ∙ ap (λ (x : ℕ). max x by) (sym is.at.confirmed) ∙ ap (λ (o : Option NamedSlot). confirmed_of (option_map (confirming by) o)) (sym is.found)
+  pub raised_value : to ≡ confirmed_of (slot_at p (map (shown_slot w) (map (slot_with_noted_position p to) ss)))
+  raised_value = is_to ∙ ap (λ (x : ℕ). max x by) (sym is.at.confirmed) ∙ ap (λ (o : Option NamedSlot). confirmed_of (option_map (slot_with_confirmed by) o)) (sym is.found)
       ∙ ap confirmed_of (sym (ap (slot_at p) raised_shown ∙ confirmed_there p by (map (shown_slot v) ss)))

@@ -6,7 +6,7 @@ use Rattle.slots.specs.declared.step.SlotStep.{SlotStep}
 use Rattle.slots.specs.declared.step.View.{View}
 use Rattle.slots.specs.Facts.{Facts, facts, facts_after}
 use Rattle.slots.specs.Rule.{slot_step}
-use Rattle.slots.specs.Seats.{AreTaken, Created, NoneLeft, passed}
+use Rattle.slots.specs.Seats.{AreTaken, Created, NoneLeft, steps_past}
 use Rattle.slots.specs.Standings.{held_by}
 use Rattle.slots.proofs.Facts.{facts_here, facts_there}
 use Rattle.named_slots.specs.declared.slot.Slot.{Slot}
@@ -26,12 +26,12 @@ module _ (v : View) (one : v.seats ≡ 1) where
       (λ n. alike_then (facts q v.steps) (facts q ss) (facts q (ss ++ slot_step Create i x x ∷ [])) (all q) (alike _ _ (facts_there q ss (slot_step Create i x x) (λ e. n (sym e)))))
       (cases_eq q i)
 
-  passed_from : (i : ℕ) (xs : List ℕ) (ss : List SlotStep) → AreTaken v i xs → ((q : ℕ) → Alike (facts q v.steps) (facts q ss)) → (q : ℕ) → Alike (facts q v.steps) (facts q (ss ++ passed i xs))
+  passed_from : (i : ℕ) (xs : List ℕ) (ss : List SlotStep) → AreTaken v i xs → ((q : ℕ) → Alike (facts q v.steps) (facts q ss)) → (q : ℕ) → Alike (facts q v.steps) (facts q (ss ++ steps_past i xs))
   passed_from i [] ss taken all q = subst (λ (l : List SlotStep). Alike (facts q v.steps) (facts q l)) (sym (append-nil ss)) (all q)
-  passed_from i (x ∷ xs) ss taken all q = subst (λ (l : List SlotStep). Alike (facts q v.steps) (facts q l)) (append_assoc ss (slot_step Create i x x ∷ []) (passed (suc i) xs))
+  passed_from i (x ∷ xs) ss taken all q = subst (λ (l : List SlotStep). Alike (facts q v.steps) (facts q l)) (append_assoc ss (slot_step Create i x x ∷ []) (steps_past (suc i) xs))
       (passed_from (suc i) xs (ss ++ slot_step Create i x x ∷ []) taken.2 (taken_step i x ss taken.0 (taken.1.alone one) all) q)
 
-  pub passed_alike : (xs : List ℕ) → AreTaken v 0 xs → (q : ℕ) → Alike (facts q v.steps) (facts q (v.steps ++ passed 0 xs))
+  pub passed_alike : (xs : List ℕ) → AreTaken v 0 xs → (q : ℕ) → Alike (facts q v.steps) (facts q (v.steps ++ steps_past 0 xs))
   passed_alike xs taken = passed_from 0 xs v.steps taken (λ q. alike _ _ refl)
 
   taken_from : (i : ℕ) (xs : List ℕ) → AreTaken v i xs → (k : ℕ) → k < length xs → (facts (i + k) v.steps).state ≡ 0 → ⊥
@@ -63,14 +63,14 @@ module _ (v w : View) (position p : ℕ) (ss : List Slot) (places : ℕ) (stands
   let_go = slot_step Release p (held_by v.number) 1
 
   abbrev pub before : List SlotStep
-  before = v.steps ++ passed 0 made.founds
+  before = v.steps ++ steps_past 0 made.founds
 
   abbrev pub left : Facts
   left = facts_after let_go (facts_after raise (facts_after take (facts p before)))
 
   all_steps : w.steps ≡ ((before ++ take ∷ []) ++ raise ∷ []) ++ let_go ∷ []
   all_steps = ap (λ (z : View). z.steps) made.steps
-      ∙ sym (append_assoc (before ++ take ∷ []) (raise ∷ []) (let_go ∷ []) ∙ append_assoc before (take ∷ []) (raise ∷ let_go ∷ []) ∙ append_assoc v.steps (passed 0 made.founds) (take ∷ raise ∷ let_go ∷ []))
+      ∙ sym (append_assoc (before ++ take ∷ []) (raise ∷ []) (let_go ∷ []) ∙ append_assoc before (take ∷ []) (raise ∷ let_go ∷ []) ∙ append_assoc v.steps (steps_past 0 made.founds) (take ∷ raise ∷ let_go ∷ []))
 
   pub created_changes : Changes v w p left
   created_changes = record {

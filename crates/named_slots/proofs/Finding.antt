@@ -8,7 +8,7 @@ use Rattle.slots.specs.Directories as names
 use Rattle.slots.specs.Facts.{facts}
 use Rattle.named_slots.specs.declared.slot.Slot.{Slot}
 use Rattle.named_slots.specs.State.{IsHeldAs, IsOnlyAt, IsUnnamed, NamedSlot, SlotsState, holds_at, is_in_use, place_of, slot_of}
-use Rattle.named_slots.specs.Keeping.{IsNamed, StandsIn, shown, shown_slot}
+use Rattle.named_slots.specs.Keeping.{IsNamed, StandsIn, shown_slot, slots_in_view}
 use Rattle.named_slots.proofs.Names.{none_shown, only_shown, place_shown, slot_as_named}
 use Rattle.named_slots.proofs.Claiming.{Found, found_slot}
 
@@ -24,7 +24,7 @@ none_named name (s ∷ ss) none = by_test (bytes_eq s.name name) none (none_name
     by_test true is later = absurd cc
     by_test false is later = (refl, later is)
 
-module _ (v : View) (d : Directory) (ss : List Slot) (places : ℕ) (name : List ℕ) (named : IsNamed d ss places) (stands : StandsIn v ss places) (s : SlotsState) (is : shown v ss places ≡ s) where
+module _ (v : View) (d : Directory) (ss : List Slot) (places : ℕ) (name : List ℕ) (named : IsNamed d ss places) (stands : StandsIn v ss places) (s : SlotsState) (is : slots_in_view v ss places ≡ s) where
   pub only_at : (o : Option ℕ) → o ≡ names.place_of d name → IfSome o (λ p. IsOnlyAt name p s.slots)
   only_at None found = tt
   only_at (Some p) found = subst (λ (t : SlotsState). IsOnlyAt name p t.slots) is (only_shown v name p ss (found_slot v d ss places name p named stands (sym found)).all)
@@ -33,7 +33,7 @@ module _ (v : View) (d : Directory) (ss : List Slot) (places : ℕ) (name : List
   alike_at None found = tt
   alike_at (Some p) found =
       let the : Found v ss name p = found_slot v d ss places name p named stands (sym found) in
-      let held : holds_at p (shown v ss places) ≡ (facts p v.steps).held = ap is_in_use (sym (slot_as_named v name p ss the.all) ∙ the.of) ∙ the.at.is_held in
+      let held : holds_at p (slots_in_view v ss places) ≡ (facts p v.steps).held = ap is_in_use (sym (slot_as_named v name p ss the.all) ∙ the.of) ∙ the.at.is_held in
       subst (λ (t : SlotsState). IsHeldAs (holds_at p t) p t.slots) is (subst (λ (b : Bool). IsHeldAs b p (map (shown_slot v) ss)) (sym held) (alike_shown v p ss))
 
   pub found_by : (o : Option ℕ) → o ≡ names.place_of d name → IfSome o (λ p. place_of name s ≡ Some p)

@@ -2,7 +2,7 @@
 use Rattle.std.proofs.Common.{◌≡◌, ℕ, max, Bool, true, false, cond, eqb, List, [], ◌∷◌, ◌++◌, map, Option, Some, None, option_map, refl, sym, ap, ap₂, ◌∙◌, ⊎_elim, eq-eqb, ne_eqb}
 use Rattle.std.specs.Str.{bytes_eq}
 use Rattle.std.proofs.lemmas.Bool.{cases_eq}
-use Rattle.named_slots.specs.State.{IsHeldAs, IsOnlyAt, IsUnnamed, NamedSlot, confirming, holding, if_at, if_named, is_in_use, slot_at, slot_of}
+use Rattle.named_slots.specs.State.{IsHeldAs, IsOnlyAt, IsUnnamed, NamedSlot, if_at, if_named, is_in_use, slot_at, slot_of, slot_with_confirmed, slot_with_hold}
 
 -- ---- A name and its place.
 
@@ -46,19 +46,19 @@ held_else q p change (s ∷ ss) stays not = by_place (held_else q p change ss st
         (λ other. ap (λ (b : Bool). is_in_use (slot_at q (cond b (change s) s ∷ rest))) (ne_eqb s.place p other) ∙ either (eqb s.place q) later)
         (cases_eq s.place p)
 
-pub held_raised : (q p by : ℕ) (ss : List NamedSlot) → is_in_use (slot_at q (map (if_at p (confirming by)) ss)) ≡ is_in_use (slot_at q ss)
+pub held_raised : (q p by : ℕ) (ss : List NamedSlot) → is_in_use (slot_at q (map (if_at p (slot_with_confirmed by)) ss)) ≡ is_in_use (slot_at q ss)
 held_raised q p by [] = refl
 held_raised q p by (s ∷ ss) = by_test (eqb s.place p) (held_raised q p by ss)
   where
     rest : List NamedSlot
-    rest = map (if_at p (confirming by)) ss
+    rest = map (if_at p (slot_with_confirmed by)) ss
 
     either : (c : Bool) (x y : NamedSlot) → x.is_held ≡ y.is_held → is_in_use (slot_at q rest) ≡ is_in_use (slot_at q ss) → is_in_use (cond c (Some x) (slot_at q rest)) ≡ is_in_use (cond c (Some y) (slot_at q ss))
     either true x y same later = same
     either false x y same later = later
 
-    by_test : (b : Bool) → is_in_use (slot_at q rest) ≡ is_in_use (slot_at q ss) → is_in_use (slot_at q (cond b (confirming by s) s ∷ rest)) ≡ is_in_use (slot_at q (s ∷ ss))
-    by_test true later = either (eqb s.place q) (confirming by s) s refl later
+    by_test : (b : Bool) → is_in_use (slot_at q rest) ≡ is_in_use (slot_at q ss) → is_in_use (slot_at q (cond b (slot_with_confirmed by s) s ∷ rest)) ≡ is_in_use (slot_at q (s ∷ ss))
+    by_test true later = either (eqb s.place q) (slot_with_confirmed by s) s refl later
     by_test false later = either (eqb s.place q) s s refl later
 
 pub held_behind : (q : ℕ) (ss : List NamedSlot) (new : NamedSlot) → new.is_held ≡ false → is_in_use (slot_at q (ss ++ new ∷ [])) ≡ is_in_use (slot_at q ss)
@@ -100,35 +100,35 @@ changed_at p change (s ∷ ss) stays = by_place (eqb s.place p) refl (changed_at
     by_place false is later = ap (λ (b : Bool). cond b (Some s) (slot_at p rest)) is ∙ later
 
 -- what nobody holds is as it was, once it is let go
-pub free_same : (p : ℕ) (ss : List NamedSlot) → IsHeldAs false p ss → map (if_at p (holding false)) ss ≡ ss
+pub free_same : (p : ℕ) (ss : List NamedSlot) → IsHeldAs false p ss → map (if_at p (slot_with_hold false)) ss ≡ ss
 free_same p [] free = refl
 free_same p (s ∷ ss) free = ap₂ (λ (t : NamedSlot) (ts : List NamedSlot). t ∷ ts)
     (⊎_elim
-    (λ is. ap (λ (b : Bool). cond b (holding false s) s) (eq-eqb s.place p is) ∙ ap (λ (h : Bool). record { name = s.name; place = s.place; confirmed = s.confirmed; is_held = h }) (sym (free.0 is)))
-    (λ not. ap (λ (b : Bool). cond b (holding false s) s) (ne_eqb s.place p not))
+    (λ is. ap (λ (b : Bool). cond b (slot_with_hold false s) s) (eq-eqb s.place p is) ∙ ap (λ (h : Bool). record { name = s.name; place = s.place; confirmed = s.confirmed; is_held = h }) (sym (free.0 is)))
+    (λ not. ap (λ (b : Bool). cond b (slot_with_hold false s) s) (ne_eqb s.place p not))
     (cases_eq s.place p))
     (free_same p ss free.1)
 
 -- a free slot that is taken, confirmed and let go was confirmed
 pub once_around : (p by : ℕ) (ss : List NamedSlot) → IsHeldAs false p ss
-    → map (if_at p (holding false)) (map (if_at p (confirming by)) (map (if_at p (holding true)) ss)) ≡ map (if_at p (confirming by)) ss
+    → map (if_at p (slot_with_hold false)) (map (if_at p (slot_with_confirmed by)) (map (if_at p (slot_with_hold true)) ss)) ≡ map (if_at p (slot_with_confirmed by)) ss
 once_around p by [] free = refl
 once_around p by (s ∷ ss) free = ap₂ (λ (t : NamedSlot) (ts : List NamedSlot). t ∷ ts)
     (⊎_elim (λ is. by_place true (eq-eqb s.place p is) (free.0 is)) (λ not. away (ne_eqb s.place p not)) (cases_eq s.place p)) (once_around p by ss free.1)
   where
     around : NamedSlot → NamedSlot
-    around t = if_at p (holding false) (if_at p (confirming by) (if_at p (holding true) t))
+    around t = if_at p (slot_with_hold false) (if_at p (slot_with_confirmed by) (if_at p (slot_with_hold true) t))
 
-    away : eqb s.place p ≡ false → around s ≡ if_at p (confirming by) s
-    away is = ap (λ (b : Bool). if_at p (holding false) (if_at p (confirming by) (cond b (holding true s) s))) is
-        ∙ ap (λ (b : Bool). if_at p (holding false) (cond b (confirming by s) s)) is ∙ ap (λ (b : Bool). cond b (holding false s) s) is ∙ ap (λ (b : Bool). cond b (confirming by s) s) (sym is)
+    away : eqb s.place p ≡ false → around s ≡ if_at p (slot_with_confirmed by) s
+    away is = ap (λ (b : Bool). if_at p (slot_with_hold false) (if_at p (slot_with_confirmed by) (cond b (slot_with_hold true s) s))) is
+        ∙ ap (λ (b : Bool). if_at p (slot_with_hold false) (cond b (slot_with_confirmed by s) s)) is ∙ ap (λ (b : Bool). cond b (slot_with_hold false s) s) is ∙ ap (λ (b : Bool). cond b (slot_with_confirmed by s) s) (sym is)
 
-    by_place : (b : Bool) → eqb s.place p ≡ b → s.is_held ≡ false → around s ≡ if_at p (confirming by) s
-    by_place true is free_here = ap (λ (b : Bool). if_at p (holding false) (if_at p (confirming by) (cond b (holding true s) s))) is
-        ∙ ap (λ (b : Bool). if_at p (holding false) (cond b (confirming by (holding true s)) (holding true s))) is
-        ∙ ap (λ (b : Bool). cond b (holding false (confirming by (holding true s))) (confirming by (holding true s))) is
+    by_place : (b : Bool) → eqb s.place p ≡ b → s.is_held ≡ false → around s ≡ if_at p (slot_with_confirmed by) s
+    by_place true is free_here = ap (λ (b : Bool). if_at p (slot_with_hold false) (if_at p (slot_with_confirmed by) (cond b (slot_with_hold true s) s))) is
+        ∙ ap (λ (b : Bool). if_at p (slot_with_hold false) (cond b (slot_with_confirmed by (slot_with_hold true s)) (slot_with_hold true s))) is
+        ∙ ap (λ (b : Bool). cond b (slot_with_hold false (slot_with_confirmed by (slot_with_hold true s))) (slot_with_confirmed by (slot_with_hold true s))) is
         ∙ ap (λ (h : Bool). record { name = s.name; place = s.place; confirmed = max s.confirmed by; is_held = h }) (sym free_here)
-        ∙ ap (λ (b : Bool). cond b (confirming by s) s) (sym is)
+        ∙ ap (λ (b : Bool). cond b (slot_with_confirmed by s) s) (sym is)
     by_place false is free_here = away is
 
 pub not_in_use : (p : ℕ) (ss : List NamedSlot) → IsHeldAs false p ss → is_in_use (slot_at p ss) ≡ false

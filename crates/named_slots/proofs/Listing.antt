@@ -9,14 +9,14 @@ use Rattle.slots.specs.Directories as names
 use Rattle.named_slots.specs.declared.slot.Slot.{Slot}
 use Rattle.named_slots.specs.State.{NamedSlot, confirmed_of, slot_of}
 use Rattle.named_slots.specs.Words.{confirmed_in}
-use Rattle.named_slots.specs.Keeping.{IsNamed, confirmed_slot, noted, place_in, places_in}
+use Rattle.named_slots.specs.Keeping.{IsNamed, confirmed_slot, place_in, places_in, slot_with_noted_position}
 
 -- ---- Noting, slot by slot.
 
-pub note_here : (p to : ℕ) (s : Slot) → s.place ≡ p → record s { confirmed = to } ≡ noted p to s
+pub note_here : (p to : ℕ) (s : Slot) → s.place ≡ p → record s { confirmed = to } ≡ slot_with_noted_position p to s
 note_here p to s is = ap (λ (b : Bool). cond b (record s { confirmed = to }) s) (sym (eq-eqb s.place p is))
 
-pub note_else : (p to : ℕ) (s : Slot) → (s.place ≡ p → ⊥) → s ≡ noted p to s
+pub note_else : (p to : ℕ) (s : Slot) → (s.place ≡ p → ⊥) → s ≡ slot_with_noted_position p to s
 note_else p to s not = ap (λ (b : Bool). cond b (record s { confirmed = to }) s) (sym (ne_eqb s.place p not))
 
 abbrev pub so_far : (Slot → Slot) → ℕ → List Slot → List Slot
@@ -39,30 +39,30 @@ module _ (f : Slot → Slot) (xs now : List Slot) (i : ℕ) (x : Slot) (low : i 
 
 -- ---- The names, where a position was noted.
 
-kept_name : (p to : ℕ) (s : Slot) → (noted p to s).name ≡ s.name
+kept_name : (p to : ℕ) (s : Slot) → (slot_with_noted_position p to s).name ≡ s.name
 kept_name p to s = by_test (eqb s.place p)
   where
     by_test : (b : Bool) → (cond b (record s { confirmed = to }) s).name ≡ s.name
     by_test true = refl
     by_test false = refl
 
-kept_place : (p to : ℕ) (s : Slot) → (noted p to s).place ≡ s.place
+kept_place : (p to : ℕ) (s : Slot) → (slot_with_noted_position p to s).place ≡ s.place
 kept_place p to s = by_test (eqb s.place p)
   where
     by_test : (b : Bool) → (cond b (record s { confirmed = to }) s).place ≡ s.place
     by_test true = refl
     by_test false = refl
 
-places_kept : (p to : ℕ) (name : List ℕ) (ss : List Slot) → place_in name (map (noted p to) ss) ≡ place_in name ss
+places_kept : (p to : ℕ) (name : List ℕ) (ss : List Slot) → place_in name (map (slot_with_noted_position p to) ss) ≡ place_in name ss
 places_kept p to name [] = refl
-places_kept p to name (s ∷ ss) = ap₂ (λ (b : Bool) (o : Option ℕ). cond b (Some (noted p to s).place) o) (ap (λ (n : List ℕ). bytes_eq n name) (kept_name p to s)) (places_kept p to name ss)
+places_kept p to name (s ∷ ss) = ap₂ (λ (b : Bool) (o : Option ℕ). cond b (Some (slot_with_noted_position p to s).place) o) (ap (λ (n : List ℕ). bytes_eq n name) (kept_name p to s)) (places_kept p to name ss)
     ∙ ap (λ (q : ℕ). cond (bytes_eq s.name name) (Some q) (place_in name ss)) (kept_place p to s)
 
-pub places_noted : (p to : ℕ) (ss : List Slot) → places_in (map (noted p to) ss) ≡ places_in ss
+pub places_noted : (p to : ℕ) (ss : List Slot) → places_in (map (slot_with_noted_position p to) ss) ≡ places_in ss
 places_noted p to [] = refl
 places_noted p to (s ∷ ss) = ap₂ (λ (q : ℕ) (l : List ℕ). q ∷ l) (kept_place p to s) (places_noted p to ss)
 
-pub still_named : (d : Directory) (ss : List Slot) (places p to : ℕ) → IsNamed d ss places → IsNamed d (map (noted p to) ss) places
+pub still_named : (d : Directory) (ss : List Slot) (places p to : ℕ) → IsNamed d ss places → IsNamed d (map (slot_with_noted_position p to) ss) places
 still_named d ss places p to named = record {
   same = λ name. named.same name ∙ sym (places_kept p to name ss);
   listed = all ss named.listed;
@@ -70,7 +70,7 @@ still_named d ss places p to named = record {
   below = named.below;
 }
   where
-    all : (ts : List Slot) → AllByRecursion (λ (s : Slot). names.place_of d s.name ≡ Some s.place) ts → AllByRecursion (λ (s : Slot). names.place_of d s.name ≡ Some s.place) (map (noted p to) ts)
+    all : (ts : List Slot) → AllByRecursion (λ (s : Slot). names.place_of d s.name ≡ Some s.place) ts → AllByRecursion (λ (s : Slot). names.place_of d s.name ≡ Some s.place) (map (slot_with_noted_position p to) ts)
     all [] is = tt
     all (s ∷ ts) is = (ap (names.place_of d) (kept_name p to s) ∙ is.0 ∙ ap (λ (q : ℕ). Option.Some q) (sym (kept_place p to s)), all ts is.1)
 

@@ -17,7 +17,7 @@ use Rattle.slots.specs.Seats.{Created, Did, IsRefusal}
 use Rattle.slots.specs.Standings.{held_by}
 use Rattle.named_slots.specs.declared.slot.Slot.{Slot}
 use Rattle.named_slots.specs.State.{IsRefusalOrMemory, NamedSlot, RefusedOrMemory, create_refusal}
-use Rattle.named_slots.specs.Keeping.{IsNamed, IsUsedUp, Stands, StandsIn, places_in, shown, shown_slot}
+use Rattle.named_slots.specs.Keeping.{IsNamed, IsUsedUp, Stands, StandsIn, places_in, shown_slot, slots_in_view}
 use Rattle.named_slots.proofs.Facts.{Changes, changes_then, one_step}
 use Rattle.named_slots.proofs.Names.{there_shown}
 use Rattle.named_slots.proofs.Standing.{all_shown_else, each_else, still_used}
@@ -115,14 +115,14 @@ none_of None is = refl
 none_of (Some n) is = absurd cc
 
 module _ (v : View) (d : Directory) (ss : List Slot) (places : ℕ) (name : List ℕ) (named : IsNamed d ss places) where
-  pub exists : is_some (names.place_of d name) ≡ true → create_refusal name (shown v ss places) ≡ Some faults.Exists
+  pub exists : is_some (names.place_of d name) ≡ true → create_refusal name (slots_in_view v ss places) ≡ Some faults.Exists
   exists is = ap (λ (b : Bool). cond b (Option.Some faults.Exists) (cond (eqb places 16) (Option.Some faults.NoPlace) None)) (there_shown v d ss places name named ∙ is)
 
-  not_there : is_some (names.place_of d name) ≡ false → create_refusal name (shown v ss places) ≡ cond (eqb places 16) (Option.Some faults.NoPlace) None
+  not_there : is_some (names.place_of d name) ≡ false → create_refusal name (slots_in_view v ss places) ≡ cond (eqb places 16) (Option.Some faults.NoPlace) None
   not_there is = ap (λ (b : Bool). cond b (Option.Some faults.Exists) (cond (eqb places 16) (Option.Some faults.NoPlace) None)) (there_shown v d ss places name named ∙ is)
 
-  pub all_used : is_some (names.place_of d name) ≡ false → places ≡ 16 → create_refusal name (shown v ss places) ≡ Some faults.NoPlace
+  pub all_used : is_some (names.place_of d name) ≡ false → places ≡ 16 → create_refusal name (slots_in_view v ss places) ≡ Some faults.NoPlace
   all_used is full = not_there is ∙ ap (λ (n : ℕ). cond (eqb n 16) (Option.Some faults.NoPlace) None) full
 
-  pub not_refused : is_some (names.place_of d name) ≡ false → places < 16 → create_refusal name (shown v ss places) ≡ None
+  pub not_refused : is_some (names.place_of d name) ≡ false → places < 16 → create_refusal name (slots_in_view v ss places) ≡ None
   not_refused is low = not_there is ∙ ap (λ (b : Bool). cond b (Option.Some faults.NoPlace) None) (ne_eqb places 16 (λ e. omega (arith, e, low)))

@@ -7,8 +7,8 @@ use Rattle.slots.specs.declared.step.View.{View}
 use Rattle.slots.specs.Facts.{Facts, facts}
 use Rattle.slots.specs.Standings.{held_by}
 use Rattle.named_slots.specs.declared.slot.Slot.{Slot}
-use Rattle.named_slots.specs.State.{NamedSlot, if_at, slot_at, is_in_use, holding, confirming}
-use Rattle.named_slots.specs.Keeping.{IsUsedUp, Stands, StandsIn, noted, places_in, shown_slot}
+use Rattle.named_slots.specs.State.{NamedSlot, if_at, slot_at, is_in_use, slot_with_hold, slot_with_confirmed}
+use Rattle.named_slots.specs.Keeping.{IsUsedUp, Stands, StandsIn, places_in, shown_slot, slot_with_noted_position}
 use Rattle.named_slots.proofs.Facts.{Alike, Changes, alike_then}
 
 -- how the facts of a place stand with the position that is noted of it
@@ -85,20 +85,20 @@ module _ (v w : View) (p : ℕ) (g : Facts) (changes : Changes v w p g) where
     each_held [] all = tt
     each_held (s ∷ ss) all = (⊎_elim (λ is. stands_held s is all.0) (λ not. stands_else s not all.0) (cases_eq s.place p), each_held ss all.1)
 
-    shown_held : (s : Slot) → shown_slot w s ≡ if_at p (holding b) (shown_slot v s)
+    shown_held : (s : Slot) → shown_slot w s ≡ if_at p (slot_with_hold b) (shown_slot v s)
     shown_held s = ⊎_elim
         (λ is. ap (λ (c : Bool). record { name = s.name; place = s.place; confirmed = s.confirmed; is_held = c }) (ap (λ (q : ℕ). (facts q w.steps).held) is ∙ changes.here.held ∙ held)
-        ∙ ap (λ (c : Bool). cond c (holding b (shown_slot v s)) (shown_slot v s)) (sym (eq-eqb s.place p is)))
-        (λ not. shown_else s not ∙ ap (λ (c : Bool). cond c (holding b (shown_slot v s)) (shown_slot v s)) (sym (ne_eqb s.place p not)))
+        ∙ ap (λ (c : Bool). cond c (slot_with_hold b (shown_slot v s)) (shown_slot v s)) (sym (eq-eqb s.place p is)))
+        (λ not. shown_else s not ∙ ap (λ (c : Bool). cond c (slot_with_hold b (shown_slot v s)) (shown_slot v s)) (sym (ne_eqb s.place p not)))
         (cases_eq s.place p)
 
-    pub all_shown_held : (ss : List Slot) → map (shown_slot w) ss ≡ map (if_at p (holding b)) (map (shown_slot v) ss)
+    pub all_shown_held : (ss : List Slot) → map (shown_slot w) ss ≡ map (if_at p (slot_with_hold b)) (map (shown_slot v) ss)
     all_shown_held [] = refl
     all_shown_held (s ∷ ss) = ap₂ (λ (t : NamedSlot) (ts : List NamedSlot). t ∷ ts) (shown_held s) (all_shown_held ss)
 
   -- the place stays held or free: its position is noted anew
   module _ (to by : ℕ) (is_to : to ≡ max (facts p v.steps).position by) (position : g.position ≡ to) (held : g.held ≡ (facts p v.steps).held) (state : g.state ≡ (facts p v.steps).state) where
-    stands_noted : (s : Slot) → Stands v s → Stands w (noted p to s)
+    stands_noted : (s : Slot) → Stands v s → Stands w (slot_with_noted_position p to s)
     stands_noted s stands = ⊎_elim
         (λ is. subst (Stands w) (ap (λ (c : Bool). cond c (record s { confirmed = to }) s) (sym (eq-eqb s.place p is)))
         (subst (λ (q : ℕ). Fits w.number to (facts q w.steps)) (sym is)
@@ -107,22 +107,22 @@ module _ (v w : View) (p : ℕ) (g : Facts) (changes : Changes v w p g) where
         (λ not. subst (Stands w) (ap (λ (c : Bool). cond c (record s { confirmed = to }) s) (sym (ne_eqb s.place p not))) (stands_else s not stands))
         (cases_eq s.place p)
 
-    pub each_noted : (ss : List Slot) → AllByRecursion (Stands v) ss → AllByRecursion (Stands w) (map (noted p to) ss)
+    pub each_noted : (ss : List Slot) → AllByRecursion (Stands v) ss → AllByRecursion (Stands w) (map (slot_with_noted_position p to) ss)
     each_noted [] all = tt
     each_noted (s ∷ ss) all = (stands_noted s all.0, each_noted ss all.1)
 
-    shown_noted : (s : Slot) → Stands v s → shown_slot w (noted p to s) ≡ if_at p (confirming by) (shown_slot v s)
+    shown_noted : (s : Slot) → Stands v s → shown_slot w (slot_with_noted_position p to s) ≡ if_at p (slot_with_confirmed by) (shown_slot v s)
     shown_noted s stands = ⊎_elim
         (λ is. ap (λ (c : Bool). shown_slot w (cond c (record s { confirmed = to }) s)) (eq-eqb s.place p is)
         ∙ ap₂ (λ (n : ℕ) (c : Bool). record { name = s.name; place = s.place; confirmed = n; is_held = c })
         (is_to ∙ ap (λ (n : ℕ). max n by) (ap (λ (q : ℕ). (facts q v.steps).position) (sym is) ∙ sym stands.0))
         (ap (λ (q : ℕ). (facts q w.steps).held) is ∙ changes.here.held ∙ held ∙ ap (λ (q : ℕ). (facts q v.steps).held) (sym is))
-        ∙ ap (λ (c : Bool). cond c (confirming by (shown_slot v s)) (shown_slot v s)) (sym (eq-eqb s.place p is)))
+        ∙ ap (λ (c : Bool). cond c (slot_with_confirmed by (shown_slot v s)) (shown_slot v s)) (sym (eq-eqb s.place p is)))
         (λ not. ap (λ (c : Bool). shown_slot w (cond c (record s { confirmed = to }) s)) (ne_eqb s.place p not) ∙ shown_else s not
-        ∙ ap (λ (c : Bool). cond c (confirming by (shown_slot v s)) (shown_slot v s)) (sym (ne_eqb s.place p not)))
+        ∙ ap (λ (c : Bool). cond c (slot_with_confirmed by (shown_slot v s)) (shown_slot v s)) (sym (ne_eqb s.place p not)))
         (cases_eq s.place p)
 
-    pub all_shown_noted : (ss : List Slot) → AllByRecursion (Stands v) ss → map (shown_slot w) (map (noted p to) ss) ≡ map (if_at p (confirming by)) (map (shown_slot v) ss)
+    pub all_shown_noted : (ss : List Slot) → AllByRecursion (Stands v) ss → map (shown_slot w) (map (slot_with_noted_position p to) ss) ≡ map (if_at p (slot_with_confirmed by)) (map (shown_slot v) ss)
     all_shown_noted [] all = refl
     all_shown_noted (s ∷ ss) all = ap₂ (λ (t : NamedSlot) (ts : List NamedSlot). t ∷ ts) (shown_noted s all.0) (all_shown_noted ss all.1)
 

@@ -15,15 +15,15 @@ use Rattle.named_slots.specs.State.{NamedSlot, SlotsState}
 abbrev pub shown_slot : View → Slot → NamedSlot
 shown_slot v s = record { name = s.name; place = s.place; confirmed = s.confirmed; is_held = (facts s.place v.steps).held }
 
-abbrev pub shown : View → List Slot → ℕ → SlotsState
-shown v slots places = record { slots = map (shown_slot v) slots; places = places }
+abbrev pub slots_in_view : View → List Slot → ℕ → SlotsState
+slots_in_view v slots places = record { slots = map (shown_slot v) slots; places = places }
 
 -- what is lent of a slot
 abbrev pub confirmed_slot : NamedSlot → Slot
 confirmed_slot s = record { name = s.name; place = s.place; confirmed = s.confirmed }
 
-abbrev pub noted : ℕ → ℕ → Slot → Slot
-noted place confirmed s = if s.place == place then record s { confirmed = confirmed } else s
+abbrev pub slot_with_noted_position : ℕ → ℕ → Slot → Slot
+slot_with_noted_position place confirmed s = if s.place == place then record s { confirmed = confirmed } else s
 
 -- the place of the slot of this name
 abbrev pub place_in : List ℕ → List Slot → Option ℕ

@@ -61,8 +61,8 @@ IsHeldAs is_held place slots = AllByRecursion (λ (s : NamedSlot). s.place ≡ p
 -- ---- What the calls do.
 
 -- a new slot has the place behind those that are used up
-abbrev pub created : List ℕ → ℕ → SlotsState → SlotsState
-created name position s = record { slots = s.slots ++ record { name = name; place = s.places; confirmed = position; is_held = false } ∷ []; places = s.places + 1 }
+abbrev pub slots_after_create : List ℕ → ℕ → SlotsState → SlotsState
+slots_after_create name position s = record { slots = s.slots ++ record { name = name; place = s.places; confirmed = position; is_held = false } ∷ []; places = s.places + 1 }
 
 abbrev pub if_named : List ℕ → (NamedSlot → NamedSlot) → NamedSlot → NamedSlot
 if_named name change s = if bytes_eq s.name name then change s else s
@@ -70,28 +70,28 @@ if_named name change s = if bytes_eq s.name name then change s else s
 abbrev pub if_at : ℕ → (NamedSlot → NamedSlot) → NamedSlot → NamedSlot
 if_at place change s = if s.place == place then change s else s
 
-abbrev pub holding : Bool → NamedSlot → NamedSlot
-holding is_held s = record s { is_held = is_held }
+abbrev pub slot_with_hold : Bool → NamedSlot → NamedSlot
+slot_with_hold is_held s = record s { is_held = is_held }
 
 -- a confirmed position never goes back
-abbrev pub confirming : ℕ → NamedSlot → NamedSlot
-confirming position s = record s { confirmed = max s.confirmed position }
+abbrev pub slot_with_confirmed : ℕ → NamedSlot → NamedSlot
+slot_with_confirmed position s = record s { confirmed = max s.confirmed position }
 
-abbrev pub claimed : List ℕ → SlotsState → SlotsState
-claimed name s = record s { slots = map (if_named name (holding true)) s.slots }
+abbrev pub slots_after_claim : List ℕ → SlotsState → SlotsState
+slots_after_claim name s = record s { slots = map (if_named name (slot_with_hold true)) s.slots }
 
-abbrev pub raised : ℕ → ℕ → SlotsState → SlotsState
-raised place position s = record s { slots = map (if_at place (confirming position)) s.slots }
+abbrev pub slots_after_raise : ℕ → ℕ → SlotsState → SlotsState
+slots_after_raise place position s = record s { slots = map (if_at place (slot_with_confirmed position)) s.slots }
 
-abbrev pub released : ℕ → SlotsState → SlotsState
-released place s = record s { slots = map (if_at place (holding false)) s.slots }
+abbrev pub slots_after_release : ℕ → SlotsState → SlotsState
+slots_after_release place s = record s { slots = map (if_at place (slot_with_hold false)) s.slots }
 
 -- the same, of the slot of this name
-abbrev pub raised_for : List ℕ → ℕ → SlotsState → SlotsState
-raised_for name position s = record s { slots = map (if_named name (confirming position)) s.slots }
+abbrev pub slots_after_raise_by_name : List ℕ → ℕ → SlotsState → SlotsState
+slots_after_raise_by_name name position s = record s { slots = map (if_named name (slot_with_confirmed position)) s.slots }
 
-abbrev pub released_for : List ℕ → SlotsState → SlotsState
-released_for name s = record s { slots = map (if_named name (holding false)) s.slots }
+abbrev pub slots_after_release_by_name : List ℕ → SlotsState → SlotsState
+slots_after_release_by_name name s = record s { slots = map (if_named name (slot_with_hold false)) s.slots }
 
 -- ---- Refusals.
 
@@ -106,9 +106,9 @@ abbrev pub claim_refusal : List ℕ → SlotsState → Option SlotFault
 claim_refusal name s = claim_refusal_of (slot_of name s.slots)
 
 -- a refused create changes nothing, but a name that is refused for memory has used up a place
-abbrev pub refused : SlotFault → SlotsState → SlotsState
-refused faults.Memory s = record s { places = s.places + 1 }
-refused fault s = s
+abbrev pub slots_after_refusal : SlotFault → SlotsState → SlotsState
+slots_after_refusal faults.Memory s = record s { places = s.places + 1 }
+slots_after_refusal fault s = s
 
 abbrev pub IsRefusalOrMemory : Option SlotFault → SlotFault → Type 0
 IsRefusalOrMemory refusal faults.Memory = refusal ≡ None

@@ -2,7 +2,7 @@
 use Rattle.std.specs.Prelude.{ℕ, max, not, is_some, codes, Bool, false, List, [], ◌∷◌, Option, Some, None, if◌then◌else◌}
 use Rattle.std.specs.Str.{bytes_eq}
 use Rattle.named_slots.specs.declared.slot.Slot.{Slot}
-use Rattle.named_slots.specs.State.{SlotsState, claimed, confirmed_of, is_in_use, raised_for, released_for, slot_of}
+use Rattle.named_slots.specs.State.{SlotsState, confirmed_of, is_in_use, slot_of, slots_after_claim, slots_after_raise_by_name, slots_after_release_by_name}
 
 -- the slot that a start names; `-` is none
 abbrev pub slot_named : List ℕ → Option (List ℕ)
@@ -17,9 +17,9 @@ is_held None slots = false
 is_held (Some name) slots = is_in_use (slot_of name slots.slots)
 
 -- a slot that is taken; the stream begins where it is confirmed, if that is further
-abbrev pub taken : Option (List ℕ) → SlotsState → SlotsState
-taken None slots = slots
-taken (Some name) slots = claimed name slots
+abbrev pub slots_after_taking : Option (List ℕ) → SlotsState → SlotsState
+slots_after_taking None slots = slots
+slots_after_taking (Some name) slots = slots_after_claim name slots
 
 abbrev pub start_from : Option (List ℕ) → ℕ → SlotsState → ℕ
 start_from None position slots = position
@@ -31,11 +31,11 @@ confirmed_in name [] = 0
 confirmed_in name (s ∷ slots) = if bytes_eq s.name name then s.confirmed else confirmed_in name slots
 
 -- a start without a slot confirms nothing
-abbrev pub confirmed_by : Option (List ℕ) → ℕ → SlotsState → SlotsState
-confirmed_by None position slots = slots
-confirmed_by (Some name) position slots = raised_for name position slots
+abbrev pub slots_after_confirming : Option (List ℕ) → ℕ → SlotsState → SlotsState
+slots_after_confirming None position slots = slots
+slots_after_confirming (Some name) position slots = slots_after_raise_by_name name position slots
 
 -- the slot is free again
-abbrev pub let_go : Option (List ℕ) → SlotsState → SlotsState
-let_go None slots = slots
-let_go (Some name) slots = released_for name slots
+abbrev pub slots_after_letting_go : Option (List ℕ) → SlotsState → SlotsState
+slots_after_letting_go None slots = slots
+slots_after_letting_go (Some name) slots = slots_after_release_by_name name slots

@@ -3,7 +3,7 @@
 ghost use Rattle.std.specs.Prelude.{◌≡◌, IfErr, IfOk, None, OnErr, OnOk, Some, false, is_some, map, option_map, vec_len};
 ghost use Rattle.std.specs.List.{AllByRecursion};
 ghost use Rattle.named_slots.specs.Words.{confirmed_in};
-ghost use Rattle.named_slots.specs.State.{IsHeldAs, IsOnlyAt, RefusedExactly, RefusedOrMemory, claim_refusal, claimed, confirmed_of, create_refusal, created, is_in_use, no_slots, place_of, raised_for, refused, released_for, slot_of};
+ghost use Rattle.named_slots.specs.State.{IsHeldAs, IsOnlyAt, RefusedExactly, RefusedOrMemory, claim_refusal, confirmed_of, create_refusal, is_in_use, no_slots, place_of, slot_of, slots_after_claim, slots_after_create, slots_after_raise_by_name, slots_after_refusal, slots_after_release_by_name};
 ghost use Rattle.named_slots.specs.Keeping.{confirmed_slot};
 
 use crate::named::NamedSlots;
@@ -65,8 +65,8 @@ impl<L: SlotName> HeldSlots<L> {
 
     /// A new slot, which is free and confirmed at this position. L3 where the name is there, then L4 where no place is left. L5 uses up a place.
     pub fn create(&mut self, name: &str, position: u64) -> Result<(), SlotFault>
-        ensures ok { OnOk result (self.new ≡ created name.now position self.old) }
-        ensures err { IfErr result (λ fault. self.new ≡ refused fault self.old) }
+        ensures ok { OnOk result (self.new ≡ slots_after_create name.now position self.old) }
+        ensures err { IfErr result (λ fault. self.new ≡ slots_after_refusal fault self.old) }
         ensures refused { RefusedOrMemory (create_refusal name.now self.old) result }
     {
         self.slots.create(name, position)
@@ -98,7 +98,7 @@ impl<L: SlotName> HeldSlots<L> {
 
     /// Takes the slot of this name, and answers its confirmed position. It takes no memory. L1 where there is none, L2 where it is in use.
     pub fn claim(&mut self, name: &str) -> Result<u64, SlotFault>
-        ensures ok { OnOk result (self.new ≡ claimed name.now self.old) }
+        ensures ok { OnOk result (self.new ≡ slots_after_claim name.now self.old) }
         ensures value { IfOk result (λ at. at ≡ confirmed_of (slot_of name.now self.old.slots)) }
         ensures err { OnErr result (self.new ≡ self.old) }
         ensures refused { RefusedExactly (claim_refusal name.now self.old) result }
@@ -114,7 +114,7 @@ impl<L: SlotName> HeldSlots<L> {
 
     /// Raises the confirmed position of the slot of this name, if there is one. It never goes back.
     pub fn confirm(&mut self, name: &str, position: u64)
-        ensures { self.new ≡ raised_for name.now position self.old }
+        ensures { self.new ≡ slots_after_raise_by_name name.now position self.old }
     {
         let Some(place) = self.slots.place(name) else {
             return;
@@ -129,7 +129,7 @@ impl<L: SlotName> HeldSlots<L> {
 
     /// The slot of this name is free again, if there is one.
     pub fn release(&mut self, name: &str)
-        ensures { self.new ≡ released_for name.now self.old }
+        ensures { self.new ≡ slots_after_release_by_name name.now self.old }
     {
         let Some(place) = self.slots.place(name) else {
             return;
@@ -166,7 +166,7 @@ fn confirm_free<L: SlotName>(slots: &mut NamedSlots<L>, name: &str, place: usize
     requires only { IsOnlyAt name.now place slots.old.slots }
     requires free { IsHeldAs false place slots.old.slots }
     requires found { place_of name.now slots.old ≡ Some place }
-    ensures { slots.new ≡ raised_for name.now position slots.old }
+    ensures { slots.new ≡ slots_after_raise_by_name name.now position slots.old }
 {
     let Ok(mut lease) = slots.claim(name) else {
         unreachable!();

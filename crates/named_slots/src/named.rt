@@ -1,7 +1,7 @@
 //! Slots by name.
 
 ghost use Rattle.std.specs.Prelude.{◌≡◌, ℕ, List, ◌<◌, IfErr, IfOk, IfSome, IsNone, OnErr, OnOk, Some, false, is_some, map, true};
-ghost use Rattle.named_slots.specs.State.{IsHeldAs, IsOnlyAt, IsUnnamed, RefusedExactly, RefusedOrMemory, claim_refusal, claimed, confirmed_of, create_refusal, created, holds_at, no_slots, place_of, raised, raised_for, refused, released, released_for, slot_at, slot_of};
+ghost use Rattle.named_slots.specs.State.{IsHeldAs, IsOnlyAt, IsUnnamed, RefusedExactly, RefusedOrMemory, claim_refusal, confirmed_of, create_refusal, holds_at, no_slots, place_of, slot_at, slot_of, slots_after_claim, slots_after_create, slots_after_raise, slots_after_raise_by_name, slots_after_refusal, slots_after_release, slots_after_release_by_name};
 ghost use Rattle.named_slots.specs.Keeping.{confirmed_slot};
 ghost use Rattle.slots.specs.declared.table.TheConstants.{PLACES};
 
@@ -25,11 +25,11 @@ pub struct NamedSlots<L: SlotName> {
 
 impl<L: SlotName> Model for NamedSlots<L> {
     ghost use Rattle.named_slots.specs.State.{SlotsState};
-    ghost use Rattle.named_slots.specs.Keeping.{IsNamed, StandsIn, shown};
+    ghost use Rattle.named_slots.specs.Keeping.{IsNamed, StandsIn, slots_in_view};
 
     ghost Value = { SlotsState };
 
-    ghost view = { λ n. shown n.seat n.slots.items n.places };
+    ghost view = { λ n. slots_in_view n.seat n.slots.items n.places };
 
     ghost invariant = { λ n. IsNamed n.directory n.slots.items n.places × StandsIn n.seat n.slots.items n.places };
 }
@@ -56,8 +56,8 @@ impl<L: SlotName> NamedSlots<L> {
 
     /// A new slot, which is free and confirmed at this position. L3 where the name is there, then L4 where no place is left. L5 uses up a place.
     pub fn create(&mut self, name: &str, position: u64) -> Result<(), SlotFault>
-        ensures ok { OnOk result (self.new ≡ created name.now position self.old) }
-        ensures err { IfErr result (λ fault. self.new ≡ refused fault self.old) }
+        ensures ok { OnOk result (self.new ≡ slots_after_create name.now position self.old) }
+        ensures err { IfErr result (λ fault. self.new ≡ slots_after_refusal fault self.old) }
         ensures refused { RefusedOrMemory (create_refusal name.now self.old) result }
     {
         if self.directory.find(name).is_some() {
@@ -97,7 +97,7 @@ impl<L: SlotName> NamedSlots<L> {
 
     /// Takes the slot of this name. It takes no memory. L1 where there is none, L2 where it is in use.
     pub fn claim(&mut self, name: &str) -> Result<Lease<L>, SlotFault>
-        ensures ok { OnOk result (self.new ≡ claimed name.now self.old) }
+        ensures ok { OnOk result (self.new ≡ slots_after_claim name.now self.old) }
         ensures only { IfOk result (λ lease. IsOnlyAt name.now lease.place self.old.slots) }
         ensures lease { IfOk result
             (λ lease. (place_of name.now self.new ≡ Some lease.place)
@@ -125,9 +125,9 @@ impl<L: SlotName> NamedSlots<L> {
     pub fn confirm(&mut self, lease: &mut Lease<L>, position: u64) -> u64
         requires { holds_at lease.old.place self.old ≡ true }
         ensures value { result ≡ confirmed_of (slot_at lease.old.place self.new.slots) }
-        ensures raised { self.new ≡ raised lease.old.place position self.old }
+        ensures raised { self.new ≡ slots_after_raise lease.old.place position self.old }
         ensures named { (name : List ℕ) → place_of name self.old ≡ Some lease.old.place →
-            self.new ≡ raised_for name position self.old }
+            self.new ≡ slots_after_raise_by_name name position self.old }
         ensures lease { lease.new ≡ lease.old }
     {
         let confirmed = self.table.confirm(&mut self.seat, lease, position);
@@ -138,9 +138,9 @@ impl<L: SlotName> NamedSlots<L> {
     /// The slot that was held is free again.
     pub fn release(&mut self, lease: Lease<L>)
         requires { holds_at lease.place self.old ≡ true }
-        ensures released { self.new ≡ released lease.place self.old }
+        ensures released { self.new ≡ slots_after_release lease.place self.old }
         ensures named { (name : List ℕ) → place_of name self.old ≡ Some lease.place →
-            self.new ≡ released_for name self.old }
+            self.new ≡ slots_after_release_by_name name self.old }
     {
         self.table.release(&mut self.seat, lease);
     }

@@ -3,7 +3,7 @@
 ghost use Rattle.std.specs.Prelude.{◌≡◌, ◌∷◌, ◌++◌, [], IfErr, None, OnErr, OnOk, Some, map};
 ghost use Rattle.slots.specs.Directories.{AreSame, ChangesOnly, place_of};
 ghost use Rattle.slots.specs.declared.fault.SlotFault.TheVariants.{Memory};
-ghost use Rattle.named_slots.specs.Keeping.{noted};
+ghost use Rattle.named_slots.specs.Keeping.{slot_with_noted_position};
 
 use crate::slot::Slot;
 use pqformat::Text;
@@ -42,7 +42,7 @@ pub(crate) fn name_place(
 
 /// Notes the confirmed position of the slot at this place.
 pub(crate) fn note(slots: &mut Vec<Slot>, place: usize, confirmed: u64)
-    ensures { slots.new.items ≡ map (noted place confirmed) slots.old.items }
+    ensures { slots.new.items ≡ map (slot_with_noted_position place confirmed) slots.old.items }
 {
     for slot in slots.iter_mut() {
         if slot.place == place {

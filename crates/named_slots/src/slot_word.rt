@@ -2,8 +2,8 @@
 
 ghost use Rattle.std.specs.Prelude.{◌≡◌, IfErr, IfOk, OnErr, OnOk, false, true};
 ghost use Rattle.slots.specs.declared.fault.SlotFault.TheVariants.{InUse};
-ghost use Rattle.named_slots.specs.Words.{is_held, is_missing, slot_named, start_from, taken};
-ghost use Rattle.named_slots.specs.Words.{confirmed_by, let_go};
+ghost use Rattle.named_slots.specs.Words.{is_held, is_missing, slot_named, slots_after_taking, start_from};
+ghost use Rattle.named_slots.specs.Words.{slots_after_confirming, slots_after_letting_go};
 
 use crate::held::HeldSlots;
 use pqformat::Text;
@@ -45,7 +45,7 @@ pub fn take<L: SlotName>(
     position: u64,
 ) -> Result<u64, SlotFault>
     requires { is_missing (slot_named word.now) slots.old ≡ false }
-    ensures ok { OnOk result (slots.new ≡ taken (slot_named word.now) slots.old) }
+    ensures ok { OnOk result (slots.new ≡ slots_after_taking (slot_named word.now) slots.old) }
     ensures from { IfOk result
         (λ start. start ≡ start_from (slot_named word.now) position slots.old) }
     ensures free { OnOk result (is_held (slot_named word.now) slots.old ≡ false) }
@@ -72,7 +72,7 @@ pub fn start_from<L: SlotName>(slots: &HeldSlots<L>, word: &Text, position: u64)
 
 /// Confirms the position at the slot, if there is one.
 pub fn confirm<L: SlotName>(slots: &mut HeldSlots<L>, slot: &Option<Text>, position: u64)
-    ensures { slots.new ≡ confirmed_by slot.now position slots.old }
+    ensures { slots.new ≡ slots_after_confirming slot.now position slots.old }
 {
     match slot {
         Some(name) => slots.confirm(name.as_str(), position),
@@ -82,7 +82,7 @@ pub fn confirm<L: SlotName>(slots: &mut HeldSlots<L>, slot: &Option<Text>, posit
 
 /// The slot is free again, if there is one.
 pub fn let_go<L: SlotName>(slots: &mut HeldSlots<L>, slot: Option<Text>)
-    ensures { slots.new ≡ let_go slot slots.old }
+    ensures { slots.new ≡ slots_after_letting_go slot slots.old }
 {
     match slot {
         Some(name) => slots.release(name.as_str()),

@@ -15,7 +15,7 @@ use Rattle.pqformat.proofs.Numbers as numbers
 use Rattle.pqformat.proofs.Numbers.{IsWide, wide16, wide32, wide64}
 use Rattle.pgoutput.specs.declared.fault.OutFault.{OutFault}
 use Rattle.pgoutput.specs.declared.fault.OutFault.TheVariants.{Short, BadMark, BadText}
-use Rattle.pgoutput.specs.Reading.{short, expected, one_of, count16_at, count32_at, signed32_at, signed64_at, name_at, text_at}
+use Rattle.pgoutput.specs.Reading.{short, expected_letter, one_of, count16_at, count32_at, signed32_at, signed64_at, name_at, text_at}
 use Rattle.pgoutput.specs.Relation.{FitsName}
 use Rattle.pgoutput.specs.Tuple.{counted_text, FitsText}
 use Rattle.pgoutput.proofs.Engine.{Wire, IsFieldFault, converted, tested, with_range, counted, repeated}
@@ -171,17 +171,17 @@ no_mark : (same : Bool) (rest : List ℕ) (e : OutFault) → marked same rest �
 no_mark true rest e is = absurd cc
 no_mark false rest e is = let bad : BadMark ≡ e = cc in subst IsFieldFault bad tt
 
-pub expected_wire : (k : ℕ) → Wire (expected k) (λ _. k ∷ []) (λ _. Unit {0})
+pub expected_wire : (k : ℕ) → Wire (expected_letter k) (λ _. k ∷ []) (λ _. Unit {0})
 expected_wire k = record {
   codec = numbers.mark_codec Short BadMark k;
   own = own;
   cut = λ x n fits lt. cut n lt;
 } where
-  own : (bytes : List ℕ) (e : OutFault) → expected k bytes ≡ Err e → IsFieldFault e
+  own : (bytes : List ℕ) (e : OutFault) → expected_letter k bytes ≡ Err e → IsFieldFault e
   own [] e is = let same : Short ≡ e = cc in subst IsFieldFault same tt
   own (b ∷ bytes) e is = no_mark (eqb b k) bytes e is
 
-  cut : (n : ℕ) → n < 1 → expected k (take n (k ∷ [])) ≡ Err Short
+  cut : (n : ℕ) → n < 1 → expected_letter k (take n (k ∷ [])) ≡ Err Short
   cut zero lt = refl
   cut (suc n) lt = absurd (omega arith)
 

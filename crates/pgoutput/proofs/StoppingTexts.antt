@@ -14,7 +14,7 @@ use Rattle.pqformat.proofs.Codec.{IsBytes}
 use Rattle.pqformat.proofs.Numbers as numbers
 use Rattle.pgoutput.specs.declared.fault.OutFault.{OutFault}
 use Rattle.pgoutput.specs.declared.fault.OutFault.TheVariants.{Short, UnknownKind, BadMark, BadText, Trailing, Memory}
-use Rattle.pgoutput.specs.Reading.{short, as_text, expected, one_of, name_at, text_at}
+use Rattle.pgoutput.specs.Reading.{short, as_text, expected_letter, one_of, name_at, text_at}
 use Rattle.pgoutput.specs.Relation.{FitsName}
 use Rattle.pgoutput.specs.Tuple.{counted_text, FitsText}
 use Rattle.pgoutput.specs.Message.{content, content_at, FitsContent}
@@ -180,18 +180,18 @@ unmarked : (same : Bool) (rest : List ℕ) (e : OutFault) → plain.marked same 
 unmarked true rest e is = absurd cc
 unmarked false rest e is = let bad : BadMark ≡ e = cc in (sym bad, refl)
 
-pub one_letter : (k : ℕ) → Told (expected k) (λ (_ : Unit {0}). k ∷ []) (λ _. Unit {0}) (λ _. mark k ∷ [])
+pub one_letter : (k : ℕ) → Told (expected_letter k) (λ (_ : Unit {0}). k ∷ []) (λ _. Unit {0}) (λ _. mark k ∷ [])
 one_letter k = one_told (plain.expected_wire k) (λ _. mark k) (record { value = tt; fits = tt }) (λ x. refl) stops
-    (λ x rest e fits at. letter_stands (expected k) (k ∷ []) k refl other e rest at)
+    (λ x rest e fits at. letter_stands (expected_letter k) (k ∷ []) k refl other e rest at)
   where
     alone : (b : Bool) → (b || false) ≡ b
     alone true = refl
     alone false = refl
 
-    other : (b : ℕ) (bytes : List ℕ) → list_any (λ l. b == l) (k ∷ []) ≡ false → expected k (b ∷ bytes) ≡ Err BadMark
+    other : (b : ℕ) (bytes : List ℕ) → list_any (λ l. b == l) (k ∷ []) ≡ false → expected_letter k (b ∷ bytes) ≡ Err BadMark
     other b bytes why = ap (λ (same : Bool). plain.marked same bytes) (sym (alone (eqb b k)) ∙ why)
 
-    stops : (bytes : List ℕ) (e : OutFault) → IsBytes bytes → expected k bytes ≡ Err e → AtOne (λ (_ : Unit {0}). mark k) (λ _. Unit {0}) e bytes
+    stops : (bytes : List ℕ) (e : OutFault) → IsBytes bytes → expected_letter k bytes ≡ Err e → AtOne (λ (_ : Unit {0}). mark k) (λ _. Unit {0}) e bytes
     stops [] e fits is =
         let same : Short ≡ e = cc in
         let early : IsAtFault Short (mark k) [] = omega arith in

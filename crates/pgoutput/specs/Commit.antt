@@ -3,7 +3,7 @@ use Rattle.std.specs.Prelude.{ℕ, ◌<◌, ◌^◌, FitsSigned, List, [], ◌�
 use Rattle.std.specs.Int.{w64, cast_unsigned}
 use Rattle.pqformat.specs.Fields.{int64, number_at}
 use Rattle.pqformat.specs.Steps.{◌>>=◌}
-use Rattle.pgoutput.specs.Reading.{short, expected, signed64_at}
+use Rattle.pgoutput.specs.Reading.{short, expected_letter, signed64_at}
 use Rattle.pgoutput.specs.declared.fault.OutFault.{OutFault}
 use Rattle.pgoutput.specs.declared.commit.Commit.{Commit}
 use Rattle.pgoutput.specs.declared.commit.TheConstants.{COMMIT_FLAGS}
@@ -16,7 +16,7 @@ FitsCommit m = (m.position < 2 ^ 64) × ((m.end < 2 ^ 64) × FitsSigned w64 m.ti
 
 unfoldable pub commit_at : List ℕ → Result (Commit × List ℕ) OutFault
 commit_at bytes = do
-  flags ← expected COMMIT_FLAGS bytes
+  flags ← expected_letter COMMIT_FLAGS bytes
   position ← short (number_at w64 flags.1)
   end ← short (number_at w64 position.1)
   time ← signed64_at end.1

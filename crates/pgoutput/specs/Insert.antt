@@ -3,7 +3,7 @@ use Rattle.std.specs.Prelude.{ℕ, ◌<◌, ◌^◌, List, [], ◌∷◌, ◌++�
 use Rattle.std.specs.Int.{w32}
 use Rattle.pqformat.specs.Fields.{int32, number_at}
 use Rattle.pqformat.specs.Steps.{◌>>=◌}
-use Rattle.pgoutput.specs.Reading.{short, expected}
+use Rattle.pgoutput.specs.Reading.{short, expected_letter}
 use Rattle.pgoutput.specs.declared.fault.OutFault.{OutFault}
 use Rattle.pgoutput.specs.declared.insert.Insert.{Insert}
 use Rattle.pgoutput.specs.declared.insert.TheConstants.{NEW}
@@ -21,6 +21,6 @@ IsShortInsert m = IsShortTuple m.new
 unfoldable pub insert_at : List ℕ → Result (Insert × List ℕ) OutFault
 insert_at bytes = do
   oid ← short (number_at w32 bytes)
-  letter ← expected NEW oid.1
+  letter ← expected_letter NEW oid.1
   new ← sent_tuple_at letter.1
   Ok (record { oid = oid.0; new = new.0 }, new.1)

@@ -13,8 +13,8 @@ abbrev pub short : {A : Type 0} → Option A → Result A OutFault
 short found = ok_or found Short
 
 -- this letter and no other
-abbrev pub expected : ℕ → List ℕ → Result (Unit {0} × List ℕ) OutFault
-expected letter bytes = mark_at Short BadMark letter bytes
+abbrev pub expected_letter : ℕ → List ℕ → Result (Unit {0} × List ℕ) OutFault
+expected_letter letter bytes = mark_at Short BadMark letter bytes
 
 -- a letter that stands for a value
 abbrev pub one_of : {X : Type 0} → (ℕ → Option X) → List ℕ → Result (X × List ℕ) OutFault

@@ -3,7 +3,7 @@ use Rattle.std.specs.Prelude.{ℕ, ◌<◌, ◌^◌, ◌==◌, List, [], ◌∷�
 use Rattle.std.specs.Int.{w32}
 use Rattle.pqformat.specs.Fields.{int32, number_at, byte_at}
 use Rattle.pqformat.specs.Steps.{◌>>=◌}
-use Rattle.pgoutput.specs.Reading.{short, expected}
+use Rattle.pgoutput.specs.Reading.{short, expected_letter}
 use Rattle.pgoutput.specs.declared.fault.OutFault.{OutFault}
 use Rattle.pgoutput.specs.declared.fault.OutFault.TheVariants.{BadMark}
 use Rattle.pgoutput.specs.declared.tuple.Cell.{Cell}
@@ -39,7 +39,7 @@ IsShortUpdate m = IsShortIfAny m.old × IsShortTuple m.new
 unfoldable pub tuples_at : List ℕ → Result ((List Cell × List Cell) × List ℕ) OutFault
 tuples_at bytes = do
   old ← tuple_at bytes
-  letter ← expected NEW old.1
+  letter ← expected_letter NEW old.1
   new ← tuple_at letter.1
   Ok ((old.0, new.0), new.1)
 

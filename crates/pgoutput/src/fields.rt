@@ -4,7 +4,7 @@ ghost use Rattle.std.specs.Prelude.{◌≡◌, ◌≢◌, ◌^◌, ◌<◌, leng
 ghost use Rattle.std.specs.Int.{w32, w64, cast_unsigned};
 ghost use Rattle.pqformat.specs.Fields.{byte_at, int32, int64, number_at};
 ghost use Rattle.pqformat.specs.Putting.{Puts};
-ghost use Rattle.pgoutput.specs.Reading.{Gives, expected, short, count16_at, count32_at, signed32_at, signed64_at, name_at, text_at};
+ghost use Rattle.pgoutput.specs.Reading.{Gives, expected_letter, short, count16_at, count32_at, signed32_at, signed64_at, name_at, text_at};
 ghost use Rattle.pgoutput.specs.Tuple.{counted_text};
 
 use crate::fault::OutFault;
@@ -35,7 +35,7 @@ pub(crate) fn number64_of(cursor: &mut Cursor<'_>) -> Result<u64, OutFault>
 
 /// Moves past this letter; another one is O3.
 pub(crate) fn expected_of(cursor: &mut Cursor<'_>, letter: u8) -> Result<(), OutFault>
-    ensures exact { Gives result cursor.new (expected letter cursor.old) }
+    ensures exact { Gives result cursor.new (expected_letter letter cursor.old) }
     ensures steady { result ≢ Err OutFault.Memory }
 {
     let found = byte_of(cursor)?;

@@ -53,5 +53,5 @@ until_at short f zero bytes = Err short
 until_at short f (suc n) bytes = next_at short f bytes >>= λ x. go_on x.0 x.1 (until_at short f n x.1)
 
 -- a list and the zero byte that ends it
-abbrev pub closed : {A : Type 0} → (A → List ℕ) → List A → List ℕ
-closed text xs = flat_map text xs ++ 0 ∷ []
+abbrev pub closed_list : {A : Type 0} → (A → List ℕ) → List A → List ℕ
+closed_list text xs = flat_map text xs ++ 0 ∷ []

@@ -17,7 +17,7 @@ use Rattle.tables.specs.Spelling.{row_length}
 use Rattle.tables.specs.Tables.{fits_column, fits_table}
 use Rattle.pgoutput.specs.Relation.{FitsName}
 use Rattle.publication_config.specs.Published.{is_listed}
-use Rattle.publication.specs.Selection.{chosen, narrowed, FitsTable}
+use Rattle.publication.specs.Selection.{listed_items, table_as_published, FitsTable}
 use Rattle.pgoutput.specs.declared.tuple.Cell.{Cell}
 use Rattle.pgoutput.specs.declared.tuple.Cell.TheVariants as cells
 use Rattle.publication.specs.Kinds.{cell_of, same_value}
@@ -30,39 +30,39 @@ use Rattle.publication.proofs.Rows.{both_true}
 one_more : (i : ℕ) → suc i ≡ i + 1
 one_more i = omega arith
 
-front_by : {A : Type 0} (flags : List Bool) (i : ℕ) (x : A) (xs : List A) → chosen (drop i flags) (x ∷ xs) ≡ cond (is_listed flags i) (x ∷ chosen (drop (suc i) flags) xs) (chosen (drop (suc i) flags) xs)
+front_by : {A : Type 0} (flags : List Bool) (i : ℕ) (x : A) (xs : List A) → listed_items (drop i flags) (x ∷ xs) ≡ cond (is_listed flags i) (x ∷ listed_items (drop (suc i) flags) xs) (listed_items (drop (suc i) flags) xs)
 front_by [] zero x xs = refl
 front_by [] (suc i) x xs = refl
 front_by (listed ∷ flags) zero x xs = refl
 front_by (listed ∷ flags) (suc i) x xs = front_by flags i x xs
 
 pub next_by : {A : Type 0} (flags : List Bool) (xs : List A) (i : ℕ) (x : A) → i < length xs → x ≡ get_or xs i x
-    → chosen (drop i flags) (drop i xs) ≡ cond (is_listed flags i) (x ∷ chosen (drop (i + 1) flags) (drop (i + 1) xs)) (chosen (drop (i + 1) flags) (drop (i + 1) xs))
+    → listed_items (drop i flags) (drop i xs) ≡ cond (is_listed flags i) (x ∷ listed_items (drop (i + 1) flags) (drop (i + 1) xs)) (listed_items (drop (i + 1) flags) (drop (i + 1) xs))
 next_by flags xs i x lt is =
     let behind : ℕ → List Bool = λ k. drop k flags in
-    let P : ℕ → Type 0 = λ k. chosen (drop i flags) (drop i xs) ≡ cond (is_listed flags i) (x ∷ chosen (behind k) (drop (i + 1) xs)) (chosen (behind k) (drop (i + 1) xs)) in
-    subst P (one_more i) (ap (chosen (drop i flags)) (drop_more xs i x lt ∙ ap (λ y. y ∷ drop (i + 1) xs) (sym is)) ∙ front_by flags i x (drop (i + 1) xs))
+    let P : ℕ → Type 0 = λ k. listed_items (drop i flags) (drop i xs) ≡ cond (is_listed flags i) (x ∷ listed_items (behind k) (drop (i + 1) xs)) (listed_items (behind k) (drop (i + 1) xs)) in
+    subst P (one_more i) (ap (listed_items (drop i flags)) (drop_more xs i x lt ∙ ap (λ y. y ∷ drop (i + 1) xs) (sym is)) ∙ front_by flags i x (drop (i + 1) xs))
 
 pub taken : {A B : Type 0} (f : A → B) (kept more whole : List B) (flags : List Bool) (xs : List A) (i : ℕ) (x : A) → i < length xs → x ≡ get_or xs i x → is_listed flags i ≡ true → more ≡ kept ++ f x ∷ []
-    → kept ++ map f (chosen (drop i flags) (drop i xs)) ≡ whole → more ++ map f (chosen (drop (i + 1) flags) (drop (i + 1) xs)) ≡ whole
+    → kept ++ map f (listed_items (drop i flags) (drop i xs)) ≡ whole → more ++ map f (listed_items (drop (i + 1) flags) (drop (i + 1) xs)) ≡ whole
 taken f kept more whole flags xs i x lt is listed grown so_far =
-    let rest = chosen (drop (i + 1) flags) (drop (i + 1) xs) in
+    let rest = listed_items (drop (i + 1) flags) (drop (i + 1) xs) in
     ap (λ l. l ++ map f rest) grown ∙ append_assoc kept (f x ∷ []) (map f rest)
     ∙ ap (λ l. kept ++ map f l) (sym (next_by flags xs i x lt is ∙ ap (λ (b : Bool). cond b (x ∷ rest) rest) listed)) ∙ so_far
 
 pub passed : {A B : Type 0} (f : A → B) (kept more whole : List B) (flags : List Bool) (xs : List A) (i : ℕ) (x : A) → i < length xs → x ≡ get_or xs i x → is_listed flags i ≡ false → more ≡ kept
-    → kept ++ map f (chosen (drop i flags) (drop i xs)) ≡ whole → more ++ map f (chosen (drop (i + 1) flags) (drop (i + 1) xs)) ≡ whole
+    → kept ++ map f (listed_items (drop i flags) (drop i xs)) ≡ whole → more ++ map f (listed_items (drop (i + 1) flags) (drop (i + 1) xs)) ≡ whole
 passed f kept more whole flags xs i x lt is listed same so_far =
-    let rest = chosen (drop (i + 1) flags) (drop (i + 1) xs) in
+    let rest = listed_items (drop (i + 1) flags) (drop (i + 1) xs) in
     ap (λ l. l ++ map f rest) same ∙ ap (λ l. kept ++ map f l) (sym (next_by flags xs i x lt is ∙ ap (λ (b : Bool). cond b (x ∷ rest) rest) listed)) ∙ so_far
 
-pub none_left : {A : Type 0} (flags : List Bool) → Path (List A) (chosen flags []) []
+pub none_left : {A : Type 0} (flags : List Bool) → Path (List A) (listed_items flags []) []
 none_left [] = refl
 none_left (listed ∷ flags) = refl
 
-pub all_taken : {A B : Type 0} (f : A → B) (kept whole : List B) (flags : List Bool) (xs : List A) (i : ℕ) → length xs ≤ i → kept ++ map f (chosen (drop i flags) (drop i xs)) ≡ whole → kept ≡ whole
+pub all_taken : {A B : Type 0} (f : A → B) (kept whole : List B) (flags : List Bool) (xs : List A) (i : ℕ) → length xs ≤ i → kept ++ map f (listed_items (drop i flags) (drop i xs)) ≡ whole → kept ≡ whole
 all_taken f kept whole flags xs i past so_far =
-    sym (append-nil kept) ∙ ap (λ l. kept ++ map f l) (sym (ap (chosen (drop i flags)) (drop_all i xs past) ∙ none_left (drop i flags))) ∙ so_far
+    sym (append-nil kept) ∙ ap (λ l. kept ++ map f l) (sym (ap (listed_items (drop i flags)) (drop_all i xs past) ∙ none_left (drop i flags))) ∙ so_far
 
 -- the cell of a column in a key
 abbrev pub key_cell_of : Column × Value → Cell
@@ -79,14 +79,14 @@ no_zip [] = refl
 no_zip (x ∷ xs) = refl
 
 -- the pairs of what is chosen are what is chosen of the pairs
-pub zip_chosen : {A B : Type 0} (flags : List Bool) (xs : List A) (ys : List B) → zip (chosen flags xs) (chosen flags ys) ≡ chosen flags (zip xs ys)
+pub zip_chosen : {A B : Type 0} (flags : List Bool) (xs : List A) (ys : List B) → zip (listed_items flags xs) (listed_items flags ys) ≡ listed_items flags (zip xs ys)
 zip_chosen [] xs ys = refl
 zip_chosen (listed ∷ flags) [] ys = refl
-zip_chosen (listed ∷ flags) (x ∷ xs) [] = no_zip (cond listed (x ∷ chosen flags xs) (chosen flags xs))
+zip_chosen (listed ∷ flags) (x ∷ xs) [] = no_zip (cond listed (x ∷ listed_items flags xs) (listed_items flags xs))
 zip_chosen (listed ∷ flags) (x ∷ xs) (y ∷ ys) = by_flag listed (zip_chosen flags xs ys)
   where
-    by_flag : (b : Bool) → zip (chosen flags xs) (chosen flags ys) ≡ chosen flags (zip xs ys)
-        → zip (cond b (x ∷ chosen flags xs) (chosen flags xs)) (cond b (y ∷ chosen flags ys) (chosen flags ys)) ≡ cond b ((x, y) ∷ chosen flags (zip xs ys)) (chosen flags (zip xs ys))
+    by_flag : (b : Bool) → zip (listed_items flags xs) (listed_items flags ys) ≡ listed_items flags (zip xs ys)
+        → zip (cond b (x ∷ listed_items flags xs) (listed_items flags xs)) (cond b (y ∷ listed_items flags ys) (listed_items flags ys)) ≡ cond b ((x, y) ∷ listed_items flags (zip xs ys)) (listed_items flags (zip xs ys))
     by_flag true e = ap (λ l. (x, y) ∷ l) e
     by_flag false e = e
 
@@ -99,39 +99,39 @@ paired xs ys i lt same = subst (λ (n : ℕ). i < n) (sym (length-zip xs ys)) (o
 pub unpaired : {A B : Type 0} (xs : List A) (ys : List B) (i : ℕ) → length xs ≤ i → length (zip xs ys) ≤ i
 unpaired xs ys i past = subst (λ (n : ℕ). n ≤ i) (sym (length-zip xs ys)) (omega (arith, past))
 
-any_chosen : {A : Type 0} (p : A → Bool) (flags : List Bool) (xs : List A) → list_any p (chosen flags xs) ≡ list_any (λ q. q.0 && p q.1) (zip flags xs)
+any_chosen : {A : Type 0} (p : A → Bool) (flags : List Bool) (xs : List A) → list_any p (listed_items flags xs) ≡ list_any (λ q. q.0 && p q.1) (zip flags xs)
 any_chosen p [] xs = refl
 any_chosen p (listed ∷ flags) [] = refl
 any_chosen p (listed ∷ flags) (x ∷ xs) = by_flag listed (any_chosen p flags xs)
   where
-    by_flag : (b : Bool) → list_any p (chosen flags xs) ≡ list_any (λ q. q.0 && p q.1) (zip flags xs)
-        → list_any p (cond b (x ∷ chosen flags xs) (chosen flags xs)) ≡ ((b && p x) || list_any (λ q. q.0 && p q.1) (zip flags xs))
+    by_flag : (b : Bool) → list_any p (listed_items flags xs) ≡ list_any (λ q. q.0 && p q.1) (zip flags xs)
+        → list_any p (cond b (x ∷ listed_items flags xs) (listed_items flags xs)) ≡ ((b && p x) || list_any (λ q. q.0 && p q.1) (zip flags xs))
     by_flag true e = ap (λ (c : Bool). p x || c) e
     by_flag false e = e
 
 -- A key is changed at a listed column.
 pub changed_key : (flags : List Bool) (columns : List Column) (old new : List Value)
-    → list_any (λ p. p.0 && (p.1.0.is_key && not (same_value p.1.1.0 p.1.1.1))) (zip flags (zip columns (zip old new))) ≡ changes_key (chosen flags columns) (chosen flags old) (chosen flags new)
+    → list_any (λ p. p.0 && (p.1.0.is_key && not (same_value p.1.1.0 p.1.1.1))) (zip flags (zip columns (zip old new))) ≡ changes_key (listed_items flags columns) (listed_items flags old) (listed_items flags new)
 changed_key flags columns old new =
     let test : Column × (Value × Value) → Bool = λ p. p.0.is_key && not (same_value p.1.0 p.1.1) in
     sym (any_chosen test flags (zip columns (zip old new)))
-    ∙ ap (list_any test) (sym (ap (zip (chosen flags columns)) (zip_chosen flags old new) ∙ zip_chosen flags columns (zip old new)))
+    ∙ ap (list_any test) (sym (ap (zip (listed_items flags columns)) (zip_chosen flags old new) ∙ zip_chosen flags columns (zip old new)))
 
 -- ---- what stands in a table stands in it with the listed columns alone
 
-pub all_chosen : {A : Type 0} (P : A → Type 0) (flags : List Bool) (xs : List A) → AllByRecursion P xs → AllByRecursion P (chosen flags xs)
+pub all_chosen : {A : Type 0} (P : A → Type 0) (flags : List Bool) (xs : List A) → AllByRecursion P xs → AllByRecursion P (listed_items flags xs)
 all_chosen P [] xs all = tt
 all_chosen P (listed ∷ flags) [] all = tt
 all_chosen P (true ∷ flags) (x ∷ xs) all = (all.0, all_chosen P flags xs all.1)
 all_chosen P (false ∷ flags) (x ∷ xs) all = all_chosen P flags xs all.1
 
-fewer : {A : Type 0} (flags : List Bool) (xs : List A) → length (chosen flags xs) ≤ length xs
+fewer : {A : Type 0} (flags : List Bool) (xs : List A) → length (listed_items flags xs) ≤ length xs
 fewer [] xs = omega arith
 fewer (listed ∷ flags) [] = omega arith
 fewer (true ∷ flags) (x ∷ xs) = omega (arith, fewer flags xs)
 fewer (false ∷ flags) (x ∷ xs) = omega (arith, fewer flags xs)
 
-pub narrowed_fits : (flags : List Bool) (t : Table) → FitsTable t → FitsTable (narrowed flags t)
+pub narrowed_fits : (flags : List Bool) (t : Table) → FitsTable t → FitsTable (table_as_published flags t)
 narrowed_fits flags t fits = record {
   oid = fits.oid;
   schema = fits.schema;
@@ -146,9 +146,9 @@ test : Column × Value → Bool
 test p = fits_column p.0 p.1
 
 record Stays (flags : List Bool) (columns : List Column) (row : List Value) : Type 0 where
-  count : length (chosen flags columns) ≡ length (chosen flags row)
-  fits : list_all (λ p. fits_column p.0 p.1) (zip (chosen flags columns) (chosen flags row)) ≡ true
-  short : length (flat_map spell_value (chosen flags row)) ≤ length (flat_map spell_value row)
+  count : length (listed_items flags columns) ≡ length (listed_items flags row)
+  fits : list_all (λ p. fits_column p.0 p.1) (zip (listed_items flags columns) (listed_items flags row)) ≡ true
+  short : length (flat_map spell_value (listed_items flags row)) ≤ length (flat_map spell_value row)
 
 spelled : (v : Value) (row : List Value) → length (flat_map spell_value (v ∷ row)) ≡ length (spell_value v) + length (flat_map spell_value row)
 spelled v row = ap length (flat_map-cons spell_value v row) ∙ length-append (spell_value v) (flat_map spell_value row)
@@ -168,8 +168,8 @@ stays (true ∷ flags) (c ∷ columns) (v ∷ row) counts fits =
     let others = stays flags columns row (omega (arith, counts)) tests.1 in
     record {
       count = ap suc others.count;
-      fits = both_are (fits_column c v) (list_all (λ p. fits_column p.0 p.1) (zip (chosen flags columns) (chosen flags row))) tests.0 others.fits;
-      short = omega (arith, others.short, spelled v row, spelled v (chosen flags row));
+      fits = both_are (fits_column c v) (list_all (λ p. fits_column p.0 p.1) (zip (listed_items flags columns) (listed_items flags row))) tests.0 others.fits;
+      short = omega (arith, others.short, spelled v row, spelled v (listed_items flags row));
     }
 stays (false ∷ flags) (c ∷ columns) (v ∷ row) counts fits =
     let tests = both_true (fits_column c v) (list_all (λ p. fits_column p.0 p.1) (zip columns row)) fits in
@@ -179,13 +179,13 @@ stays (false ∷ flags) (c ∷ columns) (v ∷ row) counts fits =
 coded : (row : List Value) → row_length row ≡ 2 + length (flat_map spell_value row)
 coded row = length-append (int16 (length row)) (flat_map spell_value row) ∙ ap (λ (n : ℕ). n + length (flat_map spell_value row)) (length-int16 (length row))
 
-pub narrowed_stands : (flags : List Bool) (t : Table) (row : List Value) → stands_in t row ≡ true → stands_in (narrowed flags t) (chosen flags row) ≡ true
+pub narrowed_stands : (flags : List Bool) (t : Table) (row : List Value) → stands_in t row ≡ true → stands_in (table_as_published flags t) (listed_items flags row) ≡ true
 narrowed_stands flags t row stands =
     let tests = both_true (fits_table t row) (leb (row_length row) MAX_ROW_LENGTH) stands in
     let fits = both_true (eqb (length t.columns) (length row)) (list_all (λ p. fits_column p.0 p.1) (zip t.columns row)) tests.0 in
     let s = stays flags t.columns row (eqb-true (length t.columns) (length row) fits.0) fits.1 in
-    let same : eqb (length (chosen flags t.columns)) (length (chosen flags row)) ≡ true = eq-eqb _ _ s.count in
-    let short : leb (row_length (chosen flags row)) MAX_ROW_LENGTH ≡ true =
-    le-leb (row_length (chosen flags row)) MAX_ROW_LENGTH (omega (arith, leb-true (row_length row) MAX_ROW_LENGTH tests.1, coded row, coded (chosen flags row), s.short)) in
-    both_are (fits_table (narrowed flags t) (chosen flags row)) (leb (row_length (chosen flags row)) MAX_ROW_LENGTH)
-    (both_are (eqb (length (chosen flags t.columns)) (length (chosen flags row))) (list_all (λ p. fits_column p.0 p.1) (zip (chosen flags t.columns) (chosen flags row))) same s.fits) short
+    let same : eqb (length (listed_items flags t.columns)) (length (listed_items flags row)) ≡ true = eq-eqb _ _ s.count in
+    let short : leb (row_length (listed_items flags row)) MAX_ROW_LENGTH ≡ true =
+    le-leb (row_length (listed_items flags row)) MAX_ROW_LENGTH (omega (arith, leb-true (row_length row) MAX_ROW_LENGTH tests.1, coded row, coded (listed_items flags row), s.short)) in
+    both_are (fits_table (table_as_published flags t) (listed_items flags row)) (leb (row_length (listed_items flags row)) MAX_ROW_LENGTH)
+    (both_are (eqb (length (listed_items flags t.columns)) (length (listed_items flags row))) (list_all (λ p. fits_column p.0 p.1) (zip (listed_items flags t.columns) (listed_items flags row))) same s.fits) short

@@ -28,9 +28,9 @@ use Rattle.publication_config.specs.declared.operations.Operation.{Operation}
 use Rattle.publication_config.specs.declared.operations.Operation.TheVariants.{Insert, Update, Delete, Truncate}
 use Rattle.publication_config.specs.declared.publication.Publication.{Publication}
 use Rattle.publication_config.specs.Published.{PublicationSet, has, publishes}
-use Rattle.publication.specs.Selection.{has_table, list_by, narrowed, relation, relation_column, selected_table, whole_table, FitsTable, FitTables}
-use Rattle.publication.specs.Tuples.{old_by, replaced_by, tuple_behind, tuple_of}
-use Rattle.publication.specs.Projection.{delete_message, insert_message, is_published, may_be_emptied, message, message_by, only_if, passes, shown, stands, stands_in, truncate_message, update_message, updated, AreValues, MessageFits}
+use Rattle.publication.specs.Selection.{has_table, list_by, relation, relation_column, selected_table, table_as_published, whole_table, FitsTable, FitTables}
+use Rattle.publication.specs.Tuples.{old_by, old_row_of_update, tuple_behind, tuple_of}
+use Rattle.publication.specs.Projection.{delete_message, insert_message, is_published, may_be_emptied, message, message_by, message_of_update, only_if, passes, row_as_published, stands, stands_in, truncate_message, update_message, AreValues, MessageFits}
 use Rattle.publication.proofs.Choosing.{all_chosen, narrowed_fits, narrowed_stands}
 use Rattle.publication.proofs.Rows.{both_true, OldFits, TupleFits, old_fits, replaced_fits, sent_fits, tuple_behind_fits, tuple_fits}
 use Rattle.publication.proofs.Relations.{found_table, relation_tells, some_is}
@@ -42,29 +42,29 @@ record Found (s : PublicationSet) (t : Table) : Type 0 where
   selected : selected_table s t.oid ≡ Some t
   fits : FitsTable t
 
-found_selected : (s : PublicationSet) (oid : ℕ) (t : Table) → FitTables s → has_table s oid ≡ true → table_of oid s.tables ≡ Some t → Found s (narrowed (list_by s.publications oid) t)
+found_selected : (s : PublicationSet) (oid : ℕ) (t : Table) → FitTables s → has_table s oid ≡ true → table_of oid s.tables ≡ Some t → Found s (table_as_published (list_by s.publications oid) t)
 found_selected s oid t all has found =
     let listed = list_by s.publications oid in
     let p = found_table FitsTable oid s.tables t all found in
     let whole : whole_table s oid ≡ Some t = ap (λ (b : Bool). cond b (table_of oid s.tables) None) has ∙ found in
-    let here : selected_table s oid ≡ Some (narrowed listed t) = ap (option_map (narrowed listed)) whole in
+    let here : selected_table s oid ≡ Some (table_as_published listed t) = ap (option_map (table_as_published listed)) whole in
     record { selected = ap (λ (n : ℕ). selected_table s n) p.1 ∙ here; fits = narrowed_fits listed t p.0 }
 
 -- the same, in which the listed columns stand of every row that stands in the whole table
 record Shown (s : PublicationSet) (oid : ℕ) (t : Table) : Type 0 where
   found : Found s t
-  stay : (row : List Value) → stands (table_of oid s.tables) row ≡ true → stands_in t (shown s oid row) ≡ true
+  stay : (row : List Value) → stands (table_of oid s.tables) row ≡ true → stands_in t (row_as_published s oid row) ≡ true
 
 shown_by : (s : PublicationSet) (oid : ℕ) (t : Table) → FitTables s → selected_table s oid ≡ Some t → Shown s oid t
 shown_by s oid t all e = by_table (has_table s oid) refl (table_of oid s.tables) refl e
   where
-    by_table : (b : Bool) → has_table s oid ≡ b → (o : Option Table) → table_of oid s.tables ≡ o → option_map (narrowed (list_by s.publications oid)) (cond b o None) ≡ Some t → Shown s oid t
+    by_table : (b : Bool) → has_table s oid ≡ b → (o : Option Table) → table_of oid s.tables ≡ o → option_map (table_as_published (list_by s.publications oid)) (cond b o None) ≡ Some t → Shown s oid t
     by_table false has o found is = absurd cc
     by_table true has None found is = absurd cc
     by_table true has (Some u) found is =
         let listed = list_by s.publications oid in
         let P : Table → Type 0 = λ v. Shown s oid v in
-        subst P (some_is (narrowed listed u) t is) (record {
+        subst P (some_is (table_as_published listed u) t is) (record {
           found = found_selected s oid u all has found;
           stay = λ row is. narrowed_stands listed u row (ap (λ (o : Option Table). stands o row) (sym found) ∙ is);
         })
@@ -147,7 +147,7 @@ kept_fit s (oid ∷ oids) all known =
     by_published true has None found is others = absurd cc
     by_published true has (Some t) found is others =
         let f = found_selected s oid t all (has refl) found in
-        let u = narrowed (list_by s.publications oid) t in
+        let u = table_as_published (list_by s.publications oid) t in
         let same : u.oid ≡ oid = (found_table FitsTable oid s.tables t all found).1 in
         record {
           known = (subst (λ (n : ℕ). IsSome (selected_table s n)) same (rw f.selected refl), others.known);
@@ -195,37 +195,37 @@ deleted_fits : (s : PublicationSet) (t : Table) (o : Option OldTuple) (m : Logic
 deleted_fits s t None m found fits e = absurd cc
 deleted_fits s t (Some old) m found fits e = let P : Logical → Type 0 = λ n. MessageFits s n in subst P (some_is (logical.Delete (record { oid = t.oid; old = old })) m e) (delete_fits s t old found fits)
 
-shown_values : (s : PublicationSet) (oid : ℕ) (row : List Value) → AllByRecursion IsValue row → AllByRecursion IsValue (shown s oid row)
+shown_values : (s : PublicationSet) (oid : ℕ) (row : List Value) → AllByRecursion IsValue row → AllByRecursion IsValue (row_as_published s oid row)
 shown_values s oid row in_range = all_chosen IsValue (list_by s.publications oid) row in_range
 
 -- a message that is told of a table as the selection shows it
 inserted_fits : (s : PublicationSet) (oid : ℕ) (row : List Value) (m : Logical) → FitTables s → AllByRecursion IsValue row → stands (table_of oid s.tables) row ≡ true
-    → (o : Option Table) → selected_table s oid ≡ o → option_map (insert_message (shown s oid row)) o ≡ Some m → MessageFits s m
+    → (o : Option Table) → selected_table s oid ≡ o → option_map (insert_message (row_as_published s oid row)) o ≡ Some m → MessageFits s m
 inserted_fits s oid row m all in_range is None found e = absurd cc
 inserted_fits s oid row m all in_range is (Some t) found e =
     let u = shown_by s oid t all found in
     let P : Logical → Type 0 = λ n. MessageFits s n in
-    subst P (some_is (insert_message (shown s oid row) t) m e)
-    (insert_fits s t (shown s oid row) u.found (tuple_fits t (shown s oid row) u.found.fits (shown_values s oid row in_range) (u.stay row is)))
+    subst P (some_is (insert_message (row_as_published s oid row) t) m e)
+    (insert_fits s t (row_as_published s oid row) u.found (tuple_fits t (row_as_published s oid row) u.found.fits (shown_values s oid row in_range) (u.stay row is)))
 
 replaced_row_fits : (s : PublicationSet) (oid : ℕ) (old new : List Value) (m : Logical) → FitTables s → AllByRecursion IsValue old → AllByRecursion IsValue new → stands (table_of oid s.tables) old ≡ true
-    → stands (table_of oid s.tables) new ≡ true → (o : Option Table) → selected_table s oid ≡ o → option_map (update_message (shown s oid old) (shown s oid new)) o ≡ Some m → MessageFits s m
+    → stands (table_of oid s.tables) new ≡ true → (o : Option Table) → selected_table s oid ≡ o → option_map (update_message (row_as_published s oid old) (row_as_published s oid new)) o ≡ Some m → MessageFits s m
 replaced_row_fits s oid old new m all old_values new_values is_old is_new None found e = absurd cc
 replaced_row_fits s oid old new m all old_values new_values is_old is_new (Some t) found e =
     let u = shown_by s oid t all found in
-    let a = shown s oid old in
-    let b = shown s oid new in
+    let a = row_as_published s oid old in
+    let b = row_as_published s oid new in
     let P : Logical → Type 0 = λ n. MessageFits s n in
     subst P (some_is (update_message a b t) m e)
-    (update_fits s t (replaced_by t.identity t a b) (tuple_behind a b) u.found (replaced_fits t t.identity a b u.found.fits (shown_values s oid old old_values) (u.stay old is_old))
+    (update_fits s t (old_row_of_update t.identity t a b) (tuple_behind a b) u.found (replaced_fits t t.identity a b u.found.fits (shown_values s oid old old_values) (u.stay old is_old))
     (tuple_behind_fits t a b u.found.fits (shown_values s oid new new_values) (u.stay old is_old) (u.stay new is_new)))
 
 deleted_row_fits : (s : PublicationSet) (oid : ℕ) (old : List Value) (m : Logical) → FitTables s → AllByRecursion IsValue old → stands (table_of oid s.tables) old ≡ true → (o : Option Table)
-    → selected_table s oid ≡ o → option_and_then (delete_message (shown s oid old)) o ≡ Some m → MessageFits s m
+    → selected_table s oid ≡ o → option_and_then (delete_message (row_as_published s oid old)) o ≡ Some m → MessageFits s m
 deleted_row_fits s oid old m all in_range is None found e = absurd cc
 deleted_row_fits s oid old m all in_range is (Some t) found e =
     let u = shown_by s oid t all found in
-    deleted_fits s t (old_by t.identity t (shown s oid old)) m u.found (old_fits t t.identity (shown s oid old) u.found.fits (shown_values s oid old in_range) (u.stay old is)) e
+    deleted_fits s t (old_by t.identity t (row_as_published s oid old)) m u.found (old_fits t t.identity (row_as_published s oid old) u.found.fits (shown_values s oid old in_range) (u.stay old is)) e
 
 -- only what passes has a message
 where_it_passes : (passes : Bool) (o : Option Logical) (m : Logical) → cond passes o None ≡ Some m → o ≡ Some m
@@ -233,7 +233,7 @@ where_it_passes true o m e = e
 where_it_passes false o m e = absurd cc
 
 updated_fits : (s : PublicationSet) (oid : ℕ) (old new : List Value) (m : Logical) → FitTables s → AllByRecursion IsValue old → AllByRecursion IsValue new → stands (table_of oid s.tables) old ≡ true
-    → stands (table_of oid s.tables) new ≡ true → (old_passes new_passes : Bool) → updated old_passes new_passes (selected_table s oid) (shown s oid old) (shown s oid new) ≡ Some m → MessageFits s m
+    → stands (table_of oid s.tables) new ≡ true → (old_passes new_passes : Bool) → message_of_update old_passes new_passes (selected_table s oid) (row_as_published s oid old) (row_as_published s oid new) ≡ Some m → MessageFits s m
 updated_fits s oid old new m all old_values new_values is_old is_new true true e = replaced_row_fits s oid old new m all old_values new_values is_old is_new (selected_table s oid) refl e
 updated_fits s oid old new m all old_values new_values is_old is_new false true e = inserted_fits s oid new m all new_values is_new (selected_table s oid) refl e
 updated_fits s oid old new m all old_values new_values is_old is_new true false e = deleted_row_fits s oid old m all old_values is_old (selected_table s oid) refl e
@@ -242,7 +242,7 @@ updated_fits s oid old new m all old_values new_values is_old is_new false false
 pub message_fits : (s : PublicationSet) (c : Change) (m : Logical) → FitTables s → AreValues c → message s c ≡ Some m → MessageFits s m
 message_fits s (changes.Insert oid row) m all in_range e =
     let both = only_some (message_by s (changes.Insert oid row)) (stands (table_of oid s.tables) row) m e in
-    inserted_fits s oid row m all in_range both.true_is (selected_table s oid) refl (where_it_passes (passes s Insert oid row) (option_map (insert_message (shown s oid row)) (selected_table s oid)) m both.is)
+    inserted_fits s oid row m all in_range both.true_is (selected_table s oid) refl (where_it_passes (passes s Insert oid row) (option_map (insert_message (row_as_published s oid row)) (selected_table s oid)) m both.is)
 message_fits s (changes.Update oid old new) m all in_range e =
     let both = only_some (message_by s (changes.Update oid old new)) (stands (table_of oid s.tables) old && stands (table_of oid s.tables) new) m e in
     let tests = both_true (stands (table_of oid s.tables) old) (stands (table_of oid s.tables) new) both.true_is in
@@ -250,7 +250,7 @@ message_fits s (changes.Update oid old new) m all in_range e =
 message_fits s (changes.Delete oid old) m all in_range e =
     let both = only_some (message_by s (changes.Delete oid old)) (stands (table_of oid s.tables) old) m e in
     deleted_row_fits s oid old m all in_range both.true_is (selected_table s oid) refl
-    (where_it_passes (passes s Delete oid old) (option_and_then (delete_message (shown s oid old)) (selected_table s oid)) m both.is)
+    (where_it_passes (passes s Delete oid old) (option_and_then (delete_message (row_as_published s oid old)) (selected_table s oid)) m both.is)
 message_fits s (changes.Message logged) m all in_range e = absurd cc
 message_fits s (changes.Truncate oids) m all in_range e =
     let both = only_some (message_by s (changes.Truncate oids)) (may_be_emptied s.tables oids) m e in

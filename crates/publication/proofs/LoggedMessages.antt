@@ -17,7 +17,7 @@ use Rattle.tables.specs.declared.change.Change.TheVariants as changes
 use Rattle.tables.specs.Kinds.{has_no_zero}
 use Rattle.tables.specs.Tables.{is_prefix}
 use Rattle.publication_config.specs.Published.{PublicationSet}
-use Rattle.publication.specs.Logged.{IsNoteAt, change_message, fits_log, logged, note_message, told_of}
+use Rattle.publication.specs.Logged.{IsNoteAt, change_message, fits_log, logged_message, note_message, told_of}
 use Rattle.publication.specs.Projection.{AreValues, MessageFits}
 use Rattle.publication.specs.Selection.{FitTables}
 use Rattle.pqformat.specs.Writing.{FitsRoom}
@@ -68,7 +68,7 @@ record Logged (is_transactional : Bool) (position : ℕ) (m : Message) (told : L
   is : told_of is_transactional position m ≡ told
   fits : fits_log m ≡ true
 
-logged_is : (is_transactional : Bool) (s : PublicationSet) (position : ℕ) (m : Message) (told : Logical) → logged is_transactional s position m ≡ Some told → Logged is_transactional position m told
+logged_is : (is_transactional : Bool) (s : PublicationSet) (position : ℕ) (m : Message) (told : Logical) → logged_message is_transactional s position m ≡ Some told → Logged is_transactional position m told
 logged_is is_transactional s position m told e = by_tests s.messages (fits_log m) refl e
   where
     by_tests : (messages fits : Bool) → fits_log m ≡ fits → cond (messages && fits) (Some (told_of is_transactional position m)) None ≡ Some told → Logged is_transactional position m told

@@ -16,14 +16,14 @@ use Rattle.tables.specs.declared.table.Table.{Table}
 use Rattle.publication_config.specs.Published.{is_identity, is_listed}
 use Rattle.publication.specs.declared.relation.TheConstants.{NO_MODIFIER}
 use Rattle.publication.specs.Kinds.{type_oid}
-use Rattle.publication.specs.Selection.{chosen, identity_of, narrowed, relation_column, relation_of}
+use Rattle.publication.specs.Selection.{identity_of, listed_items, relation_column, relation_of, table_as_published}
 use Rattle.pqformat.specs.Writing.{Writes}
 use Rattle.pqformat.proofs.Writing.{length_front, then}
 use Rattle.publication.proofs.Written.{off, on, past}
 
 -- what is to be told from a column on
 abbrev pub columns_from : Identity → List Bool → List Column → ℕ → List ℕ
-columns_from identity flags cs i = flat_map column (map (relation_column identity) (chosen (drop i flags) (drop i cs)))
+columns_from identity flags cs i = flat_map column (map (relation_column identity) (listed_items (drop i flags) (drop i cs)))
 
 -- those before a column are written, and there is room for the others
 pub record IsTold (identity : Identity) (flags : List Bool) (cs : List Column) (i at : ℕ) (out whole : List ℕ) (size : ℕ) : Type 0 where
@@ -37,7 +37,7 @@ module _ (identity : Identity) (flags : List Bool) (cs : List Column) (i at : �
   written to new listed w short =
       let f = relation_column identity in
       let next : columns_from identity flags cs i ≡ column (f c) ++ columns_from identity flags cs (i + 1) =
-      ap (λ l. flat_map column (map f l)) (on flags cs i c low is listed) ∙ flat_map-cons column (f c) (map f (chosen (drop (i + 1) flags) (drop (i + 1) cs))) in
+      ap (λ l. flat_map column (map f l)) (on flags cs i c low is listed) ∙ flat_map-cons column (f c) (map f (listed_items (drop (i + 1) flags) (drop (i + 1) cs))) in
       record {
         parts = ap (λ l. l ++ columns_from identity flags cs (i + 1)) w.front ∙ append_assoc (take at out) (column (f c)) (columns_from identity flags cs (i + 1)) ∙ ap (λ l. take at out ++ l) (sym next) ∙ p.parts;
         within = omega (arith, w.same, short, p.room, low);
@@ -74,12 +74,12 @@ column_written identity c at flags name kind to old a b d new f n k m =
 -- a Relation, part by part
 pub relation_written : (t : Table) (flags : List Bool) (kind oid schema name identity counted to n : ℕ) (old a b d e f g new : List ℕ) → Writes 0 kind old a (RELATION ∷ []) → Writes kind oid a b (int32 t.oid)
     → Writes oid schema b d (string t.schema) → Writes schema name d e (string t.name) → Writes name identity e f (identity_letter (identity_of t.identity) ∷ [])
-    → n ≡ length (chosen flags t.columns) → Writes identity counted f g (int16 n) → Writes counted to g new (flat_map column (map (relation_column t.identity) (chosen flags t.columns)))
-    → Writes 0 to old new (spell_logical (logical.Relation (relation_of (narrowed flags t))))
+    → n ≡ length (listed_items flags t.columns) → Writes identity counted f g (int16 n) → Writes counted to g new (flat_map column (map (relation_column t.identity) (listed_items flags t.columns)))
+    → Writes 0 to old new (spell_logical (logical.Relation (relation_of (table_as_published flags t))))
 relation_written t flags kind oid schema name identity counted to n old a b d e f g new w1 w2 w3 w4 w5 is w6 w7 =
-    let told = relation_of (narrowed flags t) in
+    let told = relation_of (table_as_published flags t) in
     let columns = flat_map column told.columns in
-    let same : n ≡ length told.columns = is ∙ sym (length-map (chosen flags t.columns) (relation_column t.identity)) in
+    let same : n ≡ length told.columns = is ∙ sym (length-map (listed_items flags t.columns) (relation_column t.identity)) in
     let counts : Writes identity counted f g (int16 (length told.columns)) = subst (λ k. Writes identity counted f g (int16 k)) same w6 in
     let t6 = then identity counted to f g new (int16 (length told.columns)) columns counts w7 in
     let t5 = then name identity to e f new (identity_letter told.identity ∷ []) (int16 (length told.columns) ++ columns) w5 t6 in

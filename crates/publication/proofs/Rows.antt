@@ -23,7 +23,7 @@ use Rattle.tables.specs.Spelling.{row_length}
 use Rattle.tables.specs.Tables.{fits_table}
 use Rattle.publication.specs.Selection.{FitsTable}
 use Rattle.publication.specs.Kinds.{cell_of, is_long, same_value}
-use Rattle.publication.specs.Tuples.{cell_behind, changes_key, key_tuple_of, old_by, replaced_by, tuple_behind, tuple_of}
+use Rattle.publication.specs.Tuples.{cell_behind, changes_key, key_tuple_of, old_by, old_row_of_update, tuple_behind, tuple_of}
 use Rattle.publication.specs.Projection.{stands, stands_in}
 use Rattle.tables.proofs.Values.{some_byte}
 use Rattle.publication.proofs.Values.{cell_fits, sent_cell}
@@ -166,7 +166,7 @@ old_fits t identities.Default old table in_range stands = key_tuple_fits t old t
 old_fits t identities.Nothing old table in_range stands = tt
 old_fits t identities.Full old table in_range stands = tuple_fits t old table in_range stands
 
-pub replaced_fits : (t : Table) (identity : Identity) (old new : List Value) → FitsTable t → AllByRecursion IsValue old → stands_in t old ≡ true → OldFits t (replaced_by identity t old new)
+pub replaced_fits : (t : Table) (identity : Identity) (old new : List Value) → FitsTable t → AllByRecursion IsValue old → stands_in t old ≡ true → OldFits t (old_row_of_update identity t old new)
 replaced_fits t identities.Default old new table in_range stands = by_change (changes_key t.columns old new)
   where
     by_change : (b : Bool) → OldFits t (cond b (old_by identities.Default t old) None)

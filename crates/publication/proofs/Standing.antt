@@ -28,11 +28,11 @@ use Rattle.tables.specs.Refs.{IsLarge}
 use Rattle.tables.specs.Spelling.{row_length}
 use Rattle.tables.specs.Tables.{fits_table, table_of}
 use Rattle.publication_config.specs.Published.{PublicationSet}
-use Rattle.publication.specs.Projection.{delete_message, insert_message, only_if, stands, stands_in, update_message, updated, AreValues, MessageFits}
-use Rattle.publication.specs.Selection.{FitTables, FitsTable, chosen, narrowed}
+use Rattle.publication.specs.Projection.{delete_message, insert_message, message_of_update, only_if, stands, stands_in, update_message, AreValues, MessageFits}
+use Rattle.publication.specs.Selection.{FitTables, FitsTable, listed_items, table_as_published}
 use Rattle.pqformat.specs.Writing.{FitsRoom}
 use Rattle.publication.specs.Spelling.{HasRoom, IsShortRow, IsWritten}
-use Rattle.publication.specs.Tuples.{changes_key, key_tuple_of, old_by, replaced_by, tuple_behind, tuple_of}
+use Rattle.publication.specs.Tuples.{changes_key, key_tuple_of, old_by, old_row_of_update, tuple_behind, tuple_of}
 use Rattle.publication.proofs.Bounds.{behind_bound, key_bound, tuple_bound}
 use Rattle.publication.proofs.Choosing.{all_chosen, narrowed_stands}
 use Rattle.publication.proofs.Relations.{found_table}
@@ -98,7 +98,7 @@ coded_values (changes.Message m) is = is.0.1
 pub spelled_fits : (s : PublicationSet) (position : ℕ) (body : List ℕ) → position < 2 ^ 64 → FitTables s → (c : Change) (m : Logical) → SpellsBody body c → change_message s position c ≡ Some m → MessageFits s m
 spelled_fits s position body lt all c m spelled is = change_fits s position c m lt all (coded_values c spelled.in_range) is
 
-alike : {A B : Type 0} (flags : List Bool) (xs : List A) (ys : List B) → length xs ≡ length ys → length (chosen flags xs) ≡ length (chosen flags ys)
+alike : {A B : Type 0} (flags : List Bool) (xs : List A) (ys : List B) → length xs ≡ length ys → length (listed_items flags xs) ≡ length (listed_items flags ys)
 alike [] xs ys same = refl
 alike (listed ∷ flags) [] [] same = refl
 alike (listed ∷ flags) [] (y ∷ ys) same = absurd (omega (arith, same))
@@ -107,21 +107,21 @@ alike (true ∷ flags) (x ∷ xs) (y ∷ ys) same = ap suc (alike flags xs ys (o
 alike (false ∷ flags) (x ∷ xs) (y ∷ ys) same = alike flags xs ys (omega (arith, same))
 
 module _ (flags : List Bool) (t : Table) (row : List Value) (fits : FitsTable t) (is : fits_table t row ≡ true) (short : IsShortRow row) where
-  pub values_chosen : AllByRecursion IsValue (chosen flags row)
+  pub values_chosen : AllByRecursion IsValue (listed_items flags row)
   values_chosen = all_chosen IsValue flags row (values_are row short.0.1)
 
-  pub few : length (chosen flags row) ≤ 64
+  pub few : length (listed_items flags row) ≤ 64
   few = omega (arith, chosen_short flags row, columns_are t row is, fits.count)
 
-  pub still_short : row_length (chosen flags row) ≤ 8000
+  pub still_short : row_length (listed_items flags row) ≤ 8000
   still_short =
       let whole : stands_in t row ≡ true = both_are (fits_table t row) (leb (row_length row) MAX_ROW_LENGTH) is (le-leb (row_length row) MAX_ROW_LENGTH short.1) in
-      leb-true (row_length (chosen flags row)) MAX_ROW_LENGTH (both_true (fits_table (narrowed flags t) (chosen flags row)) _ (narrowed_stands flags t row whole)).1
+      leb-true (row_length (listed_items flags row)) MAX_ROW_LENGTH (both_true (fits_table (table_as_published flags t) (listed_items flags row)) _ (narrowed_stands flags t row whole)).1
 
-  pub insertion_room : (out : List ℕ) → HasRoom out → FitsRoom 0 out (spell_logical (insert_message (chosen flags row) (narrowed flags t)))
+  pub insertion_room : (out : List ℕ) → HasRoom out → FitsRoom 0 out (spell_logical (insert_message (listed_items flags row) (table_as_published flags t)))
   insertion_room out room =
-      let bound = tuple_bound (chosen flags row) values_chosen few still_short in
-      (omega (arith, bound, room.0, length-int32 t.oid, length-append (int32 t.oid) ((78 ∷ []) ++ tuple (tuple_of (chosen flags row)))), room.1)
+      let bound = tuple_bound (listed_items flags row) values_chosen few still_short in
+      (omega (arith, bound, room.0, length-int32 t.oid, length-append (int32 t.oid) ((78 ∷ []) ++ tuple (tuple_of (listed_items flags row)))), room.1)
 
 letter_and : (letter : ℕ) (cells : List ℕ) → length cells ≤ 9536 → length (letter ∷ cells) ≤ 9537
 letter_and letter cells bound = omega (arith, bound)
@@ -129,10 +129,10 @@ letter_and letter cells bound = omega (arith, bound)
 -- what is told of a row that is gone or replaced
 module _ (flags : List Bool) (t : Table) (old : List Value) (fits : FitsTable t) (is_old : fits_table t old ≡ true) (short_old : IsShortRow old) where
   abbrev row : List Value
-  row = chosen flags old
+  row = listed_items flags old
 
   abbrev seen : Table
-  seen = narrowed flags t
+  seen = table_as_published flags t
 
   key_told : length (tuple (key_tuple_of seen.columns row)) ≤ 9536
   key_told = key_bound seen.columns row (values_chosen flags t old fits is_old short_old) (few flags t old fits is_old short_old) (still_short flags t old fits is_old short_old)
@@ -145,7 +145,7 @@ module _ (flags : List Bool) (t : Table) (old : List Value) (fits : FitsTable t)
   if_any o (inr (inl key)) = subst (λ x. length (old_if_any x) ≤ 9537) (sym key) (letter_and 75 (tuple (key_tuple_of seen.columns row)) key_told)
   if_any o (inr (inr full)) = subst (λ x. length (old_if_any x) ≤ 9537) (sym full) (letter_and 79 (tuple (tuple_of row)) all_told)
 
-  replaced : (i : Identity) (new : List Value) → replaced_by i seen row new ≡ None ⊎ ((replaced_by i seen row new ≡ Some (Key (key_tuple_of seen.columns row))) ⊎ (replaced_by i seen row new ≡ Some (Full (tuple_of row))))
+  replaced : (i : Identity) (new : List Value) → old_row_of_update i seen row new ≡ None ⊎ ((old_row_of_update i seen row new ≡ Some (Key (key_tuple_of seen.columns row))) ⊎ (old_row_of_update i seen row new ≡ Some (Full (tuple_of row))))
   replaced identities.Default new = by_test (changes_key seen.columns row new)
     where
       by_test : (b : Bool) → cond b (Some (Key (key_tuple_of seen.columns row))) None ≡ None ⊎ ((cond b (Some (Key (key_tuple_of seen.columns row))) None ≡ Some (Key (key_tuple_of seen.columns row))) ⊎ (cond b (Some (Key (key_tuple_of seen.columns row))) None ≡ Some (Full (tuple_of row))))
@@ -167,22 +167,22 @@ module _ (flags : List Bool) (t : Table) (old : List Value) (fits : FitsTable t)
       by_identity identities.Nothing is = absurd cc
       by_identity identities.Full is = told (Full (tuple_of row)) (letter_and 79 (tuple (tuple_of row)) all_told) is
 
-  pub replacement_room : (new : List Value) → fits_table t new ≡ true → IsShortRow new → (out : List ℕ) → HasRoom out → FitsRoom 0 out (spell_logical (update_message row (chosen flags new) seen))
+  pub replacement_room : (new : List Value) → fits_table t new ≡ true → IsShortRow new → (out : List ℕ) → HasRoom out → FitsRoom 0 out (spell_logical (update_message row (listed_items flags new) seen))
   replacement_room new is_new short_new out room =
-      let same : length row ≡ length (chosen flags new) = alike flags old new (sym (columns_are t old is_old) ∙ columns_are t new is_new) in
-      let bound = behind_bound row (chosen flags new) same (values_chosen flags t new fits is_new short_new) (few flags t new fits is_new short_new) (still_short flags t new fits is_new short_new) in
-      let told = old_if_any (replaced_by t.identity seen row (chosen flags new)) in
-      let first : length told ≤ 9537 = if_any _ (replaced t.identity (chosen flags new)) in
-      let last = tuple (tuple_behind row (chosen flags new)) in
+      let same : length row ≡ length (listed_items flags new) = alike flags old new (sym (columns_are t old is_old) ∙ columns_are t new is_new) in
+      let bound = behind_bound row (listed_items flags new) same (values_chosen flags t new fits is_new short_new) (few flags t new fits is_new short_new) (still_short flags t new fits is_new short_new) in
+      let told = old_if_any (old_row_of_update t.identity seen row (listed_items flags new)) in
+      let first : length told ≤ 9537 = if_any _ (replaced t.identity (listed_items flags new)) in
+      let last = tuple (tuple_behind row (listed_items flags new)) in
       (omega (arith, bound, first, room.0, length-int32 t.oid, length-append (int32 t.oid) (told ++ ((78 ∷ []) ++ last)), length-append told ((78 ∷ []) ++ last)), room.1)
 
   -- what an update has become, by whether the old row passed and the new one passes
   pub update_room : (new : List Value) → fits_table t new ≡ true → IsShortRow new → (out : List ℕ) → HasRoom out → (before after : Bool) (m : Logical)
-      → updated before after (Some seen) row (chosen flags new) ≡ Some m → FitsRoom 0 out (spell_logical m)
+      → message_of_update before after (Some seen) row (listed_items flags new) ≡ Some m → FitsRoom 0 out (spell_logical m)
   update_room new is_new short_new out room true true m is =
-      subst (λ (n : Logical). FitsRoom 0 out (spell_logical n)) (some_is (update_message row (chosen flags new) seen) m is) (replacement_room new is_new short_new out room)
+      subst (λ (n : Logical). FitsRoom 0 out (spell_logical n)) (some_is (update_message row (listed_items flags new) seen) m is) (replacement_room new is_new short_new out room)
   update_room new is_new short_new out room false true m is =
-      subst (λ (n : Logical). FitsRoom 0 out (spell_logical n)) (some_is (insert_message (chosen flags new) seen) m is) (insertion_room flags t new fits is_new short_new out room)
+      subst (λ (n : Logical). FitsRoom 0 out (spell_logical n)) (some_is (insert_message (listed_items flags new) seen) m is) (insertion_room flags t new fits is_new short_new out room)
   update_room new is_new short_new out room true false m is = gone_room out room m is
   update_room new is_new short_new out room false false m is = absurd cc
 

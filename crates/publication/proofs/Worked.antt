@@ -18,8 +18,8 @@ use Rattle.tables.specs.declared.change.Change.TheVariants as changes
 use Rattle.tables.specs.Tables.{item_table, table_named}
 use Rattle.publication_config.specs.declared.publication.Publication.{Publication}
 use Rattle.publication_config.specs.Published.{PublicationSet, all_operations, published_whole}
-use Rattle.publication.specs.Publications.{is_unknown, selected}
-use Rattle.publication.specs.Projection.{delete_message, message, update_message, updated}
+use Rattle.publication.specs.Publications.{is_unknown, selected_publications}
+use Rattle.publication.specs.Projection.{delete_message, message, message_of_update, update_message}
 
 -- ---- Tables, rows and messages.
 
@@ -54,7 +54,7 @@ builtin_publications tables = record {
 }
 
 abbrev by : List (List ℕ) → PublicationSet
-by names = selected (builtin_publications (item_table ∷ tag_table ∷ note_table ∷ [])) names
+by names = selected_publications (builtin_publications (item_table ∷ tag_table ∷ note_table ∷ [])) names
 
 abbrev item : ℕ → List ℕ → ℕ → List Value
 item id name qty = values.Int4 (pos id) ∷ values.Text name ∷ values.Int8 (pos qty) ∷ []
@@ -138,11 +138,11 @@ wrong_old_row = refl
 
 -- ---- Updates by which of the rows pass.
 
-comes : updated false true (Some item_table) (item 1 (codes "a") 1) (item 2 (codes "b") 1) ≡ Some (logical.Insert (record { oid = 16384; new = Text (codes "2") ∷ Text (codes "b") ∷ Text (codes "1") ∷ [] }))
+comes : message_of_update false true (Some item_table) (item 1 (codes "a") 1) (item 2 (codes "b") 1) ≡ Some (logical.Insert (record { oid = 16384; new = Text (codes "2") ∷ Text (codes "b") ∷ Text (codes "1") ∷ [] }))
 unfolding digits int16 int32 int64
 comes = refl
 
-goes : updated true false (Some item_table) (item 1 (codes "a") 1) (item 2 (codes "b") 1) ≡ delete 16384 (Key (Text (codes "1") ∷ Null ∷ Null ∷ []))
+goes : message_of_update true false (Some item_table) (item 1 (codes "a") 1) (item 2 (codes "b") 1) ≡ delete 16384 (Key (Text (codes "1") ∷ Null ∷ Null ∷ []))
 unfolding digits int16 int32 int64
 goes = refl
 

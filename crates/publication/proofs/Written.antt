@@ -25,7 +25,7 @@ use Rattle.pgoutput.specs.declared.tuple.Cell.{Cell}
 use Rattle.pgoutput.specs.declared.tuple.Cell.TheVariants as cells
 use Rattle.pgoutput.specs.Tuple.{cell, tuple}
 use Rattle.publication_config.specs.Published.{is_listed}
-use Rattle.publication.specs.Selection.{chosen}
+use Rattle.publication.specs.Selection.{listed_items}
 use Rattle.pqformat.specs.Writing.{FitsRoom, Writes}
 use Rattle.pqformat.proofs.Writing.{first, left, length_front}
 use Rattle.publication.specs.Spelling.{IsPut, IsWritten}
@@ -36,20 +36,20 @@ text_length text = omega (arith, length-append (int32 (length text)) text, lengt
 
 -- ---- the cells of what is listed
 
-pub chosen_short : {A : Type 0} (flags : List Bool) (xs : List A) → length (chosen flags xs) ≤ length xs
+pub chosen_short : {A : Type 0} (flags : List Bool) (xs : List A) → length (listed_items flags xs) ≤ length xs
 chosen_short [] xs = omega arith
 chosen_short (listed ∷ flags) [] = omega arith
 chosen_short (true ∷ flags) (x ∷ xs) = let rest = chosen_short flags xs in omega (arith, rest)
 chosen_short (false ∷ flags) (x ∷ xs) = let rest = chosen_short flags xs in omega (arith, rest)
 
-pub chosen_alike : {A B : Type 0} (flags : List Bool) (xs : List A) (ys : List B) → length xs ≡ length ys → length (chosen flags xs) ≡ length (chosen flags (zip xs ys))
+pub chosen_alike : {A B : Type 0} (flags : List Bool) (xs : List A) (ys : List B) → length xs ≡ length ys → length (listed_items flags xs) ≡ length (listed_items flags (zip xs ys))
 chosen_alike [] xs ys same = refl
 chosen_alike (listed ∷ flags) [] ys same = refl
 chosen_alike (listed ∷ flags) (x ∷ xs) [] same = absurd (omega (arith, same))
 chosen_alike (true ∷ flags) (x ∷ xs) (y ∷ ys) same = ap suc (chosen_alike flags xs ys (omega (arith, same)))
 chosen_alike (false ∷ flags) (x ∷ xs) (y ∷ ys) same = chosen_alike flags xs ys (omega (arith, same))
 
-pub chosen_second : {A B : Type 0} (flags : List Bool) (xs : List A) (ys : List B) → length xs ≡ length ys → length (chosen flags ys) ≡ length (chosen flags (zip xs ys))
+pub chosen_second : {A B : Type 0} (flags : List Bool) (xs : List A) (ys : List B) → length xs ≡ length ys → length (listed_items flags ys) ≡ length (listed_items flags (zip xs ys))
 chosen_second [] xs ys same = refl
 chosen_second (listed ∷ flags) [] [] same = refl
 chosen_second (listed ∷ flags) [] (y ∷ ys) same = absurd (omega (arith, same))
@@ -58,17 +58,17 @@ chosen_second (true ∷ flags) (x ∷ xs) (y ∷ ys) same = ap suc (chosen_secon
 chosen_second (false ∷ flags) (x ∷ xs) (y ∷ ys) same = chosen_second flags xs ys (omega (arith, same))
 
 module _ {A : Type 0} (flags : List Bool) (xs : List A) (i : ℕ) (x : A) (low : i < length xs) (is : x ≡ get_or xs i x) where
-  pub on : is_listed flags i ≡ true → chosen (drop i flags) (drop i xs) ≡ x ∷ chosen (drop (i + 1) flags) (drop (i + 1) xs)
-  on listed = let rest = chosen (drop (i + 1) flags) (drop (i + 1) xs) in next_by flags xs i x low is ∙ ap (λ (b : Bool). cond b (x ∷ rest) rest) listed
+  pub on : is_listed flags i ≡ true → listed_items (drop i flags) (drop i xs) ≡ x ∷ listed_items (drop (i + 1) flags) (drop (i + 1) xs)
+  on listed = let rest = listed_items (drop (i + 1) flags) (drop (i + 1) xs) in next_by flags xs i x low is ∙ ap (λ (b : Bool). cond b (x ∷ rest) rest) listed
 
-  pub off : is_listed flags i ≡ false → chosen (drop i flags) (drop i xs) ≡ chosen (drop (i + 1) flags) (drop (i + 1) xs)
-  off listed = let rest = chosen (drop (i + 1) flags) (drop (i + 1) xs) in next_by flags xs i x low is ∙ ap (λ (b : Bool). cond b (x ∷ rest) rest) listed
+  pub off : is_listed flags i ≡ false → listed_items (drop i flags) (drop i xs) ≡ listed_items (drop (i + 1) flags) (drop (i + 1) xs)
+  off listed = let rest = listed_items (drop (i + 1) flags) (drop (i + 1) xs) in next_by flags xs i x low is ∙ ap (λ (b : Bool). cond b (x ∷ rest) rest) listed
 
-pub past : {A : Type 0} (flags : List Bool) (xs : List A) (i : ℕ) → length xs ≤ i → chosen (drop i flags) (drop i xs) ≡ []
-past flags xs i high = ap (chosen (drop i flags)) (drop_all i xs high) ∙ none_left (drop i flags)
+pub past : {A : Type 0} (flags : List Bool) (xs : List A) (i : ℕ) → length xs ≤ i → listed_items (drop i flags) (drop i xs) ≡ []
+past flags xs i high = ap (listed_items (drop i flags)) (drop_all i xs high) ∙ none_left (drop i flags)
 
 abbrev pub cells_from : {A : Type 0} → (A → Cell) → List Bool → List A → ℕ → List ℕ
-cells_from f flags xs i = flat_map cell (map f (chosen (drop i flags) (drop i xs)))
+cells_from f flags xs i = flat_map cell (map f (listed_items (drop i flags) (drop i xs)))
 
 -- what a loop over the columns keeps: what is written, and behind it the cells of the columns to come, are the whole
 pub record IsPartOf {A : Type 0} (f : A → Cell) (flags : List Bool) (xs : List A) (i at : ℕ) (out whole : List ℕ) : Type 0 where
@@ -83,7 +83,7 @@ module _ {A : Type 0} (f : A → Cell) (flags : List Bool) (xs : List A) (whole 
 
   module _ (i at : ℕ) (out : List ℕ) (x : A) (low : i < length xs) (is : x ≡ get_or xs i x) (p : IsPartOf f flags xs i at out whole) where
     next : is_listed flags i ≡ true → cells_from f flags xs i ≡ cell (f x) ++ cells_from f flags xs (i + 1)
-    next listed = ap (λ l. flat_map cell (map f l)) (on flags xs i x low is listed) ∙ flat_map-cons cell (f x) (map f (chosen (drop (i + 1) flags) (drop (i + 1) xs)))
+    next listed = ap (λ l. flat_map cell (map f l)) (on flags xs i x low is listed) ∙ flat_map-cons cell (f x) (map f (listed_items (drop (i + 1) flags) (drop (i + 1) xs)))
 
     pub fits : is_listed flags i ≡ true → FitsRoom at out (cell (f x))
     fits listed =
@@ -123,16 +123,16 @@ module _ {A : Type 0} (f : A → Cell) (flags : List Bool) (xs : List A) (whole 
 pub tuple_room : (at : ℕ) (out : List ℕ) (cs : List Cell) → FitsRoom at out (tuple cs) → at + 2 ≤ length out
 tuple_room at out cs room = omega (arith, room.0, length-append (int16 (length cs)) (flat_map cell cs), length-int16 (length cs))
 
-module _ {A : Type 0} (f : A → Cell) (flags : List Bool) (xs : List A) (at to n : ℕ) (old new : List ℕ) (room : FitsRoom at old (tuple (map f (chosen flags xs)))) (is : n ≡ length (chosen flags xs)) (w : Writes at to old new (int16 n)) where
-  count : n ≡ length (map f (chosen flags xs))
-  count = is ∙ sym (length-map (chosen flags xs) f)
+module _ {A : Type 0} (f : A → Cell) (flags : List Bool) (xs : List A) (at to n : ℕ) (old new : List ℕ) (room : FitsRoom at old (tuple (map f (listed_items flags xs)))) (is : n ≡ length (listed_items flags xs)) (w : Writes at to old new (int16 n)) where
+  count : n ≡ length (map f (listed_items flags xs))
+  count = is ∙ sym (length-map (listed_items flags xs) f)
 
   low : at + 2 ≤ length old
-  low = tuple_room at old (map f (chosen flags xs)) room
+  low = tuple_room at old (map f (listed_items flags xs)) room
 
-  pub begun : IsPartOf f flags xs 0 to new (take to new ++ flat_map cell (map f (chosen flags xs)))
+  pub begun : IsPartOf f flags xs 0 to new (take to new ++ flat_map cell (map f (listed_items flags xs)))
   begun =
-      let cs = map f (chosen flags xs) in
+      let cs = map f (listed_items flags xs) in
       let two = length-append (int16 (length cs)) (flat_map cell cs) in
       let inside : to ≤ length new = omega (arith, w.ends, w.same, low, length-int16 n) in
       record {
@@ -143,9 +143,9 @@ module _ {A : Type 0} (f : A → Cell) (flags : List Bool) (xs : List A) (at to 
       }
 
   -- all columns are told
-  pub told : (i last : ℕ) (out : List ℕ) → length xs ≤ i → IsPartOf f flags xs i last out (take to new ++ flat_map cell (map f (chosen flags xs))) → length out ≡ length new → Writes at last old out (tuple (map f (chosen flags xs)))
+  pub told : (i last : ℕ) (out : List ℕ) → length xs ≤ i → IsPartOf f flags xs i last out (take to new ++ flat_map cell (map f (listed_items flags xs))) → length out ≡ length new → Writes at last old out (tuple (map f (listed_items flags xs)))
   told i last out high p same =
-      let cs = map f (chosen flags xs) in
+      let cs = map f (listed_items flags xs) in
       let whole : take to new ++ flat_map cell cs ≡ take at old ++ tuple cs =
       ap (λ l. l ++ flat_map cell cs) (w.front ∙ ap (λ k. take at old ++ int16 k) count) ∙ append_assoc (take at old) (int16 (length cs)) (flat_map cell cs) in
       ended f flags xs (take to new ++ flat_map cell cs) i at last old out (tuple cs) high p whole (omega (arith, low)) (same ∙ w.same)
@@ -158,8 +158,8 @@ pair_is a c b d p q = ap (λ z. (z, b)) p ∙ ap (λ z. (c, z)) q
 abbrev pub is_changed : Column × (Value × Value) → Bool
 is_changed p = p.0.is_key && not (same_value p.1.0 p.1.1)
 
-pub key_is : (flags : List Bool) (columns : List Column) (old new : List Value) → list_any is_changed (chosen flags (zip columns (zip old new))) ≡ changes_key (chosen flags columns) (chosen flags old) (chosen flags new)
-key_is flags columns old new = ap (list_any is_changed) (sym (ap (zip (chosen flags columns)) (zip_chosen flags old new) ∙ zip_chosen flags columns (zip old new)))
+pub key_is : (flags : List Bool) (columns : List Column) (old new : List Value) → list_any is_changed (listed_items flags (zip columns (zip old new))) ≡ changes_key (listed_items flags columns) (listed_items flags old) (listed_items flags new)
+key_is flags columns old new = ap (list_any is_changed) (sym (ap (zip (listed_items flags columns)) (zip_chosen flags old new) ∙ zip_chosen flags columns (zip old new)))
 
 any_first : (b c : Bool) → b ≡ true → (b || c) ≡ true
 any_first true c e = refl
@@ -192,15 +192,15 @@ module _ (flags : List Bool) (columns : List Column) (old new : List Value) (i :
   stands = beside columns (zip old new) i column (before, value) low alike is inner
 
   abbrev rest : Bool
-  rest = list_any is_changed (chosen (drop (i + 1) flags) (drop (i + 1) (zip columns (zip old new))))
+  rest = list_any is_changed (listed_items (drop (i + 1) flags) (drop (i + 1) (zip columns (zip old new))))
 
-  pub changed_here : is_listed flags i ≡ true → (column.is_key && not (same_value before value)) ≡ true → list_any is_changed (chosen (drop i flags) (drop i (zip columns (zip old new)))) ≡ true
+  pub changed_here : is_listed flags i ≡ true → (column.is_key && not (same_value before value)) ≡ true → list_any is_changed (listed_items (drop i flags) (drop i (zip columns (zip old new)))) ≡ true
   changed_here listed is_so = ap (list_any is_changed) (on flags (zip columns (zip old new)) i triple there stands listed) ∙ any_first (is_changed triple) rest is_so
 
-  pub same_here : is_listed flags i ≡ true → (column.is_key && not (same_value before value)) ≡ false → list_any is_changed (chosen (drop i flags) (drop i (zip columns (zip old new)))) ≡ rest
+  pub same_here : is_listed flags i ≡ true → (column.is_key && not (same_value before value)) ≡ false → list_any is_changed (listed_items (drop i flags) (drop i (zip columns (zip old new)))) ≡ rest
   same_here listed is_so = ap (list_any is_changed) (on flags (zip columns (zip old new)) i triple there stands listed) ∙ any_rest (is_changed triple) rest is_so
 
-  pub passed_here : is_listed flags i ≡ false → list_any is_changed (chosen (drop i flags) (drop i (zip columns (zip old new)))) ≡ rest
+  pub passed_here : is_listed flags i ≡ false → list_any is_changed (listed_items (drop i flags) (drop i (zip columns (zip old new)))) ≡ rest
   passed_here listed = ap (list_any is_changed) (off flags (zip columns (zip old new)) i triple there stands listed)
 
 -- ---- lengths of the fronts of messages

@@ -22,18 +22,18 @@ fits_log m = is_prefix m.prefix && nat_le (length m.content) MAX_CONTENT_LENGTH
 abbrev pub told_of : (is_transactional : Bool) → ℕ → Message → Logical
 told_of is_transactional position m = logical.Message (record { is_transactional = is_transactional; position = position; prefix = m.prefix; content = m.content })
 
-abbrev pub logged : (is_transactional : Bool) → PublicationSet → ℕ → Message → Option Logical
-logged is_transactional s position m = if s.messages && fits_log m then Some (told_of is_transactional position m) else None
+abbrev pub logged_message : (is_transactional : Bool) → PublicationSet → ℕ → Message → Option Logical
+logged_message is_transactional s position m = if s.messages && fits_log m then Some (told_of is_transactional position m) else None
 
 -- The message of a change in a transaction, by the position at which its record starts: of rows and tables what the publications make of
 -- it, of a message itself.
 abbrev pub change_message : PublicationSet → ℕ → Change → Option Logical
-change_message s position (changes.Message m) = logged true s position m
+change_message s position (changes.Message m) = logged_message true s position m
 change_message s position change = message s change
 
 -- the message of a note, which is in no transaction
 abbrev pub note_message : PublicationSet → ℕ → Change → Option Logical
-note_message s position (changes.Message m) = logged false s position m
+note_message s position (changes.Message m) = logged_message false s position m
 note_message s position _ = None
 
 -- a note's message, which a stream can tell at the position

@@ -20,8 +20,8 @@ use Rattle.publication_config.specs.declared.operations.Operation.{Operation}
 use Rattle.publication_config.specs.declared.operations.Operation.TheVariants.{Insert, Update, Delete, Truncate}
 use Rattle.publication_config.specs.Published.{PublicationSet, has, publishes}
 use Rattle.publication.specs.Publications.{passes_in}
-use Rattle.publication.specs.Selection.{chosen, list_by, selected_table, relation}
-use Rattle.publication.specs.Tuples.{tuple_of, tuple_behind, old_by, replaced_by}
+use Rattle.publication.specs.Selection.{listed_items, list_by, selected_table, relation}
+use Rattle.publication.specs.Tuples.{tuple_of, tuple_behind, old_by, old_row_of_update}
 use Rattle.publication.specs.declared.projection.Projected.{Projected}
 use Rattle.publication.specs.declared.projection.Projected.TheVariants.{Nothing, Message}
 
@@ -61,7 +61,7 @@ abbrev pub insert_message : List Value → Table → Logical
 insert_message row t = logical.Insert (record { oid = t.oid; new = tuple_of row })
 
 abbrev pub update_message : (old new : List Value) → Table → Logical
-update_message old new t = logical.Update (record { oid = t.oid; old = replaced_by t.identity t old new; new = tuple_behind old new })
+update_message old new t = logical.Update (record { oid = t.oid; old = old_row_of_update t.identity t old new; new = tuple_behind old new })
 
 -- without an identity nothing can be told of a row that is gone
 abbrev pub delete_message : List Value → Table → Option Logical
@@ -72,22 +72,22 @@ truncate_message [] = None
 truncate_message oids = Some (logical.Truncate (record { options = record { cascade = false; restart_identity = false }; oids = oids }))
 
 -- An update of a row that passed and passes still is one; else a row has come, or gone, for whoever reads what passes.
-abbrev pub updated : (old_passes new_passes : Bool) → Option Table → (old new : List Value) → Option Logical
-updated true true t old new = option_map (update_message old new) t
-updated false true t old new = option_map (insert_message new) t
-updated true false t old new = option_and_then (delete_message old) t
-updated false false t old new = None
+abbrev pub message_of_update : (old_passes new_passes : Bool) → Option Table → (old new : List Value) → Option Logical
+message_of_update true true t old new = option_map (update_message old new) t
+message_of_update false true t old new = option_map (insert_message new) t
+message_of_update true false t old new = option_and_then (delete_message old) t
+message_of_update false false t old new = None
 
 -- the listed columns of a row
-abbrev pub shown : PublicationSet → ℕ → List Value → List Value
-shown s oid row = chosen (list_by s.publications oid) row
+abbrev pub row_as_published : PublicationSet → ℕ → List Value → List Value
+row_as_published s oid row = listed_items (list_by s.publications oid) row
 
 -- The message of a change that fits the catalogue. The whole row is judged, its listed columns are told. A message of the log is no
 -- change of a table (`Logged.antt`).
 abbrev pub message_by : PublicationSet → Change → Option Logical
-message_by s (changes.Insert oid row) = if passes s Insert oid row then option_map (insert_message (shown s oid row)) (selected_table s oid) else None
-message_by s (changes.Update oid old new) = updated (passes s Update oid old) (passes s Update oid new) (selected_table s oid) (shown s oid old) (shown s oid new)
-message_by s (changes.Delete oid old) = if passes s Delete oid old then option_and_then (delete_message (shown s oid old)) (selected_table s oid) else None
+message_by s (changes.Insert oid row) = if passes s Insert oid row then option_map (insert_message (row_as_published s oid row)) (selected_table s oid) else None
+message_by s (changes.Update oid old new) = message_of_update (passes s Update oid old) (passes s Update oid new) (selected_table s oid) (row_as_published s oid old) (row_as_published s oid new)
+message_by s (changes.Delete oid old) = if passes s Delete oid old then option_and_then (delete_message (row_as_published s oid old)) (selected_table s oid) else None
 message_by s (changes.Truncate oids) = truncate_message (filter (is_published s Truncate) oids)
 message_by s (changes.Message m) = None
 
@@ -98,9 +98,9 @@ only_if (Some m) fits = if fits then Some m else None
 abbrev pub message : PublicationSet → Change → Option Logical
 message s change = only_if (message_by s change) (fits_catalogue s.tables change)
 
-abbrev pub projected : Option Logical → Projected
-projected None = Nothing
-projected (Some m) = Message m
+abbrev pub projection_of : Option Logical → Projected
+projection_of None = Nothing
+projection_of (Some m) = Message m
 
 -- the values in the rows of a change, and the prefix of a message, are those of Rust
 abbrev pub AreValues : Change → Type 0

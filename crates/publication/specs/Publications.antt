@@ -36,12 +36,12 @@ abbrev pub is_unknown : PublicationSet → List (List ℕ) → Bool
 is_unknown s names = list_any (λ n. not (list_any (λ p. bytes_eq p.name n) s.publications)) names
 
 -- the publications of these names, each once however often it is named
-abbrev pub selected : PublicationSet → List (List ℕ) → PublicationSet
-selected s names = record s { publications = filter (λ p. list_any (λ n. bytes_eq p.name n) names) s.publications }
+abbrev pub selected_publications : PublicationSet → List (List ℕ) → PublicationSet
+selected_publications s names = record s { publications = filter (λ p. list_any (λ n. bytes_eq p.name n) names) s.publications }
 
 -- why names select nothing: P1 where one is no publication's, else P2 where those that are named differ
-abbrev pub judged : PublicationSet → List (List ℕ) → Result (Unit {0}) PubFault
-judged s names = if is_unknown s names then Err Unknown else if conflicts (selected s names).publications then Err ListConflict else Ok tt
+abbrev pub judgement_of_names : PublicationSet → List (List ℕ) → Result (Unit {0}) PubFault
+judgement_of_names s names = if is_unknown s names then Err Unknown else if conflicts (selected_publications s names).publications then Err ListConflict else Ok tt
 
 -- the faults of select
 abbrev pub IsOfSelect : PubFault → Type 0

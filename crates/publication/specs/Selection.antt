@@ -22,10 +22,10 @@ abbrev pub has_table : PublicationSet → ℕ → Bool
 has_table s oid = list_any (has oid) s.publications
 
 -- what stands at the places that a list has, in its order; the rest is left out
-abbrev pub chosen : {A : Type 0} → List Bool → List A → List A
-chosen [] xs = []
-chosen (listed ∷ flags) [] = []
-chosen (listed ∷ flags) (x ∷ xs) = if listed then x ∷ chosen flags xs else chosen flags xs
+abbrev pub listed_items : {A : Type 0} → List Bool → List A → List A
+listed_items [] xs = []
+listed_items (listed ∷ flags) [] = []
+listed_items (listed ∷ flags) (x ∷ xs) = if listed then x ∷ listed_items flags xs else listed_items flags xs
 
 -- the list of a table, or this one where there is no such table
 abbrev pub listed_or : List Bool → Option PublishedTable → List Bool
@@ -38,8 +38,8 @@ list_by [] oid = []
 list_by (p ∷ publications) oid = listed_or (list_by publications oid) (table_in oid p)
 
 -- a table as a subscriber sees it: with the columns of the list alone
-abbrev pub narrowed : List Bool → Table → Table
-narrowed listed t = record t { columns = chosen listed t.columns }
+abbrev pub table_as_published : List Bool → Table → Table
+table_as_published listed t = record t { columns = listed_items listed t.columns }
 
 -- the table of this OID, if the selection has it
 abbrev pub whole_table : PublicationSet → ℕ → Option Table
@@ -47,7 +47,7 @@ whole_table s oid = if has_table s oid then table_of oid s.tables else None
 
 -- the same as the selection shows it
 abbrev pub selected_table : PublicationSet → ℕ → Option Table
-selected_table s oid = option_map (narrowed (list_by s.publications oid)) (whole_table s oid)
+selected_table s oid = option_map (table_as_published (list_by s.publications oid)) (whole_table s oid)
 
 -- the tables of the selection, in the order of the catalogue
 abbrev pub selected_oids : PublicationSet → List ℕ

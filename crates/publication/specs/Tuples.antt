@@ -38,7 +38,7 @@ old_by identities.Nothing t old = None
 old_by identities.Full t old = Some (Full (tuple_of old))
 
 -- what is sent of a row beside the one that took its place: the key only where it changed
-abbrev pub replaced_by : Identity → Table → (old new : List Value) → Option OldTuple
-replaced_by identities.Default t old new = if changes_key t.columns old new then old_by identities.Default t old else None
-replaced_by identities.Nothing t old new = None
-replaced_by identities.Full t old new = old_by identities.Full t old
+abbrev pub old_row_of_update : Identity → Table → (old new : List Value) → Option OldTuple
+old_row_of_update identities.Default t old new = if changes_key t.columns old new then old_by identities.Default t old else None
+old_row_of_update identities.Nothing t old new = None
+old_row_of_update identities.Full t old new = old_by identities.Full t old

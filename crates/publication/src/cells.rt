@@ -3,9 +3,9 @@
 ghost use Rattle.std.specs.Prelude.{◌≡◌, ◌++◌, ◌&&◌, not, IfOk, length, if◌then◌else◌};
 ghost use Rattle.std.specs.List.{list_any, zip};
 ghost use Rattle.pgoutput.specs.declared.tuple.Cell.TheVariants as cells;
-ghost use Rattle.publication.specs.Selection.{chosen, narrowed};
+ghost use Rattle.publication.specs.Selection.{listed_items, table_as_published};
 ghost use Rattle.publication.specs.Kinds.{cell_of, is_long, same_value};
-ghost use Rattle.publication.specs.Tuples.{cell_behind, changes_key, key_tuple_of, old_by, replaced_by, tuple_behind, tuple_of};
+ghost use Rattle.publication.specs.Tuples.{cell_behind, changes_key, key_tuple_of, old_by, old_row_of_update, tuple_behind, tuple_of};
 
 use crate::kinds::{cell, is_long, is_same};
 use pgoutput::{Cell, OldTuple};
@@ -20,7 +20,7 @@ pub(crate) fn tuple_of(
     listed: &[bool],
     row: &[Value],
 ) -> Result<Items<Cell>, AllocError>
-    ensures { IfOk result (λ cells. cells ≡ tuple_of (chosen listed.now row.now)) }
+    ensures { IfOk result (λ cells. cells ≡ tuple_of (listed_items listed.now row.now)) }
 {
     let mut cells = Vec::with_capacity(alloc, row.len())?;
     for (i, value) in row.iter().enumerate() {
@@ -40,7 +40,8 @@ pub(crate) fn tuple_behind(
 ) -> Result<Items<Cell>, AllocError>
     requires { length old.now ≡ length new.now }
     ensures { IfOk result
-        (λ cells. cells ≡ tuple_behind (chosen listed.now old.now) (chosen listed.now new.now)) }
+        (λ cells. cells
+        ≡ tuple_behind (listed_items listed.now old.now) (listed_items listed.now new.now)) }
 {
     let mut cells = Vec::with_capacity(alloc, new.len())?;
     for (i, before) in old.iter().enumerate() {
@@ -71,8 +72,8 @@ pub(crate) fn old_of(
     requires { length table.now.columns ≡ length old.now }
     ensures { IfOk result
         (λ o. o
-        ≡ old_by table.now.identity (narrowed listed.now table.now)
-        (chosen listed.now old.now)) }
+        ≡ old_by table.now.identity (table_as_published listed.now table.now)
+        (listed_items listed.now old.now)) }
 {
     Ok(match table.identity {
         Identity::Default => {
@@ -95,8 +96,8 @@ pub(crate) fn replaced_of(
     requires { length table.now.columns ≡ length old.now }
     ensures { IfOk result
         (λ o. o
-        ≡ replaced_by table.now.identity (narrowed listed.now table.now)
-        (chosen listed.now old.now) (chosen listed.now new.now)) }
+        ≡ old_row_of_update table.now.identity (table_as_published listed.now table.now)
+        (listed_items listed.now old.now) (listed_items listed.now new.now)) }
 {
     let columns = table.columns.as_slice();
     if table.identity == Identity::Default
@@ -110,8 +111,8 @@ pub(crate) fn replaced_of(
 /// Whether a listed column of the primary key has one value in the one row and another one in the other.
 fn changes_key(columns: &[Column], listed: &[bool], old: &[Value], new: &[Value]) -> bool
     ensures { result
-        ≡ changes_key (chosen listed.now columns.now) (chosen listed.now old.now)
-        (chosen listed.now new.now) }
+        ≡ changes_key (listed_items listed.now columns.now) (listed_items listed.now old.now)
+        (listed_items listed.now new.now) }
 {
     has_other_key(columns, listed, old, new)
 }
@@ -137,7 +138,7 @@ fn key_tuple_of(
     requires { length columns.now ≡ length row.now }
     ensures { IfOk result
         (λ cells. cells
-        ≡ key_tuple_of (chosen listed.now columns.now) (chosen listed.now row.now)) }
+        ≡ key_tuple_of (listed_items listed.now columns.now) (listed_items listed.now row.now)) }
 {
     let mut cells = Vec::with_capacity(alloc, columns.len())?;
     for (i, column) in columns.iter().enumerate() {

@@ -10,7 +10,7 @@ ghost use Rattle.tables.specs.Reading.{SpellsBody, change_tagged, message_at};
 ghost use Rattle.tables.specs.Refs.{message_of};
 ghost use Rattle.tables.specs.declared.change.Change.{Change as Changed};
 ghost use Rattle.tables.specs.declared.message.Message.{Message as Held};
-ghost use Rattle.publication.specs.Logged.{IsNoteAt, change_message, fits_log, note_message, logged, told_of};
+ghost use Rattle.publication.specs.Logged.{IsNoteAt, change_message, fits_log, note_message, logged_message, told_of};
 ghost use Rattle.pqformat.specs.Writing.{FitsRoom, Writes};
 ghost use Rattle.publication.specs.Spelling.{HasRoom, IsPut, IsReadWhole, IsWritten};
 
@@ -66,7 +66,7 @@ impl Selection {
     ) -> Option<usize>
         requires { HasRoom out.old }
         ensures told { (m : Held) → message_at fields.now ≡ Ok (m, []) →
-            IsWritten result out.old out.new (logged is_transactional self.now position m) }
+            IsWritten result out.old out.new (logged_message is_transactional self.now position m) }
         ensures found { IfSome result (λ _. IsReadWhole (message_at fields.now)) }
         ensures short { IfSome result (λ n. n ≤ MAX_MESSAGE_LENGTH) }
         ensures same { length out.new ≡ length out.old }
@@ -87,7 +87,7 @@ impl Selection {
         position: u64,
         message: &Message,
     ) -> Result<Option<Logical>, AllocError>
-        ensures value { IfOk result (λ o. o ≡ logged true self.now position message.now) }
+        ensures value { IfOk result (λ o. o ≡ logged_message true self.now position message.now) }
         ensures in_range { IfOk result (λ o. OnSome o (is_utf8 message.now.prefix ≡ true)) }
     {
         let lent = MessageRef {

@@ -1,8 +1,8 @@
 //! The messages of changes in one table, and of tables that were emptied.
 
 ghost use Rattle.std.specs.Prelude.{◌≡◌, IfOk, Some, length};
-ghost use Rattle.publication.specs.Selection.{chosen, narrowed};
-ghost use Rattle.publication.specs.Projection.{delete_message, insert_message, truncate_message, update_message, updated};
+ghost use Rattle.publication.specs.Selection.{listed_items, table_as_published};
+ghost use Rattle.publication.specs.Projection.{delete_message, insert_message, message_of_update, truncate_message, update_message};
 
 use crate::cells::{old_of, replaced_of, tuple_behind, tuple_of};
 use pgoutput::{Delete, Insert, Logical, Truncate, TruncateOptions, Update};
@@ -17,7 +17,8 @@ pub(crate) fn insertion(
     row: &Row,
 ) -> Result<Logical, AllocError>
     ensures { IfOk result
-        (λ m. m ≡ insert_message (chosen listed.now row.now) (narrowed listed.now table.now)) }
+        (λ m. m ≡ insert_message (listed_items listed.now row.now)
+        (table_as_published listed.now table.now)) }
 {
     Ok(Logical::Insert(Insert {
         oid: table.oid,
@@ -39,8 +40,8 @@ pub(crate) fn update(
     requires rows { length old.now ≡ length new.now }
     ensures { IfOk result
         (λ o. o
-        ≡ updated old_passes new_passes (Some (narrowed listed.now table.now))
-        (chosen listed.now old.now) (chosen listed.now new.now)) }
+        ≡ message_of_update old_passes new_passes (Some (table_as_published listed.now table.now))
+        (listed_items listed.now old.now) (listed_items listed.now new.now)) }
 {
     match (old_passes, new_passes) {
         (true, true) => Ok(Some(replacement(alloc, table, listed, old, new)?)),
@@ -61,8 +62,8 @@ fn replacement(
     requires rows { length old.now ≡ length new.now }
     ensures { IfOk result
         (λ m. m
-        ≡ update_message (chosen listed.now old.now) (chosen listed.now new.now)
-        (narrowed listed.now table.now)) }
+        ≡ update_message (listed_items listed.now old.now) (listed_items listed.now new.now)
+        (table_as_published listed.now table.now)) }
 {
     Ok(Logical::Update(Update {
         oid: table.oid,
@@ -80,7 +81,8 @@ pub(crate) fn deletion(
 ) -> Result<Option<Logical>, AllocError>
     requires { length table.now.columns ≡ length old.now }
     ensures { IfOk result
-        (λ o. o ≡ delete_message (chosen listed.now old.now) (narrowed listed.now table.now)) }
+        (λ o. o ≡ delete_message (listed_items listed.now old.now)
+        (table_as_published listed.now table.now)) }
 {
     let Some(old) = old_of(alloc, table, listed, old)? else {
         return Ok(None);

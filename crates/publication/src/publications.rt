@@ -8,7 +8,7 @@ ghost use Rattle.toml.specs.View.{view};
 ghost use Rattle.publication_config.specs.Config.{Configures, ReadsPublications, configured_by, publications_in};
 ghost use Rattle.publication.specs.Selection.{FitsTable};
 ghost use Rattle.publication_config.specs.Published.{conflicts};
-ghost use Rattle.publication.specs.Publications.{IsOfSelect, is_unknown, judged, selected};
+ghost use Rattle.publication.specs.Publications.{IsOfSelect, is_unknown, judgement_of_names, selected_publications};
 
 use crate::selection::Selection;
 use pqformat::{Items, Text};
@@ -85,16 +85,16 @@ impl Publications {
     /// The publications of these names, each once. A name that no publication has is P1; two of them that have different column
     /// lists for one table are P2, a table without a list having all columns.
     pub fn select(&self, names: &[Text]) -> Result<Selection, PubFault>
-        ensures ok { IfOk result (λ s. s ≡ selected self.now names.now) }
+        ensures ok { IfOk result (λ s. s ≡ selected_publications self.now names.now) }
         ensures known { IfOk result (λ s. is_unknown self.now names.now ≡ false) }
         ensures agree { IfOk result (λ s. conflicts s.publications ≡ false) }
         ensures unknown { result ≡ Err PubFault.Unknown → is_unknown self.now names.now ≡ true }
         ensures conflict { result ≡ Err PubFault.ListConflict →
             (is_unknown self.now names.now ≡ false)
-            × (conflicts (selected self.now names.now).publications ≡ true) }
+            × (conflicts (selected_publications self.now names.now).publications ≡ true) }
         ensures memory { result ≡ Err PubFault.Memory →
             (is_unknown self.now names.now ≡ false)
-            × (conflicts (selected self.now names.now).publications ≡ false) }
+            × (conflicts (selected_publications self.now names.now).publications ≡ false) }
         ensures only { IfErr result IsOfSelect }
     {
         self.judge(names)?;
@@ -105,7 +105,7 @@ impl Publications {
 
     /// Why these names select nothing, if they don't: P1, or else P2. It takes no memory.
     pub fn judge(&self, names: &[Text]) -> Result<(), PubFault>
-        ensures { result ≡ judged self.now names.now }
+        ensures { result ≡ judgement_of_names self.now names.now }
     {
         if self.lacks_one(names) {
             return Err(PubFault::Unknown);

@@ -7,11 +7,11 @@ ghost use Rattle.pgoutput.specs.declared.logical.Logical.{Logical};
 ghost use Rattle.pgoutput.specs.declared.delete.TheConstants.{DELETE};
 ghost use Rattle.pqformat.specs.Fields.{int32};
 ghost use Rattle.pgoutput.specs.Update.{old_if_any};
-ghost use Rattle.publication.specs.Selection.{chosen, narrowed};
-ghost use Rattle.publication.specs.Projection.{delete_message, insert_message, update_message, updated};
+ghost use Rattle.publication.specs.Selection.{listed_items, table_as_published};
+ghost use Rattle.publication.specs.Projection.{delete_message, insert_message, message_of_update, update_message};
 ghost use Rattle.pqformat.specs.Writing.{FitsRoom, Writes};
 ghost use Rattle.publication.specs.Spelling.{IsWritten};
-ghost use Rattle.publication.specs.Tuples.{replaced_by};
+ghost use Rattle.publication.specs.Tuples.{old_row_of_update};
 
 use crate::tuples::{changes_key_in, put_key_tuple, put_tuple, put_tuple_behind};
 use pgoutput::{DELETE, INSERT, KEY, NEW, OLD, UPDATE};
@@ -26,11 +26,13 @@ pub(crate) fn put_insertion(
 ) -> usize
     requires room { FitsRoom 0 out.old
         (spell_logical
-        (insert_message (chosen listed.now row.now) (narrowed listed.now table.now))) }
+        (insert_message (listed_items listed.now row.now)
+        (table_as_published listed.now table.now))) }
     requires few { length row.now < 2 ^ 15 }
     ensures { Writes 0 result out.old out.new
         (spell_logical
-        (insert_message (chosen listed.now row.now) (narrowed listed.now table.now))) }
+        (insert_message (listed_items listed.now row.now)
+        (table_as_published listed.now table.now))) }
 {
     let kind = write_byte(out, 0, INSERT);
     let oid = write_int32(out, kind, table.oid);
@@ -49,16 +51,16 @@ pub(crate) fn put_update(
     new: &RowRef<'_>,
 ) -> Option<usize>
     requires room { (m : Logical) →
-        updated old_passes new_passes (Some (narrowed listed.now table.now))
-        (chosen listed.now old.now) (chosen listed.now new.now)
+        message_of_update old_passes new_passes (Some (table_as_published listed.now table.now))
+        (listed_items listed.now old.now) (listed_items listed.now new.now)
         ≡ Some m →
         FitsRoom 0 out.old (spell_logical m) }
     requires columns { length table.now.columns ≡ length old.now }
     requires rows { length old.now ≡ length new.now }
     requires few { length old.now < 2 ^ 15 }
     ensures { IsWritten result out.old out.new
-        (updated old_passes new_passes (Some (narrowed listed.now table.now))
-        (chosen listed.now old.now) (chosen listed.now new.now)) }
+        (message_of_update old_passes new_passes (Some (table_as_published listed.now table.now))
+        (listed_items listed.now old.now) (listed_items listed.now new.now)) }
 {
     match (old_passes, new_passes) {
         (true, true) => Some(put_replacement(out, table, listed, old, new)),
@@ -77,15 +79,15 @@ fn put_replacement(
 ) -> usize
     requires room { FitsRoom 0 out.old
         (spell_logical
-        (update_message (chosen listed.now old.now) (chosen listed.now new.now)
-        (narrowed listed.now table.now))) }
+        (update_message (listed_items listed.now old.now) (listed_items listed.now new.now)
+        (table_as_published listed.now table.now))) }
     requires columns { length table.now.columns ≡ length old.now }
     requires rows { length old.now ≡ length new.now }
     requires few { length old.now < 2 ^ 15 }
     ensures { Writes 0 result out.old out.new
         (spell_logical
-        (update_message (chosen listed.now old.now) (chosen listed.now new.now)
-        (narrowed listed.now table.now))) }
+        (update_message (listed_items listed.now old.now) (listed_items listed.now new.now)
+        (table_as_published listed.now table.now))) }
 {
     let kind = write_byte(out, 0, UPDATE);
     let oid = write_int32(out, kind, table.oid);
@@ -105,15 +107,15 @@ fn put_replaced(
 ) -> usize
     requires room { FitsRoom at out.old
         (old_if_any
-        (replaced_by table.now.identity (narrowed listed.now table.now)
-        (chosen listed.now old.now) (chosen listed.now new.now))) }
+        (old_row_of_update table.now.identity (table_as_published listed.now table.now)
+        (listed_items listed.now old.now) (listed_items listed.now new.now))) }
     requires columns { length table.now.columns ≡ length old.now }
     requires rows { length old.now ≡ length new.now }
     requires few { length old.now < 2 ^ 15 }
     ensures { Writes at result out.old out.new
         (old_if_any
-        (replaced_by table.now.identity (narrowed listed.now table.now)
-        (chosen listed.now old.now) (chosen listed.now new.now))) }
+        (old_row_of_update table.now.identity (table_as_published listed.now table.now)
+        (listed_items listed.now old.now) (listed_items listed.now new.now))) }
 {
     let columns = table.columns.as_slice();
     match table.identity {
@@ -140,12 +142,14 @@ pub(crate) fn put_deletion(
     old: &RowRef<'_>,
 ) -> Option<usize>
     requires room { (m : Logical) →
-        delete_message (chosen listed.now old.now) (narrowed listed.now table.now) ≡ Some m →
+        delete_message (listed_items listed.now old.now) (table_as_published listed.now table.now)
+        ≡ Some m →
         FitsRoom 0 out.old (spell_logical m) }
     requires columns { length table.now.columns ≡ length old.now }
     requires few { length old.now < 2 ^ 15 }
     ensures { IsWritten result out.old out.new
-        (delete_message (chosen listed.now old.now) (narrowed listed.now table.now)) }
+        (delete_message (listed_items listed.now old.now)
+        (table_as_published listed.now table.now)) }
 {
     match table.identity {
         Identity::Default => {

@@ -9,7 +9,7 @@ ghost use Rattle.pgoutput.specs.Logical.{spell_logical};
 ghost use Rattle.pgoutput.specs.Relation.{column, identity_letter, key_flag};
 ghost use Rattle.pgoutput.specs.declared.logical.Logical.TheVariants as logical;
 ghost use Rattle.publication_config.specs.Published.{is_identity};
-ghost use Rattle.publication.specs.Selection.{FitsTable, chosen, identity_of, narrowed, relation_column, relation_of, selected_table};
+ghost use Rattle.publication.specs.Selection.{FitsTable, identity_of, listed_items, relation_column, relation_of, selected_table, table_as_published};
 ghost use Rattle.pqformat.specs.Writing.{Writes};
 ghost use Rattle.publication.specs.Spelling.{HasRoom, IsPut};
 
@@ -44,7 +44,7 @@ fn put_table(out: &mut [u8], table: &Table, listed: &[bool]) -> usize
     requires room { HasRoom out.old }
     requires fits { FitsTable table.now }
     ensures { Writes 0 result out.old out.new
-        (spell_logical (logical.Relation (relation_of (narrowed listed.now table.now)))) }
+        (spell_logical (logical.Relation (relation_of (table_as_published listed.now table.now)))) }
 {
     let schema = table.schema.as_str();
     let name = table.name.as_str();
@@ -79,7 +79,7 @@ fn put_name(out: &mut [u8], at: usize, name: &str) -> usize
 
 /// How many columns are listed.
 fn count_listed(listed: &[bool], columns: &[Column]) -> usize
-    ensures value { result ≡ length (chosen listed.now columns.now) }
+    ensures value { result ≡ length (listed_items listed.now columns.now) }
     ensures few { result ≤ length columns.now }
 {
     let mut count = 0;
@@ -101,7 +101,7 @@ fn put_columns(
     requires room { at + MAX_COLUMN_LENGTH * length columns.now ≤ length out.old }
     requires names { AllByRecursion (λ c. length c.name ≤ 63) columns.now }
     ensures { Writes at result out.old out.new
-        (flat_map column (map (relation_column identity) (chosen listed.now columns.now))) }
+        (flat_map column (map (relation_column identity) (listed_items listed.now columns.now))) }
 {
     let mut end = at;
     for i in 0..columns.len() {

@@ -2,7 +2,7 @@
 
 ghost use Rattle.std.specs.Prelude.{◌≡◌, ◌++◌, IfOk, map, pos, negsuc};
 ghost use Rattle.publication.specs.Kinds.{type_oid};
-ghost use Rattle.publication.specs.Selection.{chosen, narrowed, relation_of, relation_column, identity_of};
+ghost use Rattle.publication.specs.Selection.{listed_items, table_as_published, relation_of, relation_column, identity_of};
 
 use crate::kinds::oid_of;
 use pgoutput::{Column, Identity, Relation};
@@ -20,7 +20,7 @@ pub(crate) fn relation_message(
     table: &Table,
     listed: &[bool],
 ) -> Result<Relation, AllocError>
-    ensures { IfOk result (λ m. m ≡ relation_of (narrowed listed.now table.now)) }
+    ensures { IfOk result (λ m. m ≡ relation_of (table_as_published listed.now table.now)) }
 {
     Ok(Relation {
         oid: table.oid,
@@ -38,7 +38,7 @@ fn columns(
     columns: &[tables::Column],
 ) -> Result<Items<Column>, AllocError>
     ensures { IfOk result
-        (λ cs. cs ≡ map (relation_column identity) (chosen listed.now columns.now)) }
+        (λ cs. cs ≡ map (relation_column identity) (listed_items listed.now columns.now)) }
 {
     let mut told = Vec::with_capacity(alloc, columns.len())?;
     for (i, column) in columns.iter().enumerate() {

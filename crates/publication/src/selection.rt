@@ -13,7 +13,7 @@ ghost use Rattle.publication_config.specs.Published.{has};
 ghost use Rattle.publication.specs.Selection.{relation_of, FitsTable, has_table, list_by, selected_oids, selected_table, whole_table};
 ghost use Rattle.publication_config.specs.declared.operations.Operation.{Operation};
 ghost use Rattle.publication.specs.Logged.{change_message};
-ghost use Rattle.publication.specs.Projection.{is_published, may_be_emptied, message, passes, projected, stands_in, AreValues, FitsProjected, MessageFits};
+ghost use Rattle.publication.specs.Projection.{is_published, may_be_emptied, message, passes, projection_of, stands_in, AreValues, FitsProjected, MessageFits};
 
 use crate::messages::{deletion, insertion, truncation, update};
 use crate::passing::passes;
@@ -126,7 +126,7 @@ impl Selection {
     /// The message of a change whose record starts at the position, if it has one.
     pub fn project(&self, position: u64, change: &Change) -> Result<Projected, AllocError>
         ensures value { IfOk result
-            (λ p. p ≡ projected (change_message self.now position change.now)) }
+            (λ p. p ≡ projection_of (change_message self.now position change.now)) }
         ensures fits { IfOk result (FitsProjected self.now) }
     {
         // All tables fit: here the prover learns it.

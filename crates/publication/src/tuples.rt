@@ -4,7 +4,7 @@ ghost use Rattle.std.specs.Prelude.{◌≡◌, ◌+◌, ◌<◌, ◌≤◌, ◌^
 ghost use Rattle.std.specs.List.{list_any, zip};
 ghost use Rattle.pgoutput.specs.Tuple.{cell, tuple};
 ghost use Rattle.pgoutput.specs.declared.tuple.Cell.TheVariants as cells;
-ghost use Rattle.publication.specs.Selection.{chosen};
+ghost use Rattle.publication.specs.Selection.{listed_items};
 ghost use Rattle.pqformat.specs.Writing.{FitsRoom, Writes};
 ghost use Rattle.publication.specs.Kinds.{cell_of, same_value};
 ghost use Rattle.publication.specs.Tuples.{cell_behind, changes_key, key_tuple_of, tuple_behind, tuple_of};
@@ -19,9 +19,10 @@ use tables::{Column, RowRef, ValueRef};
 
 /// The tuple of the listed columns of a row.
 pub(crate) fn put_tuple(out: &mut [u8], at: usize, listed: &[bool], row: &RowRef<'_>) -> usize
-    requires room { FitsRoom at out.old (tuple (tuple_of (chosen listed.now row.now))) }
+    requires room { FitsRoom at out.old (tuple (tuple_of (listed_items listed.now row.now))) }
     requires few { length row.now < 2 ^ 15 }
-    ensures { Writes at result out.old out.new (tuple (tuple_of (chosen listed.now row.now))) }
+    ensures { Writes at result out.old out.new
+        (tuple (tuple_of (listed_items listed.now row.now))) }
 {
     let mut end = write_int16(out, at, count_listed(listed, row) as u16);
     for i in 0..row.len() {
@@ -41,11 +42,11 @@ pub(crate) fn put_tuple_behind(
     new: &RowRef<'_>,
 ) -> usize
     requires room { FitsRoom at out.old
-        (tuple (tuple_behind (chosen listed.now old.now) (chosen listed.now new.now))) }
+        (tuple (tuple_behind (listed_items listed.now old.now) (listed_items listed.now new.now))) }
     requires few { length old.now < 2 ^ 15 }
     requires same { length old.now ≡ length new.now }
     ensures { Writes at result out.old out.new
-        (tuple (tuple_behind (chosen listed.now old.now) (chosen listed.now new.now))) }
+        (tuple (tuple_behind (listed_items listed.now old.now) (listed_items listed.now new.now))) }
 {
     let mut end = write_int16(out, at, count_listed(listed, old) as u16);
     for i in 0..old.len() {
@@ -78,11 +79,13 @@ pub(crate) fn put_key_tuple(
     row: &RowRef<'_>,
 ) -> usize
     requires room { FitsRoom at out.old
-        (tuple (key_tuple_of (chosen listed.now columns.now) (chosen listed.now row.now))) }
+        (tuple
+        (key_tuple_of (listed_items listed.now columns.now) (listed_items listed.now row.now))) }
     requires few { length columns.now < 2 ^ 15 }
     requires same { length columns.now ≡ length row.now }
     ensures { Writes at result out.old out.new
-        (tuple (key_tuple_of (chosen listed.now columns.now) (chosen listed.now row.now))) }
+        (tuple
+        (key_tuple_of (listed_items listed.now columns.now) (listed_items listed.now row.now))) }
 {
     let mut end = write_int16(out, at, count_listed(listed, row) as u16);
     for i in 0..columns.len() {
@@ -118,8 +121,8 @@ pub(crate) fn changes_key_in(
     requires old { length columns.now ≡ length old.now }
     requires new { length old.now ≡ length new.now }
     ensures { result
-        ≡ changes_key (chosen listed.now columns.now) (chosen listed.now old.now)
-        (chosen listed.now new.now) }
+        ≡ changes_key (listed_items listed.now columns.now) (listed_items listed.now old.now)
+        (listed_items listed.now new.now) }
 {
     for i in 0..columns.len() {
         let column = &columns[i];
@@ -142,7 +145,7 @@ fn is_other_key(column: &Column, old: ValueRef<'_>, new: ValueRef<'_>) -> bool
 
 /// How many columns are listed.
 fn count_listed(listed: &[bool], row: &RowRef<'_>) -> usize
-    ensures value { result ≡ length (chosen listed.now row.now) }
+    ensures value { result ≡ length (listed_items listed.now row.now) }
     ensures few { result ≤ length row.now }
 {
     let mut count = 0;

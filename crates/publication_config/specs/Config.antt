@@ -115,8 +115,8 @@ abbrev pub unless_fault : PublishedTable → Option Refusal → Result Published
 unless_fault published None = Ok published
 unless_fault published (Some refusal) = Err refusal
 
-unfoldable pub judged : Place → Operations → Table → Bool → PublishedTable → Result PublishedTable Refusal
-judged place operations table has_list published = unless_fault published (identity_fault place operations table has_list published)
+unfoldable pub judged_table : Place → Operations → Table → Bool → PublishedTable → Result PublishedTable Refusal
+judged_table place operations table has_list published = unless_fault published (identity_fault place operations table has_list published)
 
 -- ---- a table of a publication
 
@@ -176,7 +176,7 @@ published_in place operations tables before d = do
   text ← ok_or (text_in (get (codes "where") d)) (wrong_member place table_members.Where)
   listed ← columns_in place table d
   condition ← filter_in place table text
-  judged place operations table (is_some (get (codes "columns") d)) (record { oid = table.oid; filter = condition; listed = listed })
+  judged_table place operations table (is_some (get (codes "columns") d)) (record { oid = table.oid; filter = condition; listed = listed })
 
 -- the tables of a list, in its order
 abbrev pub published_behind : ℕ → Operations → List Table → List PublishedTable → Items → Result (List PublishedTable) Refusal
@@ -189,7 +189,7 @@ published_behind number operations tables published (item d ds) =
 abbrev pub whole_behind : ℕ → Operations → List PublishedTable → List Table → Result (List PublishedTable) Refusal
 whole_behind number operations published [] = Ok published
 whole_behind number operations published (table ∷ tables) =
-    judged (record { publication = number; table = length published + 1 }) operations table false (published_whole table)
+    judged_table (record { publication = number; table = length published + 1 }) operations table false (published_whole table)
     >>= λ t. whole_behind number operations (published ++ t ∷ []) tables
 
 -- ---- a publication

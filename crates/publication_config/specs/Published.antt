@@ -69,8 +69,8 @@ abbrev pub is_among : List (List ℕ) → Publication → Bool
 is_among names p = list_any (bytes_eq p.name) names
 
 -- the publications of these names, each once however often it is named
-abbrev pub named : List (List ℕ) → List Publication → List Publication
-named names publications = filter (is_among names) publications
+abbrev pub publications_named : List (List ℕ) → List Publication → List Publication
+publications_named names publications = filter (is_among names) publications
 
 -- whether two of the publications have different column lists for one table
 abbrev pub conflicts : List Publication → Bool

@@ -1,7 +1,7 @@
 //! Whether subscribers can find the rows of a published table by what is sent of them.
 
 ghost use Rattle.std.specs.Prelude.{◌≡◌, option_copied};
-ghost use Rattle.publication_config.specs.Config.{Reads, filter_leaves_identity, identity_fault, judged, lacks_identity, leaves_identity};
+ghost use Rattle.publication_config.specs.Config.{Reads, filter_leaves_identity, identity_fault, judged_table, lacks_identity, leaves_identity};
 ghost use Rattle.publication_config.specs.Published.{is_identity};
 
 use crate::config_fault::{Place, Refusal, Unread};
@@ -11,7 +11,7 @@ use rowfilter::Filter;
 use tables::{Identity, Table};
 
 /// The table, if what is published of it goes with its identity. The flag says that it has a column list.
-#[tactic(auto, unfolding(crate::specs::Config::judged))]
+#[tactic(auto, unfolding(crate::specs::Config::judged_table))]
 pub(crate) fn judged(
     place: Place,
     operations: Operations,
@@ -19,7 +19,7 @@ pub(crate) fn judged(
     has_list: bool,
     published: PublishedTable,
 ) -> Result<PublishedTable, Unread>
-    ensures { Reads result (judged place operations table.now has_list published) }
+    ensures { Reads result (judged_table place operations table.now has_list published) }
 {
     match identity_fault(place, operations, table, has_list, &published) {
         Some(refusal) => Err(Unread::Refused(refusal)),

@@ -3,7 +3,7 @@
 ghost use Rattle.std.specs.Prelude.{◌≡◌, ◌==◌, ◌&&◌, IfOk, find};
 ghost use Rattle.std.specs.List.{list_any};
 ghost use Rattle.std.specs.Option.{option_copied};
-ghost use Rattle.publication_config.specs.Published.{conflicts, has, is_among, is_listed_otherwise, lists_otherwise, named, publishes, table_in};
+ghost use Rattle.publication_config.specs.Published.{conflicts, has, is_among, is_listed_otherwise, lists_otherwise, publications_named, publishes, table_in};
 
 use crate::operations::{Operation, Operations};
 use crate::published_table::PublishedTable;
@@ -53,7 +53,8 @@ impl Publication {
     /// Whether one of the publications of these names has another column list for one of its tables.
     fn is_contradicted_by(&self, publications: &[Publication], names: &[Text]) -> bool
         ensures { result
-            ≡ list_any (is_listed_otherwise (named names.now publications.now)) self.now.tables }
+            ≡ list_any
+            (is_listed_otherwise (publications_named names.now publications.now)) self.now.tables }
     {
         let mut tables = self.tables.as_slice().iter();
         tables.any(|table| is_listed_otherwise(publications, names, table))
@@ -77,7 +78,7 @@ impl Publication {
 
 /// Whether two of the publications of these names have different column lists for one table.
 pub fn conflict(publications: &[Publication], names: &[Text]) -> bool
-    ensures { result ≡ conflicts (named names.now publications.now) }
+    ensures { result ≡ conflicts (publications_named names.now publications.now) }
 {
     has_contradicted(publications, names)
 }
@@ -87,7 +88,7 @@ fn has_contradicted(publications: &[Publication], names: &[Text]) -> bool
     ensures { result
         ≡ list_any
         (λ p. is_among names.now p
-        && list_any (is_listed_otherwise (named names.now publications.now)) p.tables)
+        && list_any (is_listed_otherwise (publications_named names.now publications.now)) p.tables)
         publications.now }
 {
     publications.iter().any(|p| p.is_among(names) && p.is_contradicted_by(publications, names))
@@ -95,7 +96,8 @@ fn has_contradicted(publications: &[Publication], names: &[Text]) -> bool
 
 /// Whether one of the publications of these names has another column list for the table.
 fn is_listed_otherwise(publications: &[Publication], names: &[Text], table: &PublishedTable) -> bool
-    ensures { result ≡ is_listed_otherwise (named names.now publications.now) table.now }
+    ensures { result
+        ≡ is_listed_otherwise (publications_named names.now publications.now) table.now }
 {
     has_listing_otherwise(publications, names, table)
 }
@@ -120,7 +122,7 @@ pub fn named(
     publications: &[Publication],
     names: &[Text],
 ) -> Result<Items<Publication>, AllocError>
-    ensures { IfOk result (λ ps. ps ≡ named names.now publications.now) }
+    ensures { IfOk result (λ ps. ps ≡ publications_named names.now publications.now) }
 {
     let mut named = Vec::new(alloc);
     for publication in publications {

@@ -10,8 +10,8 @@ use Rattle.wal.specs.Log.{Entry, is_named, is_undone, is_dropped, has_ended, cha
 use Rattle.wal.proofs.Lists.{or_false, eqb_comm, list_any_agrees}
 use Rattle.wal.proofs.Laws.{all_when, chain-append, is_named-one, is_undone-one, has_ended-one}
 use Rattle.reorder.specs.Rising.{IsRising}
-use Rattle.reorder.specs.Pool.{put}
-use Rattle.reorder.specs.Strands.{StrandState, ByXid, above_in, above_of, fresh, is_in, assigned, AreDistinct}
+use Rattle.reorder.specs.Pool.{map_with}
+use Rattle.reorder.specs.Strands.{StrandState, ByXid, above_in, above_of, fresh, is_in, with_subtransaction, AreDistinct}
 use Rattle.reorder.specs.Bookkeeping.{IsStrand, IsTransaction, AreStrandsOf, changes_of}
 use Rattle.reorder.proofs.Named.{or_left, or_right, no_changes}
 use Rattle.reorder.proofs.Opening.{put_cases, put_here, no_some}
@@ -44,8 +44,8 @@ distinct_push x (y ∷ xs) out distinct =
 -- the parent's strand, and its transaction's xids
 abbrev pub placed : ℕ → ℕ → StrandState → List ℕ → ByXid → ByXid
 placed sub parent p xs l = record {
-  strand = put sub (Some (fresh (parent ∷ p.above))) l.strand;
-  members = put (last_of parent p.above) (Some (xs ++ sub ∷ [])) l.members;
+  strand = map_with sub (Some (fresh (parent ∷ p.above))) l.strand;
+  members = map_with (last_of parent p.above) (Some (xs ++ sub ∷ [])) l.members;
 }
 
 placed_kept : (l : ByXid) (rs : List Record) (r : Record) (sub parent : ℕ) (p : StrandState) → AreStrandsOf l rs → (o : IsStrand l rs parent p) → IsSome (l.strand parent) → l.strand sub ≡ None →
@@ -179,12 +179,12 @@ placed_kept l rs r sub parent p h o some none unheard body =
     }
 
 pub assign_kept : (l : ByXid) (rs : List Record) (r : Record) (sub parent : ℕ) → AreStrandsOf l rs → IsSome (l.strand parent) → l.strand sub ≡ None → is_named rs sub ≡ false →
-    r.body ≡ Assign sub parent → AreStrandsOf (assigned sub parent l) (rs ++ r ∷ [])
+    r.body ≡ Assign sub parent → AreStrandsOf (with_subtransaction sub parent l) (rs ++ r ∷ [])
 assign_kept l rs r sub parent h some none unheard body = by_option (l.strand parent) refl some
   where
-    by_option : (w : Option StrandState) → l.strand parent ≡ w → IsSome w → AreStrandsOf (assigned sub parent l) (rs ++ r ∷ [])
+    by_option : (w : Option StrandState) → l.strand parent ≡ w → IsSome w → AreStrandsOf (with_subtransaction sub parent l) (rs ++ r ∷ [])
     by_option None is has = let never : false ≡ true = has in cc
     by_option (Some p) is has =
         let o : IsStrand l rs parent p = h.strands parent p is in
-        let same : assigned sub parent l ≡ placed sub parent p o.members l = rw (is, o.members_are) refl in
+        let same : with_subtransaction sub parent l ≡ placed sub parent p o.members l = rw (is, o.members_are) refl in
         subst (λ (a : ByXid). AreStrandsOf a (rs ++ r ∷ [])) (sym same) (placed_kept l rs r sub parent p h o some none unheard body)

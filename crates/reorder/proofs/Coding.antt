@@ -13,7 +13,7 @@ use Rattle.tables.proofs.Lengths.{body_bounded}
 use Rattle.wal.specs.declared.record.Record.{Record}
 use Rattle.wal.specs.declared.record.Body.TheVariants.{Change as Changed}
 use Rattle.reorder.specs.Kept.{kept_entry}
-use Rattle.reorder.specs.Entries.{IsEntry, coded_entry, entry_in, position_in, body_in, read}
+use Rattle.reorder.specs.Entries.{IsEntry, coded_entry, entry_in, position_in, body_in, decoded_change}
 
 pub entry_length : (position : ℕ) (change : Change) → length (coded_entry position change) ≡ 8 + body_length change
 entry_length position change = omega (arith, length-append (int64 position) (spell_body change), length-int64 position)
@@ -49,8 +49,8 @@ pub kept_again : (r : Record) (xid : ℕ) (change : Change) → r.body ≡ Chang
 kept_again r xid change body fits coded = entry_again xid r.start change fits coded ∙ rw body refl
 
 -- what an entry's body is read as
-pub body_spells : (bytes : List ℕ) → IsEntry bytes → SpellsBody (body_in bytes) (read (body_at (body_in bytes)))
+pub body_spells : (bytes : List ℕ) → IsEntry bytes → SpellsBody (body_in bytes) (decoded_change (body_at (body_in bytes)))
 body_spells bytes e =
     let text : body_in bytes ≡ spell_body e.change = ap body_in e.is ∙ body_of e.position e.change in
     let spells : SpellsBody (body_in bytes) e.change = record { in_range = e.coded; text = text } in
-    subst (λ (c : Change). SpellsBody (body_in bytes) c) (sym (ap read (body_again (body_in bytes) e.change spells))) spells
+    subst (λ (c : Change). SpellsBody (body_in bytes) c) (sym (ap decoded_change (body_again (body_in bytes) e.change spells))) spells

@@ -6,11 +6,11 @@ use Rattle.std.specs.List.Sorted.{IsNonDecreasingBy, IsStableByKey, IsPermutatio
 use Rattle.std.proofs.lemmas.Bool.{eqb-true}
 use Rattle.std.proofs.lemmas.List.{append-nil}
 use Rattle.wal.specs.declared.record.Record.{Record}
-use Rattle.wal.specs.Log.{Entry, is_named, is_undone, is_dropped, is_kept, has_ended, last_of, top_of, entries, kept}
+use Rattle.wal.specs.Log.{Entry, is_named, is_undone, is_dropped, is_kept, has_ended, last_of, top_of, entries, kept_changes}
 use Rattle.wal.proofs.Lists.{filter_agrees, all_agree, filter_twice}
 use Rattle.wal.proofs.Laws.{all_when}
 use Rattle.reorder.specs.Rising.{IsRising}
-use Rattle.reorder.specs.Strands.{AreMerged, StrandState, ByXid, is_in, all_in, changes_in, joined, AreDistinct}
+use Rattle.reorder.specs.Strands.{AreMerged, StrandState, ByXid, is_in, all_in, changes_in, changes_by_xid, AreDistinct}
 use Rattle.reorder.specs.Bookkeeping.{IsStrand, IsTransaction, AreStrandsOf}
 use Rattle.reorder.proofs.Named.{undropped, entries_named}
 use Rattle.reorder.proofs.Keeping.{top_of_member}
@@ -107,7 +107,7 @@ member_is l rs t x h running named live = by_tests (top_of rs x == t) (is_in x (
 
 -- the undropped changes of a transaction's xids are what it keeps
 kept_members : (l : ByXid) (rs : List Record) (t : ℕ) → AreStrandsOf l rs → has_ended rs t ≡ false →
-    filter (λ e. is_in e.xid (all_in (l.members t))) (filter (λ e. not (is_dropped rs e.xid)) (entries rs)) ≡ kept rs t
+    filter (λ e. is_in e.xid (all_in (l.members t))) (filter (λ e. not (is_dropped rs e.xid)) (entries rs)) ≡ kept_changes rs t
 kept_members l rs t h running =
     filter_twice (λ e. is_in e.xid (all_in (l.members t))) (λ e. not (is_dropped rs e.xid)) (entries rs)
     ∙ filter_agrees _ _ (entries rs) (all_when _ _ (λ (e : Entry) (named : is_named rs e.xid ≡ true). swapped e named (is_dropped rs e.xid) refl) (entries rs) (entries_named rs))
@@ -126,13 +126,13 @@ kept_members l rs t h running =
 
 -- what holds of the strands of a transaction's xids, joined
 of_members : (l : ByXid) (rs : List Record) (t : ℕ) (P : List Entry → Type 0) → AreStrandsOf l rs →
-    ((xs : List ℕ) → AreDistinct xs → all_in (l.members t) ≡ xs → P (flat_map (λ x. filter (λ e. e.xid == x) (filter (λ e. not (is_dropped rs e.xid)) (entries rs))) xs)) → P (joined l t)
+    ((xs : List ℕ) → AreDistinct xs → all_in (l.members t) ≡ xs → P (flat_map (λ x. filter (λ e. e.xid == x) (filter (λ e. not (is_dropped rs e.xid)) (entries rs))) xs)) → P (changes_by_xid l t)
 of_members l rs t P h each = by_option (l.members t) refl
   where
-    of_these : (xs : List ℕ) → AreDistinct xs → AllByRecursion (λ x. IsSome (l.strand x)) xs → all_in (l.members t) ≡ xs → P (joined l t)
+    of_these : (xs : List ℕ) → AreDistinct xs → AllByRecursion (λ x. IsSome (l.strand x)) xs → all_in (l.members t) ≡ xs → P (changes_by_xid l t)
     of_these xs distinct some is = subst P (sym (ap (flat_map (λ x. changes_in (l.strand x))) is ∙ kept_xids l rs h xs some)) (each xs distinct is)
 
-    by_option : (o : Option (List ℕ)) → l.members t ≡ o → P (joined l t)
+    by_option : (o : Option (List ℕ)) → l.members t ≡ o → P (changes_by_xid l t)
     by_option None is = of_these [] tt tt (ap all_in is)
     by_option (Some xs) is =
         let w : IsTransaction l rs t xs = h.transactions t xs is in
@@ -140,18 +140,18 @@ of_members l rs t P h each = by_option (l.members t) refl
 
 -- sorted by position they are what the transaction keeps
 kept_merged : (l : ByXid) (rs : List Record) (t : ℕ) (sorted : List Entry) → AreStrandsOf l rs → has_ended rs t ≡ false →
-    IsNonDecreasingBy (λ (e : Entry). e.position) sorted → IsStableByKey (λ (e : Entry). e.position) nat_cmp (joined l t) sorted → sorted ≡ kept rs t
+    IsNonDecreasingBy (λ (e : Entry). e.position) sorted → IsStableByKey (λ (e : Entry). e.position) nat_cmp (changes_by_xid l t) sorted → sorted ≡ kept_changes rs t
 kept_merged l rs t sorted h running up stable =
-    of_members l rs t (λ (es : List Entry). IsStableByKey (λ (e : Entry). e.position) nat_cmp es sorted → sorted ≡ kept rs t) h
+    of_members l rs t (λ (es : List Entry). IsStableByKey (λ (e : Entry). e.position) nat_cmp es sorted → sorted ≡ kept_changes rs t) h
     (λ xs distinct is stable'.
     merged (filter (λ e. not (is_dropped rs e.xid)) (entries rs)) (rising_kept _ (entries rs) h.rising) xs distinct sorted up stable'
     ∙ ap (λ ys. filter (λ e. is_in e.xid ys) (filter (λ e. not (is_dropped rs e.xid)) (entries rs))) (sym is) ∙ kept_members l rs t h running)
     stable
 
 -- where it has no other xid than one they are what it keeps as they are
-kept_lone : (l : ByXid) (rs : List Record) (t x : ℕ) → AreStrandsOf l rs → has_ended rs t ≡ false → l.members t ≡ Some (x ∷ []) → joined l t ≡ kept rs t
+kept_lone : (l : ByXid) (rs : List Record) (t x : ℕ) → AreStrandsOf l rs → has_ended rs t ≡ false → l.members t ≡ Some (x ∷ []) → changes_by_xid l t ≡ kept_changes rs t
 kept_lone l rs t x h running lone =
-    of_members l rs t (λ (es : List Entry). es ≡ kept rs t) h (λ xs distinct is. by_one xs (sym is ∙ ap all_in lone))
+    of_members l rs t (λ (es : List Entry). es ≡ kept_changes rs t) h (λ xs distinct is. by_one xs (sym is ∙ ap all_in lone))
   where
     live : List Entry
     live = filter (λ e. not (is_dropped rs e.xid)) (entries rs)
@@ -167,32 +167,32 @@ kept_lone l rs t x h running lone =
         filter_same [] = refl
         filter_same (e ∷ es) = rw (← or_false (e.xid == x), filter_same es) refl
 
-    by_one : (xs : List ℕ) → xs ≡ x ∷ [] → flat_map (λ y. filter (λ e. e.xid == y) live) xs ≡ kept rs t
+    by_one : (xs : List ℕ) → xs ≡ x ∷ [] → flat_map (λ y. filter (λ e. e.xid == y) live) xs ≡ kept_changes rs t
     by_one xs is =
         ap (flat_map (λ y. filter (λ e. e.xid == y) live)) is ∙ agrees live
         ∙ ap (λ ys. filter (λ e. is_in e.xid ys) live) (sym (ap all_in lone)) ∙ kept_members l rs t h running
 
 -- in the order of their positions they are what it keeps
-pub kept_in_order : (l : ByXid) (rs : List Record) (t : ℕ) (es : List Entry) → AreStrandsOf l rs → has_ended rs t ≡ false → AreMerged l t es → es ≡ kept rs t
+pub kept_in_order : (l : ByXid) (rs : List Record) (t : ℕ) (es : List Entry) → AreStrandsOf l rs → has_ended rs t ≡ false → AreMerged l t es → es ≡ kept_changes rs t
 kept_in_order l rs t es h running merged =
     ⊎_elim
-    (λ (both : IsNonDecreasingBy (λ (e : Entry). e.position) es × IsStableByKey (λ (e : Entry). e.position) nat_cmp (joined l t) es). kept_merged l rs t es h running both.0 both.1)
-    (λ (lone : (x : ℕ) × (l.members t ≡ Some (x ∷ [])) × (es ≡ joined l t)). lone.2 ∙ kept_lone l rs t lone.0 h running lone.1)
+    (λ (both : IsNonDecreasingBy (λ (e : Entry). e.position) es × IsStableByKey (λ (e : Entry). e.position) nat_cmp (changes_by_xid l t) es). kept_merged l rs t es h running both.0 both.1)
+    (λ (lone : (x : ℕ) × (l.members t ≡ Some (x ∷ [])) × (es ≡ changes_by_xid l t)). lone.2 ∙ kept_lone l rs t lone.0 h running lone.1)
     merged
 
 -- in some order they are what it keeps
-pub kept_permuted : (l : ByXid) (rs : List Record) (t : ℕ) → AreStrandsOf l rs → has_ended rs t ≡ false → IsPermutation (joined l t) (kept rs t)
+pub kept_permuted : (l : ByXid) (rs : List Record) (t : ℕ) → AreStrandsOf l rs → has_ended rs t ≡ false → IsPermutation (changes_by_xid l t) (kept_changes rs t)
 kept_permuted l rs t h running =
-    of_members l rs t (λ (es : List Entry). IsPermutation es (kept rs t)) h
+    of_members l rs t (λ (es : List Entry). IsPermutation es (kept_changes rs t)) h
     (λ xs distinct is.
     subst (λ (es : List Entry). IsPermutation (flat_map (λ x. filter (λ e. e.xid == x) (filter (λ e. not (is_dropped rs e.xid)) (entries rs))) xs) es)
     (ap (λ ys. filter (λ e. is_in e.xid ys) (filter (λ e. not (is_dropped rs e.xid)) (entries rs))) (sym is) ∙ kept_members l rs t h running)
     (permuted (filter (λ e. not (is_dropped rs e.xid)) (entries rs)) xs distinct))
 
 -- nothing is kept of a transaction that has ended
-pub none_kept : (l : ByXid) (rs : List Record) (t : ℕ) → AreStrandsOf l rs → has_ended rs t ≡ true → joined l t ≡ []
+pub none_kept : (l : ByXid) (rs : List Record) (t : ℕ) → AreStrandsOf l rs → has_ended rs t ≡ true → changes_by_xid l t ≡ []
 none_kept l rs t h over = by_option (l.members t) refl
   where
-    by_option : (o : Option (List ℕ)) → l.members t ≡ o → joined l t ≡ []
+    by_option : (o : Option (List ℕ)) → l.members t ≡ o → changes_by_xid l t ≡ []
     by_option None is = rw is refl
     by_option (Some xs) is = let w : IsTransaction l rs t xs = h.transactions t xs is in let never : true ≡ false = sym over ∙ w.running in cc

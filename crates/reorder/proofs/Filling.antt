@@ -13,13 +13,13 @@ use Rattle.tables.specs.Spelling.{body_length}
 use Rattle.wal.specs.declared.record.Record.{Record}
 use Rattle.wal.specs.declared.record.Body.TheVariants.{Change as Changed}
 use Rattle.wal.specs.Log.{is_dropped}
-use Rattle.reorder.specs.Pool.{AreApart, HoldEntries, IsLent, IsPool, Lasts, PoolState, StaysLent, entries_by, put, strand_of}
+use Rattle.reorder.specs.Pool.{AreApart, HoldEntries, IsLent, IsPool, Lasts, PoolState, StaysLent, entries_by, map_with, strand_of}
 use Rattle.reorder.specs.Ready.{IsReadyIn, ReadyState}
 use Rattle.reorder.specs.Strands.{by_xid, is_in}
 use Rattle.reorder.specs.Bookkeeping.{AreStrandsOf}
 use Rattle.reorder.specs.Chunks.{HasNoRoom, IsHeldBy, IsOwned, IsTidy, IsWhole, live_chunks}
 use Rattle.reorder.specs.Taking.{ReorderState}
-use Rattle.reorder.specs.Settled.{AreLentIn, LeavesNoRoomBeside, given_back, head_in, heads_of, lent_chunks, pool_without, ready_chunks, ready_heads, settled, without_all}
+use Rattle.reorder.specs.Settled.{AreLentIn, LeavesNoRoomBeside, after_giving_all_back, after_giving_back, head_in, heads_of, lent_chunks, pool_without, ready_chunks, ready_heads, without_all}
 use Rattle.reorder.proofs.Counting.{chunks_taken, fills_cleared, no_room_of, strand_fill, sum_same, place_fill}
 use Rattle.reorder.proofs.Named.{or_true}
 use Rattle.reorder.proofs.Opening.{one_in, put_cases, same_kept}
@@ -49,13 +49,13 @@ at_without arena (q ∷ heads) head low =
 -- the first chunk of an xid's strand is among those of these xids
 head_among : (strand : ℕ → Option (Option ℕ)) (xs : List ℕ) (x head : ℕ) → strand x ≡ Some (Some head) → is_in x xs ≡ true → is_in head (heads_of strand xs) ≡ true
 head_among strand [] x head is inn = let never : false ≡ true = inn in cc
-head_among strand (y ∷ xs) x head is inn = list_any-append (λ q. head == q) (head_in (strand y)) (heads_of (put y None strand) xs) ∙ by_test (λ left at. head_among (put y None strand) xs x head left at) (x == y) refl inn
+head_among strand (y ∷ xs) x head is inn = list_any-append (λ q. head == q) (head_in (strand y)) (heads_of (map_with y None strand) xs) ∙ by_test (λ left at. head_among (map_with y None strand) xs x head left at) (x == y) refl inn
   where
     either : (a b : Bool) → a ≡ true → (a || b) ≡ true
     either true b at = refl
     either false b at = let never : false ≡ true = at in cc
 
-    by_test : (put y None strand x ≡ Some (Some head) → is_in x xs ≡ true → is_in head (heads_of (put y None strand) xs) ≡ true) → (b : Bool) → (x == y) ≡ b → (b || is_in x xs) ≡ true → (is_in head (head_in (strand y)) || is_in head (heads_of (put y None strand) xs)) ≡ true
+    by_test : (map_with y None strand x ≡ Some (Some head) → is_in x xs ≡ true → is_in head (heads_of (map_with y None strand) xs) ≡ true) → (b : Bool) → (x == y) ≡ b → (b || is_in x xs) ≡ true → (is_in head (head_in (strand y)) || is_in head (heads_of (map_with y None strand) xs)) ≡ true
     by_test later true same at = either _ _ (ap (λ (o : Option (Option ℕ)). is_in head (head_in o)) (ap strand (sym (eqb-true x y same)) ∙ is) ∙ one_in head [])
     by_test later false other at = or_true _ _ (later (put_cases (λ o. o ≡ Some (Some head)) y x None strand (λ same. absurd (eqb-false x y other (sym same))) (λ away. is)) at)
 
@@ -104,32 +104,32 @@ whole_before pool ready held whole = λ head low entries at. by_test head low en
         by_owner head (whole head (subst (λ n. head < n) (sym (length_without pool.arena (ready_heads ready))) low) entries
         (at_without pool.arena (ready_heads ready) head low ∙ ap (λ b. cond b None (get_or pool.arena head None)) out ∙ at))
 
-tidy_given_back : (s : ReorderState) (ready : ReadyState) (count : ℕ) (held : List ReadyState) → IsReadyIn s.strands.pool ready → IsTidy count (ready ∷ held) s.strands → IsTidy count held (given_back s ready).strands
+tidy_given_back : (s : ReorderState) (ready : ReadyState) (count : ℕ) (held : List ReadyState) → IsReadyIn s.strands.pool ready → IsTidy count (ready ∷ held) s.strands → IsTidy count held (after_giving_back s ready).strands
 tidy_given_back s ready count held is tidy = record {
   chunks = length_without s.strands.pool.arena (ready_heads ready) ∙ tidy.chunks;
   owned = whole_given_back s.strands.pool ready held is tidy.owned;
   only = λ x none. entries_without s.strands.pool ready is.lent x ∙ tidy.only x none;
 }
 
-tidy_before : (s : ReorderState) (ready : ReadyState) (count : ℕ) (held : List ReadyState) → IsReadyIn s.strands.pool ready → IsTidy count held (given_back s ready).strands → IsTidy count (ready ∷ held) s.strands
+tidy_before : (s : ReorderState) (ready : ReadyState) (count : ℕ) (held : List ReadyState) → IsReadyIn s.strands.pool ready → IsTidy count held (after_giving_back s ready).strands → IsTidy count (ready ∷ held) s.strands
 tidy_before s ready count held is tidy = record {
   chunks = sym (length_without s.strands.pool.arena (ready_heads ready)) ∙ tidy.chunks;
   owned = whole_before s.strands.pool ready held tidy.owned;
   only = λ x none. sym (entries_without s.strands.pool ready is.lent x) ∙ tidy.only x none;
 }
 
-later_lent : (s : ReorderState) (ready : ReadyState) (ws : List ReadyState) → AreLentIn s (ready ∷ ws) → AreLentIn (given_back s ready) ws
-later_lent s ready ws are = (entries_given_back s (given_back s ready) ready ws are refl).0
+later_lent : (s : ReorderState) (ready : ReadyState) (ws : List ReadyState) → AreLentIn s (ready ∷ ws) → AreLentIn (after_giving_back s ready) ws
+later_lent s ready ws are = (entries_given_back s (after_giving_back s ready) ready ws are refl).0
 
 -- what is tidy while these are ready is tidy once they are given back
-pub settled_tidy : (s : ReorderState) (ws : List ReadyState) (count : ℕ) → AreLentIn s ws → IsTidy count ws s.strands → IsTidy count [] (settled s ws).strands
+pub settled_tidy : (s : ReorderState) (ws : List ReadyState) (count : ℕ) → AreLentIn s ws → IsTidy count ws s.strands → IsTidy count [] (after_giving_all_back s ws).strands
 settled_tidy s [] count are tidy = tidy
-settled_tidy s (w ∷ ws) count are tidy = settled_tidy (given_back s w) ws count (later_lent s w ws are) (tidy_given_back s w count ws are.0 tidy)
+settled_tidy s (w ∷ ws) count are tidy = settled_tidy (after_giving_back s w) ws count (later_lent s w ws are) (tidy_given_back s w count ws are.0 tidy)
 
 -- and was so before
-pub tidy_settled : (s : ReorderState) (ws : List ReadyState) (count : ℕ) → AreLentIn s ws → IsTidy count [] (settled s ws).strands → IsTidy count ws s.strands
+pub tidy_settled : (s : ReorderState) (ws : List ReadyState) (count : ℕ) → AreLentIn s ws → IsTidy count [] (after_giving_all_back s ws).strands → IsTidy count ws s.strands
 tidy_settled s [] count are tidy = tidy
-tidy_settled s (w ∷ ws) count are tidy = tidy_before s w count ws are.0 (tidy_settled (given_back s w) ws count (later_lent s w ws are) tidy)
+tidy_settled s (w ∷ ws) count are tidy = tidy_before s w count ws are.0 (tidy_settled (after_giving_back s w) ws count (later_lent s w ws are) tidy)
 
 -- in another order
 pub tidy_last : (s : ReorderState) (ws : List ReadyState) (ready : ReadyState) (count : ℕ) → IsTidy count (ready ∷ ws) s.strands → IsTidy count (ws ++ ready ∷ []) s.strands
@@ -147,12 +147,12 @@ tidy_last s ws ready count tidy = record { chunks = tidy.chunks; owned = λ head
 
 -- a record that makes nothing ready leaves it tidy once these are given back
 pub tidy_quiet : (old new : ReorderState) (ws : List ReadyState) (count : ℕ) → AreLentIn old ws → AreLentIn new ws → ((n : ℕ) (held : List ReadyState) → IsTidy n held old.strands → IsTidy n held new.strands) →
-    IsTidy count [] (settled old ws).strands → IsTidy count [] (settled new ws).strands
+    IsTidy count [] (after_giving_all_back old ws).strands → IsTidy count [] (after_giving_all_back new ws).strands
 tidy_quiet old new ws count before after takes tidy = settled_tidy new ws count after (takes count ws (tidy_settled old ws count before tidy))
 
 -- and so does one that makes one more ready, behind these
 pub tidy_more : (old new : ReorderState) (ws : List ReadyState) (ready : ReadyState) (count : ℕ) → AreLentIn old ws → AreLentIn new (ws ++ ready ∷ []) →
-    ((n : ℕ) (held : List ReadyState) → IsTidy n held old.strands → IsTidy n (ready ∷ held) new.strands) → IsTidy count [] (settled old ws).strands → IsTidy count [] (settled new (ws ++ ready ∷ [])).strands
+    ((n : ℕ) (held : List ReadyState) → IsTidy n held old.strands → IsTidy n (ready ∷ held) new.strands) → IsTidy count [] (after_giving_all_back old ws).strands → IsTidy count [] (after_giving_all_back new (ws ++ ready ∷ [])).strands
 tidy_more old new ws ready count before after takes tidy = settled_tidy new (ws ++ ready ∷ []) count after (tidy_last new ws ready count (takes count ws (tidy_settled old ws count before tidy)))
 
 -- ---- how many chunks they fill
@@ -166,19 +166,19 @@ heads_own : (arena : Arena) (strand : ℕ → Option (Option ℕ)) → ((x head 
     ((x y head : ℕ) → strand x ≡ Some (Some head) → strand y ≡ Some (Some head) → x ≡ y) → (xs : List ℕ) → AreHeads arena (heads_of strand xs)
 heads_own arena strand made apart [] = tt
 heads_own arena strand made apart (x ∷ xs) =
-    by_option (strand x) refl (heads_own arena (put x None strand) (λ y head at. made y head (left y head at)) (λ y z head at_y at_z. apart y z head (left y head at_y) (left z head at_z)) xs)
+    by_option (strand x) refl (heads_own arena (map_with x None strand) (λ y head at. made y head (left y head at)) (λ y z head at_y at_z. apart y z head (left y head at_y) (left z head at_z)) xs)
   where
-    left : (y head : ℕ) → put x None strand y ≡ Some (Some head) → strand y ≡ Some (Some head)
+    left : (y head : ℕ) → map_with x None strand y ≡ Some (Some head) → strand y ≡ Some (Some head)
     left y head is = put_cases (λ o. o ≡ Some (Some head) → strand y ≡ Some (Some head)) x y None strand (λ same o. let never : None ≡ Some (Some head) = o in cc) (λ other o. o) is
 
-    away : (y head : ℕ) → put x None strand y ≡ Some (Some head) → strand x ≡ Some (Some head) → ⊥
+    away : (y head : ℕ) → map_with x None strand y ≡ Some (Some head) → strand x ≡ Some (Some head) → ⊥
     away y head at is = put_cases (λ o. o ≡ Some (Some head) → ⊥) x y None strand (λ same o. let never : None ≡ Some (Some head) = o in cc) (λ other o. eqb-false x y other (apart x y head is o)) at
 
-    by_option : (o : Option (Option ℕ)) → strand x ≡ o → AreHeads arena (heads_of (put x None strand) xs) → AreHeads arena (head_in o ++ heads_of (put x None strand) xs)
+    by_option : (o : Option (Option ℕ)) → strand x ≡ o → AreHeads arena (heads_of (map_with x None strand) xs) → AreHeads arena (head_in o ++ heads_of (map_with x None strand) xs)
     by_option None is later = later
     by_option (Some None) is later = later
     by_option (Some (Some head)) is later =
-        (made x head is, heads_are (λ q. q ≡ head → ⊥) (put x None strand) (λ y q at same. away y q at (is ∙ ap (λ n. Some (Some n)) (sym same))) xs, later)
+        (made x head is, heads_are (λ q. q ≡ head → ⊥) (map_with x None strand) (λ y q at same. away y q at (is ∙ ap (λ n. Some (Some n)) (sym same))) xs, later)
 
 heads_kept : (arena : Arena) (head : ℕ) (heads : List ℕ) → AreHeads arena heads → AreHeads (set arena head None) heads
 heads_kept arena head [] own = tt
@@ -217,31 +217,31 @@ chunks_lent old new (w ∷ ws) are stays =
     omega (arith, sum_by-cons (ready_chunks new.strands.pool.arena) w ws, sum_by-cons (ready_chunks old.strands.pool.arena) w ws)
 
 -- those of the others stay where one is given back
-pub chunks_given_back : (old new : ReorderState) (ready : ReadyState) (ws : List ReadyState) → AreLentIn old (ready ∷ ws) → new ≡ given_back old ready → lent_chunks new ws ≡ lent_chunks old ws
+pub chunks_given_back : (old new : ReorderState) (ready : ReadyState) (ws : List ReadyState) → AreLentIn old (ready ∷ ws) → new ≡ after_giving_back old ready → lent_chunks new ws ≡ lent_chunks old ws
 chunks_given_back old new ready ws are is = ap (λ (s : ReorderState). lent_chunks s ws) is ∙ later ws are.1 are.2
   where
-    later : (ws : List ReadyState) → AllByRecursion (λ (other : ReadyState). AreApart ready.strands other.strands) ws → AreLentIn old ws → lent_chunks (given_back old ready) ws ≡ lent_chunks old ws
+    later : (ws : List ReadyState) → AllByRecursion (λ (other : ReadyState). AreApart ready.strands other.strands) ws → AreLentIn old ws → lent_chunks (after_giving_back old ready) ws ≡ lent_chunks old ws
     later [] apart are = refl
     later (w ∷ ws) apart are =
-        let here : ready_chunks (given_back old ready).strands.pool.arena w ≡ ready_chunks old.strands.pool.arena w =
-        chunks_last old.strands.pool (given_back old ready).strands.pool w (lasts_without old.strands.pool ready w.strands apart.0 are.0.lent) in
-        let others : lent_chunks (given_back old ready) ws ≡ lent_chunks old ws = later ws apart.1 are.2 in
-        omega (arith, sum_by-cons (ready_chunks (given_back old ready).strands.pool.arena) w ws, sum_by-cons (ready_chunks old.strands.pool.arena) w ws)
+        let here : ready_chunks (after_giving_back old ready).strands.pool.arena w ≡ ready_chunks old.strands.pool.arena w =
+        chunks_last old.strands.pool (after_giving_back old ready).strands.pool w (lasts_without old.strands.pool ready w.strands apart.0 are.0.lent) in
+        let others : lent_chunks (after_giving_back old ready) ws ≡ lent_chunks old ws = later ws apart.1 are.2 in
+        omega (arith, sum_by-cons (ready_chunks (after_giving_back old ready).strands.pool.arena) w ws, sum_by-cons (ready_chunks old.strands.pool.arena) w ws)
 
 -- giving them back frees their chunks
-pub settled_fills : (s : ReorderState) (ws : List ReadyState) → AreLentIn s ws → fills (settled s ws).strands.pool.arena + lent_chunks s ws ≡ fills s.strands.pool.arena
+pub settled_fills : (s : ReorderState) (ws : List ReadyState) → AreLentIn s ws → fills (after_giving_all_back s ws).strands.pool.arena + lent_chunks s ws ≡ fills s.strands.pool.arena
 settled_fills s [] are = omega arith
 settled_fills s (w ∷ ws) are =
     let own : IsPool s.strands.pool.arena w.strands = are.0.lent.own in
-    let here : fills (given_back s w).strands.pool.arena + ready_chunks s.strands.pool.arena w ≡ fills s.strands.pool.arena =
+    let here : fills (after_giving_back s w).strands.pool.arena + ready_chunks s.strands.pool.arena w ≡ fills s.strands.pool.arena =
     fills_without s.strands.pool.arena (ready_heads w) (heads_own s.strands.pool.arena (strand_of w.strands) (λ x head is. (own.made x (Some head) is).0) own.apart w.xids) in
-    let later : fills (settled (given_back s w) ws).strands.pool.arena + lent_chunks (given_back s w) ws ≡ fills (given_back s w).strands.pool.arena = settled_fills (given_back s w) ws (later_lent s w ws are) in
-    let same : lent_chunks (given_back s w) ws ≡ lent_chunks s ws = chunks_given_back s (given_back s w) w ws are refl in
+    let later : fills (after_giving_all_back (after_giving_back s w) ws).strands.pool.arena + lent_chunks (after_giving_back s w) ws ≡ fills (after_giving_back s w).strands.pool.arena = settled_fills (after_giving_back s w) ws (later_lent s w ws are) in
+    let same : lent_chunks (after_giving_back s w) ws ≡ lent_chunks s ws = chunks_given_back s (after_giving_back s w) w ws are refl in
     omega (arith, sum_by-cons (ready_chunks s.strands.pool.arena) w ws)
 
-pub settled_length : (s : ReorderState) (ws : List ReadyState) → length (settled s ws).strands.pool.arena ≡ length s.strands.pool.arena
+pub settled_length : (s : ReorderState) (ws : List ReadyState) → length (after_giving_all_back s ws).strands.pool.arena ≡ length s.strands.pool.arena
 settled_length s [] = refl
-settled_length s (w ∷ ws) = settled_length (given_back s w) ws ∙ length_without s.strands.pool.arena (ready_heads w)
+settled_length s (w ∷ ws) = settled_length (after_giving_back s w) ws ∙ length_without s.strands.pool.arena (ready_heads w)
 
 -- ---- beside what the records say
 
@@ -258,17 +258,17 @@ good_without pool ready is good =
     (record { own = good.pool; hold = good.hold; apart = λ x y head at_x at_y. is.apart y x head at_y at_x }) in
     record { pool = l.still.own; hold = l.still.hold }
 
-settled_good : (s : ReorderState) (ws : List ReadyState) → AreLentIn s ws → IsGood s.strands.pool → IsGood (settled s ws).strands.pool
+settled_good : (s : ReorderState) (ws : List ReadyState) → AreLentIn s ws → IsGood s.strands.pool → IsGood (after_giving_all_back s ws).strands.pool
 settled_good s [] are good = good
-settled_good s (w ∷ ws) are good = settled_good (given_back s w) ws (later_lent s w ws are) (good_without s.strands.pool w are.0.lent good)
+settled_good s (w ∷ ws) are good = settled_good (after_giving_back s w) ws (later_lent s w ws are) (good_without s.strands.pool w are.0.lent good)
 
 -- the chunks that are taken are those of the live xids and those of what is ready
 pub chunks_beside : (s : ReorderState) (rs : List Record) (ws : List ReadyState) (count : ℕ) → IsPool s.strands.pool.arena s.strands.pool.strands → HoldEntries s.strands.pool.arena s.strands.pool.strands →
-    AreStrandsOf (by_xid s.strands) rs → AreLentIn s ws → IsTidy count [] (settled s ws).strands → live_chunks rs + lent_chunks s ws ≡ fills s.strands.pool.arena
+    AreStrandsOf (by_xid s.strands) rs → AreLentIn s ws → IsTidy count [] (after_giving_all_back s ws).strands → live_chunks rs + lent_chunks s ws ≡ fills s.strands.pool.arena
 chunks_beside s rs ws count pool hold book are tidy =
-    let good : IsGood (settled s ws).strands.pool = settled_good s ws are (record { pool = pool; hold = hold }) in
-    let taken : fills (settled s ws).strands.pool.arena ≡ live_chunks rs = chunks_taken (settled s ws).strands rs count good.pool good.hold
-    (same_kept (by_xid (settled s ws).strands) (by_xid s.strands) rs (same_settled s ws are).strands book) tidy in
+    let good : IsGood (after_giving_all_back s ws).strands.pool = settled_good s ws are (record { pool = pool; hold = hold }) in
+    let taken : fills (after_giving_all_back s ws).strands.pool.arena ≡ live_chunks rs = chunks_taken (after_giving_all_back s ws).strands rs count good.pool good.hold
+    (same_kept (by_xid (after_giving_all_back s ws).strands) (by_xid s.strands) rs (same_settled s ws are).strands book) tidy in
     ap (λ n. n + lent_chunks s ws) (sym taken) ∙ settled_fills s ws are
 
 -- the chunks are full by the records and by what is ready, if the xid has a strand and isn't dropped

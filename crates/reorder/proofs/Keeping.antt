@@ -11,7 +11,7 @@ use Rattle.wal.specs.Log.{Entry, IsOpen, names, is_named, is_assigned, undoes, i
 use Rattle.wal.proofs.Lists.{or_false, eqb_comm, all_append, list_any_agrees}
 use Rattle.wal.proofs.Laws.{chain-append, chain-unassigned, is_named-one, is_undone-one, has_ended-one, dropped-kept, entries-append, KeepsChains}
 use Rattle.reorder.specs.Rising.{IsRising}
-use Rattle.reorder.specs.Strands.{StrandState, ByXid, above_in, above_of, all_in, back_from_last, behind, is_in, rolled_back, with_change, pushed, undone, ended}
+use Rattle.reorder.specs.Strands.{StrandState, ByXid, above_in, above_of, all_in, back_from_last, behind, is_in, strand_after_rollback, with_change, with_change_of, after_rollback_of, without_transaction}
 use Rattle.reorder.specs.Bookkeeping.{IsStrand, IsTransaction, AreStrandsOf, changes_of}
 use Rattle.reorder.specs.Taking.{StartsBehind}
 use Rattle.reorder.proofs.Named.{or_left, or_right, or_true, entries_before}
@@ -84,15 +84,15 @@ above_mapped f (Some s) same = same s
 
 pub push_kept : (l : ByXid) (rs : List Record) (r : Record) (x : ℕ) (e : Entry) → AreStrandsOf l rs → IsOpen rs x → IsSome (l.strand x) → StartsBehind rs r →
     KeepsChains r.body → ((y : ℕ) → undoes y r.body ≡ false) → ((y : ℕ) → ends y r.body ≡ false) → ((y : ℕ) → names y r.body ≡ (y == x)) →
-    entry_at r.start r.body ≡ e ∷ [] → e.xid ≡ x → e.position ≡ r.start → AreStrandsOf (pushed x e l) (rs ++ r ∷ [])
+    entry_at r.start r.body ≡ e ∷ [] → e.xid ≡ x → e.position ≡ r.start → AreStrandsOf (with_change_of x e l) (rs ++ r ∷ [])
 push_kept l rs r x e h alive has behind keeps undoing ending naming made xid position =
     record {
-      strands = λ q s. put_cases (λ o. o ≡ Some s → IsStrand (pushed x e l) (rs ++ r ∷ []) q s) x q (option_map (with_change e) (l.strand x)) l.strand
+      strands = λ q s. put_cases (λ o. o ≡ Some s → IsStrand (with_change_of x e l) (rs ++ r ∷ []) q s) x q (option_map (with_change e) (l.strand x)) l.strand
           (λ same is. let m : Mapped (with_change e) (l.strand x) s = mapped (with_change e) (l.strand x) s is in
-          subst (λ (v : StrandState). IsStrand (pushed x e l) (rs ++ r ∷ []) q v) m.now_is
-          (subst (λ (y : ℕ). IsStrand (pushed x e l) (rs ++ r ∷ []) y (with_change e m.was)) same (grown m.was (h.strands x m.was m.was_is))))
+          subst (λ (v : StrandState). IsStrand (with_change_of x e l) (rs ++ r ∷ []) q v) m.now_is
+          (subst (λ (y : ℕ). IsStrand (with_change_of x e l) (rs ++ r ∷ []) y (with_change e m.was)) same (grown m.was (h.strands x m.was m.was_is))))
           (λ other is. as_it_was q s other (h.strands q s is));
-      transactions = λ t xs is. strands_changed l (pushed x e l) rs r keeps ending
+      transactions = λ t xs is. strands_changed l (with_change_of x e l) rs r keeps ending
           (λ q some. put_cases IsSome x q (option_map (with_change e) (l.strand x)) l.strand (λ same. some_of (with_change e) (l.strand x) has) (λ other. some))
           (λ q. put_cases (λ o. above_in o ≡ above_of l q) x q (option_map (with_change e) (l.strand x)) l.strand
           (λ same. above_mapped (with_change e) (l.strand x) (λ s. refl) ∙ ap (above_of l) same) (λ other. refl))
@@ -109,7 +109,7 @@ push_kept l rs r x e h alive has behind keeps undoing ending naming made xid pos
     undone_same : (q : ℕ) → is_undone (rs ++ r ∷ []) q ≡ is_undone rs q
     undone_same q = is_undone-one rs r q ∙ ap (λ b. is_undone rs q || b) (undoing q) ∙ or_false (is_undone rs q)
 
-    grown : (s : StrandState) → IsStrand l rs x s → IsStrand (pushed x e l) (rs ++ r ∷ []) x (with_change e s)
+    grown : (s : StrandState) → IsStrand l rs x s → IsStrand (with_change_of x e l) (rs ++ r ∷ []) x (with_change e s)
     grown s o = record {
       chain = chain_same x ∙ o.chain;
       freed = λ dropped. let never : true ≡ false = sym dropped ∙ dropped_same rs r keeps undoing x ∙ alive.undropped in cc;
@@ -119,7 +119,7 @@ push_kept l rs r x e h alive has behind keeps undoing ending naming made xid pos
       within = o.within;
     }
 
-    as_it_was : (q : ℕ) (s : StrandState) → (x == q) ≡ false → IsStrand l rs q s → IsStrand (pushed x e l) (rs ++ r ∷ []) q s
+    as_it_was : (q : ℕ) (s : StrandState) → (x == q) ≡ false → IsStrand l rs q s → IsStrand (with_change_of x e l) (rs ++ r ∷ []) q s
     as_it_was q s other o = record {
       chain = chain_same q ∙ o.chain;
       freed = λ dropped. o.freed (sym (dropped_same rs r keeps undoing q) ∙ dropped);
@@ -161,13 +161,13 @@ and_false false = refl
 
 pub undo_kept : (l : ByXid) (rs : List Record) (r : Record) (x : ℕ) → AreStrandsOf l rs →
     KeepsChains r.body → ((y : ℕ) → undoes y r.body ≡ (x == y)) → ((y : ℕ) → ends y r.body ≡ false) → ((y : ℕ) → names y r.body ≡ (y == x)) →
-    entry_at r.start r.body ≡ [] → AreStrandsOf (undone x l) (rs ++ r ∷ [])
+    entry_at r.start r.body ≡ [] → AreStrandsOf (after_rollback_of x l) (rs ++ r ∷ [])
 undo_kept l rs r x h keeps undoing ending naming none =
     record {
-      strands = λ q s is. let m : Mapped (rolled_back x (back_from_last l x) q) (l.strand q) s = mapped (rolled_back x (back_from_last l x) q) (l.strand q) s is in
-          subst (λ (v : StrandState). IsStrand (undone x l) (rs ++ r ∷ []) q v) m.now_is (rolled q m.was m.was_is (h.strands q m.was m.was_is));
-      transactions = λ t xs is. strands_changed l (undone x l) rs r keeps ending (λ q some. some_of (rolled_back x (back_from_last l x) q) (l.strand q) some)
-          (λ q. above_mapped (rolled_back x (back_from_last l x) q) (l.strand q) (λ s. refl)) t xs (h.transactions t xs is);
+      strands = λ q s is. let m : Mapped (strand_after_rollback x (back_from_last l x) q) (l.strand q) s = mapped (strand_after_rollback x (back_from_last l x) q) (l.strand q) s is in
+          subst (λ (v : StrandState). IsStrand (after_rollback_of x l) (rs ++ r ∷ []) q v) m.now_is (rolled q m.was m.was_is (h.strands q m.was m.was_is));
+      transactions = λ t xs is. strands_changed l (after_rollback_of x l) rs r keeps ending (λ q some. some_of (strand_after_rollback x (back_from_last l x) q) (l.strand q) some)
+          (λ q. above_mapped (strand_after_rollback x (back_from_last l x) q) (l.strand q) (λ s. refl)) t xs (h.transactions t xs is);
       complete = λ q named kept running. still q (x == q) refl named kept running;
       rising = subst (λ (es : List Entry). IsRising es) (sym (entries_push rs r ∙ ap (λ es. entries rs ++ es) none ∙ append-nil (entries rs))) h.rising;
     }
@@ -178,13 +178,13 @@ undo_kept l rs r x h keeps undoing ending naming none =
     dropped_more : (q : ℕ) → is_dropped (rs ++ r ∷ []) q ≡ (is_dropped rs q || is_in x (chain rs q))
     dropped_more q = dropped-kept rs r keeps q ∙ ap (λ b. is_dropped rs q || b) (list_any_agrees (λ y. undoes y r.body) (λ y. x == y) undoing (chain rs q))
 
-    still : (q : ℕ) (b : Bool) → (x == q) ≡ b → is_named (rs ++ r ∷ []) q ≡ true → is_undone (rs ++ r ∷ []) q ≡ false → has_ended (rs ++ r ∷ []) (top_of (rs ++ r ∷ []) q) ≡ false → IsSome (option_map (rolled_back x (back_from_last l x) q) (l.strand q))
+    still : (q : ℕ) (b : Bool) → (x == q) ≡ b → is_named (rs ++ r ∷ []) q ≡ true → is_undone (rs ++ r ∷ []) q ≡ false → has_ended (rs ++ r ∷ []) (top_of (rs ++ r ∷ []) q) ≡ false → IsSome (option_map (strand_after_rollback x (back_from_last l x) q) (l.strand q))
     still q true same named kept running = let never : true ≡ false = sym (or_true (is_undone rs q) (x == q) same) ∙ sym (undone_more q) ∙ kept in cc
     still q false other named kept running =
-        some_of (rolled_back x (back_from_last l x) q) (l.strand q)
+        some_of (strand_after_rollback x (back_from_last l x) q) (l.strand q)
         (h.complete q (was_named rs r x q (naming q) other named) (or_left (is_undone rs q) (x == q) (sym (undone_more q) ∙ kept)) (sym (ended_same rs r keeps ending q) ∙ running))
 
-    rolled : (q : ℕ) (s : StrandState) → l.strand q ≡ Some s → IsStrand l rs q s → IsStrand (undone x l) (rs ++ r ∷ []) q (rolled_back x (back_from_last l x) q s)
+    rolled : (q : ℕ) (s : StrandState) → l.strand q ≡ Some s → IsStrand l rs q s → IsStrand (after_rollback_of x l) (rs ++ r ∷ []) q (strand_after_rollback x (back_from_last l x) q s)
     rolled q s is o = record {
       chain = chain-append rs r q ∙ keeps (chain rs) q ∙ o.chain;
       changes = λ live. kept_on (sym (dropped_more q) ∙ live);
@@ -194,19 +194,19 @@ undo_kept l rs r x h keeps undoing ending naming none =
       within = o.within;
     }
       where
-        kept_on : (is_dropped rs q || is_in x (chain rs q)) ≡ false → (rolled_back x (back_from_last l x) q s).changes ≡ changes_of (rs ++ r ∷ []) q
+        kept_on : (is_dropped rs q || is_in x (chain rs q)) ≡ false → (strand_after_rollback x (back_from_last l x) q s).changes ≡ changes_of (rs ++ r ∷ []) q
         kept_on both =
             let apart : is_in x (q ∷ s.above) ≡ false = ap (is_in x) (sym o.chain) ∙ or_right (is_dropped rs q) (is_in x (chain rs q)) both in
             rw (or_left (x == q) (is_in x s.above) apart, or_right (x == q) (is_in x s.above) apart, and_false (is_in q (behind x (back_from_last l x))))
             (o.changes (or_left (is_dropped rs q) (is_in x (chain rs q)) both)
             ∙ sym (changes_push rs r q ∙ ap (λ es. changes_of rs q ++ filter (λ f. f.xid == q) es) none ∙ append-nil (changes_of rs q)))
 
-        under_it : (a b : Bool) → (x == q) ≡ a → is_in x s.above ≡ b → (a || b) ≡ true → (rolled_back x (back_from_last l x) q s).changes ≡ []
+        under_it : (a b : Bool) → (x == q) ≡ a → is_in x s.above ≡ b → (a || b) ≡ true → (strand_after_rollback x (back_from_last l x) q s).changes ≡ []
         under_it true b same above both = rw same refl
         under_it false true other above both = rw (other, below_is l rs x q s h is above, above) refl
         under_it false false other above both = let never : false ≡ true = both in cc
 
-        given_up : (d : Bool) → is_dropped rs q ≡ d → (d || is_in x (chain rs q)) ≡ true → (rolled_back x (back_from_last l x) q s).changes ≡ []
+        given_up : (d : Bool) → is_dropped rs q ≡ d → (d || is_in x (chain rs q)) ≡ true → (strand_after_rollback x (back_from_last l x) q s).changes ≡ []
         given_up true dropped both = nothing_left ((x == q) || (is_in q (behind x (back_from_last l x)) && is_in x s.above)) s.changes (o.freed dropped)
         given_up false live both = under_it (x == q) (is_in x s.above) refl refl (ap (is_in x) (sym o.chain) ∙ both)
 
@@ -256,11 +256,11 @@ not_member l rs t q h other = by_test (is_in q (all_in (l.members t))) refl
 
 pub end_kept : (l : ByXid) (rs : List Record) (r : Record) (t : ℕ) → AreStrandsOf l rs → is_assigned rs t ≡ false →
     KeepsChains r.body → ((y : ℕ) → undoes y r.body ≡ false) → ((y : ℕ) → ends y r.body ≡ (t == y)) → ((y : ℕ) → names y r.body ≡ (y == t)) →
-    entry_at r.start r.body ≡ [] → AreStrandsOf (ended t l) (rs ++ r ∷ [])
+    entry_at r.start r.body ≡ [] → AreStrandsOf (without_transaction t l) (rs ++ r ∷ [])
 end_kept l rs r t h alone keeps undoing ending naming none =
     record {
       strands = λ q s is. strand q s (is_in q (all_in (l.members t))) refl is;
-      transactions = λ t' xs. put_cases (λ o. o ≡ Some xs → IsTransaction (ended t l) (rs ++ r ∷ []) t' xs) t t' None l.members
+      transactions = λ t' xs. put_cases (λ o. o ≡ Some xs → IsTransaction (without_transaction t l) (rs ++ r ∷ []) t' xs) t t' None l.members
           (λ same is. let never : None ≡ Some xs = is in cc) (λ other is. transaction t' xs other (h.transactions t' xs is));
       complete = λ q named kept running.
           let both : (has_ended rs (top_of rs q) || (t == top_of rs q)) ≡ false = sym (ap (has_ended (rs ++ r ∷ [])) (top_same rs r keeps q) ∙ has_ended-one rs r (top_of rs q)
@@ -273,13 +273,13 @@ end_kept l rs r t h alone keeps undoing ending naming none =
     undone_same : (q : ℕ) → is_undone (rs ++ r ∷ []) q ≡ is_undone rs q
     undone_same q = is_undone-one rs r q ∙ ap (λ b. is_undone rs q || b) (undoing q) ∙ or_false (is_undone rs q)
 
-    stays : (q : ℕ) → is_in q (all_in (l.members t)) ≡ false → IsSome (l.strand q) → IsSome ((ended t l).strand q)
+    stays : (q : ℕ) → is_in q (all_in (l.members t)) ≡ false → IsSome (l.strand q) → IsSome ((without_transaction t l).strand q)
     stays q out some = rw out some
 
     not_top : (q : ℕ) → (t == top_of rs q) ≡ false → (t == q) ≡ false
     not_top q apart = ne_eqb t q (λ is. let never : true ≡ false = sym (eq-eqb t (top_of rs t) (sym (ap (last_of t) (chain-unassigned rs t alone)))) ∙ ap (λ y. t == top_of rs y) is ∙ apart in cc)
 
-    strand : (q : ℕ) (s : StrandState) (b : Bool) → is_in q (all_in (l.members t)) ≡ b → cond b None (l.strand q) ≡ Some s → IsStrand (ended t l) (rs ++ r ∷ []) q s
+    strand : (q : ℕ) (s : StrandState) (b : Bool) → is_in q (all_in (l.members t)) ≡ b → cond b None (l.strand q) ≡ Some s → IsStrand (without_transaction t l) (rs ++ r ∷ []) q s
     strand q s true inn is = let never : None ≡ Some s = is in cc
     strand q s false out is =
         let o : IsStrand l rs q s = h.strands q s is in
@@ -293,14 +293,14 @@ end_kept l rs r t h alone keeps undoing ending naming none =
           within = o.within;
         }
 
-    transaction : (t' : ℕ) (xs : List ℕ) → (t == t') ≡ false → IsTransaction l rs t' xs → IsTransaction (ended t l) (rs ++ r ∷ []) t' xs
+    transaction : (t' : ℕ) (xs : List ℕ) → (t == t') ≡ false → IsTransaction l rs t' xs → IsTransaction (without_transaction t l) (rs ++ r ∷ []) t' xs
     transaction t' xs other o = record {
       running = has_ended-one rs r t' ∙ ap (λ b. has_ended rs t' || b) (ending t' ∙ other) ∙ or_false (has_ended rs t') ∙ o.running;
       own = o.own;
       distinct = o.distinct;
       strands = λ q inn. stays q (apart q inn) (o.strands q inn);
       tops = λ q inn. top_same rs r keeps q ∙ o.tops q inn;
-      ordered = ordered_back l (ended t l) xs (λ q inn. rw (apart q inn) refl) o.ordered;
+      ordered = ordered_back l (without_transaction t l) xs (λ q inn. rw (apart q inn) refl) o.ordered;
     }
       where
         apart : (q : ℕ) → is_in q xs ≡ true → is_in q (all_in (l.members t)) ≡ false

@@ -6,9 +6,9 @@ use Rattle.std.proofs.lemmas.Bool.{eqb-true}
 use Rattle.std.proofs.lemmas.List.{take_all, take_more}
 use Rattle.std.proofs.lemmas.List.Folds.{list_any-append}
 use Rattle.wal.proofs.Lists.{eqb_comm}
-use Rattle.chgarena.specs.Strands.{Strands as Arena, IsOf, without}
+use Rattle.chgarena.specs.Strands.{Strands as Arena, IsOf, arena_without}
 use Rattle.reorder.specs.Entries.{IsEntry}
-use Rattle.reorder.specs.Pool.{AreApart, HoldEntries, IsLent, IsPool, IsSameAt, Lasts, PoolState, PushesAt, StaysLent, entries_by, put, strand_of}
+use Rattle.reorder.specs.Pool.{AreApart, HoldEntries, IsLent, IsPool, IsSameAt, Lasts, PoolState, PushesAt, StaysLent, entries_by, map_with, strand_of}
 use Rattle.reorder.proofs.Opening.{put_cases}
 use Rattle.reorder.specs.Ready.{ReadyState}
 use Rattle.reorder.specs.Strands.{is_in}
@@ -63,7 +63,7 @@ lent_pushed xid entry arena strands arena' strands' p = record {
 }
 
 -- the strand of one xid goes, or begins anew without entries
-without_one : (xid : ℕ) (strands strands' : List (ℕ × Option ℕ)) (w : Option (Option ℕ)) → ((head : ℕ) → w ≡ Some (Some head) → ⊥) → ((x : ℕ) → strand_of strands' x ≡ put xid w (strand_of strands) x) →
+without_one : (xid : ℕ) (strands strands' : List (ℕ × Option ℕ)) (w : Option (Option ℕ)) → ((head : ℕ) → w ≡ Some (Some head) → ⊥) → ((x : ℕ) → strand_of strands' x ≡ map_with xid w (strand_of strands) x) →
     (x head : ℕ) → strand_of strands' x ≡ Some (Some head) → strand_of strands x ≡ Some (Some head)
 without_one xid strands strands' w none puts x head at =
     put_cases (λ o. o ≡ Some (Some head) → strand_of strands x ≡ Some (Some head)) xid x w (strand_of strands) (λ same o. absurd (none head o)) (λ other o. o) (sym (puts x) ∙ at)
@@ -74,21 +74,21 @@ nothing_there head is = cc
 empty_there : (head : ℕ) → Some None ≡ Some (Some head) → ⊥
 empty_there head is = cc
 
-pub lent_back : (xid : ℕ) (arena : Arena) (strands strands' : List (ℕ × Option ℕ)) (o : Option ℕ) → strand_of strands xid ≡ Some o → ((x : ℕ) → strand_of strands' x ≡ put xid None (strand_of strands) x) →
-    StaysLent (of arena strands) (of (without arena o) strands')
+pub lent_back : (xid : ℕ) (arena : Arena) (strands strands' : List (ℕ × Option ℕ)) (o : Option ℕ) → strand_of strands xid ≡ Some o → ((x : ℕ) → strand_of strands' x ≡ map_with xid None (strand_of strands) x) →
+    StaysLent (of arena strands) (of (arena_without arena o) strands')
 lent_back xid arena strands strands' o was puts = record {
-  each = λ lent is. lasts arena (without arena o) lent
+  each = λ lent is. lasts arena (arena_without arena o) lent
       (λ x r at. back_stays arena o r (is.own.made x r at) (λ q at_r at_o. is.apart xid x q (was ∙ ap Some at_o) (at ∙ ap Some at_r)))
       strands strands' is (λ x y head at_x at_y. is.apart x y head (without_one xid strands strands' None nothing_there puts x head at_x) at_y);
 }
 
-pub lent_away : (xid : ℕ) (arena : Arena) (strands strands' : List (ℕ × Option ℕ)) → ((x : ℕ) → strand_of strands' x ≡ put xid None (strand_of strands) x) → StaysLent (of arena strands) (of arena strands')
+pub lent_away : (xid : ℕ) (arena : Arena) (strands strands' : List (ℕ × Option ℕ)) → ((x : ℕ) → strand_of strands' x ≡ map_with xid None (strand_of strands) x) → StaysLent (of arena strands) (of arena strands')
 lent_away xid arena strands strands' puts = record {
   each = λ lent is. lasts arena arena lent (λ x r at. itself arena r (is.own.made x r at)) strands strands' is
       (λ x y head at_x at_y. is.apart x y head (without_one xid strands strands' None nothing_there puts x head at_x) at_y);
 }
 
-pub pool_away : (xid : ℕ) (arena : Arena) (strands strands' : List (ℕ × Option ℕ)) → IsPool arena strands → ((x : ℕ) → strand_of strands' x ≡ put xid None (strand_of strands) x) → IsPool arena strands'
+pub pool_away : (xid : ℕ) (arena : Arena) (strands strands' : List (ℕ × Option ℕ)) → IsPool arena strands → ((x : ℕ) → strand_of strands' x ≡ map_with xid None (strand_of strands) x) → IsPool arena strands'
 pool_away xid arena strands strands' pool puts = record {
   made = λ x r is. pool.made x r (left x r is);
   apart = λ x y q is_x is_y. pool.apart x y q (left x (Some q) is_x) (left y (Some q) is_y);
@@ -97,12 +97,12 @@ pool_away xid arena strands strands' pool puts = record {
     left : (x : ℕ) (r : Option ℕ) → strand_of strands' x ≡ Some r → strand_of strands x ≡ Some r
     left x r is = put_cases (λ o. o ≡ Some r → strand_of strands x ≡ Some r) xid x None (strand_of strands) (λ same o. let never : None ≡ Some r = o in cc) (λ other o. o) (sym (puts x) ∙ is)
 
-pub hold_away : (xid : ℕ) (arena : Arena) (strands strands' : List (ℕ × Option ℕ)) → HoldEntries arena strands → ((x : ℕ) → strand_of strands' x ≡ put xid None (strand_of strands) x) → HoldEntries arena strands'
+pub hold_away : (xid : ℕ) (arena : Arena) (strands strands' : List (ℕ × Option ℕ)) → HoldEntries arena strands → ((x : ℕ) → strand_of strands' x ≡ map_with xid None (strand_of strands) x) → HoldEntries arena strands'
 hold_away xid arena strands strands' hold puts = λ x.
     put_cases (λ o. strand_of strands' x ≡ o → AllByRecursion IsEntry (entries_by arena (strand_of strands' x))) xid x None (strand_of strands)
     (λ same o. subst (λ s. AllByRecursion IsEntry (entries_by arena s)) (sym o) tt) (λ other o. subst (λ s. AllByRecursion IsEntry (entries_by arena s)) (sym o) (hold x)) (puts x)
 
-pub lent_opened : (xid : ℕ) (arena : Arena) (strands strands' : List (ℕ × Option ℕ)) → ((x : ℕ) → strand_of strands' x ≡ put xid (Some None) (strand_of strands) x) → StaysLent (of arena strands) (of arena strands')
+pub lent_opened : (xid : ℕ) (arena : Arena) (strands strands' : List (ℕ × Option ℕ)) → ((x : ℕ) → strand_of strands' x ≡ map_with xid (Some None) (strand_of strands) x) → StaysLent (of arena strands) (of arena strands')
 lent_opened xid arena strands strands' puts = record {
   each = λ lent is. lasts arena arena lent (λ x r at. itself arena r (is.own.made x r at)) strands strands' is
       (λ x y head at_x at_y. is.apart x y head (without_one xid strands strands' (Some None) empty_there puts x head at_x) at_y);
@@ -117,23 +117,23 @@ lent_same xid arena strands strands' same = record {
 -- ---- a strand that is taken back
 
 module _ (arena : Arena) (strands : List (ℕ × Option ℕ)) (o : Option ℕ) (apart : (x head : ℕ) → strand_of strands x ≡ Some (Some head) → o ≡ Some head → ⊥) where
-  away : (x : ℕ) (r : Option ℕ) → IsOf arena r → strand_of strands x ≡ Some r → Stays arena (without arena o) r
+  away : (x : ℕ) (r : Option ℕ) → IsOf arena r → strand_of strands x ≡ Some r → Stays arena (arena_without arena o) r
   away x r made is = back_stays arena o r made (λ q at_r at_o. apart x q (is ∙ ap Some at_r) at_o)
 
-  pub pool_taken : IsPool arena strands → IsPool (without arena o) strands
-  pool_taken pool = pool_kept arena (without arena o) strands (λ x r is. away x r (pool.made x r is) is) pool
+  pub pool_taken : IsPool arena strands → IsPool (arena_without arena o) strands
+  pool_taken pool = pool_kept arena (arena_without arena o) strands (λ x r is. away x r (pool.made x r is) is) pool
 
-  pub hold_taken : IsPool arena strands → HoldEntries arena strands → HoldEntries (without arena o) strands
-  hold_taken pool hold = hold_kept arena (without arena o) strands (λ x r is. away x r (pool.made x r is) is) hold
+  pub hold_taken : IsPool arena strands → HoldEntries arena strands → HoldEntries (arena_without arena o) strands
+  hold_taken pool hold = hold_kept arena (arena_without arena o) strands (λ x r is. away x r (pool.made x r is) is) hold
 
-  pub entries_taken : IsPool arena strands → (x : ℕ) → entries_by (without arena o) (strand_of strands x) ≡ entries_by arena (strand_of strands x)
-  entries_taken pool = same_entries arena (without arena o) strands (λ x r is. away x r (pool.made x r is) is)
+  pub entries_taken : IsPool arena strands → (x : ℕ) → entries_by (arena_without arena o) (strand_of strands x) ≡ entries_by arena (strand_of strands x)
+  entries_taken pool = same_entries arena (arena_without arena o) strands (λ x r is. away x r (pool.made x r is) is)
 
 -- what is lent besides stays
 pub lent_taken : (arena : Arena) (strands : List (ℕ × Option ℕ)) (o : Option ℕ) (lent : List (ℕ × Option ℕ)) → ((x head : ℕ) → strand_of lent x ≡ Some (Some head) → o ≡ Some head → ⊥) → IsLent (of arena strands) lent →
-    Lasts (of arena strands) (of (without arena o) strands) lent
+    Lasts (of arena strands) (of (arena_without arena o) strands) lent
 lent_taken arena strands o lent apart is =
-    lasts arena (without arena o) lent (λ x r at. back_stays arena o r (is.own.made x r at) (λ q at_r at_o. apart x q (at ∙ ap Some at_r) at_o)) strands strands is is.apart
+    lasts arena (arena_without arena o) lent (λ x r at. back_stays arena o r (is.own.made x r at) (λ q at_r at_o. apart x q (at ∙ ap Some at_r) at_o)) strands strands is is.apart
 
 -- ---- the strands of some xids are lent
 
@@ -212,7 +212,7 @@ taken_itself pool lent is = record {
   fewer = λ x head at. at;
 }
 
-pub taken_none : (pool : PoolState) (lent lent' : List (ℕ × Option ℕ)) (xid : ℕ) → IsLent pool lent → strand_of lent xid ≡ None → ((x : ℕ) → strand_of lent' x ≡ put xid None (strand_of lent) x) → Taken pool pool lent lent'
+pub taken_none : (pool : PoolState) (lent lent' : List (ℕ × Option ℕ)) (xid : ℕ) → IsLent pool lent → strand_of lent xid ≡ None → ((x : ℕ) → strand_of lent' x ≡ map_with xid None (strand_of lent) x) → Taken pool pool lent lent'
 taken_none pool lent lent' xid is none puts = record {
   still = record {
     own = record { made = λ x o at. is.own.made x o (sym (same x) ∙ at); apart = λ x y head at_x at_y. is.own.apart x y head (sym (same x) ∙ at_x) (sym (same y) ∙ at_y) };
@@ -236,7 +236,7 @@ taken_none pool lent lent' xid is none puts = record {
     by_owner held head (inr (inr other)) = inr (inr other)
 
 pub taken_some : (pool pool' : PoolState) (lent lent' : List (ℕ × Option ℕ)) (xid : ℕ) (o : Option ℕ) → IsPool pool.arena pool.strands → IsLent pool lent → strand_of lent xid ≡ Some o →
-    ((x : ℕ) → strand_of lent' x ≡ put xid None (strand_of lent) x) → pool'.arena ≡ without pool.arena o → pool'.strands ≡ pool.strands → Taken pool pool' lent lent'
+    ((x : ℕ) → strand_of lent' x ≡ map_with xid None (strand_of lent) x) → pool'.arena ≡ arena_without pool.arena o → pool'.strands ≡ pool.strands → Taken pool pool' lent lent'
 taken_some pool pool' lent lent' xid o good is was puts arena strands = subst (λ (p : PoolState). Taken pool p lent lent') (sym at) (record {
   still = record {
     own = pool_back xid pool.arena lent lent' o is.own was puts;
@@ -251,8 +251,8 @@ taken_some pool pool' lent lent' xid o good is was puts arena strands = subst (�
   fewer = fewer;
 })
   where
-    at : pool' ≡ of (without pool.arena o) pool.strands
-    at = ap (λ (a : Arena). of a pool'.strands) arena ∙ ap (of (without pool.arena o)) strands
+    at : pool' ≡ of (arena_without pool.arena o) pool.strands
+    at = ap (λ (a : Arena). of a pool'.strands) arena ∙ ap (of (arena_without pool.arena o)) strands
 
     fewer : (x head : ℕ) → strand_of lent' x ≡ Some (Some head) → strand_of lent x ≡ Some (Some head)
     fewer x head at = without_one xid lent lent' None nothing_there puts x head at
@@ -277,7 +277,7 @@ taken_both p q r l m n first then = record {
 -- ---- xid by xid
 
 module _ (xids : List ℕ) (i : ℕ) (low : i < length xids) (old strands strands' : ℕ → Option (Option ℕ)) (left : (x : ℕ) → strands x ≡ cond (is_in x (take i xids)) None (old x))
-    (puts : (x : ℕ) → strands' x ≡ put (get_or xids i 0) None strands x) where
+    (puts : (x : ℕ) → strands' x ≡ map_with (get_or xids i 0) None strands x) where
   abbrev xid : ℕ
   xid = get_or xids i 0
 
@@ -299,7 +299,7 @@ module _ (xids : List ℕ) (i : ℕ) (low : i < length xids) (old strands strand
       by_both false false is now = now ∙ is
 
   module _ (lent lent' : ℕ → Option (Option ℕ)) (so_far : (x : ℕ) → lent x ≡ cond (is_in x (take i xids)) (old x) None) where
-    pub lent_some : (o : Option ℕ) → strands xid ≡ Some o → ((x : ℕ) → lent' x ≡ put xid (Some o) lent x) → (x : ℕ) → lent' x ≡ cond (is_in x (take (i + 1) xids)) (old x) None
+    pub lent_some : (o : Option ℕ) → strands xid ≡ Some o → ((x : ℕ) → lent' x ≡ map_with xid (Some o) lent x) → (x : ℕ) → lent' x ≡ cond (is_in x (take (i + 1) xids)) (old x) None
     lent_some o is adds x = by_both (is_in x (take i xids)) refl (xid == x) refl (adds x) ∙ ap (λ b. cond b (old x) None) (sym (more x))
       where
         found : (done : Bool) → is_in x (take i xids) ≡ done → xid ≡ x → lent' x ≡ Some o → lent' x ≡ old x

@@ -7,8 +7,8 @@ use Rattle.std.specs.Map.{lookup}
 use Rattle.std.specs.Option.{option_map}
 use Rattle.wal.specs.Log.{last_of}
 use Rattle.reorder.specs.Entries.{entry_in}
-use Rattle.reorder.specs.Pool.{PoolState, entries_at, put, with_entries}
-use Rattle.reorder.specs.Strands.{StrandState, Standing, StrandsState, IsSame, all_in, by_xid, ended, fresh, above_of, is_in, kept_spots, spots_of, strand_at, with_change, with_changes, with_member, above_in, above_standing, back_from_last, back_in, behind, rolled_back, started, assigned, pushed, undone}
+use Rattle.reorder.specs.Pool.{PoolState, entries_at, map_with, with_entries}
+use Rattle.reorder.specs.Strands.{StrandState, Standing, StrandsState, IsSame, all_in, by_xid, without_transaction, fresh, above_of, is_in, kept_spots, spots_of, strand_at, with_change, with_changes, with_member, above_in, above_standing, back_from_last, back_in, behind, strand_after_rollback, with_transaction, with_subtransaction, with_change_of, after_rollback_of}
 use Rattle.reorder.specs.Spots.{SpotState}
 use Rattle.reorder.proofs.Opening.{put_cases}
 
@@ -22,8 +22,8 @@ at strands x = lookup (λ k. x == k) strands
 
 -- the strand of an xid, where that of one xid was put anew, and the entries of that xid too
 put_shown : (pool pool' : PoolState) (strands strands' : List (ℕ × Standing)) (xid : ℕ) (entries : List (List ℕ)) (w : Option Standing) (to : Option StrandState) →
-    ((x : ℕ) → entries_at pool' x ≡ with_entries pool xid entries x) → ((x : ℕ) → at strands' x ≡ put xid w (at strands) x) →
-    (entries_at pool' xid ≡ entries → option_map (with_changes pool' xid) w ≡ to) → (x : ℕ) → strand_at strands' pool' x ≡ put xid to (strand_at strands pool) x
+    ((x : ℕ) → entries_at pool' x ≡ with_entries pool xid entries x) → ((x : ℕ) → at strands' x ≡ map_with xid w (at strands) x) →
+    (entries_at pool' xid ≡ entries → option_map (with_changes pool' xid) w ≡ to) → (x : ℕ) → strand_at strands' pool' x ≡ map_with xid to (strand_at strands pool) x
 put_shown pool pool' strands strands' xid entries w to has puts here x = by_test (xid == x) refl
   where
     own : xid ≡ x → entries_at pool' xid ≡ entries
@@ -39,7 +39,7 @@ put_shown pool pool' strands strands' xid entries w to has puts here x = by_test
 -- a change more
 pub pushed_same : (strands : List (ℕ × Standing)) (members : List (ℕ × List ℕ)) (pool pool' : PoolState) (xid : ℕ) (entry : List ℕ) →
     ((x : ℕ) → entries_at pool' x ≡ with_entries pool xid (entries_at pool xid ++ entry ∷ []) x) →
-    IsSame (by_xid (record { strands = strands; members = members; pool = pool' })) (pushed xid (entry_in xid entry) (by_xid (record { strands = strands; members = members; pool = pool })))
+    IsSame (by_xid (record { strands = strands; members = members; pool = pool' })) (with_change_of xid (entry_in xid entry) (by_xid (record { strands = strands; members = members; pool = pool })))
 pushed_same strands members pool pool' xid entry has = record {
   strand = put_shown pool pool' strands strands xid (entries_at pool xid ++ entry ∷ []) (at strands xid) (option_map (with_change (entry_in xid entry)) (strand_at strands pool xid)) has
       (λ x. sym (put_cases (λ o. o ≡ at strands x) xid x (at strands xid) (at strands) (λ same. ap (at strands) same) (λ other. refl))) (grown (at strands xid));
@@ -52,9 +52,9 @@ pushed_same strands members pool pool' xid entry has = record {
     grown (Some s) is = ap (λ es. Some (record { above = s.above; changes = es })) (ap (map (entry_in xid)) is ∙ map-append (entry_in xid) (entries_at pool xid) (entry ∷ []))
 
 pub started_same : (strands strands' : List (ℕ × Standing)) (members members' : List (ℕ × List ℕ)) (pool pool' : PoolState) (xid : ℕ) →
-    ((x : ℕ) → entries_at pool' x ≡ with_entries pool xid [] x) → ((x : ℕ) → at strands' x ≡ put xid (Some (record { above = [] })) (at strands) x) →
-    ((t : ℕ) → lookup (λ k. t == k) members' ≡ put xid (Some (xid ∷ [])) (λ t'. lookup (λ k. t' == k) members) t) →
-    IsSame (by_xid (record { strands = strands'; members = members'; pool = pool' })) (started xid (by_xid (record { strands = strands; members = members; pool = pool })))
+    ((x : ℕ) → entries_at pool' x ≡ with_entries pool xid [] x) → ((x : ℕ) → at strands' x ≡ map_with xid (Some (record { above = [] })) (at strands) x) →
+    ((t : ℕ) → lookup (λ k. t == k) members' ≡ map_with xid (Some (xid ∷ [])) (λ t'. lookup (λ k. t' == k) members) t) →
+    IsSame (by_xid (record { strands = strands'; members = members'; pool = pool' })) (with_transaction xid (by_xid (record { strands = strands; members = members; pool = pool })))
 started_same strands strands' members members' pool pool' xid has puts all = record {
   strand = put_shown pool pool' strands strands' xid [] (Some (record { above = [] })) (Some (fresh [])) has puts (λ is. ap (λ es. Some (record { above = []; changes = map (entry_in xid) es })) is);
   members = all;
@@ -62,7 +62,7 @@ started_same strands strands' members members' pool pool' xid has puts all = rec
 
 pub undone_same : (strands : List (ℕ × Standing)) (members : List (ℕ × List ℕ)) (pool pool' : PoolState) (xid : ℕ) →
     ((x : ℕ) → entries_at pool' x ≡ cond ((xid == x) || (is_in x (behind xid (back_in (record { strands = strands; members = members; pool = pool }) xid)) && is_in xid (above_standing (at strands x)))) [] (entries_at pool x)) →
-    IsSame (by_xid (record { strands = strands; members = members; pool = pool' })) (undone xid (by_xid (record { strands = strands; members = members; pool = pool })))
+    IsSame (by_xid (record { strands = strands; members = members; pool = pool' })) (after_rollback_of xid (by_xid (record { strands = strands; members = members; pool = pool })))
 undone_same strands members pool pool' xid has = record {
   strand = λ x. by_option x (at strands x) (has x);
   members = λ t. refl;
@@ -82,7 +82,7 @@ undone_same strands members pool pool' xid has = record {
     shown x false t same = rw same refl
 
     by_option : (x : ℕ) (o : Option Standing) → entries_at pool' x ≡ cond ((xid == x) || (is_in x (behind xid (back_in (record { strands = strands; members = members; pool = pool }) xid)) && is_in xid (above_standing o))) [] (entries_at pool x) →
-        option_map (with_changes pool' x) o ≡ option_map (rolled_back xid (back_from_last (by_xid (record { strands = strands; members = members; pool = pool })) xid) x) (option_map (with_changes pool x) o)
+        option_map (with_changes pool' x) o ≡ option_map (strand_after_rollback xid (back_from_last (by_xid (record { strands = strands; members = members; pool = pool })) xid) x) (option_map (with_changes pool x) o)
     by_option x None same = refl
     by_option x (Some t) same = rw back_is (ap Some (shown x ((xid == x) || (is_in x (behind xid (back_in (record { strands = strands; members = members; pool = pool }) xid)) && is_in xid t.above)) t same))
 
@@ -94,10 +94,10 @@ either false b es = refl
 -- the same where the entries of those under it went first
 pub undone_after : (s : StrandsState) (strands : List (ℕ × Standing)) (members : List (ℕ × List ℕ)) (pool pool' : PoolState) (xid : ℕ) → strands ≡ s.strands → members ≡ s.members →
     ((x : ℕ) → entries_at pool x ≡ cond (is_in x (behind xid (back_in s xid)) && is_in xid (above_standing (at s.strands x))) [] (entries_at s.pool x)) →
-    ((x : ℕ) → entries_at pool' x ≡ with_entries pool xid [] x) → IsSame (by_xid (record { strands = strands; members = members; pool = pool' })) (undone xid (by_xid s))
+    ((x : ℕ) → entries_at pool' x ≡ with_entries pool xid [] x) → IsSame (by_xid (record { strands = strands; members = members; pool = pool' })) (after_rollback_of xid (by_xid s))
 undone_after s strands members pool pool' xid same_strands same_members under has =
-    subst (λ (ss : List (ℕ × Standing)). IsSame (by_xid (record { strands = ss; members = members; pool = pool' })) (undone xid (by_xid s))) (sym same_strands)
-    (subst (λ (ms : List (ℕ × List ℕ)). IsSame (by_xid (record { strands = s.strands; members = ms; pool = pool' })) (undone xid (by_xid s))) (sym same_members)
+    subst (λ (ss : List (ℕ × Standing)). IsSame (by_xid (record { strands = ss; members = members; pool = pool' })) (after_rollback_of xid (by_xid s))) (sym same_strands)
+    (subst (λ (ms : List (ℕ × List ℕ)). IsSame (by_xid (record { strands = s.strands; members = ms; pool = pool' })) (after_rollback_of xid (by_xid s))) (sym same_members)
     (undone_same s.strands s.members s.pool pool' xid
     (λ x. has x ∙ ap (λ es. cond (xid == x) [] es) (under x) ∙ either (xid == x) (is_in x (behind xid (back_in s xid)) && is_in xid (above_standing (at s.strands x))) (entries_at s.pool x))))
 
@@ -113,9 +113,9 @@ given_back strands members pool pool' xid top ms xs top_is found is each x =
 -- a subtransaction comes under its parent
 pub assigned_same : (strands strands' : List (ℕ × Standing)) (members members' : List (ℕ × List ℕ)) (pool pool' : PoolState) (sub parent top : ℕ) (above : List ℕ) →
     above ≡ parent ∷ above_of (by_xid (record { strands = strands; members = members; pool = pool })) parent → top ≡ last_of parent above →
-    ((x : ℕ) → entries_at pool' x ≡ with_entries pool sub [] x) → ((x : ℕ) → at strands' x ≡ put sub (Some (record { above = above })) (at strands) x) →
-    ((t : ℕ) → lookup (λ k. t == k) members' ≡ put top (option_map (with_member sub) (lookup (λ k. top == k) members)) (λ t'. lookup (λ k. t' == k) members) t) →
-    IsSame (by_xid (record { strands = strands'; members = members'; pool = pool' })) (assigned sub parent (by_xid (record { strands = strands; members = members; pool = pool })))
+    ((x : ℕ) → entries_at pool' x ≡ with_entries pool sub [] x) → ((x : ℕ) → at strands' x ≡ map_with sub (Some (record { above = above })) (at strands) x) →
+    ((t : ℕ) → lookup (λ k. t == k) members' ≡ map_with top (option_map (with_member sub) (lookup (λ k. top == k) members)) (λ t'. lookup (λ k. t' == k) members) t) →
+    IsSame (by_xid (record { strands = strands'; members = members'; pool = pool' })) (with_subtransaction sub parent (by_xid (record { strands = strands; members = members; pool = pool })))
 assigned_same strands strands' members members' pool pool' sub parent top above is last has puts all = record {
   strand = λ x. put_shown pool pool' strands strands' sub [] (Some (record { above = above })) (Some (fresh above)) has puts
       (λ none. ap (λ es. Some (record { above = above; changes = map (entry_in sub) es })) none) x ∙ rw is refl;
@@ -125,8 +125,8 @@ assigned_same strands strands' members members' pool pool' sub parent top above 
 -- where xids go, and their entries
 pub ended_same : (strands strands' : List (ℕ × Standing)) (members members' : List (ℕ × List ℕ)) (pool pool' : PoolState) (top : ℕ) (xids : List ℕ) →
     lookup (λ k. top == k) members ≡ Some xids → ((x : ℕ) → entries_at pool' x ≡ cond (is_in x xids) [] (entries_at pool x)) →
-    ((x : ℕ) → at strands' x ≡ cond (is_in x xids) None (at strands x)) → ((t : ℕ) → lookup (λ k. t == k) members' ≡ put top None (λ t'. lookup (λ k. t' == k) members) t) →
-    IsSame (by_xid (record { strands = strands'; members = members'; pool = pool' })) (ended top (by_xid (record { strands = strands; members = members; pool = pool })))
+    ((x : ℕ) → at strands' x ≡ cond (is_in x xids) None (at strands x)) → ((t : ℕ) → lookup (λ k. t == k) members' ≡ map_with top None (λ t'. lookup (λ k. t' == k) members) t) →
+    IsSame (by_xid (record { strands = strands'; members = members'; pool = pool' })) (without_transaction top (by_xid (record { strands = strands; members = members; pool = pool })))
 ended_same strands strands' members members' pool pool' top xids is has puts all = record {
   strand = λ x. rw is (by_test x (is_in x xids) (has x) (puts x));
   members = all;
@@ -139,8 +139,8 @@ ended_same strands strands' members members' pool pool' top xids is has puts all
 -- the same with their entries lent
 pub ended_lent : (strands strands' : List (ℕ × Standing)) (members members' : List (ℕ × List ℕ)) (pool pool' : PoolState) (top : ℕ) (xids : List ℕ) →
     all_in (lookup (λ k. top == k) members) ≡ xids → ((x : ℕ) → is_in x xids ≡ false → entries_at pool' x ≡ entries_at pool x) → ((x : ℕ) → at strands' x ≡ cond (is_in x xids) None (at strands x)) →
-    ((t : ℕ) → lookup (λ k. t == k) members' ≡ put top None (λ t'. lookup (λ k. t' == k) members) t) →
-    IsSame (by_xid (record { strands = strands'; members = members'; pool = pool' })) (ended top (by_xid (record { strands = strands; members = members; pool = pool })))
+    ((t : ℕ) → lookup (λ k. t == k) members' ≡ map_with top None (λ t'. lookup (λ k. t' == k) members) t) →
+    IsSame (by_xid (record { strands = strands'; members = members'; pool = pool' })) (without_transaction top (by_xid (record { strands = strands; members = members; pool = pool })))
 ended_lent strands strands' members members' pool pool' top xids is same puts all = record {
   strand = λ x. rw is (by_test x (is_in x xids) refl (puts x));
   members = all;

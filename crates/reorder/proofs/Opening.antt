@@ -6,20 +6,20 @@ use Rattle.std.proofs.lemmas.Bool.{eqb-true}
 use Rattle.wal.specs.declared.record.Record.{Record}
 use Rattle.wal.specs.Log.{IsOpen, is_named, has_ended, chain, last_of, top_of}
 use Rattle.wal.proofs.Laws.{chain-unassigned}
-use Rattle.reorder.specs.Pool.{put}
-use Rattle.reorder.specs.Strands.{StrandState, StrandsState, ByXid, above_in, above_of, by_xid, IsSame, fresh, is_in, started}
+use Rattle.reorder.specs.Pool.{map_with}
+use Rattle.reorder.specs.Strands.{StrandState, StrandsState, ByXid, above_in, above_of, by_xid, IsSame, fresh, is_in, with_transaction}
 use Rattle.reorder.specs.Bookkeeping.{IsStrand, IsTransaction, AreStrandsOf}
 use Rattle.reorder.proofs.Named.{unassigned, undropped, no_changes}
 use Rattle.reorder.proofs.Ordering.{ordered_back}
 
-pub put_cases : {A : Type 0} (P : Option A → Type 0) (k x : ℕ) (w : Option A) (f : ℕ → Option A) → (k ≡ x → P w) → ((k == x) ≡ false → P (f x)) → P (put k w f x)
+pub put_cases : {A : Type 0} (P : Option A → Type 0) (k x : ℕ) (w : Option A) (f : ℕ → Option A) → (k ≡ x → P w) → ((k == x) ≡ false → P (f x)) → P (map_with k w f x)
 put_cases P k x w f here other = by_test (k == x) refl
   where
     by_test : (b : Bool) → (k == x) ≡ b → P (cond b w (f x))
     by_test true is = here (eqb-true k x is)
     by_test false is = other is
 
-pub put_here : {A : Type 0} (k : ℕ) (w : Option A) (f : ℕ → Option A) → put k w f k ≡ w
+pub put_here : {A : Type 0} (k : ℕ) (w : Option A) (f : ℕ → Option A) → map_with k w f k ≡ w
 put_here k w f = rw (eq-eqb k k refl) refl
 
 pub no_some : {A : Type 0} (o : Option A) → o ≡ None → IsSome o → ⊥
@@ -50,14 +50,14 @@ no_members l rs x h none = by_option (l.members x) refl
     by_option None is = refl
     by_option (Some xs) is = let t : IsTransaction l rs x xs = h.transactions x xs is in absurd (no_some (l.strand x) none (t.strands x t.own))
 
-start_kept : (l : ByXid) (rs : List Record) (x : ℕ) → AreStrandsOf l rs → IsOpen rs x → l.strand x ≡ None → AreStrandsOf (started x l) rs
+start_kept : (l : ByXid) (rs : List Record) (x : ℕ) → AreStrandsOf l rs → IsOpen rs x → l.strand x ≡ None → AreStrandsOf (with_transaction x l) rs
 start_kept l rs x h alive none =
     record {
-      strands = λ q s. put_cases (λ o. o ≡ Some s → IsStrand (started x l) rs q s) x q (Some (fresh [])) l.strand
-          (λ same is. let e : fresh [] ≡ s = cc in subst (λ (v : StrandState). IsStrand (started x l) rs q v) e (subst (λ (y : ℕ). IsStrand (started x l) rs y (fresh [])) same new_strand))
+      strands = λ q s. put_cases (λ o. o ≡ Some s → IsStrand (with_transaction x l) rs q s) x q (Some (fresh [])) l.strand
+          (λ same is. let e : fresh [] ≡ s = cc in subst (λ (v : StrandState). IsStrand (with_transaction x l) rs q v) e (subst (λ (y : ℕ). IsStrand (with_transaction x l) rs y (fresh [])) same new_strand))
           (λ other is. old_strand q s (h.strands q s is));
-      transactions = λ t xs. put_cases (λ o. o ≡ Some xs → IsTransaction (started x l) rs t xs) x t (Some (x ∷ [])) l.members
-          (λ same is. let e : x ∷ [] ≡ xs = cc in subst (λ (v : List ℕ). IsTransaction (started x l) rs t v) e (subst (λ (y : ℕ). IsTransaction (started x l) rs y (x ∷ [])) same new_transaction))
+      transactions = λ t xs. put_cases (λ o. o ≡ Some xs → IsTransaction (with_transaction x l) rs t xs) x t (Some (x ∷ [])) l.members
+          (λ same is. let e : x ∷ [] ≡ xs = cc in subst (λ (v : List ℕ). IsTransaction (with_transaction x l) rs t v) e (subst (λ (y : ℕ). IsTransaction (with_transaction x l) rs y (x ∷ [])) same new_transaction))
           (λ other is. old_transaction t xs (h.transactions t xs is));
       complete = λ q named kept running. put_cases IsSome x q (Some (fresh [])) l.strand (λ same. refl) (λ other. h.complete q named kept running);
       rising = h.rising;
@@ -69,7 +69,7 @@ start_kept l rs x h alive none =
     alone : chain rs x ≡ x ∷ []
     alone = chain-unassigned rs x (unassigned rs x unheard)
 
-    new_strand : IsStrand (started x l) rs x (fresh [])
+    new_strand : IsStrand (with_transaction x l) rs x (fresh [])
     new_strand = record {
       chain = alone;
       changes = λ live. sym (no_changes rs x unheard);
@@ -79,7 +79,7 @@ start_kept l rs x h alive none =
       within = (one_in x [], tt);
     }
 
-    old_strand : (q : ℕ) (s : StrandState) → IsStrand l rs q s → IsStrand (started x l) rs q s
+    old_strand : (q : ℕ) (s : StrandState) → IsStrand l rs q s → IsStrand (with_transaction x l) rs q s
     old_strand q s o = record {
       chain = o.chain;
       changes = o.changes;
@@ -90,24 +90,24 @@ start_kept l rs x h alive none =
       within = o.within;
     }
 
-    new_transaction : IsTransaction (started x l) rs x (x ∷ [])
+    new_transaction : IsTransaction (with_transaction x l) rs x (x ∷ [])
     new_transaction = record {
       running = ap (has_ended rs) (sym (ap (last_of x) alone)) ∙ alive.running;
       own = one_in x [];
       distinct = (refl, tt);
-      strands = λ q inn. subst (λ (y : ℕ). IsSome ((started x l).strand y)) (in_one q x inn) (ap is_some (put_here x (Some (fresh [])) l.strand));
+      strands = λ q inn. subst (λ (y : ℕ). IsSome ((with_transaction x l).strand y)) (in_one q x inn) (ap is_some (put_here x (Some (fresh [])) l.strand));
       tops = λ q inn. subst (λ (y : ℕ). top_of rs y ≡ x) (in_one q x inn) (ap (last_of x) alone);
       ordered = (refl, subst (λ (ys : List ℕ). AllByRecursion (λ y. is_in y [] ≡ true) ys) (sym (ap above_in (put_here x (Some (fresh [])) l.strand))) tt, tt);
     }
 
-    old_transaction : (t : ℕ) (xs : List ℕ) → IsTransaction l rs t xs → IsTransaction (started x l) rs t xs
+    old_transaction : (t : ℕ) (xs : List ℕ) → IsTransaction l rs t xs → IsTransaction (with_transaction x l) rs t xs
     old_transaction t xs o = record {
       running = o.running;
       own = o.own;
       distinct = o.distinct;
       strands = λ q inn. put_cases IsSome x q (Some (fresh [])) l.strand (λ same. refl) (λ other. o.strands q inn);
       tops = o.tops;
-      ordered = ordered_back l (started x l) xs
+      ordered = ordered_back l (with_transaction x l) xs
           (λ q inn. put_cases (λ w. above_in w ≡ above_of l q) x q (Some (fresh [])) l.strand (λ same. absurd (no_some (l.strand q) (ap l.strand (sym same) ∙ none) (o.strands q inn))) (λ other. refl)) o.ordered;
     }
 
@@ -136,14 +136,14 @@ pub record Opened (a l : ByXid) (rs : List Record) (x : ℕ) : Type 0 where
   pub others : (q : ℕ) → (x == q) ≡ false → a.strand q ≡ l.strand q
 
 pub opened : (s now : StrandsState) (rs : List Record) (x : ℕ) → AreStrandsOf (by_xid s) rs → IsOpen rs x → (IsSome ((by_xid s).strand x) → now ≡ s) →
-    ((by_xid s).strand x ≡ None → IsSame (by_xid now) (started x (by_xid s))) → Opened (by_xid now) (by_xid s) rs x
+    ((by_xid s).strand x ≡ None → IsSame (by_xid now) (with_transaction x (by_xid s))) → Opened (by_xid now) (by_xid s) rs x
 opened s now rs x h alive known new = by_option ((by_xid s).strand x) refl
   where
     by_option : (o : Option StrandState) → (by_xid s).strand x ≡ o → Opened (by_xid now) (by_xid s) rs x
     by_option None is =
-        let same : IsSame (by_xid now) (started x (by_xid s)) = new is in
+        let same : IsSame (by_xid now) (with_transaction x (by_xid s)) = new is in
         record {
-          kept = same_kept (by_xid now) (started x (by_xid s)) rs same (start_kept (by_xid s) rs x h alive is);
+          kept = same_kept (by_xid now) (with_transaction x (by_xid s)) rs same (start_kept (by_xid s) rs x h alive is);
           some = ap is_some (same.strand x ∙ put_here x (Some (fresh [])) (by_xid s).strand);
           others = λ q other. same.strand q ∙ rw other refl;
         }

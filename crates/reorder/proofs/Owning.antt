@@ -2,8 +2,8 @@
 use Rattle.std.proofs.Common.{◌≡◌, ◌≢◌, ◌⊎◌, inl, inr, ℕ, ◌<◌, true, false, List, [], ◌∷◌, ◌++◌, Option, Some, None, length, get_or, set, refl, sym, ap, subst, ◌∙◌, length-set, eq-eqb, ⊎_elim}
 use Rattle.std.proofs.lemmas.Bool.{cases_eq}
 use Rattle.std.proofs.lemmas.List.{get_or-set_same, get_or-set_other}
-use Rattle.chgarena.specs.Strands.{Strands as Arena, IsHead, entries_of, without}
-use Rattle.reorder.specs.Pool.{PoolState, PushesAt, put, strand_of}
+use Rattle.chgarena.specs.Strands.{Strands as Arena, IsHead, arena_without, entries_of}
+use Rattle.reorder.specs.Pool.{PoolState, PushesAt, map_with, strand_of}
 use Rattle.reorder.specs.Ready.{ReadyState}
 use Rattle.reorder.specs.Chunks.{IsHeldBy, IsOwned, IsWhole, strands_alone}
 use Rattle.reorder.proofs.Opening.{put_cases}
@@ -17,14 +17,14 @@ left_or (inl a) f = inl (f a)
 left_or (inr c) f = inr c
 
 -- an xid that keeps its strand
-kept_by : (arena arena' : Arena) (strands strands' : List (ℕ × Option ℕ)) (xid : ℕ) (new : Option (Option ℕ)) (head : ℕ) → ((x : ℕ) → strand_of strands' x ≡ put xid new (strand_of strands) x) →
+kept_by : (arena arena' : Arena) (strands strands' : List (ℕ × Option ℕ)) (xid : ℕ) (new : Option (Option ℕ)) (head : ℕ) → ((x : ℕ) → strand_of strands' x ≡ map_with xid new (strand_of strands) x) →
     (o : IsOwned (of arena strands) head) → (xid ≡ o.xid → new ≡ Some (Some head)) → IsOwned (of arena' strands') head
 kept_by arena arena' strands strands' xid new head puts o here = record {
   xid = o.xid;
   is = puts o.xid ∙ put_cases (λ w. w ≡ Some (Some head)) xid o.xid new (strand_of strands) here (λ other. o.is);
 }
 
-pub whole_opened : (arena : Arena) (strands strands' : List (ℕ × Option ℕ)) (xid : ℕ) → strand_of strands xid ≡ None → ((x : ℕ) → strand_of strands' x ≡ put xid (Some None) (strand_of strands) x) →
+pub whole_opened : (arena : Arena) (strands strands' : List (ℕ × Option ℕ)) (xid : ℕ) → strand_of strands xid ≡ None → ((x : ℕ) → strand_of strands' x ≡ map_with xid (Some None) (strand_of strands) x) →
     (held : List ReadyState) → IsWhole held (of arena strands) → IsWhole held (of arena strands')
 whole_opened arena strands strands' xid none puts held whole = λ head within entries is.
     left_or (whole head within entries is)
@@ -54,12 +54,12 @@ whole_pushed xid entry arena arena' strands strands' p held whole = λ head with
     by_head None head is kept = let never : None ≡ Some head = is in cc
     by_head (Some first) head is kept = let same : first ≡ head = cc in sym same ∙ sym kept
 
-pub back_chunks : (arena : Arena) (o : Option ℕ) → length (without arena o) ≡ length arena
+pub back_chunks : (arena : Arena) (o : Option ℕ) → length (arena_without arena o) ≡ length arena
 back_chunks arena None = refl
 back_chunks arena (Some head) = length-set arena head None
 
 pub whole_back : (xid : ℕ) (arena : Arena) (strands strands' : List (ℕ × Option ℕ)) (o : Option ℕ) → strand_of strands xid ≡ Some o →
-    ((x : ℕ) → strand_of strands' x ≡ put xid None (strand_of strands) x) → (held : List ReadyState) → IsWhole held (of arena strands) → IsWhole held (of (without arena o) strands')
+    ((x : ℕ) → strand_of strands' x ≡ map_with xid None (strand_of strands) x) → (held : List ReadyState) → IsWhole held (of arena strands) → IsWhole held (of (arena_without arena o) strands')
 whole_back xid arena strands strands' None was puts held whole = λ head within entries is.
     left_or (whole head within entries is)
     (λ (w : IsOwned (of arena strands) head). kept_by arena arena strands strands' xid None head puts w
@@ -105,10 +105,10 @@ swapped arena strands lent held whole = λ head within entries is. by_owner head
     by_owner head (inr (inr other)) = inr (inr other)
 
 -- one strand of those that are lent goes
-pub whole_taken : (xid : ℕ) (arena : Arena) (strands lent lent' : List (ℕ × Option ℕ)) (o : Option ℕ) → strand_of lent xid ≡ Some o → ((x : ℕ) → strand_of lent' x ≡ put xid None (strand_of lent) x) →
-    (held : List ReadyState) → IsWhole (alone lent ∷ held) (of arena strands) → IsWhole (alone lent' ∷ held) (of (without arena o) strands)
+pub whole_taken : (xid : ℕ) (arena : Arena) (strands lent lent' : List (ℕ × Option ℕ)) (o : Option ℕ) → strand_of lent xid ≡ Some o → ((x : ℕ) → strand_of lent' x ≡ map_with xid None (strand_of lent) x) →
+    (held : List ReadyState) → IsWhole (alone lent ∷ held) (of arena strands) → IsWhole (alone lent' ∷ held) (of (arena_without arena o) strands)
 whole_taken xid arena strands lent lent' o was puts held whole =
-    swapped (without arena o) lent' strands held (whole_back xid arena lent lent' o was puts (alone strands ∷ held) (swapped arena strands lent held whole))
+    swapped (arena_without arena o) lent' strands held (whole_back xid arena lent lent' o was puts (alone strands ∷ held) (swapped arena strands lent held whole))
 
 -- where none is left, what is held is held by others
 pub whole_finished : (p : PoolState) (lent : List (ℕ × Option ℕ)) → ((x : ℕ) → strand_of lent x ≡ None) → (held : List ReadyState) → IsWhole (alone lent ∷ held) p → IsWhole held p

@@ -2,9 +2,9 @@
 use Rattle.std.proofs.Common.{◌≡◌, ℕ, ◌<◌, ◌==◌, Bool, true, false, cond, List, [], ◌∷◌, ◌++◌, Option, Some, None, length, get_or, is_some, set, refl, sym, ap, subst, ◌∙◌, length-set, eq-eqb}
 use Rattle.std.specs.List.{AllByRecursion}
 use Rattle.std.proofs.lemmas.List.{get_or-set_same, get_or-set_other}
-use Rattle.chgarena.specs.Strands.{Strands as Arena, IsOf, IsHead, IsPushed, entries_at as entries_in_place, entries_of, without}
+use Rattle.chgarena.specs.Strands.{Strands as Arena, IsOf, IsHead, IsPushed, arena_without, entries_at as entries_in_place, entries_of}
 use Rattle.reorder.specs.Entries.{IsEntry}
-use Rattle.reorder.specs.Pool.{HoldEntries, IsPool, IsSameAt, PushesAt, entries_by, put, strand_of}
+use Rattle.reorder.specs.Pool.{HoldEntries, IsPool, IsSameAt, PushesAt, entries_by, map_with, strand_of}
 use Rattle.wal.proofs.Lists.{all_append}
 use Rattle.reorder.proofs.Opening.{put_cases}
 
@@ -48,7 +48,7 @@ pushed_stays a a' o o' entry p None made apart = record { made = tt; entries = r
 pushed_stays a a' o o' entry p (Some q) made apart =
     set_stays a a' p.head (Some (entries_of a o ++ entry ∷ [])) q p.strands (pushed_elsewhere a a' o o' entry p q made (apart q refl)) made
 
-pub back_stays : (a : Arena) (o r : Option ℕ) → IsOf a r → ((q : ℕ) → r ≡ Some q → o ≡ Some q → ⊥) → Stays a (without a o) r
+pub back_stays : (a : Arena) (o r : Option ℕ) → IsOf a r → ((q : ℕ) → r ≡ Some q → o ≡ Some q → ⊥) → Stays a (arena_without a o) r
 back_stays a None r made apart = record { made = made; entries = refl }
 back_stays a (Some head) None made apart = record { made = tt; entries = refl }
 back_stays a (Some head) (Some q) made apart = set_stays a (set a head None) head None q refl (λ same. apart q refl (ap Some same)) made
@@ -102,9 +102,9 @@ entries_pushed xid entry arena strands arena' strands' pool p x = ap (entries_by
         (pushed_stays arena arena' p.head p.head' entry p.pushed r (pool.made x r is) (apart_at arena strands pool xid x p.head r p.was is other)).entries
 
 pub pool_back : (xid : ℕ) (arena : Arena) (strands strands' : List (ℕ × Option ℕ)) (o : Option ℕ) → IsPool arena strands → strand_of strands xid ≡ Some o →
-    ((x : ℕ) → strand_of strands' x ≡ put xid None (strand_of strands) x) → IsPool (without arena o) strands'
+    ((x : ℕ) → strand_of strands' x ≡ map_with xid None (strand_of strands) x) → IsPool (arena_without arena o) strands'
 pool_back xid arena strands strands' o pool was others = record {
-  made = λ x r is. put_cases (λ s. s ≡ Some r → IsOf (without arena o) r) xid x None (strand_of strands)
+  made = λ x r is. put_cases (λ s. s ≡ Some r → IsOf (arena_without arena o) r) xid x None (strand_of strands)
       (λ same s. let never : None ≡ Some r = s in cc)
       (λ other s. (back_stays arena o r (pool.made x r s) (apart_at arena strands pool xid x o r was s other)).made)
       (sym (others x) ∙ is);
@@ -116,18 +116,18 @@ pool_back xid arena strands strands' o pool was others = record {
         (λ same s. let never : None ≡ Some (Some q) = s in cc) (λ other s. s) (sym (others z) ∙ is)
 
 pub entries_back : (xid : ℕ) (arena : Arena) (strands strands' : List (ℕ × Option ℕ)) (o : Option ℕ) → IsPool arena strands → strand_of strands xid ≡ Some o →
-    ((x : ℕ) → strand_of strands' x ≡ put xid None (strand_of strands) x) → (x : ℕ) →
-    entries_by (without arena o) (strand_of strands' x) ≡ cond (xid == x) [] (entries_by arena (strand_of strands x))
-entries_back xid arena strands strands' o pool was others x = ap (entries_by (without arena o)) (others x) ∙ by_test (xid == x) refl (strand_of strands x) refl
+    ((x : ℕ) → strand_of strands' x ≡ map_with xid None (strand_of strands) x) → (x : ℕ) →
+    entries_by (arena_without arena o) (strand_of strands' x) ≡ cond (xid == x) [] (entries_by arena (strand_of strands x))
+entries_back xid arena strands strands' o pool was others x = ap (entries_by (arena_without arena o)) (others x) ∙ by_test (xid == x) refl (strand_of strands x) refl
   where
     by_test : (b : Bool) → (xid == x) ≡ b → (found : Option (Option ℕ)) → strand_of strands x ≡ found →
-        entries_by (without arena o) (cond b None found) ≡ cond b [] (entries_by arena found)
+        entries_by (arena_without arena o) (cond b None found) ≡ cond b [] (entries_by arena found)
     by_test true same found is = refl
     by_test false other None is = refl
     by_test false other (Some r) is = (back_stays arena o r (pool.made x r is) (apart_at arena strands pool xid x o r was is other)).entries
 
 -- a strand without entries more
-pub pool_opened : (xid : ℕ) (arena : Arena) (strands strands' : List (ℕ × Option ℕ)) → IsPool arena strands → ((x : ℕ) → strand_of strands' x ≡ put xid (Some None) (strand_of strands) x) → IsPool arena strands'
+pub pool_opened : (xid : ℕ) (arena : Arena) (strands strands' : List (ℕ × Option ℕ)) → IsPool arena strands → ((x : ℕ) → strand_of strands' x ≡ map_with xid (Some None) (strand_of strands) x) → IsPool arena strands'
 pool_opened xid arena strands strands' pool others = record {
   made = λ x r is. put_cases (λ s. s ≡ Some r → IsOf arena r) xid x (Some None) (strand_of strands)
       (λ same s. subst (IsOf arena) (some_same None r s) tt) (λ other s. pool.made x r s) (sym (others x) ∙ is);
@@ -138,7 +138,7 @@ pool_opened xid arena strands strands' pool others = record {
     left z q is = put_cases (λ s. s ≡ Some (Some q) → strand_of strands z ≡ Some (Some q)) xid z (Some None) (strand_of strands)
         (λ same s. let never : Some None ≡ Some (Some q) = s in cc) (λ other s. s) (sym (others z) ∙ is)
 
-pub entries_opened : (xid : ℕ) (arena : Arena) (strands strands' : List (ℕ × Option ℕ)) → strand_of strands xid ≡ None → ((x : ℕ) → strand_of strands' x ≡ put xid (Some None) (strand_of strands) x) → (x : ℕ) →
+pub entries_opened : (xid : ℕ) (arena : Arena) (strands strands' : List (ℕ × Option ℕ)) → strand_of strands xid ≡ None → ((x : ℕ) → strand_of strands' x ≡ map_with xid (Some None) (strand_of strands) x) → (x : ℕ) →
     entries_by arena (strand_of strands' x) ≡ entries_by arena (strand_of strands x)
 entries_opened xid arena strands strands' none others x =
     put_cases (λ s. strand_of strands' x ≡ s → entries_by arena (strand_of strands' x) ≡ entries_by arena (strand_of strands x)) xid x (Some None) (strand_of strands)
@@ -178,12 +178,12 @@ hold_pushed xid entry arena strands arena' strands' pool hold e p = λ x.
     (all_of (xid == x) _ _ (all_append _ (entries_by arena (strand_of strands xid)) (entry ∷ []) (hold xid) (e, tt)) (hold x))
 
 pub hold_back : (xid : ℕ) (arena : Arena) (strands strands' : List (ℕ × Option ℕ)) (o : Option ℕ) → IsPool arena strands → HoldEntries arena strands → strand_of strands xid ≡ Some o →
-    ((x : ℕ) → strand_of strands' x ≡ put xid None (strand_of strands) x) → HoldEntries (without arena o) strands'
+    ((x : ℕ) → strand_of strands' x ≡ map_with xid None (strand_of strands) x) → HoldEntries (arena_without arena o) strands'
 hold_back xid arena strands strands' o pool hold was others = λ x.
     all_same _ _ (entries_back xid arena strands strands' o pool was others x) (all_of (xid == x) [] _ tt (hold x))
 
 pub hold_opened : (xid : ℕ) (arena : Arena) (strands strands' : List (ℕ × Option ℕ)) → HoldEntries arena strands → strand_of strands xid ≡ None →
-    ((x : ℕ) → strand_of strands' x ≡ put xid (Some None) (strand_of strands) x) → HoldEntries arena strands'
+    ((x : ℕ) → strand_of strands' x ≡ map_with xid (Some None) (strand_of strands) x) → HoldEntries arena strands'
 hold_opened xid arena strands strands' hold none others = λ x. all_same _ _ (entries_opened xid arena strands strands' none others x) (hold x)
 
 pub hold_same : (xid : ℕ) (arena : Arena) (strands strands' : List (ℕ × Option ℕ)) → HoldEntries arena strands → IsSameAt xid strands strands' → HoldEntries arena strands'

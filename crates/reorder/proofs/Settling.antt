@@ -4,15 +4,15 @@ use Rattle.std.specs.List.{AllByRecursion}
 use Rattle.std.specs.Map.{lookup}
 use Rattle.std.specs.Option.{option_map}
 use Rattle.std.proofs.lemmas.List.{get_or-set_other}
-use Rattle.chgarena.specs.Strands.{Strands as Arena, entries_at as entries_in_place, without}
+use Rattle.chgarena.specs.Strands.{Strands as Arena, arena_without, entries_at as entries_in_place}
 use Rattle.wal.specs.declared.record.Record.{Record}
 use Rattle.wal.proofs.Lists.{all_append}
 use Rattle.reorder.specs.Entries.{entry_in}
-use Rattle.reorder.specs.Pool.{AreApart, IsLent, Lasts, PoolState, StaysLent, entries_at, entries_by, put, strand_of}
+use Rattle.reorder.specs.Pool.{AreApart, IsLent, Lasts, PoolState, StaysLent, entries_at, entries_by, map_with, strand_of}
 use Rattle.reorder.specs.Ready.{IsReadyIn, PlaceState, ReadyState, entry_at, lent_from, ready_entries}
 use Rattle.reorder.specs.Strands.{Standing, StrandState, StrandsState}
 use Rattle.reorder.specs.Taking.{HasTaken, IsSameTaken, ReorderState}
-use Rattle.reorder.specs.Settled.{AreLentIn, given_back, head_in, heads_of, pool_without, ready_heads, settled, strands_without, without_all}
+use Rattle.reorder.specs.Settled.{AreLentIn, after_giving_all_back, after_giving_back, head_in, heads_of, pool_without, ready_heads, strands_without, without_all}
 use Rattle.reorder.proofs.Lending.{lent_taken}
 use Rattle.reorder.proofs.Opening.{put_cases}
 use Rattle.reorder.proofs.Owning.{of}
@@ -23,37 +23,37 @@ use Rattle.reorder.proofs.Steps.{same_taken, state}
 pub heads_alike : (strand strand' : ℕ → Option (Option ℕ)) → ((x : ℕ) → strand x ≡ strand' x) → (xs : List ℕ) → heads_of strand xs ≡ heads_of strand' xs
 heads_alike strand strand' same [] = refl
 heads_alike strand strand' same (x ∷ xs) =
-    rw (same x, heads_alike (put x None strand) (put x None strand') (λ y. ap (λ (o : Option (Option ℕ)). cond (x == y) None o) (same y)) xs) refl
+    rw (same x, heads_alike (map_with x None strand) (map_with x None strand') (λ y. ap (λ (o : Option (Option ℕ)). cond (x == y) None o) (same y)) xs) refl
 
 -- what holds of the first chunk of each strand holds of these
 pub heads_are : (P : ℕ → Type 0) (strand : ℕ → Option (Option ℕ)) → ((x head : ℕ) → strand x ≡ Some (Some head) → P head) → (xs : List ℕ) → AllByRecursion P (heads_of strand xs)
 heads_are P strand each [] = tt
-heads_are P strand each (x ∷ xs) = all_append P (head_in (strand x)) (heads_of (put x None strand) xs) (here (strand x) refl) (heads_are P (put x None strand) (λ y head is. each y head (left y head is)) xs)
+heads_are P strand each (x ∷ xs) = all_append P (head_in (strand x)) (heads_of (map_with x None strand) xs) (here (strand x) refl) (heads_are P (map_with x None strand) (λ y head is. each y head (left y head is)) xs)
   where
     here : (o : Option (Option ℕ)) → strand x ≡ o → AllByRecursion P (head_in o)
     here None is = tt
     here (Some None) is = tt
     here (Some (Some head)) is = (each x head is, tt)
 
-    left : (y head : ℕ) → put x None strand y ≡ Some (Some head) → strand y ≡ Some (Some head)
+    left : (y head : ℕ) → map_with x None strand y ≡ Some (Some head) → strand y ≡ Some (Some head)
     left y head is = put_cases (λ o. o ≡ Some (Some head) → strand y ≡ Some (Some head)) x y None strand (λ same o. let never : None ≡ Some (Some head) = o in cc) (λ other o. o) is
 
 -- ---- taking them back one by one
 
 -- nothing was taken back for an xid without a strand
-pub back_none : (arena : Arena) (strand strand' : ℕ → Option (Option ℕ)) (x : ℕ) (xs : List ℕ) → strand x ≡ None → ((y : ℕ) → strand' y ≡ put x None strand y) →
+pub back_none : (arena : Arena) (strand strand' : ℕ → Option (Option ℕ)) (x : ℕ) (xs : List ℕ) → strand x ≡ None → ((y : ℕ) → strand' y ≡ map_with x None strand y) →
     without_all arena (heads_of strand (x ∷ xs)) ≡ without_all arena (heads_of strand' xs)
 back_none arena strand strand' x xs none puts =
-    ap (λ (o : Option (Option ℕ)). without_all arena (head_in o ++ heads_of (put x None strand) xs)) none ∙ ap (without_all arena) (sym (heads_alike strand' (put x None strand) puts xs))
+    ap (λ (o : Option (Option ℕ)). without_all arena (head_in o ++ heads_of (map_with x None strand) xs)) none ∙ ap (without_all arena) (sym (heads_alike strand' (map_with x None strand) puts xs))
 
 -- one strand was taken back
-pub back_some : (arena : Arena) (strand strand' : ℕ → Option (Option ℕ)) (x : ℕ) (xs : List ℕ) (o : Option ℕ) → strand x ≡ Some o → ((y : ℕ) → strand' y ≡ put x None strand y) →
-    without_all arena (heads_of strand (x ∷ xs)) ≡ without_all (without arena o) (heads_of strand' xs)
+pub back_some : (arena : Arena) (strand strand' : ℕ → Option (Option ℕ)) (x : ℕ) (xs : List ℕ) (o : Option ℕ) → strand x ≡ Some o → ((y : ℕ) → strand' y ≡ map_with x None strand y) →
+    without_all arena (heads_of strand (x ∷ xs)) ≡ without_all (arena_without arena o) (heads_of strand' xs)
 back_some arena strand strand' x xs o is puts =
-    ap (λ (o : Option (Option ℕ)). without_all arena (head_in o ++ heads_of (put x None strand) xs)) is
-    ∙ by_option o ∙ ap (without_all (without arena o)) (sym (heads_alike strand' (put x None strand) puts xs))
+    ap (λ (o : Option (Option ℕ)). without_all arena (head_in o ++ heads_of (map_with x None strand) xs)) is
+    ∙ by_option o ∙ ap (without_all (arena_without arena o)) (sym (heads_alike strand' (map_with x None strand) puts xs))
   where
-    by_option : (o : Option ℕ) → without_all arena (head_in (Some o) ++ heads_of (put x None strand) xs) ≡ without_all (without arena o) (heads_of (put x None strand) xs)
+    by_option : (o : Option ℕ) → without_all arena (head_in (Some o) ++ heads_of (map_with x None strand) xs) ≡ without_all (arena_without arena o) (heads_of (map_with x None strand) xs)
     by_option None = refl
     by_option (Some head) = refl
 
@@ -61,9 +61,9 @@ back_some arena strand strand' x xs o is puts =
 
 entries_left : (arena : Arena) (heads : List ℕ) (o : Option (Option ℕ)) → AllByRecursion (λ head. o ≡ Some (Some head) → ⊥) heads → entries_by (without_all arena heads) o ≡ entries_by arena o
 entries_left arena [] o apart = refl
-entries_left arena (head ∷ heads) o apart = entries_left (without arena (Some head)) heads o apart.1 ∙ by_option o apart.0
+entries_left arena (head ∷ heads) o apart = entries_left (arena_without arena (Some head)) heads o apart.1 ∙ by_option o apart.0
   where
-    by_option : (o : Option (Option ℕ)) → (o ≡ Some (Some head) → ⊥) → entries_by (without arena (Some head)) o ≡ entries_by arena o
+    by_option : (o : Option (Option ℕ)) → (o ≡ Some (Some head) → ⊥) → entries_by (arena_without arena (Some head)) o ≡ entries_by arena o
     by_option None away = refl
     by_option (Some None) away = refl
     by_option (Some (Some q)) away = ap entries_in_place (get_or-set_other arena head q None None (λ same. away (ap (λ n. Some (Some n)) same)))
@@ -72,8 +72,8 @@ pub lent_left : (arena : Arena) (strands : List (ℕ × Option ℕ)) (heads : Li
     Lasts (of arena strands) (of (without_all arena heads) strands) lent
 lent_left arena strands [] lent apart is = record { still = is; same = λ x. refl }
 lent_left arena strands (head ∷ heads) lent apart is =
-    let one : Lasts (of arena strands) (of (without arena (Some head)) strands) lent = lent_taken arena strands (Some head) lent (λ x q at_x at_q. apart.0 x (at_x ∙ ap Some (sym at_q))) is in
-    let two : Lasts (of (without arena (Some head)) strands) (of (without_all (without arena (Some head)) heads) strands) lent = lent_left (without arena (Some head)) strands heads lent apart.1 one.still in
+    let one : Lasts (of arena strands) (of (arena_without arena (Some head)) strands) lent = lent_taken arena strands (Some head) lent (λ x q at_x at_q. apart.0 x (at_x ∙ ap Some (sym at_q))) is in
+    let two : Lasts (of (arena_without arena (Some head)) strands) (of (without_all (arena_without arena (Some head)) heads) strands) lent = lent_left (arena_without arena (Some head)) strands heads lent apart.1 one.still in
     record { still = two.still; same = λ x. two.same x ∙ one.same x }
 
 -- what is lent besides stays
@@ -127,13 +127,13 @@ entries_lent old new ws are stays = (all_lent old new ws (last ws are) are, all_
     last (w ∷ ws) are = (stays.each w.strands are.0.lent, last ws are.2)
 
 -- the first is given back, and the others stay
-pub entries_given_back : (old new : ReorderState) (ready : ReadyState) (ws : List ReadyState) → AreLentIn old (ready ∷ ws) → new ≡ given_back old ready →
+pub entries_given_back : (old new : ReorderState) (ready : ReadyState) (ws : List ReadyState) → AreLentIn old (ready ∷ ws) → new ≡ after_giving_back old ready →
     AreLentIn new ws × (map (ready_entries new.strands.pool) ws ≡ map (ready_entries old.strands.pool) ws)
 entries_given_back old new ready ws are is =
     subst (λ (s : ReorderState). AreLentIn s ws × (map (ready_entries s.strands.pool) ws ≡ map (ready_entries old.strands.pool) ws)) (sym is)
-    (all_lent old (given_back old ready) ws (last ws are.1 are.2) are.2, all_same old (given_back old ready) ws (last ws are.1 are.2))
+    (all_lent old (after_giving_back old ready) ws (last ws are.1 are.2) are.2, all_same old (after_giving_back old ready) ws (last ws are.1 are.2))
   where
-    last : (ws : List ReadyState) → AllByRecursion (λ (other : ReadyState). AreApart ready.strands other.strands) ws → AreLentIn old ws → AllLast old (given_back old ready) ws
+    last : (ws : List ReadyState) → AllByRecursion (λ (other : ReadyState). AreApart ready.strands other.strands) ws → AreLentIn old ws → AllLast old (after_giving_back old ready) ws
     last [] apart are = tt
     last (w ∷ ws) apart are = (lasts_without old.strands.pool ready w.strands apart.0 are.0.lent, last ws apart.1 are.2)
 
@@ -152,7 +152,7 @@ lent_more old new (w ∷ ws) ready before after is apart = (
 abbrev shown : ℕ → Standing → List (List ℕ) → StrandState
 shown x st es = record { above = st.above; changes = map (entry_in x) es }
 
-pub same_given_back : (s : ReorderState) (ready : ReadyState) → IsReadyIn s.strands.pool ready → IsSameTaken s (given_back s ready)
+pub same_given_back : (s : ReorderState) (ready : ReadyState) → IsReadyIn s.strands.pool ready → IsSameTaken s (after_giving_back s ready)
 same_given_back s ready is = record {
   strands = record {
     strand = λ x. ap (λ (es : List (List ℕ)). option_map (λ (st : Standing). shown x st es) (lookup (λ k. x == k) s.strands.strands)) (entries_without s.strands.pool ready is.lent x);
@@ -171,31 +171,31 @@ same_back : (a b : ReorderState) → IsSameTaken a b → IsSameTaken b a
 same_back a b same = record { strands = record { strand = λ x. sym (same.strands.strand x); members = λ t. sym (same.strands.members t) }; failed = sym same.failed }
 
 -- it stands the same with all of these given back
-pub same_settled : (s : ReorderState) (ws : List ReadyState) → AreLentIn s ws → IsSameTaken s (settled s ws)
+pub same_settled : (s : ReorderState) (ws : List ReadyState) → AreLentIn s ws → IsSameTaken s (after_giving_all_back s ws)
 same_settled s [] are = record { strands = record { strand = λ x. refl; members = λ t. refl }; failed = refl }
 same_settled s (w ∷ ws) are =
-    same_both s (given_back s w) (settled (given_back s w) ws) (same_given_back s w are.0) (same_settled (given_back s w) ws (entries_given_back s (given_back s w) w ws are refl).0)
+    same_both s (after_giving_back s w) (after_giving_all_back (after_giving_back s w) ws) (same_given_back s w are.0) (same_settled (after_giving_back s w) ws (entries_given_back s (after_giving_back s w) w ws are refl).0)
 
-pub taken_settled : (s : ReorderState) (ws : List ReadyState) (rs : List Record) → AreLentIn s ws → HasTaken s rs → HasTaken (settled s ws) rs
-taken_settled s ws rs are taken = same_taken s (settled s ws) rs (same_settled s ws are) taken
+pub taken_settled : (s : ReorderState) (ws : List ReadyState) (rs : List Record) → AreLentIn s ws → HasTaken s rs → HasTaken (after_giving_all_back s ws) rs
+taken_settled s ws rs are taken = same_taken s (after_giving_all_back s ws) rs (same_settled s ws are) taken
 
-pub settled_taken : (s : ReorderState) (ws : List ReadyState) (rs : List Record) → AreLentIn s ws → HasTaken (settled s ws) rs → HasTaken s rs
-settled_taken s ws rs are taken = same_taken (settled s ws) s rs (same_back s (settled s ws) (same_settled s ws are)) taken
+pub settled_taken : (s : ReorderState) (ws : List ReadyState) (rs : List Record) → AreLentIn s ws → HasTaken (after_giving_all_back s ws) rs → HasTaken s rs
+settled_taken s ws rs are taken = same_taken (after_giving_all_back s ws) s rs (same_back s (after_giving_all_back s ws) (same_settled s ws are)) taken
 
-pub failed_settled : (s : ReorderState) (ws : List ReadyState) → (settled s ws).failed ≡ s.failed
+pub failed_settled : (s : ReorderState) (ws : List ReadyState) → (after_giving_all_back s ws).failed ≡ s.failed
 failed_settled s [] = refl
-failed_settled s (w ∷ ws) = failed_settled (given_back s w) ws
+failed_settled s (w ∷ ws) = failed_settled (after_giving_back s w) ws
 
 -- some given back, and then the others
-pub settled_both : (s : ReorderState) (ws later : List ReadyState) → settled s (ws ++ later) ≡ settled (settled s ws) later
+pub settled_both : (s : ReorderState) (ws later : List ReadyState) → after_giving_all_back s (ws ++ later) ≡ after_giving_all_back (after_giving_all_back s ws) later
 settled_both s [] later = refl
-settled_both s (w ∷ ws) later = settled_both (given_back s w) ws later
+settled_both s (w ∷ ws) later = settled_both (after_giving_back s w) ws later
 
 -- whether it failed makes no difference to what is lent
 pub lent_as : (strands : StrandsState) (a b : Bool) (ws : List ReadyState) → AreLentIn (state strands a) ws → AreLentIn (state strands b) ws
 lent_as strands a b [] are = tt
 lent_as strands a b (w ∷ ws) are = (are.0, are.1, lent_as strands a b ws are.2)
 
-pub settled_as : (strands : StrandsState) (a b : Bool) (ws : List ReadyState) → (settled (state strands a) ws).strands ≡ (settled (state strands b) ws).strands
+pub settled_as : (strands : StrandsState) (a b : Bool) (ws : List ReadyState) → (after_giving_all_back (state strands a) ws).strands ≡ (after_giving_all_back (state strands b) ws).strands
 settled_as strands a b [] = refl
 settled_as strands a b (w ∷ ws) = settled_as (strands_without strands w) a b ws

@@ -13,19 +13,19 @@ use Rattle.wal.proofs.Lists.{all_append}
 use Rattle.reorder.proofs.Coding.{body_spells}
 use Rattle.wal.specs.Log.{Entry}
 use Rattle.tables.specs.Reading.{SpellsBody, body_at}
-use Rattle.reorder.specs.Entries.{IsEntry, body_in, entry_in, position_in, read}
+use Rattle.reorder.specs.Entries.{IsEntry, body_in, decoded_change, entry_in, position_in}
 use Rattle.reorder.specs.Pool.{PoolState, entries_at}
 use Rattle.reorder.specs.Ready.{IsPlace, PlaceState, bytes_at, entry_at}
 use Rattle.reorder.specs.Orders.{place_at}
 use Rattle.reorder.specs.Spots.{IsSpot, SpotState, place_of, spots_from}
 use Rattle.reorder.proofs.Named.{or_true}
-use Rattle.reorder.specs.Strands.{AreMerged, Standing, StrandsState, all_in, by_xid, changes_in, is_in, joined, kept_spots, spots_in, spots_of, strand_at, with_changes}
+use Rattle.reorder.specs.Strands.{AreMerged, Standing, StrandsState, all_in, by_xid, changes_by_xid, changes_in, is_in, kept_spots, spots_in, spots_of, strand_at, with_changes}
 
 -- THE SPOTS OF AN XID
 
 -- the change at a spot, with the position that the spot has
 abbrev spot_entry : PoolState → SpotState → Entry
-spot_entry pool spot = record { position = spot.position; xid = spot.xid; change = read (body_at (body_in (bytes_at pool (place_of spot)))) }
+spot_entry pool spot = record { position = spot.position; xid = spot.xid; change = decoded_change (body_at (body_in (bytes_at pool (place_of spot)))) }
 
 -- what a list has from a place on, and the first of it
 first_of : (all : List (List ℕ)) (place : ℕ) (entry : List ℕ) (rest : List (List ℕ)) → drop place all ≡ entry ∷ rest → get_or all place [] ≡ entry
@@ -63,7 +63,7 @@ all_shown pool strands (x ∷ xs) =
     ∙ rw (kept_shown pool x (lookup (λ k. x == k) strands), all_shown pool strands xs) refl
 
 -- the changes at the spots of a transaction are those that it keeps
-joined_shown : (s : StrandsState) (t : ℕ) → map (spot_entry s.pool) (spots_of s t) ≡ joined (by_xid s) t
+joined_shown : (s : StrandsState) (t : ℕ) → map (spot_entry s.pool) (spots_of s t) ≡ changes_by_xid (by_xid s) t
 joined_shown s t = all_shown s.pool s.strands (all_in (lookup (λ k. t == k) s.members))
 
 kept_there : (pool : PoolState) (x : ℕ) (o : Option Standing) → AllByRecursion (IsSpot pool) (spots_in pool x o)
@@ -231,7 +231,7 @@ lone_own x o is = rw (is, eq-eqb x x refl) refl
 pub merged_lone : (s : StrandsState) (t x count : ℕ) → lookup (λ k. t == k) s.members ≡ Some (x ∷ []) → count ≡ length (changes_in (strand_at s.strands s.pool x)) →
     AreMerged (by_xid s) t (map (entry_at s.pool) (map (place_at x) (range_with_len 0 count)))
 merged_lone s t x count lone is =
-    let joined_is : joined (by_xid s) t ≡ changes_in (strand_at s.strands s.pool x) =
+    let joined_is : changes_by_xid (by_xid s) t ≡ changes_in (strand_at s.strands s.pool x) =
     ap (λ o. flat_map (λ y. changes_in (strand_at s.strands s.pool y)) (all_in o)) lone ∙ append-nil (changes_in (strand_at s.strands s.pool x)) in
     inr (x, lone, lone_shown s x count is ∙ sym joined_is)
 
@@ -256,7 +256,7 @@ lent pool places k bytes body shows low entry is e at =
     let found : slice_get places k ≡ Some place = slice_get_read places (length places) k place refl low (sym (get_or_default places k place (place_at 0 0) low)) in
     let here : bytes ≡ bytes_at pool place = shows place found in
     let same : entry_at pool place ≡ e = some_same (sym (ap (option_map (entry_at pool)) found) ∙ sym (slice_get-map (entry_at pool) places k) ∙ at) in
-    subst (λ (f : Entry). (position_in bytes ≡ f.position) × SpellsBody body f.change) same (ap position_in here, rw is (subst (λ (bs : List ℕ). SpellsBody (body_in bytes) (read (body_at (body_in bs)))) here (body_spells bytes entry)))
+    subst (λ (f : Entry). (position_in bytes ≡ f.position) × SpellsBody body f.change) same (ap position_in here, rw is (subst (λ (bs : List ℕ). SpellsBody (body_in bytes) (decoded_change (body_at (body_in bs)))) here (body_spells bytes entry)))
   where
     some_same : {A : Type 0} {x y : A} → Some x ≡ Some y → x ≡ y
     some_same is = cc

@@ -4,7 +4,7 @@ use Rattle.std.specs.Prelude.{IsSome}
 use Rattle.std.specs.Map.{lookup}
 use Rattle.std.proofs.lemmas.Bool.{eqb-true}
 use Rattle.chgarena.specs.Strands.{Strands as Arena}
-use Rattle.reorder.specs.Pool.{PoolState, entries_at, entries_by, put, strand_of, with_entries}
+use Rattle.reorder.specs.Pool.{PoolState, entries_at, entries_by, map_with, strand_of, with_entries}
 use Rattle.reorder.specs.Ready.{ReadyState}
 use Rattle.reorder.proofs.Owning.{of, whole_lent}
 use Rattle.reorder.specs.Strands.{Standing, StrandsState, is_in}
@@ -31,7 +31,7 @@ tidy_stays : (s s' : StrandsState) → StaysWhole s.pool s'.pool → ((x : ℕ) 
 tidy_stays s s' whole each = λ count held. tidy_by s s' count held held whole.chunks (whole.whole held) each
 
 -- the xid gets a strand, and its entries go
-pub tidy_made : (s s' : StrandsState) (xid : ℕ) (w : Standing) → StaysWhole s.pool s'.pool → ((x : ℕ) → at s' x ≡ put xid (Some w) (at s) x) → ((x : ℕ) → entries_at s'.pool x ≡ with_entries s.pool xid [] x) → StaysTidy s s'
+pub tidy_made : (s s' : StrandsState) (xid : ℕ) (w : Standing) → StaysWhole s.pool s'.pool → ((x : ℕ) → at s' x ≡ map_with xid (Some w) (at s) x) → ((x : ℕ) → entries_at s'.pool x ≡ with_entries s.pool xid [] x) → StaysTidy s s'
 tidy_made s s' xid w whole puts has = tidy_stays s s' whole (λ x none old. by_test x old (xid == x) refl none)
   where
     by_test : (x : ℕ) → (at s x ≡ None → entries_at s.pool x ≡ []) → (b : Bool) → (xid == x) ≡ b → at s' x ≡ None → entries_at s'.pool x ≡ []

@@ -18,13 +18,13 @@ position_in bytes = from_be_bytes w64 (take 8 bytes)
 abbrev pub body_in : List ℕ → List ℕ
 body_in bytes = drop 8 bytes
 
-abbrev pub read : Result (Change × List ℕ) BodyFault → Change
-read (Ok change) = change.0
-read (Err fault) = changes.Insert 0 []
+abbrev pub decoded_change : Result (Change × List ℕ) BodyFault → Change
+decoded_change (Ok change) = change.0
+decoded_change (Err fault) = changes.Insert 0 []
 
 -- the entry that an xid's bytes are
 abbrev pub entry_in : ℕ → List ℕ → Entry
-entry_in xid bytes = record { position = position_in bytes; xid = xid; change = read (body_at (body_in bytes)) }
+entry_in xid bytes = record { position = position_in bytes; xid = xid; change = decoded_change (body_at (body_in bytes)) }
 
 -- the bytes are those of a change
 pub record IsEntry (bytes : List ℕ) : Type 0 where

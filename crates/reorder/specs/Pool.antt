@@ -6,8 +6,8 @@ use Rattle.chgarena.specs.Strands.{Strands as Arena, IsOf, IsPushed, entries_of}
 use Rattle.reorder.specs.Entries.{IsEntry}
 
 -- f with w at k
-abbrev pub put : {A : Type 0} → ℕ → Option A → (ℕ → Option A) → ℕ → Option A
-put k w f x = if k == x then w else f x
+abbrev pub map_with : {A : Type 0} → ℕ → Option A → (ℕ → Option A) → ℕ → Option A
+map_with k w f x = if k == x then w else f x
 
 -- the arena, and of each xid its strand, by the strand's first chunk
 pub record PoolState : Type 0 where
@@ -49,7 +49,7 @@ pub record PushesAt (xid : ℕ) (entry : List ℕ) (arena : Arena) (strands : Li
   pub was : strand_of strands xid ≡ Some head
   pub head' : Option ℕ
   pub pushed : IsPushed arena head entry arena' head'
-  pub others : (x : ℕ) → strand_of strands' x ≡ put xid (Some head') (strand_of strands) x
+  pub others : (x : ℕ) → strand_of strands' x ≡ map_with xid (Some head') (strand_of strands) x
 
 -- Strands that the arena has and the pool hasn't: no two are the same, none is one of the pool's, and each entry is that of a change.
 pub record IsLent (p : PoolState) (lent : List (ℕ × Option ℕ)) : Type 0 where
@@ -74,4 +74,4 @@ AreApart lent others = (x y head : ℕ) → strand_of lent x ≡ Some (Some head
 pub record IsSameAt (xid : ℕ) (strands strands' : List (ℕ × Option ℕ)) : Type 0 where
   pub head : Option ℕ
   pub was : strand_of strands xid ≡ Some head
-  pub all : (x : ℕ) → strand_of strands' x ≡ put xid (Some head) (strand_of strands) x
+  pub all : (x : ℕ) → strand_of strands' x ≡ map_with xid (Some head) (strand_of strands) x

@@ -2,9 +2,9 @@
 use Rattle.std.specs.Prelude.{◌≡◌, ℕ, ◌+◌, List, [], ◌∷◌, ◌++◌, Option, Some, None, sum_by}
 use Rattle.std.specs.List.{AllByRecursion}
 use Rattle.chgarena.specs.Fill.{fill, sizes}
-use Rattle.chgarena.specs.Strands.{Strands as Arena, entries_of, without}
+use Rattle.chgarena.specs.Strands.{Strands as Arena, arena_without, entries_of}
 use Rattle.wal.specs.declared.record.Record.{Record}
-use Rattle.reorder.specs.Pool.{AreApart, PoolState, put, strand_of}
+use Rattle.reorder.specs.Pool.{AreApart, PoolState, map_with, strand_of}
 use Rattle.reorder.specs.Ready.{IsReadyIn, ReadyState}
 use Rattle.reorder.specs.Strands.{StrandsState}
 use Rattle.reorder.specs.Chunks.{LeavesNoRoom}
@@ -19,7 +19,7 @@ head_in (Some (Some head)) = head ∷ []
 -- the first chunks of the strands that these xids have, each xid's once
 abbrev pub heads_of : (ℕ → Option (Option ℕ)) → List ℕ → List ℕ
 heads_of strand [] = []
-heads_of strand (x ∷ xs) = head_in (strand x) ++ heads_of (put x None strand) xs
+heads_of strand (x ∷ xs) = head_in (strand x) ++ heads_of (map_with x None strand) xs
 
 -- those of what is ready
 abbrev pub ready_heads : ReadyState → List ℕ
@@ -28,7 +28,7 @@ ready_heads ready = heads_of (strand_of ready.strands) ready.xids
 -- the arena without the strands that begin there
 abbrev pub without_all : Arena → List ℕ → Arena
 without_all arena [] = arena
-without_all arena (head ∷ heads) = without_all (without arena (Some head)) heads
+without_all arena (head ∷ heads) = without_all (arena_without arena (Some head)) heads
 
 abbrev pub pool_without : PoolState → ReadyState → PoolState
 pool_without pool ready = record pool { arena = without_all pool.arena (ready_heads ready) }
@@ -37,13 +37,13 @@ abbrev pub strands_without : StrandsState → ReadyState → StrandsState
 strands_without s ready = record s { pool = pool_without s.pool ready }
 
 -- what was ready is given back: its strands are gone from the arena, and all else stays
-abbrev pub given_back : ReorderState → ReadyState → ReorderState
-given_back s ready = record s { strands = strands_without s.strands ready }
+abbrev pub after_giving_back : ReorderState → ReadyState → ReorderState
+after_giving_back s ready = record s { strands = strands_without s.strands ready }
 
 -- all of these are given back
-abbrev pub settled : ReorderState → List ReadyState → ReorderState
-settled s [] = s
-settled s (ready ∷ later) = settled (given_back s ready) later
+abbrev pub after_giving_all_back : ReorderState → List ReadyState → ReorderState
+after_giving_all_back s [] = s
+after_giving_all_back s (ready ∷ later) = after_giving_all_back (after_giving_back s ready) later
 
 -- each lies in the arena, apart from what the regrouping keeps, and no two have a strand in common
 abbrev pub AreLentIn : ReorderState → List ReadyState → Type 0

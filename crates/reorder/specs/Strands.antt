@@ -6,7 +6,7 @@ use Rattle.std.specs.Map.{lookup}
 use Rattle.std.specs.Ordering.{nat_cmp}
 use Rattle.std.specs.Option.{option_map}
 use Rattle.reorder.specs.Entries.{entry_in}
-use Rattle.reorder.specs.Pool.{PoolState, entries_at, put}
+use Rattle.reorder.specs.Pool.{PoolState, entries_at, map_with}
 use Rattle.reorder.specs.Spots.{SpotState, spots_from}
 use Rattle.wal.specs.Log.{Entry, last_of}
 
@@ -73,8 +73,8 @@ AreDistinct (x ∷ xs) = (is_in x xs ≡ false) × AreDistinct xs
 -- WHAT HAPPENS TO THEM
 
 -- the xid becomes a transaction
-abbrev pub started : ℕ → ByXid → ByXid
-started x l = record { strand = put x (Some (fresh [])) l.strand; members = put x (Some (x ∷ [])) l.members }
+abbrev pub with_transaction : ℕ → ByXid → ByXid
+with_transaction x l = record { strand = map_with x (Some (fresh [])) l.strand; members = map_with x (Some (x ∷ [])) l.members }
 
 abbrev pub above_of : ByXid → ℕ → List ℕ
 above_of l x = above_in (l.strand x)
@@ -83,18 +83,18 @@ abbrev pub with_member : ℕ → List ℕ → List ℕ
 with_member sub xs = xs ++ sub ∷ []
 
 -- a subtransaction comes under its parent, and so under all that are above it, into their transaction
-abbrev pub assigned : ℕ → ℕ → ByXid → ByXid
-assigned sub parent l = record {
-  strand = put sub (Some (fresh (parent ∷ above_of l parent))) l.strand;
-  members = put (last_of parent (above_of l parent)) (option_map (with_member sub) (l.members (last_of parent (above_of l parent)))) l.members;
+abbrev pub with_subtransaction : ℕ → ℕ → ByXid → ByXid
+with_subtransaction sub parent l = record {
+  strand = map_with sub (Some (fresh (parent ∷ above_of l parent))) l.strand;
+  members = map_with (last_of parent (above_of l parent)) (option_map (with_member sub) (l.members (last_of parent (above_of l parent)))) l.members;
 }
 
 abbrev pub with_change : Entry → StrandState → StrandState
 with_change e s = record s { changes = s.changes ++ e ∷ [] }
 
 -- a change more of the xid
-abbrev pub pushed : ℕ → Entry → ByXid → ByXid
-pushed x e l = record l { strand = put x (option_map (with_change e) (l.strand x)) l.strand }
+abbrev pub with_change_of : ℕ → Entry → ByXid → ByXid
+with_change_of x e l = record l { strand = map_with x (option_map (with_change e) (l.strand x)) l.strand }
 
 -- those behind the xid in a list that is told from its end
 abbrev pub behind : ℕ → List ℕ → List ℕ
@@ -106,17 +106,17 @@ abbrev pub back_from_last : ByXid → ℕ → List ℕ
 back_from_last l x = reverse (all_in (l.members (last_of x (above_of l x))))
 
 -- it and all under it are rolled back: their changes are given up
-abbrev pub rolled_back : ℕ → List ℕ → ℕ → StrandState → StrandState
-rolled_back x xs q s = record { above = s.above; changes = if (x == q) || (is_in q (behind x xs) && is_in x s.above) then [] else s.changes }
+abbrev pub strand_after_rollback : ℕ → List ℕ → ℕ → StrandState → StrandState
+strand_after_rollback x xs q s = record { above = s.above; changes = if (x == q) || (is_in q (behind x xs) && is_in x s.above) then [] else s.changes }
 
-abbrev pub undone : ℕ → ByXid → ByXid
-undone x l = record l { strand = λ q. option_map (rolled_back x (back_from_last l x) q) (l.strand q) }
+abbrev pub after_rollback_of : ℕ → ByXid → ByXid
+after_rollback_of x l = record l { strand = λ q. option_map (strand_after_rollback x (back_from_last l x) q) (l.strand q) }
 
 -- nothing is left of the transaction's xids
-abbrev pub ended : ℕ → ByXid → ByXid
-ended t l = record {
+abbrev pub without_transaction : ℕ → ByXid → ByXid
+without_transaction t l = record {
   strand = λ x. if is_in x (all_in (l.members t)) then None else l.strand x;
-  members = put t None l.members;
+  members = map_with t None l.members;
 }
 
 -- WHAT IS KEPT OF THEM
@@ -126,14 +126,14 @@ changes_in None = []
 changes_in (Some s) = s.changes
 
 -- the changes that a transaction keeps, xid after xid
-abbrev pub joined : ByXid → ℕ → List Entry
-joined l t = flat_map (λ x. changes_in (l.strand x)) (all_in (l.members t))
+abbrev pub changes_by_xid : ByXid → ℕ → List Entry
+changes_by_xid l t = flat_map (λ x. changes_in (l.strand x)) (all_in (l.members t))
 
 -- In the order of their positions these are the changes that a transaction keeps. Those of one xid are in order already.
 abbrev pub AreMerged : ByXid → ℕ → List Entry → Type 0
 AreMerged l t es =
-    (IsNonDecreasingBy (λ (e : Entry). e.position) es × IsStableByKey (λ (e : Entry). e.position) nat_cmp (joined l t) es)
-    ⊎ ((x : ℕ) × (l.members t ≡ Some (x ∷ [])) × (es ≡ joined l t))
+    (IsNonDecreasingBy (λ (e : Entry). e.position) es × IsStableByKey (λ (e : Entry). e.position) nat_cmp (changes_by_xid l t) es)
+    ⊎ ((x : ℕ) × (l.members t ≡ Some (x ∷ [])) × (es ≡ changes_by_xid l t))
 
 -- WHERE IT LIES
 

@@ -6,10 +6,10 @@ use Rattle.std.specs.List.Sorted.{IsPermutation}
 use Rattle.wal.specs.declared.record.Record.{Record}
 use Rattle.wal.specs.declared.record.Body.{Body}
 use Rattle.wal.specs.declared.record.Body.TheVariants.{AbortSub, Commit}
-use Rattle.wal.specs.Log.{Entry, IsNext, IsOpen, has_ended, kept}
+use Rattle.wal.specs.Log.{Entry, IsNext, IsOpen, has_ended, kept_changes}
 use Rattle.reorder.specs.Pool.{AreApart}
 use Rattle.reorder.specs.Ready.{IsReadyIn, ReadyState, ready_entries}
-use Rattle.reorder.specs.Strands.{IsSame, StrandsState, by_xid, joined}
+use Rattle.reorder.specs.Strands.{IsSame, StrandsState, by_xid, changes_by_xid}
 use Rattle.reorder.specs.Bookkeeping.{IsBookkeeping}
 use Rattle.reorder.specs.declared.ready.Step.{Step}
 use Rattle.reorder.specs.declared.ready.Step.TheVariants as steps
@@ -21,12 +21,12 @@ pub record ReorderState : Type 0 where
 
 -- the changes that it keeps for a transaction, xid after xid
 abbrev pub changes_kept : ReorderState → ℕ → List Entry
-changes_kept s t = joined (by_xid s.strands) t
+changes_kept s t = changes_by_xid (by_xid s.strands) t
 
 -- What it is after these records: of each transaction that has not ended it keeps exactly the changes that are not dropped, of
 -- each that has ended none, and it is ready for the records to come.
 pub record HasTaken (s : ReorderState) (rs : List Record) : Type 0 where
-  pub running : (t : ℕ) → has_ended rs t ≡ false → IsPermutation (changes_kept s t) (kept rs t)
+  pub running : (t : ℕ) → has_ended rs t ≡ false → IsPermutation (changes_kept s t) (kept_changes rs t)
   pub ended : (t : ℕ) → has_ended rs t ≡ true → changes_kept s t ≡ []
   pub ready : IsBookkeeping (by_xid s.strands) rs
 
@@ -40,13 +40,13 @@ abbrev pub StartsBehind : List Record → Record → Type 0
 StartsBehind before r = AllByRecursion (λ q. q.start < r.start) before
 
 -- what a record makes ready, given those before it: a Commit what its transaction keeps
-abbrev pub promised : List Record → Body → Option (List Entry)
-promised before (Commit xid time) = Some (kept before xid)
-promised before _ = None
+abbrev pub promised_changes : List Record → Body → Option (List Entry)
+promised_changes before (Commit xid time) = Some (kept_changes before xid)
+promised_changes before _ = None
 
-abbrev pub readied : ReorderState → Step → Option (List Entry)
-readied s steps.Quiet = None
-readied s (steps.Ready ready) = Some (ready_entries s.strands.pool ready)
+abbrev pub readied_changes : ReorderState → Step → Option (List Entry)
+readied_changes s steps.Quiet = None
+readied_changes s (steps.Ready ready) = Some (ready_entries s.strands.pool ready)
 
 -- what is ready lies in the arena
 abbrev pub IsHeld : ReorderState → ReadyState → Type 0
@@ -69,4 +69,4 @@ pub record IsSameTaken (old new : ReorderState) : Type 0 where
 -- Whatever records it had taken, if this one may come next, it has taken this one too, and has given what that makes ready.
 pub record Takes (old new : ReorderState) (r : Record) (ready : Option (List Entry)) : Type 0 where
   pub after : (before : List Record) → HasTaken old before → MayCome before r.body → StartsBehind before r →
-      HasTaken new (before ++ r ∷ []) × (ready ≡ promised before r.body)
+      HasTaken new (before ++ r ∷ []) × (ready ≡ promised_changes before r.body)

@@ -3,10 +3,10 @@
 ghost use Rattle.std.specs.Prelude.{◌≡◌, ◌≢◌, Err, None, Some, ℕ, false, ◌+◌, ◌<◌, ◌≤◌, ◌++◌, ◌∷◌, [], get_or, length, IfOk, IsSome, OnErr, OnOk, if◌then◌else◌};
 ghost use Rattle.std.specs.List.{AllByRecursion};
 ghost use Rattle.reorder.specs.Entries.{IsEntry};
-ghost use Rattle.chgarena.specs.Strands.{IsOf, fills, has_room, without};
+ghost use Rattle.chgarena.specs.Strands.{IsOf, arena_without, fills, has_room};
 ghost use Rattle.reorder.specs.Strands.{is_in};
 ghost use Rattle.reorder.specs.Chunks.{HasNoRoom, StaysWhole};
-ghost use Rattle.reorder.specs.Pool.{HoldEntries, IsLent, IsPool, IsSameAt, PushesAt, StaysLent, entries_at, entries_by, entries_in, put, strand_of, with_entries};
+ghost use Rattle.reorder.specs.Pool.{HoldEntries, IsLent, IsPool, IsSameAt, PushesAt, StaysLent, entries_at, entries_by, entries_in, map_with, strand_of, with_entries};
 
 use crate::fault::ReorderFault;
 use chgarena::{Arena, Entries, Full, Strand};
@@ -103,7 +103,7 @@ impl Pool {
     pub(crate) fn lend(&mut self, xid: u32) -> Option<Strand>
         ensures strand { result ≡ strand_of self.old.strands xid }
         ensures others { (x : ℕ) →
-            strand_of self.new.strands x ≡ put xid None (strand_of self.old.strands) x }
+            strand_of self.new.strands x ≡ map_with xid None (strand_of self.old.strands) x }
         ensures arena { self.new.arena ≡ self.old.arena }
         ensures lent { StaysLent self.old self.new }
         ensures pool { IsPool self.old.arena self.old.strands }
@@ -147,7 +147,7 @@ impl Pool {
         requires of { IsOf self.old.arena strand }
         requires apart { (x head : ℕ) → strand_of self.old.strands x ≡ Some (Some head) →
             strand ≡ Some head → ⊥ }
-        ensures arena { self.new.arena ≡ without self.old.arena strand }
+        ensures arena { self.new.arena ≡ arena_without self.old.arena strand }
         ensures strands { self.new.strands ≡ self.old.strands }
         ensures pool { IsPool self.old.arena self.old.strands }
     {

@@ -6,8 +6,8 @@ ghost use Rattle.wal.specs.declared.record.Record.{Record as Logged};
 ghost use Rattle.reorder.specs.Chunks.{IsTidy, LeavesNoRoom, held_with, live_chunks};
 ghost use Rattle.reorder.specs.Pool.{AreApart, IsLent, Lasts, StaysLent};
 ghost use Rattle.reorder.specs.Ready.{IsEntryAt, IsReadyIn, ReadyState, ready_entries};
-ghost use Rattle.reorder.specs.Settled.{AreLentIn, LeavesNoRoomBeside, given_back, lent_chunks, settled};
-ghost use Rattle.reorder.specs.Taking.{HasTaken, IsHeld, IsStepApart, IsStepHeld, IsSameTaken, MayCome, Takes, readied};
+ghost use Rattle.reorder.specs.Settled.{AreLentIn, LeavesNoRoomBeside, after_giving_all_back, after_giving_back, lent_chunks};
+ghost use Rattle.reorder.specs.Taking.{HasTaken, IsHeld, IsStepApart, IsStepHeld, IsSameTaken, MayCome, Takes, readied_changes};
 
 use crate::entry::{body_of, position_of, write_entry};
 use crate::fault::ReorderFault;
@@ -69,7 +69,7 @@ impl Reorder {
             IsTidy count [] self.now.strands → result + live_chunks rs ≡ count }
         ensures exact_beside { (rs : List Logged) (ws : List ReadyState) (count : ℕ) →
             HasTaken self.now rs → AreLentIn self.now ws →
-            IsTidy count [] (settled self.now ws).strands →
+            IsTidy count [] (after_giving_all_back self.now ws).strands →
             result + live_chunks rs + lent_chunks self.now ws ≡ count }
     {
         self.strands.free()
@@ -78,7 +78,7 @@ impl Reorder {
     /// Takes the next record of a log, and answers what it makes ready.
     pub fn take(&mut self, next: &Record) -> Result<Step, ReorderFault>
         ensures ok { IfOk result
-            (λ step. Takes self.old self.new next.now (readied self.new step)) }
+            (λ step. Takes self.old self.new next.now (readied_changes self.new step)) }
         ensures held { IfOk result (λ step. IsStepHeld self.new step) }
         ensures running { OnOk result ((self.old.failed ≡ false) × (self.new.failed ≡ false)) }
         ensures fails { OnErr result (self.new.failed ≡ true) }
@@ -92,7 +92,7 @@ impl Reorder {
         ensures full_beside { result ≡ Err ReorderFault.Full →
             (rs : List Logged) (ws : List ReadyState) (count : ℕ) → HasTaken self.old rs →
             MayCome rs next.now.body → AreLentIn self.old ws →
-            IsTidy count [] (settled self.old ws).strands →
+            IsTidy count [] (after_giving_all_back self.old ws).strands →
             LeavesNoRoomBeside (lent_chunks self.old ws) count rs next.now }
         ensures tidy { IfOk result
             (λ step. (count : ℕ) (held : List ReadyState) → IsTidy count held self.old.strands →
@@ -115,7 +115,7 @@ impl Reorder {
     /// What the record does to the strands, and what it makes ready of them.
     fn regroup(&mut self, next: &Record) -> Result<Step, ReorderFault>
         ensures takes { IfOk result
-            (λ step. Takes self.old self.new next.now (readied self.new step)) }
+            (λ step. Takes self.old self.new next.now (readied_changes self.new step)) }
         ensures held { IfOk result (λ step. IsStepHeld self.new step) }
         ensures failed { self.new.failed ≡ self.old.failed }
         ensures full { result ≡ Err ReorderFault.Full → (rs : List Logged) (count : ℕ) →
@@ -124,7 +124,7 @@ impl Reorder {
         ensures full_beside { result ≡ Err ReorderFault.Full →
             (rs : List Logged) (ws : List ReadyState) (count : ℕ) → HasTaken self.old rs →
             MayCome rs next.now.body → AreLentIn self.old ws →
-            IsTidy count [] (settled self.old ws).strands →
+            IsTidy count [] (after_giving_all_back self.old ws).strands →
             LeavesNoRoomBeside (lent_chunks self.old ws) count rs next.now }
         ensures tidy { IfOk result
             (λ step. (count : ℕ) (held : List ReadyState) → IsTidy count held self.old.strands →
@@ -170,7 +170,7 @@ impl Reorder {
     pub fn finish(&mut self, ready: Ready)
         requires { IsHeld self.old ready }
         ensures same { IsSameTaken self.old self.new }
-        ensures exact { self.new ≡ given_back self.old ready }
+        ensures exact { self.new ≡ after_giving_back self.old ready }
         ensures tidy { (count : ℕ) (held : List ReadyState) →
             IsTidy count (ready ∷ held) self.old.strands → IsTidy count held self.new.strands }
         ensures lent { (lent : List (ℕ × Option ℕ)) → IsLent self.old.strands.pool lent →

@@ -11,10 +11,10 @@ ghost use Rattle.wal.specs.Log.{last_of};
 ghost use Rattle.reorder.specs.Entries.{IsEntry, entry_in};
 ghost use Rattle.chgarena.specs.Strands.{fills};
 ghost use Rattle.reorder.specs.Chunks.{HasNoRoom, IsTidy, IsWhole, StaysTidy, StaysWhole, strands_alone};
-ghost use Rattle.reorder.specs.Pool.{AreApart, HoldEntries, IsLent, IsPool, Lasts, StaysLent, entries_at, put, strand_of};
+ghost use Rattle.reorder.specs.Pool.{AreApart, HoldEntries, IsLent, IsPool, Lasts, StaysLent, entries_at, map_with, strand_of};
 ghost use Rattle.reorder.specs.Ready.{IsReadyIn, PlaceState, ReadyState, bytes_at, lent_from, ready_entries};
 ghost use Rattle.reorder.specs.Settled.{heads_of, ready_heads, without_all};
-ghost use Rattle.reorder.specs.Strands.{AreMerged, IsSame, above_of, above_standing, all_in, assigned, back_in, behind, ended, is_in, by_xid, pushed, started, undone, with_member};
+ghost use Rattle.reorder.specs.Strands.{AreMerged, IsSame, above_of, above_standing, all_in, with_subtransaction, back_in, behind, without_transaction, is_in, by_xid, with_change_of, with_transaction, after_rollback_of, with_member};
 
 use crate::fault::ReorderFault;
 use crate::members::Members;
@@ -76,7 +76,7 @@ impl Strands {
         ensures known { OnOk result (IsSome ((by_xid self.old).strand xid) → self.new ≡ self.old) }
         ensures fresh { OnOk result
             ((by_xid self.old).strand xid ≡ None →
-            IsSame (by_xid self.new) (started xid (by_xid self.old))) }
+            IsSame (by_xid self.new) (with_transaction xid (by_xid self.old))) }
         ensures there { OnOk result (IsSome (lookup (λ k. xid == k) self.new.strands)) }
         ensures tidy { OnOk result (StaysTidy self.old self.new) }
         ensures lent { StaysLent self.old.pool self.new.pool }
@@ -89,7 +89,8 @@ impl Strands {
 
     /// Makes an xid without a strand a transaction.
     fn start(&mut self, xid: u32) -> Result<(), AllocError>
-        ensures started { OnOk result (IsSame (by_xid self.new) (started xid (by_xid self.old))) }
+        ensures started { OnOk result
+            (IsSame (by_xid self.new) (with_transaction xid (by_xid self.old))) }
         ensures there { OnOk result (IsSome (lookup (λ k. xid == k) self.new.strands)) }
         ensures tidy { OnOk result (StaysTidy self.old self.new) }
         ensures lent { StaysLent self.old.pool self.new.pool }
@@ -107,7 +108,8 @@ impl Strands {
         requires entry { IsEntry entry.now }
         requires fits { length entry.now ≤ 16380 }
         ensures ok { OnOk result
-            (IsSame (by_xid self.new) (pushed xid (entry_in xid entry.now) (by_xid self.old))) }
+            (IsSame (by_xid self.new)
+            (with_change_of xid (entry_in xid entry.now) (by_xid self.old))) }
         ensures tidy { OnOk result
             (IsSome (lookup (λ k. xid == k) self.old.strands) → StaysTidy self.old self.new) }
         ensures lent { StaysLent self.old.pool self.new.pool }
@@ -120,7 +122,7 @@ impl Strands {
 
     /// Rolls back an xid that has a strand.
     pub(crate) fn undo(&mut self, xid: u32)
-        ensures undone { IsSame (by_xid self.new) (undone xid (by_xid self.old)) }
+        ensures undone { IsSame (by_xid self.new) (after_rollback_of xid (by_xid self.old)) }
         ensures tidy { StaysTidy self.old self.new }
         ensures lent { StaysLent self.old.pool self.new.pool }
     {
@@ -159,7 +161,7 @@ impl Strands {
     /// Puts an xid without a strand under another that has one.
     pub(crate) fn assign(&mut self, sub: u32, parent: u32) -> Result<(), AllocError>
         ensures assigned { OnOk result
-            (IsSame (by_xid self.new) (assigned sub parent (by_xid self.old))) }
+            (IsSame (by_xid self.new) (with_subtransaction sub parent (by_xid self.old))) }
         ensures tidy { OnOk result (StaysTidy self.old self.new) }
         ensures lent { StaysLent self.old.pool self.new.pool }
     {
@@ -185,7 +187,7 @@ impl Strands {
 
     /// Gives up all xids of a transaction, and their changes.
     pub(crate) fn end(&mut self, top: u32)
-        ensures ended { IsSame (by_xid self.new) (ended top (by_xid self.old)) }
+        ensures ended { IsSame (by_xid self.new) (without_transaction top (by_xid self.old)) }
         ensures tidy { StaysTidy self.old self.new }
         ensures lent { StaysLent self.old.pool self.new.pool }
     {
@@ -197,7 +199,8 @@ impl Strands {
 
     /// Gives up all xids of a transaction, but for their changes: those that it keeps are ready, and lie where nobody else comes.
     pub(crate) fn make_ready(&mut self, top: u32) -> Result<Ready, AllocError>
-        ensures ended { OnOk result (IsSame (by_xid self.new) (ended top (by_xid self.old))) }
+        ensures ended { OnOk result
+            (IsSame (by_xid self.new) (without_transaction top (by_xid self.old))) }
         ensures merged { IfOk result
             (λ r. AreMerged (by_xid self.old) top (ready_entries self.new.pool r)) }
         ensures ready { IfOk result (λ r. IsReadyIn self.new.pool r) }
@@ -267,7 +270,7 @@ fn add_member(members: &mut HashMap<u32, Members>, top: u32, sub: u32) -> Result
     ensures { OnOk result
         ((t : ℕ) →
         get nat_eq members.new t
-        ≡ put top (option_map (with_member sub) (get nat_eq members.old top))
+        ≡ map_with top (option_map (with_member sub) (get nat_eq members.old top))
         (get nat_eq members.old) t) }
 {
     if let Some(xids) = members.get_mut(&top) {
@@ -279,7 +282,8 @@ fn add_member(members: &mut HashMap<u32, Members>, top: u32, sub: u32) -> Result
 /// Gives up the xids of a transaction, and answers them.
 fn remove_members(alloc: Global, members: &mut HashMap<u32, Members>, top: u32) -> Vec<u32>
     ensures xids { result.items ≡ all_in (get nat_eq members.old top) }
-    ensures gone { (t : ℕ) → get nat_eq members.new t ≡ put top None (get nat_eq members.old) t }
+    ensures gone { (t : ℕ)
+        → get nat_eq members.new t ≡ map_with top None (get nat_eq members.old) t }
 {
     match members.remove(&top) {
         Some(members) => members.into_xids(),

@@ -13,7 +13,7 @@ use Rattle.std.specs.Fmt.{digits, digits_onto, digit_glyph}
 use Rattle.std.proofs.lemmas.Bool.{eqb-false}
 use Rattle.std.proofs.lemmas.Fmt.{digits_is_IsNumeral}
 use Rattle.std.proofs.Math.Nat.{pow-succ', pow-le-pow_right, mul-le-mul_right}
-use Rattle.replcmd.specs.Position.{IsHalf, SpellsPosition, printed}
+use Rattle.replcmd.specs.Position.{IsHalf, SpellsPosition, position_text}
 
 value_after : (n : ℕ) (ds : List ℕ) → AllDigits 16 ds → digits_value_after 16 n ds < (n + 1) * 16 ^ length ds
 value_after n [] all = omega arith
@@ -64,7 +64,7 @@ printed_half n lt = record {
   short = length-onto 8 64 n [] (omega arith) (omega arith) (omega arith);
 }
 
-pub printed_is_read : (position : ℕ) → position < 2 ^ 64 → SpellsPosition (printed position) position
+pub printed_is_read : (position : ℕ) → position < 2 ^ 64 → SpellsPosition (position_text position) position
 printed_is_read position lt =
     let high : position / 2 ^ 32 < 2 ^ 32 = omega arith in
     let low : position % 2 ^ 32 < 2 ^ 32 = omega arith in
@@ -77,7 +77,7 @@ printed_is_read position lt =
       value = rw ((digits_is_IsNumeral 16 true (omega arith) (omega arith) (position / 2 ^ 32) (omega arith)).1, (digits_is_IsNumeral 16 true (omega arith) (omega arith) (position % 2 ^ 32) (omega arith)).1) (omega arith);
     }
 
-pub written_is_read : {S E : Type 0} (view : S → List ℕ) (r : Result S E) (position : ℕ) → position < 2 ^ 64 → IfOk r (λ s. view s ≡ printed position) → IfOk r (λ s. SpellsPosition (view s) position)
+pub written_is_read : {S E : Type 0} (view : S → List ℕ) (r : Result S E) (position : ℕ) → position < 2 ^ 64 → IfOk r (λ s. view s ≡ position_text position) → IfOk r (λ s. SpellsPosition (view s) position)
 written_is_read view (Ok s) position lt is = subst (λ (text : List ℕ). SpellsPosition text position) (sym is) (printed_is_read position lt)
 written_is_read view (Err e) position lt is = tt
 

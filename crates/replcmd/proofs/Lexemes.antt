@@ -7,8 +7,8 @@ use Rattle.std.proofs.lemmas.List.{append-nil, length-append}
 use Rattle.replcmd.specs.declared.token.Token.{Token}
 use Rattle.replcmd.specs.declared.token.Token.TheVariants.{Word, Quoted, Value, Mark, Unclosed}
 use Rattle.replcmd.specs.declared.token.TheConstants.{NAME_QUOTE, VALUE_QUOTE}
-use Rattle.replcmd.specs.Tokens.{is_blank, is_mark, is_plain, doubled, spelled, Each, begins, IsWhole, StartsWith, Spells}
-use Rattle.replcmd.specs.Lexing.{after_blanks, word_of, after_word, quoted_at, closed, token_from, token_at, Lexes}
+use Rattle.replcmd.specs.Tokens.{is_blank, is_mark, is_plain, with_doubled_quotes, spelling_of_token, Each, begins, IsWhole, StartsWith, Spells}
+use Rattle.replcmd.specs.Lexing.{after_blanks, word_of, after_word, quoted_at, closed_token, token_from, token_at, Lexes}
 use Rattle.replcmd.proofs.Pieces.{if_true, if_false, BlanksTaken, blanks_take, blanks_end, blanks_again, word_takes, word_again, found, quoted_takes, quoted_again}
 
 -- ---- tokens
@@ -26,7 +26,7 @@ same_token a x b y e =
 
 -- what stands at the front, behind the blanks
 pub record Front (bytes : List ℕ) (token : Token) (rest : List ℕ) : Type 0 where
-  pub parts : bytes ≡ spelled token ++ rest
+  pub parts : bytes ≡ spelling_of_token token ++ rest
   pub whole : IsWhole token rest
 
 same_front : (bytes : List ℕ) (a : Token) (x : List ℕ) (b : Token) (y : List ℕ) → token_found a x ≡ token_found b y → Front bytes a x → Front bytes b y
@@ -36,7 +36,7 @@ same_front bytes a x b y e front =
     subst P both front
 
 -- a quote that was closed
-was_closed : (make : List ℕ → Token) (o : Option (List ℕ × List ℕ)) (token : Token) (rest : List ℕ) → Some (closed make o) ≡ token_found token rest → token ≢ Unclosed
+was_closed : (make : List ℕ → Token) (o : Option (List ℕ × List ℕ)) (token : Token) (rest : List ℕ) → Some (closed_token make o) ≡ token_found token rest → token ≢ Unclosed
     → (n : List ℕ) × (o ≡ found n rest) × (make n ≡ token)
 was_closed make None token rest e some = absurd (some (sym (same_token Unclosed [] token rest e).0))
 was_closed make (Some x) token rest e some =
@@ -44,10 +44,10 @@ was_closed make (Some x) token rest e some =
     (x.0, ap (λ (y : List ℕ). found x.0 y) same.1, same.0)
 
 quoted_front : (b quote : ℕ) (bytes n rest : List ℕ) → b ≡ quote → quoted_at false quote bytes ≡ found n rest
-    → (b ∷ bytes ≡ (quote ∷ (doubled quote n ++ quote ∷ [])) ++ rest) × (begins (λ c. eqb c quote) rest ≡ false)
+    → (b ∷ bytes ≡ (quote ∷ (with_doubled_quotes quote n ++ quote ∷ [])) ++ rest) × (begins (λ c. eqb c quote) rest ≡ false)
 quoted_front b quote bytes n rest same e =
     let taken = quoted_takes false quote bytes n rest e in (
-      ap (λ (c : ℕ). c ∷ bytes) same ∙ ap (λ (l : List ℕ). quote ∷ l) (taken.parts ∙ sym (append_assoc (doubled quote n) (quote ∷ []) rest)),
+      ap (λ (c : ℕ). c ∷ bytes) same ∙ ap (λ (l : List ℕ). quote ∷ l) (taken.parts ∙ sym (append_assoc (with_doubled_quotes quote n) (quote ∷ []) rest)),
       taken.end,
     )
 
@@ -68,7 +68,7 @@ by_mark b bytes token rest no_blank no_name no_value false is e =
     same_front (b ∷ bytes) (Word (word_of (b ∷ bytes))) (after_word (b ∷ bytes)) token rest e (record { parts = word.parts; whole = (begun, word.each, word.end) })
 
 by_value : (b : ℕ) (bytes : List ℕ) (token : Token) (rest : List ℕ) → token ≢ Unclosed → is_blank b ≡ false → eqb b NAME_QUOTE ≡ false → (t : Bool) → eqb b VALUE_QUOTE ≡ t
-    → cond t (Some (closed (λ v. Value v) (quoted_at false VALUE_QUOTE bytes))) (cond (is_mark b) (token_found (Mark b) bytes) (token_found (Word (word_of (b ∷ bytes))) (after_word (b ∷ bytes)))) ≡ token_found token rest
+    → cond t (Some (closed_token (λ v. Value v) (quoted_at false VALUE_QUOTE bytes))) (cond (is_mark b) (token_found (Mark b) bytes) (token_found (Word (word_of (b ∷ bytes))) (after_word (b ∷ bytes)))) ≡ token_found token rest
     → Front (b ∷ bytes) token rest
 by_value b bytes token rest some no_blank no_name true is e =
     let x = was_closed (λ v. Value v) (quoted_at false VALUE_QUOTE bytes) token rest e some in
@@ -77,7 +77,7 @@ by_value b bytes token rest some no_blank no_name true is e =
 by_value b bytes token rest some no_blank no_name false is e = by_mark b bytes token rest no_blank no_name is (is_mark b) refl e
 
 by_name : (b : ℕ) (bytes : List ℕ) (token : Token) (rest : List ℕ) → token ≢ Unclosed → is_blank b ≡ false → (t : Bool) → eqb b NAME_QUOTE ≡ t
-    → cond t (Some (closed (λ n. Quoted n) (quoted_at false NAME_QUOTE bytes))) (cond (eqb b VALUE_QUOTE) (Some (closed (λ v. Value v) (quoted_at false VALUE_QUOTE bytes))) (cond (is_mark b) (token_found (Mark b) bytes) (token_found (Word (word_of (b ∷ bytes))) (after_word (b ∷ bytes))))) ≡ token_found token rest
+    → cond t (Some (closed_token (λ n. Quoted n) (quoted_at false NAME_QUOTE bytes))) (cond (eqb b VALUE_QUOTE) (Some (closed_token (λ v. Value v) (quoted_at false VALUE_QUOTE bytes))) (cond (is_mark b) (token_found (Mark b) bytes) (token_found (Word (word_of (b ∷ bytes))) (after_word (b ∷ bytes))))) ≡ token_found token rest
     → Front (b ∷ bytes) token rest
 by_name b bytes token rest some no_blank true is e =
     let x = was_closed (λ n. Quoted n) (quoted_at false NAME_QUOTE bytes) token rest e some in
@@ -134,19 +134,19 @@ mark_reads b rest is =
       read = if_false (eqb b NAME_QUOTE) _ _ none.1 ∙ if_false (eqb b VALUE_QUOTE) _ _ none.2 ∙ if_true (is_mark b) (token_found (Mark b) rest) _ is;
     }
 
-quoted_reads : (n rest : List ℕ) → IsWhole (Quoted n) rest → Reads (spelled (Quoted n) ++ rest) (Quoted n) rest
+quoted_reads : (n rest : List ℕ) → IsWhole (Quoted n) rest → Reads (spelling_of_token (Quoted n) ++ rest) (Quoted n) rest
 quoted_reads n rest whole =
-    let behind : quoted_at false NAME_QUOTE ((doubled NAME_QUOTE n ++ NAME_QUOTE ∷ []) ++ rest) ≡ found n rest =
-    ap (quoted_at false NAME_QUOTE) (append_assoc (doubled NAME_QUOTE n) (NAME_QUOTE ∷ []) rest) ∙ quoted_again NAME_QUOTE n rest whole in
-    record { begins_so = refl; read = ap (λ (o : Option (List ℕ × List ℕ)). Some (closed (λ m. Quoted m) o)) behind }
+    let behind : quoted_at false NAME_QUOTE ((with_doubled_quotes NAME_QUOTE n ++ NAME_QUOTE ∷ []) ++ rest) ≡ found n rest =
+    ap (quoted_at false NAME_QUOTE) (append_assoc (with_doubled_quotes NAME_QUOTE n) (NAME_QUOTE ∷ []) rest) ∙ quoted_again NAME_QUOTE n rest whole in
+    record { begins_so = refl; read = ap (λ (o : Option (List ℕ × List ℕ)). Some (closed_token (λ m. Quoted m) o)) behind }
 
-value_reads : (v rest : List ℕ) → IsWhole (Value v) rest → Reads (spelled (Value v) ++ rest) (Value v) rest
+value_reads : (v rest : List ℕ) → IsWhole (Value v) rest → Reads (spelling_of_token (Value v) ++ rest) (Value v) rest
 value_reads v rest whole =
-    let behind : quoted_at false VALUE_QUOTE ((doubled VALUE_QUOTE v ++ VALUE_QUOTE ∷ []) ++ rest) ≡ found v rest =
-    ap (quoted_at false VALUE_QUOTE) (append_assoc (doubled VALUE_QUOTE v) (VALUE_QUOTE ∷ []) rest) ∙ quoted_again VALUE_QUOTE v rest whole in
-    record { begins_so = refl; read = ap (λ (o : Option (List ℕ × List ℕ)). Some (closed (λ m. Value m) o)) behind }
+    let behind : quoted_at false VALUE_QUOTE ((with_doubled_quotes VALUE_QUOTE v ++ VALUE_QUOTE ∷ []) ++ rest) ≡ found v rest =
+    ap (quoted_at false VALUE_QUOTE) (append_assoc (with_doubled_quotes VALUE_QUOTE v) (VALUE_QUOTE ∷ []) rest) ∙ quoted_again VALUE_QUOTE v rest whole in
+    record { begins_so = refl; read = ap (λ (o : Option (List ℕ × List ℕ)). Some (closed_token (λ m. Value m) o)) behind }
 
-pub token_reads : (token : Token) (rest : List ℕ) → IsWhole token rest → Reads (spelled token ++ rest) token rest
+pub token_reads : (token : Token) (rest : List ℕ) → IsWhole token rest → Reads (spelling_of_token token ++ rest) token rest
 token_reads (Word w) rest whole = word_reads w rest whole
 token_reads (Quoted n) rest whole = quoted_reads n rest whole
 token_reads (Value v) rest whole = value_reads v rest whole
@@ -157,7 +157,7 @@ pub token_again : (text : List ℕ) (token : Token) (rest : List ℕ) → Starts
 unfolding token_at
 token_again text token rest starts =
     let reads = token_reads token rest starts.whole in
-    let front : after_blanks text ≡ spelled token ++ rest = ap after_blanks starts.parts ∙ blanks_again starts.blanks (spelled token ++ rest) starts.are_blank reads.begins_so in
+    let front : after_blanks text ≡ spelling_of_token token ++ rest = ap after_blanks starts.parts ∙ blanks_again starts.blanks (spelling_of_token token ++ rest) starts.are_blank reads.begins_so in
     ap token_from front ∙ reads.read
 
 -- ---- whole texts
@@ -209,7 +209,7 @@ lexes_once text (t ∷ a) (u ∷ b) one other =
     let aligned : Lexes one.0 b = subst (λ (rest : List ℕ). Lexes rest b) (sym same.1) other.2 in
     ap (λ (x : Token). x ∷ a) same.0 ∙ ap (λ (l : List Token). u ∷ l) (lexes_once one.0 a b one.2 aligned)
 
-spelled_some : (token : Token) (rest : List ℕ) → IsWhole token rest → 0 < length (spelled token)
+spelled_some : (token : Token) (rest : List ℕ) → IsWhole token rest → 0 < length (spelling_of_token token)
 spelled_some (Word []) rest whole = absurd (let no = whole.0 in cc)
 spelled_some (Word (b ∷ w)) rest whole = omega arith
 spelled_some (Quoted n) rest whole = omega arith
@@ -219,16 +219,16 @@ spelled_some Unclosed rest whole = absurd whole
 
 starts_smaller : (text : List ℕ) (token : Token) (rest : List ℕ) → StartsWith text token rest → length rest < length text
 starts_smaller text token rest starts =
-    let some : 0 < length (spelled token) = spelled_some token rest starts.whole in
-    omega (arith, ap (length {A = ℕ}) starts.parts, length-append starts.blanks (spelled token ++ rest), length-append (spelled token) rest)
+    let some : 0 < length (spelling_of_token token) = spelled_some token rest starts.whole in
+    omega (arith, ap (length {A = ℕ}) starts.parts, length-append starts.blanks (spelling_of_token token ++ rest), length-append (spelling_of_token token) rest)
 
 -- an open quote is a byte too, and nothing follows it
-open_ends : (make : List ℕ → Token) (o : Option (List ℕ × List ℕ)) (rest : List ℕ) → ((n : List ℕ) → make n ≢ Unclosed) → Some (closed make o) ≡ token_found Unclosed rest → rest ≡ []
+open_ends : (make : List ℕ → Token) (o : Option (List ℕ × List ℕ)) (rest : List ℕ) → ((n : List ℕ) → make n ≢ Unclosed) → Some (closed_token make o) ≡ token_found Unclosed rest → rest ≡ []
 open_ends make None rest other e = sym (same_token Unclosed [] Unclosed rest e).1
 open_ends make (Some x) rest other e = absurd (other x.0 (same_token (make x.0) x.1 Unclosed rest e).0)
 
 unclosed_ends : (b : ℕ) (bytes word after rest : List ℕ) (n v : Option (List ℕ × List ℕ)) (p q r : Bool)
-    → cond p (Some (closed (λ m. Quoted m) n)) (cond q (Some (closed (λ m. Value m) v)) (cond r (token_found (Mark b) bytes) (token_found (Word word) after))) ≡ token_found Unclosed rest → rest ≡ []
+    → cond p (Some (closed_token (λ m. Quoted m) n)) (cond q (Some (closed_token (λ m. Value m) v)) (cond r (token_found (Mark b) bytes) (token_found (Word word) after))) ≡ token_found Unclosed rest → rest ≡ []
 unclosed_ends b bytes word after rest n v true q r e = open_ends (λ m. Quoted m) n rest (λ m is. absurd cc) e
 unclosed_ends b bytes word after rest n v false true r e = open_ends (λ m. Value m) v rest (λ m is. absurd cc) e
 unclosed_ends b bytes word after rest n v false false true e = absurd (let no = (same_token (Mark b) bytes Unclosed rest e).0 in cc)

@@ -2,7 +2,7 @@
 use Rattle.std.proofs.Common.{◌≡◌, ℕ, zero, suc, ◌≤◌, ◌<◌, Bool, true, false, cond, List, [], ◌∷◌, ◌++◌, length, Result, Ok, Err, refl, sym, ap, subst, ◌∙◌, append_assoc, arith}
 use Rattle.replcmd.specs.declared.fault.CmdFault.{CmdFault}
 use Rattle.replcmd.specs.declared.fault.CmdFault.TheVariants.{Syntax, BadName, BadPosition, Unsupported, BadOption, Memory}
-use Rattle.replcmd.specs.Reading.{◌>>=◌, separated, Fails}
+use Rattle.replcmd.specs.Reading.{◌>>=◌, separated_items, Fails}
 
 abbrev pub found : {X S : Type 0} → X → S → Result (X × S) CmdFault
 found x s = Ok (x, s)
@@ -43,7 +43,7 @@ module _ {X Y : Type 0} (item : List Y → Result (X × List Y) CmdFault) (more 
   pub record Going (front : List X) (s : List Y) (whole : Result (List X × List Y) CmdFault) : Type 0 where
     pub steps : ℕ
     pub enough : length s < steps
-    pub so_far : with_front front (separated item more steps s) ≡ whole
+    pub so_far : with_front front (separated_items item more steps s) ≡ whole
 
   step_so : (front : List X) (x : X) (r : Result (List X × List Y) CmdFault)
       → with_front front (r >>= λ others. found (x ∷ others.0) others.1) ≡ with_front (front ++ (x ∷ [])) r
@@ -52,48 +52,48 @@ module _ {X Y : Type 0} (item : List Y → Result (X × List Y) CmdFault) (more 
 
   pub goes_on : Shortens → (front : List X) (s : List Y) (whole : Result (List X × List Y) CmdFault) (x : X) (mid next : List Y) → Going front s whole
       → item s ≡ found x mid → more mid ≡ found true next → Going (front ++ (x ∷ [])) next whole
-  unfolding separated
+  unfolding separated_items
   goes_on short front s whole x mid next going read comma = by_steps going.steps going.enough going.so_far
     where
-      by_steps : (n : ℕ) → length s < n → with_front front (separated item more n s) ≡ whole → Going (front ++ (x ∷ [])) next whole
+      by_steps : (n : ℕ) → length s < n → with_front front (separated_items item more n s) ≡ whole → Going (front ++ (x ∷ [])) next whole
       by_steps zero lt e = absurd (omega arith)
       by_steps (suc n) lt e =
           let first = short.by_item s x mid read in
           let second = short.by_more mid next comma in
-          let step : with_front front (separated item more (suc n) s) ≡ with_front (front ++ (x ∷ [])) (separated item more n next) =
-          rw (read, comma) (step_so front x (separated item more n next)) in
+          let step : with_front front (separated_items item more (suc n) s) ≡ with_front (front ++ (x ∷ [])) (separated_items item more n next) =
+          rw (read, comma) (step_so front x (separated_items item more n next)) in
           record { steps = n; enough = omega arith; so_far = sym step ∙ e }
 
   pub is_done : (front : List X) (s : List Y) (whole : Result (List X × List Y) CmdFault) (x : X) (mid rest : List Y) → Going front s whole
       → item s ≡ found x mid → more mid ≡ found false rest → whole ≡ found (front ++ (x ∷ [])) rest
-  unfolding separated
+  unfolding separated_items
   is_done front s whole x mid rest going read close = by_steps going.steps going.enough going.so_far
     where
-      by_steps : (n : ℕ) → length s < n → with_front front (separated item more n s) ≡ whole → whole ≡ found (front ++ (x ∷ [])) rest
+      by_steps : (n : ℕ) → length s < n → with_front front (separated_items item more n s) ≡ whole → whole ≡ found (front ++ (x ∷ [])) rest
       by_steps zero lt e = absurd (omega arith)
       by_steps (suc n) lt e =
-          let step : with_front front (separated item more (suc n) s) ≡ found (front ++ (x ∷ [])) rest = rw (read, close) refl in
+          let step : with_front front (separated_items item more (suc n) s) ≡ found (front ++ (x ∷ [])) rest = rw (read, close) refl in
           sym e ∙ step
 
   pub item_fails : (front : List X) (s : List Y) (whole : Result (List X × List Y) CmdFault) (d : CmdFault) → Going front s whole → item s ≡ Err d → whole ≡ Err d
-  unfolding separated
+  unfolding separated_items
   item_fails front s whole d going read = by_steps going.steps going.enough going.so_far
     where
-      by_steps : (n : ℕ) → length s < n → with_front front (separated item more n s) ≡ whole → whole ≡ Err d
+      by_steps : (n : ℕ) → length s < n → with_front front (separated_items item more n s) ≡ whole → whole ≡ Err d
       by_steps zero lt e = absurd (omega arith)
       by_steps (suc n) lt e =
-          let step : with_front front (separated item more (suc n) s) ≡ Err d = rw read refl in
+          let step : with_front front (separated_items item more (suc n) s) ≡ Err d = rw read refl in
           sym e ∙ step
 
   pub more_fails : (front : List X) (s : List Y) (whole : Result (List X × List Y) CmdFault) (x : X) (mid : List Y) (d : CmdFault) → Going front s whole
       → item s ≡ found x mid → more mid ≡ Err d → whole ≡ Err d
-  unfolding separated
+  unfolding separated_items
   more_fails front s whole x mid d going read neither = by_steps going.steps going.enough going.so_far
     where
-      by_steps : (n : ℕ) → length s < n → with_front front (separated item more n s) ≡ whole → whole ≡ Err d
+      by_steps : (n : ℕ) → length s < n → with_front front (separated_items item more n s) ≡ whole → whole ≡ Err d
       by_steps zero lt e = absurd (omega arith)
       by_steps (suc n) lt e =
-          let step : with_front front (separated item more (suc n) s) ≡ Err d = rw (read, neither) refl in
+          let step : with_front front (separated_items item more (suc n) s) ≡ Err d = rw (read, neither) refl in
           sym e ∙ step
 
   pub item_stops : (front : List X) (s : List Y) (whole : Result (List X × List Y) CmdFault) (d : CmdFault) → Going front s whole → Fails d (item s) → Fails d whole
@@ -117,8 +117,8 @@ module _ {X Y : Type 0} (item : List Y → Result (X × List Y) CmdFault) (more 
   start_so (Ok x) = refl
   start_so (Err e) = refl
 
-  pub starts : (s : List Y) → Going [] s (separated item more (suc (length s)) s)
-  starts s = record { steps = suc (length s); enough = omega arith; so_far = start_so (separated item more (suc (length s)) s) }
+  pub starts : (s : List Y) → Going [] s (separated_items item more (suc (length s)) s)
+  starts s = record { steps = suc (length s); enough = omega arith; so_far = start_so (separated_items item more (suc (length s)) s) }
 
   -- ---- the items as a relation
 
@@ -127,21 +127,21 @@ module _ {X Y : Type 0} (item : List Y → Result (X × List Y) CmdFault) (more 
   Lists s (x ∷ []) rest = (mid : List Y) × (item s ≡ found x mid) × (more mid ≡ found false rest)
   Lists s (x ∷ y ∷ xs) rest = (mid : List Y) × (next : List Y) × (item s ≡ found x mid) × (more mid ≡ found true next) × Lists next (y ∷ xs) rest
 
-  pub lists_take : (n : ℕ) (s : List Y) (xs : List X) (rest : List Y) → separated item more n s ≡ found xs rest → Lists s xs rest
-  unfolding separated
+  pub lists_take : (n : ℕ) (s : List Y) (xs : List X) (rest : List Y) → separated_items item more n s ≡ found xs rest → Lists s xs rest
+  unfolding separated_items
   lists_take zero s xs rest e = absurd cc
   lists_take (suc n) s xs rest e =
-      let a = bind_ok (item s) (λ first. more first.1 >>= λ goes. cond goes.0 (separated item more n goes.1 >>= λ others. found (first.0 ∷ others.0) others.1) (found (first.0 ∷ []) goes.1)) (xs, rest) e in
-      let b = bind_ok (more a.0.1) (λ goes. cond goes.0 (separated item more n goes.1 >>= λ others. found (a.0.0 ∷ others.0) others.1) (found (a.0.0 ∷ []) goes.1)) (xs, rest) a.2 in
+      let a = bind_ok (item s) (λ first. more first.1 >>= λ goes. cond goes.0 (separated_items item more n goes.1 >>= λ others. found (first.0 ∷ others.0) others.1) (found (first.0 ∷ []) goes.1)) (xs, rest) e in
+      let b = bind_ok (more a.0.1) (λ goes. cond goes.0 (separated_items item more n goes.1 >>= λ others. found (a.0.0 ∷ others.0) others.1) (found (a.0.0 ∷ []) goes.1)) (xs, rest) a.2 in
       by_more a.0.0 a.0.1 a.1 b.0.0 b.0.1 b.1 b.2 (λ ys e. lists_take n b.0.1 ys rest e)
     where
       by_more : (x : X) (mid : List Y) → item s ≡ found x mid → (t : Bool) (next : List Y) → more mid ≡ found t next
-          → cond t (separated item more n next >>= λ others. found (x ∷ others.0) others.1) (found (x ∷ []) next) ≡ found xs rest
-          → ((ys : List X) → separated item more n next ≡ found ys rest → Lists next ys rest) → Lists s xs rest
+          → cond t (separated_items item more n next >>= λ others. found (x ∷ others.0) others.1) (found (x ∷ []) next) ≡ found xs rest
+          → ((ys : List X) → separated_items item more n next ≡ found ys rest → Lists next ys rest) → Lists s xs rest
       by_more x mid read true next comma e inner =
-          let c = bind_ok (separated item more n next) (λ others. found (x ∷ others.0) others.1) (xs, rest) e in
+          let c = bind_ok (separated_items item more n next) (λ others. found (x ∷ others.0) others.1) (xs, rest) e in
           let same = same_found (x ∷ c.0.0) c.0.1 xs rest c.2 in
-          let others : separated item more n next ≡ found c.0.0 rest = c.1 ∙ ap (λ (r : List Y). found c.0.0 r) same.1 in
+          let others : separated_items item more n next ≡ found c.0.0 rest = c.1 ∙ ap (λ (r : List Y). found c.0.0 r) same.1 in
           subst (λ (l : List X). Lists s l rest) same.0 (longer c.0.0 (inner c.0.0 others))
         where
           longer : (ys : List X) → Lists next ys rest → Lists s (x ∷ ys) rest
@@ -151,8 +151,8 @@ module _ {X Y : Type 0} (item : List Y → Result (X × List Y) CmdFault) (more 
           let same = same_found (x ∷ []) next xs rest e in
           subst (λ (l : List X). Lists s l rest) same.0 (mid, read, close ∙ ap (λ (r : List Y). found false r) same.1)
 
-  pub lists_again : Shortens → (n : ℕ) (s : List Y) (xs : List X) (rest : List Y) → length s < n → Lists s xs rest → separated item more n s ≡ found xs rest
-  unfolding separated
+  pub lists_again : Shortens → (n : ℕ) (s : List Y) (xs : List X) (rest : List Y) → length s < n → Lists s xs rest → separated_items item more n s ≡ found xs rest
+  unfolding separated_items
   lists_again short zero s xs rest lt lists = absurd (omega arith)
   lists_again short (suc n) s [] rest lt lists = absurd lists
   lists_again short (suc n) s (x ∷ []) rest lt lists = rw (lists.1, lists.2) refl

@@ -10,7 +10,7 @@ use Rattle.replcmd.specs.declared.token.TheConstants.{OPEN, CLOSE, COMMA}
 use Rattle.replcmd.specs.declared.setting.Setting.{Setting}
 use Rattle.replcmd.specs.Grammar.{Part, Named, Chosen, Sign, IsEnd, Follows, setting_parts}
 use Rattle.replcmd.specs.Commands.{if_open, in_brackets, more_settings, options_at, settings_at}
-use Rattle.replcmd.specs.Reading.{◌>>=◌, name_of, name_at, past_mark, separated}
+use Rattle.replcmd.specs.Reading.{◌>>=◌, name_of, name_at, past_mark, separated_items}
 use Rattle.replcmd.specs.Settings.{option_name, setting_at}
 use Rattle.replcmd.proofs.Lists.{found, same_found, Shortens, Lists, lists_take, lists_again}
 use Rattle.replcmd.proofs.Settings.{setting_reads, setting_told}
@@ -144,7 +144,7 @@ first_named ts s [] f = no_close ts (option_name s) (Chosen s ∷ Sign CLOSE ∷
 first_named ts s (t ∷ settings) f = no_close ts (option_name s) (Chosen s ∷ Sign COMMA ∷ setting_parts (t ∷ settings)) f
 
 opened_reads : (inner : List Token) (settings : List Setting) (rest : List Token) → past_mark CLOSE inner ≡ passed false inner
-    → separated setting_at more_settings (suc (length inner)) inner ≡ listed settings rest → options_at (Mark OPEN ∷ inner) ≡ listed settings rest
+    → separated_items setting_at more_settings (suc (length inner)) inner ≡ listed settings rest → options_at (Mark OPEN ∷ inner) ≡ listed settings rest
 unfolding options_at settings_at
 opened_reads inner settings rest close read = rw (close, read) refl
 

@@ -1,7 +1,7 @@
 -- The pieces of which tokens are made: blanks, words and quoted texts, each as it is read and as it is spelled.
 use Rattle.std.proofs.Common.{◌≡◌, ℕ, Bool, true, false, cond, eqb, List, [], ◌∷◌, ◌++◌, Option, Some, None, refl, sym, ap, subst, ◌∙◌}
 use Rattle.std.proofs.lemmas.Bool.{eqb-true, eq-eqb}
-use Rattle.replcmd.specs.Tokens.{is_blank, is_plain, doubled, Each, begins}
+use Rattle.replcmd.specs.Tokens.{is_blank, is_plain, with_doubled_quotes, Each, begins}
 use Rattle.replcmd.specs.Lexing.{after_blanks, word_of, after_word, in_front, quoted_at}
 
 pub if_true : {A : Type 0} (t : Bool) (x y : A) → t ≡ true → cond t x y ≡ x
@@ -87,7 +87,7 @@ so_far false quote bytes = bytes
 so_far true quote bytes = quote ∷ bytes
 
 pub record QuotedTaken (quote : ℕ) (bytes n rest : List ℕ) : Type 0 where
-  pub parts : bytes ≡ doubled quote n ++ (quote ∷ rest)
+  pub parts : bytes ≡ with_doubled_quotes quote n ++ (quote ∷ rest)
   pub end : begins (λ b. eqb b quote) rest ≡ false
 
 pub quoted_takes : (after : Bool) (quote : ℕ) (bytes n rest : List ℕ) → quoted_at after quote bytes ≡ found n rest → QuotedTaken quote (so_far after quote bytes) n rest
@@ -109,8 +109,8 @@ quoted_takes false quote (b ∷ bytes) n rest e = by_test (eqb b quote) (λ is. 
     by_test false same is closing inner e =
         let x = behind b (quoted_at false quote bytes) n rest e in
         let taken = inner x.0 x.1 in
-        let spelled_on : doubled quote (b ∷ x.0) ≡ b ∷ doubled quote x.0 = if_false (eqb b quote) (b ∷ b ∷ doubled quote x.0) (b ∷ doubled quote x.0) is in
-        let parts : b ∷ bytes ≡ doubled quote (b ∷ x.0) ++ (quote ∷ rest) = ap (λ (l : List ℕ). b ∷ l) taken.parts ∙ ap (λ (l : List ℕ). l ++ (quote ∷ rest)) (sym spelled_on) in
+        let spelled_on : with_doubled_quotes quote (b ∷ x.0) ≡ b ∷ with_doubled_quotes quote x.0 = if_false (eqb b quote) (b ∷ b ∷ with_doubled_quotes quote x.0) (b ∷ with_doubled_quotes quote x.0) is in
+        let parts : b ∷ bytes ≡ with_doubled_quotes quote (b ∷ x.0) ++ (quote ∷ rest) = ap (λ (l : List ℕ). b ∷ l) taken.parts ∙ ap (λ (l : List ℕ). l ++ (quote ∷ rest)) (sym spelled_on) in
         subst (λ (m : List ℕ). QuotedTaken quote (b ∷ bytes) m rest) (sym x.2) (record { parts = parts; end = taken.end })
 quoted_takes true quote (b ∷ bytes) n rest e = by_test (eqb b quote) (λ is. eqb-true b quote is) refl (λ m more. quoted_takes false quote bytes m rest more) e
   where
@@ -120,8 +120,8 @@ quoted_takes true quote (b ∷ bytes) n rest e = by_test (eqb b quote) (λ is. e
     by_test true same is inner e =
         let x = behind b (quoted_at false quote bytes) n rest e in
         let taken = inner x.0 x.1 in
-        let spelled_on : doubled quote (b ∷ x.0) ≡ b ∷ b ∷ doubled quote x.0 = if_true (eqb b quote) (b ∷ b ∷ doubled quote x.0) (b ∷ doubled quote x.0) is in
-        let parts : quote ∷ (b ∷ bytes) ≡ doubled quote (b ∷ x.0) ++ (quote ∷ rest) =
+        let spelled_on : with_doubled_quotes quote (b ∷ x.0) ≡ b ∷ b ∷ with_doubled_quotes quote x.0 = if_true (eqb b quote) (b ∷ b ∷ with_doubled_quotes quote x.0) (b ∷ with_doubled_quotes quote x.0) is in
+        let parts : quote ∷ (b ∷ bytes) ≡ with_doubled_quotes quote (b ∷ x.0) ++ (quote ∷ rest) =
         ap (λ (c : ℕ). c ∷ (b ∷ bytes)) (sym (same refl)) ∙ ap (λ (l : List ℕ). b ∷ b ∷ l) taken.parts ∙ ap (λ (l : List ℕ). l ++ (quote ∷ rest)) (sym spelled_on) in
         subst (λ (m : List ℕ). QuotedTaken quote (quote ∷ (b ∷ bytes)) m rest) (sym x.2) (record { parts = parts; end = taken.end })
     by_test false same is inner e =
@@ -129,7 +129,7 @@ quoted_takes true quote (b ∷ bytes) n rest e = by_test (eqb b quote) (λ is. e
         let both : two [] (b ∷ bytes) ≡ two n rest = cc in
         subst P both (record { parts = refl; end = is })
 
-pub quoted_again : (quote : ℕ) (n rest : List ℕ) → begins (λ b. eqb b quote) rest ≡ false → quoted_at false quote (doubled quote n ++ (quote ∷ rest)) ≡ found n rest
+pub quoted_again : (quote : ℕ) (n rest : List ℕ) → begins (λ b. eqb b quote) rest ≡ false → quoted_at false quote (with_doubled_quotes quote n ++ (quote ∷ rest)) ≡ found n rest
 quoted_again quote [] rest end = if_true (eqb quote quote) (quoted_at true quote rest) (in_front (quote ∷ []) (quoted_at false quote rest)) (eq-eqb quote quote refl) ∙ ended rest end
   where
     ended : (rest : List ℕ) → begins (λ b. eqb b quote) rest ≡ false → quoted_at true quote rest ≡ found [] rest
@@ -137,12 +137,12 @@ quoted_again quote [] rest end = if_true (eqb quote quote) (quoted_at true quote
     ended (b ∷ rest) end = if_false (eqb b quote) (in_front (b ∷ []) (quoted_at false quote rest)) (found [] (b ∷ rest)) end
 quoted_again quote (b ∷ n) rest end = by_test (eqb b quote) refl (quoted_again quote n rest end)
   where
-    by_test : (t : Bool) → eqb b quote ≡ t → quoted_at false quote (doubled quote n ++ (quote ∷ rest)) ≡ found n rest
-        → quoted_at false quote (cond t (b ∷ b ∷ doubled quote n) (b ∷ doubled quote n) ++ (quote ∷ rest)) ≡ found (b ∷ n) rest
+    by_test : (t : Bool) → eqb b quote ≡ t → quoted_at false quote (with_doubled_quotes quote n ++ (quote ∷ rest)) ≡ found n rest
+        → quoted_at false quote (cond t (b ∷ b ∷ with_doubled_quotes quote n) (b ∷ with_doubled_quotes quote n) ++ (quote ∷ rest)) ≡ found (b ∷ n) rest
     by_test true is inner =
-        if_true (eqb b quote) (quoted_at true quote (b ∷ (doubled quote n ++ (quote ∷ rest)))) (in_front (b ∷ []) (quoted_at false quote (b ∷ (doubled quote n ++ (quote ∷ rest))))) is
-        ∙ if_true (eqb b quote) (in_front (b ∷ []) (quoted_at false quote (doubled quote n ++ (quote ∷ rest)))) (found [] (b ∷ (doubled quote n ++ (quote ∷ rest)))) is
+        if_true (eqb b quote) (quoted_at true quote (b ∷ (with_doubled_quotes quote n ++ (quote ∷ rest)))) (in_front (b ∷ []) (quoted_at false quote (b ∷ (with_doubled_quotes quote n ++ (quote ∷ rest))))) is
+        ∙ if_true (eqb b quote) (in_front (b ∷ []) (quoted_at false quote (with_doubled_quotes quote n ++ (quote ∷ rest)))) (found [] (b ∷ (with_doubled_quotes quote n ++ (quote ∷ rest)))) is
         ∙ ap (in_front (b ∷ [])) inner
     by_test false is inner =
-        if_false (eqb b quote) (quoted_at true quote (doubled quote n ++ (quote ∷ rest))) (in_front (b ∷ []) (quoted_at false quote (doubled quote n ++ (quote ∷ rest)))) is
+        if_false (eqb b quote) (quoted_at true quote (with_doubled_quotes quote n ++ (quote ∷ rest))) (in_front (b ∷ []) (quoted_at false quote (with_doubled_quotes quote n ++ (quote ∷ rest)))) is
         ∙ ap (in_front (b ∷ [])) inner

@@ -12,7 +12,7 @@ use Rattle.replcmd.specs.Tokens.{is_blank, Each, StartsWith}
 use Rattle.replcmd.specs.Lexing.{after_blanks, token_at}
 use Rattle.replcmd.specs.Words.{IsName}
 use Rattle.replcmd.specs.Publications.{SpellsNames}
-use Rattle.replcmd.specs.Reading.{◌>>=◌, name_of, comma_at, front_name, more_names, names_of, separated}
+use Rattle.replcmd.specs.Reading.{◌>>=◌, name_of, comma_at, front_name, more_names, names_of, separated_items}
 use Rattle.replcmd.proofs.Pieces.{if_true, if_false, blanks_take, blanks_again}
 use Rattle.replcmd.proofs.Lexemes.{token_found, token_takes, token_again, token_smaller}
 use Rattle.replcmd.proofs.Lists.{found, same_found, bind_ok, Shortens, Lists, lists_take, lists_again}
@@ -115,7 +115,7 @@ names_listed text (n ∷ m ∷ names) rest lists =
 pub names_take : (text : List ℕ) (names : List (List ℕ)) → names_of text ≡ Ok names → SpellsNames text names
 unfolding names_of
 names_take text names e =
-    let a = bind_ok (separated front_name more_names (suc (length text)) text) (λ x. Ok x.0) names e in
+    let a = bind_ok (separated_items front_name more_names (suc (length text)) text) (λ x. Ok x.0) names e in
     let same : a.0.0 ≡ names = let ok = a.2 in cc in
     let lists = lists_take front_name more_names (suc (length text)) text a.0.0 a.0.1 a.1 in
     subst (λ (l : List (List ℕ)). SpellsNames text l) same (names_listed text a.0.0 a.0.1 lists)

@@ -12,7 +12,7 @@ use Rattle.replcmd.specs.declared.setting.Setting.{Setting}
 use Rattle.replcmd.specs.declared.setting.Setting.TheVariants.{Version, Publications, Messages}
 use Rattle.replcmd.specs.declared.setting.StreamOptions.{StreamOptions}
 use Rattle.replcmd.specs.Reading.{◌>>=◌, name_at, value_at, names_of, truth_of}
-use Rattle.replcmd.specs.Settings.{AreSettings, ComesTo, IsValue, asked, gathered, is_version, messages_at, messages_of, option_name, publications_at, publications_of, setting_at, told_options, version_at}
+use Rattle.replcmd.specs.Settings.{AreSettings, ComesTo, IsValue, is_version, messages_at, messages_of, option_name, options_of_settings, publications_at, publications_of, setting_at, stream_options, told_options, version_at}
 use Rattle.replcmd.proofs.Lists.{found, same_found, bind_ok}
 use Rattle.replcmd.proofs.PublicationNames.{names_take, names_again}
 use Rattle.replcmd.proofs.Truths.{truth_take, truth_again}
@@ -107,7 +107,7 @@ record Come (told_version : Bool) (told_names : Option (List (List ℕ))) (told_
   names : option_to_list told_names ++ filter_map publications_of settings ≡ options.publications ∷ []
   messages : ComesTo (option_to_list told_messages ++ filter_map messages_of settings) options.messages
 
-asked_come : (version : Bool) (names : Option (List (List ℕ))) (messages : Option Bool) (options : StreamOptions) → asked version names messages ≡ Ok options → Come version names messages [] options
+asked_come : (version : Bool) (names : Option (List (List ℕ))) (messages : Option Bool) (options : StreamOptions) → stream_options version names messages ≡ Ok options → Come version names messages [] options
 asked_come false names messages options e = absurd cc
 asked_come true None messages options e = absurd cc
 asked_come true (Some chosen) None options e =
@@ -117,17 +117,17 @@ asked_come true (Some chosen) (Some on) options e =
     let same : record { publications = chosen; messages = on } ≡ options = cc in
     subst (Come true (Some chosen) (Some on) []) same (record { version = refl; names = refl; messages = refl })
 
-come_asked : (version : Bool) (names : Option (List (List ℕ))) (messages : Option Bool) (options : StreamOptions) → Come version names messages [] options → asked version names messages ≡ Ok options
+come_asked : (version : Bool) (names : Option (List (List ℕ))) (messages : Option Bool) (options : StreamOptions) → Come version names messages [] options → stream_options version names messages ≡ Ok options
 come_asked false names messages options come = absurd (let none = come.version in omega arith)
 come_asked true None messages options come = absurd (let none = come.names in cc)
 come_asked true (Some chosen) None options come =
     let names : chosen ≡ options.publications = let is = come.names in cc in
-    ap (λ (c : List (List ℕ)). asked true (Some c) None) names ∙ ap (λ (on : Bool). Ok (record { publications = options.publications; messages = on })) (sym come.messages)
+    ap (λ (c : List (List ℕ)). stream_options true (Some c) None) names ∙ ap (λ (on : Bool). Ok (record { publications = options.publications; messages = on })) (sym come.messages)
 come_asked true (Some chosen) (Some on) options come =
     let names : chosen ≡ options.publications = let is = come.names in cc in
-    ap (λ (c : List (List ℕ)). asked true (Some c) (Some on)) names ∙ ap (λ (on : Bool). Ok (record { publications = options.publications; messages = on })) (sym come.messages)
+    ap (λ (c : List (List ℕ)). stream_options true (Some c) (Some on)) names ∙ ap (λ (on : Bool). Ok (record { publications = options.publications; messages = on })) (sym come.messages)
 
-come_to : (version : Bool) (names : Option (List (List ℕ))) (messages : Option Bool) (settings : List Setting) (options : StreamOptions) → gathered version names messages settings ≡ Ok options
+come_to : (version : Bool) (names : Option (List (List ℕ))) (messages : Option Bool) (settings : List Setting) (options : StreamOptions) → options_of_settings version names messages settings ≡ Ok options
     → Come version names messages settings options
 come_to version names messages [] options e = asked_come version names messages options e
 come_to true names messages (Version ∷ settings) options e = absurd cc
@@ -144,7 +144,7 @@ come_to version names None (Messages on ∷ settings) options e =
     record { version = let count = come.version in omega (arith, counted (Messages on) settings); names = come.names; messages = come.messages }
 
 to_come : (version : Bool) (names : Option (List (List ℕ))) (messages : Option Bool) (settings : List Setting) (options : StreamOptions) → Come version names messages settings options
-    → gathered version names messages settings ≡ Ok options
+    → options_of_settings version names messages settings ≡ Ok options
 to_come version names messages [] options come = come_asked version names messages options come
 to_come true names messages (Version ∷ settings) options come = absurd (let count = come.version in omega (arith, counted Version settings))
 to_come false names messages (Version ∷ settings) options come =

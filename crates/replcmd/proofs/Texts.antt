@@ -6,7 +6,7 @@ use Rattle.std.proofs.lemmas.Bool.Decides.{nat_tests}
 use Rattle.std.proofs.lemmas.List.{append-nil, take_at, length-append}
 use Rattle.std.proofs.lemmas.Str.{IsUtf8-nil, IsUtf8-append, IsUtf8-take, IsUtf8-drop, IsUtf8-from_ascii, IsCharBoundary-before_ascii, IsCharBoundary-after_ascii}
 use Rattle.std.proofs.Math.Seq.{get_or-append_seam, drop-append-add}
-use Rattle.replcmd.specs.Tokens.{is_blank, is_mark, is_plain, doubled, spelled, Each, begins, IsWhole}
+use Rattle.replcmd.specs.Tokens.{is_blank, is_mark, is_plain, with_doubled_quotes, spelling_of_token, Each, begins, IsWhole}
 use Rattle.replcmd.specs.Lexing.{after_blanks, word_of, after_word, quoted_at, token_at}
 use Rattle.replcmd.specs.declared.token.Token.{Token}
 use Rattle.replcmd.specs.declared.token.Token.TheVariants.{Word, Quoted, Value, Mark, Unclosed}
@@ -67,34 +67,34 @@ word_is_text text valid =
     front_is_text (word_of text) (after_word text) taken.end (subst IsUtf8 taken.parts valid)
 
 -- what is meant by doubled quotes, with a front that stays as it is
-undoubled : (quote : ℕ) (front n : List ℕ) → quote < 128 → IsUtf8 (front ++ doubled quote n) → IsUtf8 (front ++ n)
+undoubled : (quote : ℕ) (front n : List ℕ) → quote < 128 → IsUtf8 (front ++ with_doubled_quotes quote n) → IsUtf8 (front ++ n)
 undoubled quote front [] ascii valid = valid
 undoubled quote front (b ∷ n) ascii valid = by_test (eqb b quote) (λ is. eqb-true b quote is) (λ text. undoubled quote [] n ascii text) (λ text. undoubled quote (front ++ (b ∷ [])) n ascii text) valid
   where
-    by_test : (t : Bool) → (t ≡ true → b ≡ quote) → (IsUtf8 (doubled quote n) → IsUtf8 n) → (IsUtf8 ((front ++ (b ∷ [])) ++ doubled quote n) → IsUtf8 ((front ++ (b ∷ [])) ++ n))
-        → IsUtf8 (front ++ cond t (b ∷ b ∷ doubled quote n) (b ∷ doubled quote n)) → IsUtf8 (front ++ (b ∷ n))
+    by_test : (t : Bool) → (t ≡ true → b ≡ quote) → (IsUtf8 (with_doubled_quotes quote n) → IsUtf8 n) → (IsUtf8 ((front ++ (b ∷ [])) ++ with_doubled_quotes quote n) → IsUtf8 ((front ++ (b ∷ [])) ++ n))
+        → IsUtf8 (front ++ cond t (b ∷ b ∷ with_doubled_quotes quote n) (b ∷ with_doubled_quotes quote n)) → IsUtf8 (front ++ (b ∷ n))
     by_test true same inner on text =
         let small : b < 128 = let is = same refl in omega arith in
-        let both = cut_at_ascii front b (b ∷ doubled quote n) small text in
-        IsUtf8-append front (b ∷ n) both.0 (with_ascii b n small (inner (behind_ascii b (doubled quote n) small both.1)))
+        let both = cut_at_ascii front b (b ∷ with_doubled_quotes quote n) small text in
+        IsUtf8-append front (b ∷ n) both.0 (with_ascii b n small (inner (behind_ascii b (with_doubled_quotes quote n) small both.1)))
     by_test false same inner on text =
-        subst IsUtf8 (append_assoc front (b ∷ []) n) (on (subst IsUtf8 (sym (append_assoc front (b ∷ []) (doubled quote n))) text))
+        subst IsUtf8 (append_assoc front (b ∷ []) n) (on (subst IsUtf8 (sym (append_assoc front (b ∷ []) (with_doubled_quotes quote n))) text))
 
 pub quoted_is_text : (quote : ℕ) (text n rest : List ℕ) → quote < 128 → IsUtf8 text → quoted_at false quote text ≡ found n rest → IsUtf8 n × IsUtf8 rest
 quoted_is_text quote text n rest ascii valid e =
     let taken = quoted_takes false quote text n rest e in
-    let both = cut_at_ascii (doubled quote n) quote rest ascii (subst IsUtf8 taken.parts valid) in
+    let both = cut_at_ascii (with_doubled_quotes quote n) quote rest ascii (subst IsUtf8 taken.parts valid) in
     (undoubled quote [] n ascii both.0, both.1)
 
 -- a token, and what stands behind it
-spelled_is_text : (token : Token) (rest : List ℕ) → IsWhole token rest → IsUtf8 (spelled token ++ rest) → IsUtf8 rest
+spelled_is_text : (token : Token) (rest : List ℕ) → IsWhole token rest → IsUtf8 (spelling_of_token token ++ rest) → IsUtf8 rest
 spelled_is_text (Word w) rest whole valid = (front_is_text w rest whole.2 valid).1
 spelled_is_text (Quoted n) rest whole valid =
-    let inner = behind_ascii NAME_QUOTE ((doubled NAME_QUOTE n ++ NAME_QUOTE ∷ []) ++ rest) (omega arith) valid in
-    (cut_at_ascii (doubled NAME_QUOTE n) NAME_QUOTE rest (omega arith) (subst IsUtf8 (append_assoc (doubled NAME_QUOTE n) (NAME_QUOTE ∷ []) rest) inner)).1
+    let inner = behind_ascii NAME_QUOTE ((with_doubled_quotes NAME_QUOTE n ++ NAME_QUOTE ∷ []) ++ rest) (omega arith) valid in
+    (cut_at_ascii (with_doubled_quotes NAME_QUOTE n) NAME_QUOTE rest (omega arith) (subst IsUtf8 (append_assoc (with_doubled_quotes NAME_QUOTE n) (NAME_QUOTE ∷ []) rest) inner)).1
 spelled_is_text (Value v) rest whole valid =
-    let inner = behind_ascii VALUE_QUOTE ((doubled VALUE_QUOTE v ++ VALUE_QUOTE ∷ []) ++ rest) (omega arith) valid in
-    (cut_at_ascii (doubled VALUE_QUOTE v) VALUE_QUOTE rest (omega arith) (subst IsUtf8 (append_assoc (doubled VALUE_QUOTE v) (VALUE_QUOTE ∷ []) rest) inner)).1
+    let inner = behind_ascii VALUE_QUOTE ((with_doubled_quotes VALUE_QUOTE v ++ VALUE_QUOTE ∷ []) ++ rest) (omega arith) valid in
+    (cut_at_ascii (with_doubled_quotes VALUE_QUOTE v) VALUE_QUOTE rest (omega arith) (subst IsUtf8 (append_assoc (with_doubled_quotes VALUE_QUOTE v) (VALUE_QUOTE ∷ []) rest) inner)).1
 spelled_is_text (Mark b) rest whole valid = behind_ascii b rest (mark_ascii b whole) valid
 spelled_is_text Unclosed rest whole valid = absurd whole
 
@@ -105,7 +105,7 @@ unblanked (b ∷ blanks) rest each valid = unblanked blanks rest each.1 (behind_
 closed_is_text : (text : List ℕ) (token : Token) (rest : List ℕ) → token ≢ Unclosed → IsUtf8 text → token_at text ≡ token_found token rest → IsUtf8 rest
 closed_is_text text token rest some valid e =
     let starts = token_takes text token rest e some in
-    spelled_is_text token rest starts.whole (unblanked starts.blanks (spelled token ++ rest) starts.are_blank (subst IsUtf8 starts.parts valid))
+    spelled_is_text token rest starts.whole (unblanked starts.blanks (spelling_of_token token ++ rest) starts.are_blank (subst IsUtf8 starts.parts valid))
 
 pub rest_is_text : (text : List ℕ) (token : Token) (rest : List ℕ) → IsUtf8 text → token_at text ≡ token_found token rest → IsUtf8 rest
 rest_is_text text Unclosed rest valid e = subst IsUtf8 (sym (unclosed_at_end text rest e)) IsUtf8-nil

@@ -13,7 +13,7 @@ use Rattle.replcmd.specs.declared.setting.Setting.{Setting}
 use Rattle.replcmd.specs.declared.command.Command.{Command}
 use Rattle.replcmd.specs.declared.command.Command.TheVariants.{Identify, Create, Start, Drop}
 use Rattle.replcmd.specs.Lexing.{Lexes}
-use Rattle.replcmd.specs.Reading.{◌>>=◌, Answers, begins_with_name, end_at, keyword_at, name_at, past_mark, past_word, position_at, separated, slot_at, value_at, verb_at}
+use Rattle.replcmd.specs.Reading.{◌>>=◌, Answers, begins_with_name, end_at, keyword_at, name_at, past_mark, past_word, position_at, separated_items, slot_at, value_at, verb_at}
 use Rattle.replcmd.specs.Settings.{setting_at, told_options}
 
 -- ---- the list of options
@@ -23,7 +23,7 @@ more_settings (Mark m ∷ tokens) = if m == COMMA then Ok (true, tokens) else if
 more_settings _ = Err Syntax
 
 unfoldable pub settings_at : List Token → Result (List Setting × List Token) CmdFault
-settings_at tokens = separated setting_at more_settings (suc (length tokens)) tokens
+settings_at tokens = separated_items setting_at more_settings (suc (length tokens)) tokens
 
 -- An absent list has no options, and so has an empty one.
 abbrev pub in_brackets : Bool × List Token → Result (List Setting × List Token) CmdFault

@@ -28,15 +28,15 @@ quoted_at true quote [] = Some ([], [])
 quoted_at false quote (b ∷ bytes) = if b == quote then quoted_at true quote bytes else in_front (b ∷ []) (quoted_at false quote bytes)
 quoted_at true quote (b ∷ bytes) = if b == quote then in_front (b ∷ []) (quoted_at false quote bytes) else Some ([], b ∷ bytes)
 
-abbrev pub closed : (List ℕ → Token) → Option (List ℕ × List ℕ) → Token × List ℕ
-closed make None = (Unclosed, [])
-closed make (Some found) = (make found.0, found.1)
+abbrev pub closed_token : (List ℕ → Token) → Option (List ℕ × List ℕ) → Token × List ℕ
+closed_token make None = (Unclosed, [])
+closed_token make (Some found) = (make found.0, found.1)
 
 abbrev pub token_from : List ℕ → Option (Token × List ℕ)
 token_from [] = None
 token_from (b ∷ bytes) =
-    if b == NAME_QUOTE then Some (closed (λ n. Quoted n) (quoted_at false NAME_QUOTE bytes))
-    else if b == VALUE_QUOTE then Some (closed (λ v. Value v) (quoted_at false VALUE_QUOTE bytes))
+    if b == NAME_QUOTE then Some (closed_token (λ n. Quoted n) (quoted_at false NAME_QUOTE bytes))
+    else if b == VALUE_QUOTE then Some (closed_token (λ v. Value v) (quoted_at false VALUE_QUOTE bytes))
     else if is_mark b then Some (Mark b, bytes)
     else Some (Word (word_of (b ∷ bytes)), after_word (b ∷ bytes))
 

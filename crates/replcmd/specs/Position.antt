@@ -19,5 +19,5 @@ pub record SpellsPosition (text : List ℕ) (position : ℕ) : Type 0 where
   pub value : position ≡ digits_value 16 upper * 2 ^ 32 + digits_value 16 lower
 
 -- the one text that is written of a position
-abbrev pub printed : ℕ → List ℕ
-printed position = digits 16 true (position / 2 ^ 32) ++ (codes "/" ++ digits 16 true (position % 2 ^ 32))
+abbrev pub position_text : ℕ → List ℕ
+position_text position = digits 16 true (position / 2 ^ 32) ++ (codes "/" ++ digits 16 true (position % 2 ^ 32))

@@ -117,12 +117,12 @@ position_at _ = Err Syntax
 -- ---- what is in a list with commas
 
 -- `item` reads one, and `more` tells whether another follows; no list is longer than its text
-unfoldable pub separated : {S X : Type 0} → (S → Result (X × S) CmdFault) → (S → Result (Bool × S) CmdFault) → ℕ → S → Result (List X × S) CmdFault
-separated item more zero s = Err Syntax
-separated item more (suc n) s = do
+unfoldable pub separated_items : {S X : Type 0} → (S → Result (X × S) CmdFault) → (S → Result (Bool × S) CmdFault) → ℕ → S → Result (List X × S) CmdFault
+separated_items item more zero s = Err Syntax
+separated_items item more (suc n) s = do
   first ← item s
   goes ← more first.1
-  if goes.0 then (separated item more n goes.1 >>= λ others. Ok (first.0 ∷ others.0, others.1)) else Ok (first.0 ∷ [], goes.1)
+  if goes.0 then (separated_items item more n goes.1 >>= λ others. Ok (first.0 ∷ others.0, others.1)) else Ok (first.0 ∷ [], goes.1)
 
 -- ---- publications
 
@@ -140,7 +140,7 @@ abbrev pub more_names : List ℕ → Result (Bool × List ℕ) CmdFault
 more_names text = comma_at (after_blanks text)
 
 unfoldable pub names_of : List ℕ → Result (List (List ℕ)) CmdFault
-names_of text = separated front_name more_names (suc (length text)) text >>= λ names. Ok names.0
+names_of text = separated_items front_name more_names (suc (length text)) text >>= λ names. Ok names.0
 
 -- ---- truth values
 

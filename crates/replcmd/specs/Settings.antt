@@ -70,17 +70,17 @@ setting_at tokens = name_at tokens >>= λ name.
     else Err BadOption
 
 -- what is asked of the stream, where the version is told and the publications are
-abbrev pub asked : Bool → Option (List (List ℕ)) → Option Bool → Result StreamOptions CmdFault
-asked true (Some names) messages = Ok (record { publications = names; messages = unwrap_or messages false })
-asked _ _ messages = Err BadOption
+abbrev pub stream_options : Bool → Option (List (List ℕ)) → Option Bool → Result StreamOptions CmdFault
+stream_options true (Some names) messages = Ok (record { publications = names; messages = unwrap_or messages false })
+stream_options _ _ messages = Err BadOption
 
 -- no option twice: whether the version was told, which publications, and what of messages
-abbrev pub gathered : Bool → Option (List (List ℕ)) → Option Bool → List Setting → Result StreamOptions CmdFault
-gathered version names messages [] = asked version names messages
-gathered version names messages (Version ∷ settings) = if version then Err BadOption else gathered true names messages settings
-gathered version names messages (Publications chosen ∷ settings) = if is_some names then Err BadOption else gathered version (Some chosen) messages settings
-gathered version names messages (Messages on ∷ settings) = if is_some messages then Err BadOption else gathered version names (Some on) settings
+abbrev pub options_of_settings : Bool → Option (List (List ℕ)) → Option Bool → List Setting → Result StreamOptions CmdFault
+options_of_settings version names messages [] = stream_options version names messages
+options_of_settings version names messages (Version ∷ settings) = if version then Err BadOption else options_of_settings true names messages settings
+options_of_settings version names messages (Publications chosen ∷ settings) = if is_some names then Err BadOption else options_of_settings version (Some chosen) messages settings
+options_of_settings version names messages (Messages on ∷ settings) = if is_some messages then Err BadOption else options_of_settings version names (Some on) settings
 
 -- what these options ask for
 abbrev pub told_options : List Setting → Result StreamOptions CmdFault
-told_options settings = gathered false None None settings
+told_options settings = options_of_settings false None None settings

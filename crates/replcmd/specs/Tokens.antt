@@ -19,16 +19,16 @@ abbrev pub is_plain : ℕ → Bool
 is_plain b = not (is_blank b || (is_mark b || (b == NAME_QUOTE || b == VALUE_QUOTE)))
 
 -- the text between quotes: a quote that is meant stands twice
-abbrev pub doubled : ℕ → List ℕ → List ℕ
-doubled quote [] = []
-doubled quote (b ∷ bytes) = if b == quote then b ∷ b ∷ doubled quote bytes else b ∷ doubled quote bytes
+abbrev pub with_doubled_quotes : ℕ → List ℕ → List ℕ
+with_doubled_quotes quote [] = []
+with_doubled_quotes quote (b ∷ bytes) = if b == quote then b ∷ b ∷ with_doubled_quotes quote bytes else b ∷ with_doubled_quotes quote bytes
 
-abbrev pub spelled : Token → List ℕ
-spelled (Word w) = w
-spelled (Quoted n) = NAME_QUOTE ∷ (doubled NAME_QUOTE n ++ NAME_QUOTE ∷ [])
-spelled (Value v) = VALUE_QUOTE ∷ (doubled VALUE_QUOTE v ++ VALUE_QUOTE ∷ [])
-spelled (Mark b) = b ∷ []
-spelled Unclosed = []
+abbrev pub spelling_of_token : Token → List ℕ
+spelling_of_token (Word w) = w
+spelling_of_token (Quoted n) = NAME_QUOTE ∷ (with_doubled_quotes NAME_QUOTE n ++ NAME_QUOTE ∷ [])
+spelling_of_token (Value v) = VALUE_QUOTE ∷ (with_doubled_quotes VALUE_QUOTE v ++ VALUE_QUOTE ∷ [])
+spelling_of_token (Mark b) = b ∷ []
+spelling_of_token Unclosed = []
 
 abbrev pub Each : (ℕ → Bool) → List ℕ → Type 0
 Each is bytes = AllByRecursion (λ b. is b ≡ true) bytes
@@ -48,7 +48,7 @@ IsWhole Unclosed rest = ⊥
 pub record StartsWith (text : List ℕ) (token : Token) (rest : List ℕ) : Type 0 where
   pub blanks : List ℕ
   pub are_blank : Each is_blank blanks
-  pub parts : text ≡ blanks ++ (spelled token ++ rest)
+  pub parts : text ≡ blanks ++ (spelling_of_token token ++ rest)
   pub whole : IsWhole token rest
 
 -- The whole text spells these tokens, with blanks round them.

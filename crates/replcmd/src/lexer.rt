@@ -4,7 +4,7 @@ ghost use Rattle.std.specs.Prelude.{◌≡◌, ◌<◌, ◌≤◌, ◌∷◌, []
 ghost use Rattle.replcmd.specs.declared.token.Token.TheVariants.{Quoted, Value};
 ghost use Rattle.replcmd.specs.Tokens.{is_blank, is_mark, is_plain};
 ghost use Rattle.std.specs.Str.{IsUtf8};
-ghost use Rattle.replcmd.specs.Lexing.{after_blanks, word_of, after_word, in_front, quoted_at, closed, token_from, token_at, Lexes, lent, lent_text};
+ghost use Rattle.replcmd.specs.Lexing.{after_blanks, word_of, after_word, in_front, quoted_at, closed_token, token_from, token_at, Lexes, lent, lent_text};
 
 use crate::name::Name;
 use crate::token::{CLOSE, COMMA, NAME_QUOTE, OPEN, SEMICOLON, Token, VALUE_QUOTE};
@@ -124,7 +124,7 @@ fn quoted_bytes(
 fn quoted_name(alloc: Global, text: &[u8]) -> Result<(Token, &[u8]), AllocError>
     requires { IsUtf8 text.now }
     ensures { IfOk result
-        (λ x. (x.0, x.1.now) ≡ closed (λ n. Quoted n) (quoted_at false NAME_QUOTE text.now)) }
+        (λ x. (x.0, x.1.now) ≡ closed_token (λ n. Quoted n) (quoted_at false NAME_QUOTE text.now)) }
 {
     let Some((name, rest)) = quoted_of(alloc, NAME_QUOTE, text)? else {
         return Ok((Token::Unclosed, nothing_of(text)));
@@ -136,7 +136,7 @@ fn quoted_name(alloc: Global, text: &[u8]) -> Result<(Token, &[u8]), AllocError>
 fn quoted_value(alloc: Global, text: &[u8]) -> Result<(Token, &[u8]), AllocError>
     requires { IsUtf8 text.now }
     ensures { IfOk result
-        (λ x. (x.0, x.1.now) ≡ closed (λ v. Value v) (quoted_at false VALUE_QUOTE text.now)) }
+        (λ x. (x.0, x.1.now) ≡ closed_token (λ v. Value v) (quoted_at false VALUE_QUOTE text.now)) }
 {
     let Some((value, rest)) = quoted_of(alloc, VALUE_QUOTE, text)? else {
         return Ok((Token::Unclosed, nothing_of(text)));

@@ -2,7 +2,7 @@
 
 ghost use Rattle.std.specs.Prelude.{◌≡◌, ℕ, Ok, IfOk, IfErr, MatchOption, string_bytes};
 ghost use Rattle.std.specs.Str.Parse.{digits_value};
-ghost use Rattle.replcmd.specs.Position.{IsHalf, SpellsPosition, printed};
+ghost use Rattle.replcmd.specs.Position.{IsHalf, SpellsPosition, position_text};
 ghost use Rattle.replcmd.specs.Reading.{position_of};
 
 use crate::fault::CmdFault;
@@ -41,14 +41,14 @@ fn half(text: &str) -> Option<u32>
 
 /// The text of the position, in upper case and without leading zeros.
 pub fn write_position(alloc: Global, position: u64) -> Result<String, AllocError>
-    ensures text { IfOk result (λ s. string_bytes s ≡ printed position) }
+    ensures text { IfOk result (λ s. string_bytes s ≡ position_text position) }
     ensures read_again { IfOk result (λ s. SpellsPosition (string_bytes s) position) }
 {
     text_of(alloc, position)
 }
 
 fn text_of(alloc: Global, position: u64) -> Result<String, AllocError>
-    ensures { IfOk result (λ s. string_bytes s ≡ printed position) }
+    ensures { IfOk result (λ s. string_bytes s ≡ position_text position) }
 {
     let upper = position / (1 << 32);
     let lower = position % (1 << 32);

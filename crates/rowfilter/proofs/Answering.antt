@@ -9,7 +9,7 @@ use Rattle.conditions.specs.declared.fault.FilterFault.TheVariants.{Syntax, Unkn
 use Rattle.conditions.specs.declared.sort.Sort.{Sort}
 use Rattle.conditions.specs.declared.sort.Sort.TheVariants.{Any, Truths, Numbers, Texts, UuidTexts, Uuids}
 use Rattle.conditions.specs.declared.token.Token.{Token}
-use Rattle.rowfilter.specs.Answers.{Answers, condition_of, if_sorted, judged, judged_if, read_filter, read_tokens, tokens_in, tokens_within, with_more, without_levels}
+use Rattle.rowfilter.specs.Answers.{Answers, condition_of, if_sorted, judged_condition, judged_condition_if, read_filter, read_tokens, tokens_in, tokens_within, with_more, without_levels}
 use Rattle.conditions.specs.Conditions.{Condition}
 use Rattle.conditions.specs.Grammar.{Phrase, IsInRange, levels, HasLargeNumber, HasManyLevels, IsRefused, MOST_BYTES, MOST_LEVELS, SpellsCondition, SpellsFilter, SpellsPhrase}
 use Rattle.conditions.specs.Kinds.{are_known, is_truth, of_one, sort_of}
@@ -54,7 +54,7 @@ truths_alone (Some Texts) sort is = absurd cc
 truths_alone (Some UuidTexts) sort is = absurd cc
 truths_alone (Some Uuids) sort is = absurd cc
 
-judged_due : (table : Table) (text : List ℕ) (c : Condition) → SpellsCondition table.columns text c → IsDue table text (judged table.columns c)
+judged_due : (table : Table) (text : List ℕ) (c : Condition) → SpellsCondition table.columns text c → IsDue table text (judged_condition table.columns c)
 judged_due table text c means = by_known (are_known (length table.columns) c) refl
   where
     by_sort : are_known (length table.columns) c ≡ true → (o : Option Sort) → of_one is_truth (sort_of table.columns c) ≡ o → IsDue table text (if_sorted o c)
@@ -66,7 +66,7 @@ judged_due table text c means = by_known (are_known (length table.columns) c) re
     by_known false unknown = ((λ same. absurd cc), record { condition = c; means = means; unknown = unknown })
 
 tree_due : (table : Table) (text : List ℕ) (tokens : List Token) (g : Grown) → length text ≤ MOST_BYTES → Spells text tokens → reading_of table.columns tokens ≡ Some g
-    → (tree : Result (Condition × ℕ) FilterFault) → g.tree ≡ tree → IsDue table text (judged_if table.columns (without_levels tree))
+    → (tree : Result (Condition × ℕ) FilterFault) → g.tree ≡ tree → IsDue table text (judged_condition_if table.columns (without_levels tree))
 tree_due table text tokens g short spells reads (Ok x) is = judged_due table text x.0 (condition_read table.columns text tokens g x.0 x.1 short spells reads is)
 tree_due table text tokens g short spells reads (Err Syntax) is = ((λ same. absurd cc), fault_read table.columns text tokens g Syntax short spells reads is)
 tree_due table text tokens g short spells reads (Err NumberRange) is = ((λ same. absurd cc), fault_read table.columns text tokens g NumberRange short spells reads is)
@@ -78,17 +78,17 @@ tree_due table text tokens g short spells reads (Err Memory) is = absurd (
     subst (IsTree (IsInRange read.phrase) (levels read.phrase) _) is (tree_read table.columns tokens g read)
     )
 
-reading_due : (table : Table) (text : List ℕ) (tokens : List Token) → length text ≤ MOST_BYTES → Spells text tokens → IsDue table text (judged_if table.columns (condition_of (reading_of table.columns tokens)))
+reading_due : (table : Table) (text : List ℕ) (tokens : List Token) → length text ≤ MOST_BYTES → Spells text tokens → IsDue table text (judged_condition_if table.columns (condition_of (reading_of table.columns tokens)))
 reading_due table text tokens short spells = by_reading (reading_of table.columns tokens) refl
   where
-    by_reading : (o : Option Grown) → reading_of table.columns tokens ≡ o → IsDue table text (judged_if table.columns (condition_of o))
+    by_reading : (o : Option Grown) → reading_of table.columns tokens ≡ o → IsDue table text (judged_condition_if table.columns (condition_of o))
     by_reading None reads = ((λ same. absurd cc), nothing_read table.columns text tokens spells reads)
     by_reading (Some g) reads = tree_due table text tokens g short spells reads g.tree refl
 
 tokens_due : (table : Table) (text : List ℕ) → length text ≤ MOST_BYTES → IsDue table text (read_tokens table.columns (tokens_in text))
 tokens_due table text short = by_stray (list_any is_stray (tokens_in text)) refl
   where
-    by_stray : (t : Bool) → list_any is_stray (tokens_in text) ≡ t → IsDue table text (cond t (Err Syntax) (judged_if table.columns (condition_of (reading_of table.columns (tokens_in text)))))
+    by_stray : (t : Bool) → list_any is_stray (tokens_in text) ≡ t → IsDue table text (cond t (Err Syntax) (judged_condition_if table.columns (condition_of (reading_of table.columns (tokens_in text)))))
     by_stray true some = ((λ same. absurd cc), λ phrase spells. tokens_none text (tokens_in text) spells.tokens (lexes_in text) some spells.are_spelled)
     by_stray false none = reading_due table text (tokens_in text) short (tokens_found text (tokens_in text) (lexes_in text) none)
 

@@ -11,7 +11,7 @@ use Rattle.conditions.specs.declared.expression.Expression.{Expression}
 use Rattle.conditions.specs.Shapes.{shape}
 use Rattle.conditions.specs.declared.token.Token.{Token}
 use Rattle.conditions.specs.Conditions.{Condition, Column, Literal, Compare, Is, Not, And, Or}
-use Rattle.conditions.specs.Grammar.{Phrase, written, IsInRange, levels, meant, SpellsPhrase, SpellsCondition, SpellsFilter, IsRefused, MOST_BYTES, MOST_LEVELS}
+use Rattle.conditions.specs.Grammar.{Phrase, sayings_of, IsInRange, levels, meaning_of, SpellsPhrase, SpellsCondition, SpellsFilter, IsRefused, MOST_BYTES, MOST_LEVELS}
 use Rattle.conditions.specs.Kinds.{are_known, sort_of_kind, sort_of, are_compared, is_asked, is_truth, of_one, of_two, IsCondition}
 use Rattle.conditions.specs.declared.sort.Sort.{Sort}
 use Rattle.conditions.specs.declared.sort.Sort.TheVariants.{Truths}
@@ -35,7 +35,7 @@ same_phrase text a b one other =
     one_phrase one.tokens a b one.say one.bound say other.bound
 
 pub same_condition : (columns : List TableColumn) (text : List ℕ) (c d : Condition) → SpellsCondition columns text c → SpellsCondition columns text d → c ≡ d
-same_condition columns text c d one other = one.is_meant ∙ ap (meant columns) (same_phrase text one.phrase other.phrase one.spells other.spells) ∙ sym other.is_meant
+same_condition columns text c d one other = one.is_meant ∙ ap (meaning_of columns) (same_phrase text one.phrase other.phrase one.spells other.spells) ∙ sym other.is_meant
 
 -- ---- what was read
 
@@ -43,23 +43,23 @@ same_condition columns text c d one other = one.is_meant ∙ ap (meant columns) 
 spelling : (columns : List TableColumn) (text : List ℕ) (tokens : List Token) (g : Grown) → length text ≤ MOST_BYTES → Spells text tokens → (read : IsRead columns tokens g) → SpellsPhrase text read.phrase
 spelling columns text tokens g short spells read = record { short = short; tokens = tokens; are_spelled = spells; say = read.say; bound = read.bound }
 
-pub tree_read : (columns : List TableColumn) (tokens : List Token) (g : Grown) → (read : IsRead columns tokens g) → IsTree (IsInRange read.phrase) (levels read.phrase) (meant columns read.phrase) g.tree
-tree_read columns tokens g read = subst (λ (h : Grown). IsTree (IsInRange read.phrase) (levels read.phrase) (meant columns read.phrase) h.tree) (sym read.is) (grown_tree columns read.phrase)
+pub tree_read : (columns : List TableColumn) (tokens : List Token) (g : Grown) → (read : IsRead columns tokens g) → IsTree (IsInRange read.phrase) (levels read.phrase) (meaning_of columns read.phrase) g.tree
+tree_read columns tokens g read = subst (λ (h : Grown). IsTree (IsInRange read.phrase) (levels read.phrase) (meaning_of columns read.phrase) h.tree) (sym read.is) (grown_tree columns read.phrase)
 
 pub condition_read : (columns : List TableColumn) (text : List ℕ) (tokens : List Token) (g : Grown) (c : Condition) (n : ℕ) → length text ≤ MOST_BYTES → Spells text tokens
     → reading_of columns tokens ≡ Some g → g.tree ≡ Ok (c, n) → SpellsCondition columns text c
 condition_read columns text tokens g c n short spells reads is =
     let read = read_found columns tokens g reads in
-    let tree = subst (IsTree (IsInRange read.phrase) (levels read.phrase) (meant columns read.phrase)) is (tree_read columns tokens g read) in
+    let tree = subst (IsTree (IsInRange read.phrase) (levels read.phrase) (meaning_of columns read.phrase)) is (tree_read columns tokens g read) in
     record { phrase = read.phrase; spells = spelling columns text tokens g short spells read; in_range = tree.2.0; flat = subst (λ m. m ≤ MOST_LEVELS) tree.1 (subst (λ m. m ≤ MOST_LEVELS) (sym tree.1) tree.2.1); is_meant = tree.0 }
 
 pub fault_read : (columns : List TableColumn) (text : List ℕ) (tokens : List Token) (g : Grown) (fault : FilterFault) → length text ≤ MOST_BYTES → Spells text tokens
     → reading_of columns tokens ≡ Some g → g.tree ≡ Err fault → IsUnread text fault
 fault_read columns text tokens g fault short spells reads is =
     let read = read_found columns tokens g reads in
-    by_fault read (spelling columns text tokens g short spells read) fault (subst (IsTree (IsInRange read.phrase) (levels read.phrase) (meant columns read.phrase)) is (tree_read columns tokens g read))
+    by_fault read (spelling columns text tokens g short spells read) fault (subst (IsTree (IsInRange read.phrase) (levels read.phrase) (meaning_of columns read.phrase)) is (tree_read columns tokens g read))
   where
-    by_fault : (read : IsRead columns tokens g) → SpellsPhrase text read.phrase → (f : FilterFault) → IsTree (IsInRange read.phrase) (levels read.phrase) (meant columns read.phrase) (Err f) → IsUnread text f
+    by_fault : (read : IsRead columns tokens g) → SpellsPhrase text read.phrase → (f : FilterFault) → IsTree (IsInRange read.phrase) (levels read.phrase) (meaning_of columns read.phrase) (Err f) → IsUnread text f
     by_fault read spells NumberRange large = record { phrase = read.phrase; spells = spells; large = large }
     by_fault read spells TooDeep deep = record { phrase = read.phrase; spells = spells; in_range = deep.0; deep = deep.1 }
     by_fault read spells Syntax never = absurd never
@@ -70,7 +70,7 @@ fault_read columns text tokens g fault short spells reads is =
 pub nothing_read : (columns : List TableColumn) (text : List ℕ) (tokens : List Token) → Spells text tokens → reading_of columns tokens ≡ None → IsUnread text Syntax
 nothing_read columns text tokens spells reads = λ phrase spelled.
     let same : spelled.tokens ≡ tokens = spelled_once text spelled.tokens tokens spelled.are_spelled spells in
-    let say : said_by_all tokens ≡ Some (written phrase) = sym (ap said_by_all same) ∙ spelled.say in
+    let say : said_by_all tokens ≡ Some (sayings_of phrase) = sym (ap said_by_all same) ∙ spelled.say in
     let once = read_once columns tokens phrase say spelled.bound in
     absurd (let never : None ≡ Some (grown columns phrase) = sym reads ∙ once in cc)
 

@@ -19,7 +19,7 @@ use Rattle.conditions.specs.Truth.{truth}
 use Rattle.conditions.specs.Lexing.{token_at}
 use Rattle.conditions.specs.Tokens.{Spells}
 use Rattle.conditions.specs.Kinds.{sort_of, IsCondition}
-use Rattle.conditions.specs.Grammar.{Phrase, InName, InNumber, InText, InCompare, InIs, InNot, InOr, levels, meant, SpellsPhrase}
+use Rattle.conditions.specs.Grammar.{Phrase, InName, InNumber, InText, InCompare, InIs, InNot, InOr, levels, meaning_of, SpellsPhrase}
 
 abbrev columns : List TableColumn
 columns = record { name = codes "k"; kind = kinds.Text; is_key = true } ∷ record { name = codes "v"; kind = kinds.Int4; is_key = false } ∷ []
@@ -72,30 +72,30 @@ either_spells = record {
   bound = (lit≤ tt, ((lit≤ tt, lit≤ tt, (tt, tt)), (lit≤ tt, tt)));
 }
 
-either_fits : IsCondition columns (meant columns either_phrase)
+either_fits : IsCondition columns (meaning_of columns either_phrase)
 either_fits = refl
 
 -- at v null, at v 6 and at v 5
-either_at_null : truth (meant columns either_phrase) (values.Text (codes "a") ∷ values.Null ∷ []) ≡ True
+either_at_null : truth (meaning_of columns either_phrase) (values.Text (codes "a") ∷ values.Null ∷ []) ≡ True
 either_at_null = refl
 
-either_at_six : truth (meant columns either_phrase) (values.Text (codes "a") ∷ values.Int4 (pos 6) ∷ []) ≡ True
+either_at_six : truth (meaning_of columns either_phrase) (values.Text (codes "a") ∷ values.Int4 (pos 6) ∷ []) ≡ True
 either_at_six = refl
 
-either_at_five : truth (meant columns either_phrase) (values.Text (codes "a") ∷ values.Int4 (pos 5) ∷ []) ≡ False
+either_at_five : truth (meaning_of columns either_phrase) (values.Text (codes "a") ∷ values.Int4 (pos 5) ∷ []) ≡ False
 either_at_five = refl
 
 -- NOT v > 5
-not_at_null : truth (meant columns (InNot (InCompare Greater (InName (codes "v")) (InNumber (pos 5))))) (values.Text (codes "a") ∷ values.Null ∷ []) ≡ Unknown
+not_at_null : truth (meaning_of columns (InNot (InCompare Greater (InName (codes "v")) (InNumber (pos 5))))) (values.Text (codes "a") ∷ values.Null ∷ []) ≡ Unknown
 not_at_null = refl
 
 -- v = 'a' compares kinds that don't go together
-unlike : sort_of columns (meant columns (InCompare Equal (InName (codes "v")) (InText (codes "a")))) ≡ None
+unlike : sort_of columns (meaning_of columns (InCompare Equal (InName (codes "v")) (InText (codes "a")))) ≡ None
 unfolding uuid_of_text
 unlike = refl
 
 -- w = 1 names no column of the table
-unheard : sort_of columns (meant columns (InCompare Equal (InName (codes "w")) (InNumber (pos 1)))) ≡ None
+unheard : sort_of columns (meaning_of columns (InCompare Equal (InName (codes "w")) (InNumber (pos 1)))) ≡ None
 unheard = refl
 
 -- 62 times NOT, and v = 1, are 64 levels

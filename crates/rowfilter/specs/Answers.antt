@@ -44,17 +44,17 @@ if_sorted None condition = Err TypeMismatch
 if_sorted (Some sort) condition = Ok condition
 
 -- a condition whose columns are there and whose kinds go together
-abbrev pub judged : List TableColumn → Condition → Result Condition FilterFault
-judged columns condition =
+abbrev pub judged_condition : List TableColumn → Condition → Result Condition FilterFault
+judged_condition columns condition =
     if are_known (length columns) condition then if_sorted (of_one is_truth (sort_of columns condition)) condition
     else Err UnknownColumn
 
-abbrev pub judged_if : List TableColumn → Result Condition FilterFault → Result Condition FilterFault
-judged_if columns (Ok condition) = judged columns condition
-judged_if columns (Err fault) = Err fault
+abbrev pub judged_condition_if : List TableColumn → Result Condition FilterFault → Result Condition FilterFault
+judged_condition_if columns (Ok condition) = judged_condition columns condition
+judged_condition_if columns (Err fault) = Err fault
 
 abbrev pub read_tokens : List TableColumn → List Token → Result Condition FilterFault
-read_tokens columns tokens = if list_any is_stray tokens then Err Syntax else judged_if columns (condition_in columns tokens)
+read_tokens columns tokens = if list_any is_stray tokens then Err Syntax else judged_condition_if columns (condition_in columns tokens)
 
 -- the filter of the table that the text spells, or why it is none
 unfoldable pub read_filter : Table → List ℕ → Result Condition FilterFault

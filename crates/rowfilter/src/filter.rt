@@ -23,7 +23,7 @@ impl Model for Filter {
     ghost use Rattle.std.specs.Coded.{codes};
     ghost use Rattle.rowfilter.specs.Codes.{condition_code};
     ghost use Rattle.conditions.specs.Conditions.{Condition};
-    ghost use Rattle.conditions.specs.Shapes.{gathered, shape};
+    ghost use Rattle.conditions.specs.Shapes.{shape, with_places_of};
 
     ghost Value = { Condition };
 
@@ -31,7 +31,7 @@ impl Model for Filter {
 
     ghost view = { λ f. shape f.expression };
 
-    ghost invariant = { λ f. f.columns ≡ gathered (shape f.expression) [] };
+    ghost invariant = { λ f. f.columns ≡ with_places_of (shape f.expression) [] };
 }
 
 impl Filter {

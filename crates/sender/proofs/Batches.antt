@@ -9,22 +9,22 @@ use Rattle.std.specs.Global.{Global}
 use Rattle.std.specs.List.{AllByRecursion}
 use Rattle.stream.proofs.Lists.{all_of_both}
 use Rattle.std.specs.declared.sync.Arc.{Arc}
-use Rattle.wal.specs.Records.{shared}
+use Rattle.wal.specs.Records.{shared_records}
 use Rattle.publication.specs.Publications.{PublicationSet}
 use Rattle.wal.specs.declared.record.Record.{Record}
 use Rattle.wal.specs.declared.record.Body.{Body}
 use Rattle.wal.specs.declared.record.Body.TheVariants.{Assign, Change as Changed, AbortSub, Abort, Commit, Note}
 use Rattle.tables.specs.declared.change.Change.{Change}
-use Rattle.wal.specs.Log.{noted, committed_at, committed_from, end_of}
+use Rattle.wal.specs.Log.{note_as_transaction, committed_at, committed_from, end_of}
 use Rattle.wal.proofs.Laws.{end_of-append, committed_from-append}
 use Rattle.reorder.specs.Chunks.{LeavesNoRoom}
-use Rattle.reorder.specs.Taking.{HasTaken, MayCome, promised}
+use Rattle.reorder.specs.Taking.{HasTaken, MayCome, promised_changes}
 use Rattle.publication.specs.Selection.{relation}
 use Rattle.pgoutput.specs.declared.relation.Relation.{Relation}
 use Rattle.stream.specs.declared.published.Published.{Published}
 use Rattle.stream.specs.Words.{word_bytes, frames_of}
-use Rattle.stream.specs.Items.{Block, FitsPublished, words_of, item_words, spelled, relations_sent_by_all, relations_sent_through}
-use Rattle.sender.specs.Published.{published, published_as, published_from, published_note, has_message}
+use Rattle.stream.specs.Items.{Block, FitsPublished, words_of, item_words, bytes_of_items, relations_sent_by_all, relations_sent_through}
+use Rattle.sender.specs.Published.{published_transactions, published_as, published_from, published_note, has_message}
 use Rattle.sender.specs.Sending.{SenderState, MayFollow, HasChunks, HasRead, LacksRoom, blocks, published_bytes, published_by_record, ReadOne, ReadAll, RanOut, OutputUnchanged, AddsPublished}
 
 -- ---- items behind items
@@ -53,15 +53,15 @@ relations_sent_through-append relations_sent (t ∷ a) b = relations_sent_throug
 
 -- blocks behind blocks
 pub spelled-blocks : (rel : ℕ → Relation) (relations_sent : List ℕ) (clock : ℤ) (a b : List Published)
-    → spelled rel relations_sent (blocks clock (a ++ b)) ≡ spelled rel relations_sent (blocks clock a) ++ spelled rel (relations_sent_through relations_sent a) (blocks clock b)
+    → bytes_of_items rel relations_sent (blocks clock (a ++ b)) ≡ bytes_of_items rel relations_sent (blocks clock a) ++ bytes_of_items rel (relations_sent_through relations_sent a) (blocks clock b)
 spelled-blocks rel relations_sent clock [] b = refl
 spelled-blocks rel relations_sent clock (t ∷ a) b =
     let first = item_words rel relations_sent (Block clock t) in
     let then = relations_sent_by_all relations_sent t.changes in
     flat_map-append word_bytes first (words_of rel then (blocks clock (a ++ b)))
     ∙ ap (λ (l : List ℕ). frames_of first ++ l) (spelled-blocks rel then clock a b)
-    ∙ sym (append_assoc (frames_of first) (spelled rel then (blocks clock a)) (spelled rel (relations_sent_through then a) (blocks clock b)))
-    ∙ ap (λ (l : List ℕ). l ++ spelled rel (relations_sent_through then a) (blocks clock b)) (sym (flat_map-append word_bytes first (words_of rel then (blocks clock a))))
+    ∙ sym (append_assoc (frames_of first) (bytes_of_items rel then (blocks clock a)) (bytes_of_items rel (relations_sent_through then a) (blocks clock b)))
+    ∙ ap (λ (l : List ℕ). l ++ bytes_of_items rel (relations_sent_through then a) (blocks clock b)) (sym (flat_map-append word_bytes first (words_of rel then (blocks clock a))))
 
 MayFollow-front : (before m n : List Record) → MayFollow before (m ++ n) → MayFollow before m
 MayFollow-front before [] n may = tt
@@ -74,16 +74,16 @@ MayFollow-back before (r ∷ m) n may = let P : List Record → Type 0 = λ l. M
 -- ---- one record
 
 -- what is ready by the definition is what the record publishes
-published_by_record_is : (selection : PublicationSet) (s : ℕ) (before : List Record) (r : Record) → published_by_record selection s r (promised before r.body) ≡ published_from selection s before (r ∷ [])
+published_by_record_is : (selection : PublicationSet) (s : ℕ) (before : List Record) (r : Record) → published_by_record selection s r (promised_changes before r.body) ≡ published_from selection s before (r ∷ [])
 published_by_record_is selection s before r = by_body r.body refl
   where
     Same : Body → Type 0
-    Same body = published_by_record selection s (record r { body = body }) (promised before body) ≡ filter has_message (map (published_as selection) (committed_at s before r.start r.end body ++ []))
+    Same body = published_by_record selection s (record r { body = body }) (promised_changes before body) ≡ filter has_message (map (published_as selection) (committed_at s before r.start r.end body ++ []))
 
     by_commit : (xid : ℕ) (time : ℤ) → Same (Commit xid time)
     by_commit xid time = ap (λ ts. filter has_message (map (published_as selection) ts)) (sym (append-nil (committed_at s before r.start r.end (Commit xid time))))
 
-    by_note : (change : Change) (b : Bool) → cond b (published_note selection r.start r.end change) [] ≡ filter has_message (map (published_as selection) (cond b (noted r.start r.end change ∷ []) [] ++ []))
+    by_note : (change : Change) (b : Bool) → cond b (published_note selection r.start r.end change) [] ≡ filter has_message (map (published_as selection) (cond b (note_as_transaction r.start r.end change ∷ []) [] ++ []))
     by_note change true = refl
     by_note change false = refl
 
@@ -108,18 +108,18 @@ ReadOne-ReadAll clock old new r one = record {
   commits : List Published
   commits = published_by_record old.selection old.start r one.ready
 
-  sent : (before : List Record) → HasRead old before → commits ≡ published_from old.selection old.start before (r ∷ []) → new.relations_sent ≡ relations_sent_through [] (published new.selection (before ++ r ∷ []) new.start)
+  sent : (before : List Record) → HasRead old before → commits ≡ published_from old.selection old.start before (r ∷ []) → new.relations_sent ≡ relations_sent_through [] (published_transactions new.selection (before ++ r ∷ []) new.start)
   sent before has is =
       one.relations_sent ∙ ap (relations_sent_through old.relations_sent) is ∙ ap (λ n. relations_sent_through n (published_from old.selection old.start before (r ∷ []))) has.relations_sent
-      ∙ sym (relations_sent_through-append [] (published old.selection before old.start) (published_from old.selection old.start before (r ∷ [])))
+      ∙ sym (relations_sent_through-append [] (published_transactions old.selection before old.start) (published_from old.selection old.start before (r ∷ [])))
       ∙ ap (relations_sent_through []) (sym (published_from-append old.selection old.start [] before (r ∷ [])))
-      ∙ ap (λ sel. relations_sent_through [] (published sel (before ++ r ∷ []) old.start)) (sym one.selection) ∙ ap (λ s. relations_sent_through [] (published new.selection (before ++ r ∷ []) s)) (sym one.start)
+      ∙ ap (λ sel. relations_sent_through [] (published_transactions sel (before ++ r ∷ []) old.start)) (sym one.selection) ∙ ap (λ s. relations_sent_through [] (published_transactions new.selection (before ++ r ∷ []) s)) (sym one.start)
 
   adds : (before : List Record) → HasRead old before → commits ≡ published_from old.selection old.start before (r ∷ []) → AddsPublished clock old new.held before (r ∷ [])
   adds before has is = record {
     adds =
-        one.held ∙ ap (λ ts. old.held ++ spelled (relation old.selection) old.relations_sent (blocks clock ts)) is
-        ∙ ap (λ n. old.held ++ spelled (relation old.selection) n (blocks clock (published_from old.selection old.start before (r ∷ [])))) has.relations_sent;
+        one.held ∙ ap (λ ts. old.held ++ bytes_of_items (relation old.selection) old.relations_sent (blocks clock ts)) is
+        ∙ ap (λ n. old.held ++ bytes_of_items (relation old.selection) n (blocks clock (published_from old.selection old.start before (r ∷ [])))) has.relations_sent;
     fit = (let P : List Published → Type 0 = λ ts. AllByRecursion (FitsPublished (relation old.selection)) ts in subst P is one.fit);
   }
 
@@ -138,44 +138,44 @@ ReadAll-append clock a b c m n first second = record {
 } where
   both : (before : List Record) → AddsPublished clock a b.held before m → AddsPublished clock b c.held (before ++ m) n → AddsPublished clock a c.held before (m ++ n)
   both before adds_m adds_n =
-      let P : PublicationSet → ℕ → Type 0 = λ sel s. c.held ≡ b.held ++ published_bytes sel clock (published sel (before ++ m) s) (published_from sel s (before ++ m) n) in
+      let P : PublicationSet → ℕ → Type 0 = λ sel s. c.held ≡ b.held ++ published_bytes sel clock (published_transactions sel (before ++ m) s) (published_from sel s (before ++ m) n) in
       let later : P a.selection a.start = rw (← first.selection, ← first.start) adds_n.adds in
       let F : PublicationSet → ℕ → Type 0 = λ sel s. AllByRecursion (FitsPublished (relation sel)) (published_from sel s (before ++ m) n) in
       let later_fit : F a.selection a.start = rw (← first.selection, ← first.start) adds_n.fit in
-      let early = published a.selection before a.start in
+      let early = published_transactions a.selection before a.start in
       let one = published_from a.selection a.start before m in
       let two = published_from a.selection a.start (before ++ m) n in
-      let through : relations_sent_through [] (published a.selection (before ++ m) a.start) ≡ relations_sent_through (relations_sent_through [] early) one =
+      let through : relations_sent_through [] (published_transactions a.selection (before ++ m) a.start) ≡ relations_sent_through (relations_sent_through [] early) one =
       ap (relations_sent_through []) (published_from-append a.selection a.start [] before m) ∙ relations_sent_through-append [] early one in
       let bytes : c.held ≡ a.held ++ published_bytes a.selection clock early (published_from a.selection a.start before (m ++ n)) =
-      later ∙ ap (λ (l : List ℕ). l ++ published_bytes a.selection clock (published a.selection (before ++ m) a.start) two) adds_m.adds
-      ∙ ap (λ (relations_sent : List ℕ). (a.held ++ published_bytes a.selection clock early one) ++ spelled (relation a.selection) relations_sent (blocks clock two)) through
-      ∙ append_assoc a.held (published_bytes a.selection clock early one) (spelled (relation a.selection) (relations_sent_through (relations_sent_through [] early) one) (blocks clock two))
-      ∙ ap (λ (l : List ℕ). a.held ++ l) (sym (spelled-blocks (relation a.selection) (relations_sent_through [] early) clock one two) ∙ ap (λ ts. spelled (relation a.selection) (relations_sent_through [] early) (blocks clock ts)) (sym (published_from-append a.selection a.start before m n))) in
+      later ∙ ap (λ (l : List ℕ). l ++ published_bytes a.selection clock (published_transactions a.selection (before ++ m) a.start) two) adds_m.adds
+      ∙ ap (λ (relations_sent : List ℕ). (a.held ++ published_bytes a.selection clock early one) ++ bytes_of_items (relation a.selection) relations_sent (blocks clock two)) through
+      ∙ append_assoc a.held (published_bytes a.selection clock early one) (bytes_of_items (relation a.selection) (relations_sent_through (relations_sent_through [] early) one) (blocks clock two))
+      ∙ ap (λ (l : List ℕ). a.held ++ l) (sym (spelled-blocks (relation a.selection) (relations_sent_through [] early) clock one two) ∙ ap (λ ts. bytes_of_items (relation a.selection) (relations_sent_through [] early) (blocks clock ts)) (sym (published_from-append a.selection a.start before m n))) in
       let A : List Published → Type 0 = λ ts. AllByRecursion (FitsPublished (relation a.selection)) ts in
       record { adds = bytes; fit = subst A (sym (published_from-append a.selection a.start before m n)) (all_of_both (FitsPublished (relation a.selection)) one two adds_m.fit later_fit) }
 
 -- ---- a loop over a batch
 
-pub shared_more : (records : List (Arc Record Global)) (i : ℕ) (x : Arc Record Global) → i < length records → get_or records i x ≡ x → shared (take (i + 1) records) ≡ shared (take i records) ++ (x.value ∷ [])
+pub shared_more : (records : List (Arc Record Global)) (i : ℕ) (x : Arc Record Global) → i < length records → get_or records i x ≡ x → shared_records (take (i + 1) records) ≡ shared_records (take i records) ++ (x.value ∷ [])
 shared_more [] i x lt is = absurd (omega arith)
 shared_more (y ∷ records) zero x lt is = let same : y ≡ x = is in ap (λ z. z.value ∷ []) same
 shared_more (y ∷ records) (suc i) x lt is =
     let next : suc i + 1 ≡ suc (i + 1) = omega arith in
-    ap (λ n. shared (take n (y ∷ records))) next ∙ ap (λ l. y.value ∷ l) (shared_more records i x (omega arith) is)
+    ap (λ n. shared_records (take n (y ∷ records))) next ∙ ap (λ l. y.value ∷ l) (shared_more records i x (omega arith) is)
 
-shared_take : (records : List (Arc Record Global)) (i : ℕ) → shared (take i records) ≡ take i (shared records)
-shared_take [] i = ap (λ (l : List (Arc Record Global)). shared l) (take_all i [] (omega arith)) ∙ sym (take_all i [] (omega arith))
+shared_take : (records : List (Arc Record Global)) (i : ℕ) → shared_records (take i records) ≡ take i (shared_records records)
+shared_take [] i = ap (λ (l : List (Arc Record Global)). shared_records l) (take_all i [] (omega arith)) ∙ sym (take_all i [] (omega arith))
 shared_take (y ∷ records) zero = refl
 shared_take (y ∷ records) (suc i) = ap (λ l. y.value ∷ l) (shared_take records i)
 
-length_shared : (records : List (Arc Record Global)) → length (shared records) ≡ length records
+length_shared : (records : List (Arc Record Global)) → length (shared_records records) ≡ length records
 length_shared [] = refl
 length_shared (y ∷ records) = ap suc (length_shared records)
 
 -- a batch that stops at a refused record
-pub stopped_at : (clock : ℤ) (old mid stopped new : SenderState) (records : List (Arc Record Global)) (i : ℕ) → i < length records → ReadAll clock old mid (shared (take i records)) → OutputUnchanged mid stopped
-    → new.selection ≡ stopped.selection → new.start ≡ stopped.start → new.position ≡ stopped.position → new.held ≡ stopped.held → new.failed ≡ true → RanOut clock old new (shared records)
+pub stopped_at : (clock : ℤ) (old mid stopped new : SenderState) (records : List (Arc Record Global)) (i : ℕ) → i < length records → ReadAll clock old mid (shared_records (take i records)) → OutputUnchanged mid stopped
+    → new.selection ≡ stopped.selection → new.start ≡ stopped.start → new.position ≡ stopped.position → new.held ≡ stopped.held → new.failed ≡ true → RanOut clock old new (shared_records records)
 stopped_at clock old mid stopped new records i lt front same selection start position held failed =
     let taken = shared_take records i in
     record {
@@ -190,7 +190,7 @@ stopped_at clock old mid stopped new records i lt front same selection start pos
       failed = failed;
     }
 
-pub shared_at : (records : List (Arc Record Global)) (i : ℕ) (r : Arc Record Global) → i < length records → r ≡ get_or records i r → slice_get (shared records) i ≡ Some r.value
+pub shared_at : (records : List (Arc Record Global)) (i : ℕ) (r : Arc Record Global) → i < length records → r ≡ get_or records i r → slice_get (shared_records records) i ≡ Some r.value
 shared_at records i r lt is =
     slice_get-map (λ (a : Arc Record Global). a.value) records i ∙ ap (option_map (λ (a : Arc Record Global). a.value)) (slice_get-get_or records i r lt ∙ ap Some (sym is))
 
@@ -201,12 +201,12 @@ parted (q ∷ rs) zero r is = let same : q ≡ r = cc in (rs, ap (λ p. p ∷ rs
 parted (q ∷ rs) (suc i) r is = let more = parted rs i r is in (more.0, ap (λ l. q ∷ l) more.1)
 
 -- a batch that stops at a record for which no chunk is left
-pub lacks_room : (clock : ℤ) (old mid stopped new : SenderState) (records : List (Arc Record Global)) (i : ℕ) (r : Record) → i < length records → slice_get (shared records) i ≡ Some r →
-    ReadAll clock old mid (shared (take i records)) → OutputUnchanged mid stopped → new.position ≡ stopped.position → ((count : ℕ) → HasChunks old count → HasChunks mid count) →
-    ((rs : List Record) (count : ℕ) → HasTaken mid.reorder rs → MayCome rs r.body → HasChunks mid count → LeavesNoRoom count rs r) → LacksRoom old new (shared records)
+pub lacks_room : (clock : ℤ) (old mid stopped new : SenderState) (records : List (Arc Record Global)) (i : ℕ) (r : Record) → i < length records → slice_get (shared_records records) i ≡ Some r →
+    ReadAll clock old mid (shared_records (take i records)) → OutputUnchanged mid stopped → new.position ≡ stopped.position → ((count : ℕ) → HasChunks old count → HasChunks mid count) →
+    ((rs : List Record) (count : ℕ) → HasTaken mid.reorder rs → MayCome rs r.body → HasChunks mid count → LeavesNoRoom count rs r) → LacksRoom old new (shared_records records)
 lacks_room clock old mid stopped new records i r lt at front same position chunks none =
     let taken = shared_take records i in
-    let parts = parted (shared records) i r at in
+    let parts = parted (shared_records records) i r at in
     record {
       count = i;
       next = r;
@@ -214,10 +214,10 @@ lacks_room clock old mid stopped new records i r lt at front same position chunk
       position = position ∙ same.position ∙ front.position ∙ ap (end_of old.position) taken;
       room = λ before count has may held.
           let P : List Record → Type 0 = λ l. MayFollow before l in
-          let all : MayFollow before (take i (shared records) ++ r ∷ parts.0) = subst P parts.1 may in
+          let all : MayFollow before (take i (shared_records records) ++ r ∷ parts.0) = subst P parts.1 may in
           let Q : List Record → Type 0 = λ l. HasRead mid (before ++ l) in
           let Front : List Record → Type 0 = λ l. MayFollow before l in
-          let read : HasRead mid (before ++ take i (shared records)) =
-          subst Q taken (front.after before has (subst Front (sym taken) (MayFollow-front before (take i (shared records)) (r ∷ parts.0) all))).0 in
-          none (before ++ take i (shared records)) count read.taken (MayFollow-back before (take i (shared records)) (r ∷ parts.0) all).0 (chunks count held);
+          let read : HasRead mid (before ++ take i (shared_records records)) =
+          subst Q taken (front.after before has (subst Front (sym taken) (MayFollow-front before (take i (shared_records records)) (r ∷ parts.0) all))).0 in
+          none (before ++ take i (shared_records records)) count read.taken (MayFollow-back before (take i (shared_records records)) (r ∷ parts.0) all).0 (chunks count held);
     }

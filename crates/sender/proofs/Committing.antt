@@ -8,14 +8,14 @@ use Rattle.publication.specs.Selection.{relation}
 use Rattle.wal.specs.declared.record.Record.{Record}
 use Rattle.reorder.specs.Chunks.{IsTidy}
 use Rattle.reorder.specs.Ready.{ReadyState, ready_entries}
-use Rattle.reorder.specs.Settled.{AreLentIn, given_back, settled}
+use Rattle.reorder.specs.Settled.{AreLentIn, after_giving_all_back, after_giving_back}
 use Rattle.reorder.specs.Taking.{HasTaken, ReorderState}
 use Rattle.reorder.proofs.Settling.{taken_settled}
 use Rattle.stream.specs.declared.published.Published.{Published}
 use Rattle.stream.specs.Words.{frames_of}
-use Rattle.stream.specs.Items.{Block, relations_sent_through, spelled, transaction_words}
+use Rattle.stream.specs.Items.{Block, bytes_of_items, relations_sent_through, transaction_words}
 use Rattle.sender.specs.Published.{published_with}
-use Rattle.sender.specs.Waiting.{AreSelected, AreWithin, bytes_behind, changes_bytes, places, readies, sent_behind}
+use Rattle.sender.specs.Waiting.{AreSelected, AreWithin, bytes_behind, changes_bytes, places, ready_states, sent_behind}
 use Rattle.sender.specs.Outgoing.{Grows, IsOutgoing, Queues, StaysQueued, begin_bytes, commit_bytes, frames_left, held_behind, held_of, sent_of, settled_of}
 use Rattle.sender.specs.declared.header.Header.{Header}
 use Rattle.sender.specs.declared.outgoing.Outgoing.{Outgoing}
@@ -58,8 +58,8 @@ module _ (selection : PublicationSet) (s : ReorderState) (o o' : Outgoing) (read
   in_place : places o.waiting.items + q.before ≡ length (o.made.items ++ begin)
   in_place = omega (arith, good.placed, q.place)
 
-  waiting_readies : readies o'.waiting.items ≡ readies o.waiting.items ++ ready ∷ []
-  waiting_readies = ap readies q.waiting ∙ map-append (λ (w : Waiting). w.ready) o.waiting.items (last ∷ [])
+  waiting_readies : ready_states o'.waiting.items ≡ ready_states o.waiting.items ++ ready ∷ []
+  waiting_readies = ap ready_states q.waiting ∙ map-append (λ (w : Waiting). w.ready) o.waiting.items (last ∷ [])
 
   some : 0 < length commit
   some = omega arith
@@ -69,7 +69,7 @@ module _ (selection : PublicationSet) (s : ReorderState) (o o' : Outgoing) (read
       subst (λ (n : ℕ). AreWithin n (o.waiting.items ++ last ∷ [])) (sym all_length)
       (within_last (length (o.made.items ++ begin) + length commit) o.waiting.items last (within_more (length (o.made.items ++ begin)) (length commit) o.waiting.items within_begun) (omega (arith, in_place, some)))
 
-  queued_good : AreLentIn s (readies o.waiting.items ++ ready ∷ []) → IsOutgoing selection s o'
+  queued_good : AreLentIn s (ready_states o.waiting.items ++ ready ∷ []) → IsOutgoing selection s o'
   queued_good lent = record {
     lent = subst (AreLentIn s) (sym waiting_readies) lent;
     within = subst (λ (ws : List Waiting). AreWithin (length o'.made.items) ws) (sym q.waiting) within_all;
@@ -88,10 +88,10 @@ module _ (selection : PublicationSet) (s : ReorderState) (o o' : Outgoing) (read
       ∙ ap (λ (l : List ℕ). l ++ commit) (bytes_last selection s.strands.pool sent (o.made.items ++ begin) o.waiting.items last within_begun in_place)
       ∙ ap (λ (l : List ℕ). (l ++ changes_bytes selection (sent_of selection s o) clock published.changes) ++ commit) (bytes_more selection s.strands.pool sent o.made.items begin o.waiting.items good.within)
 
-  block_spelled : spelled (relation selection) (sent_of selection s o) (Block clock published ∷ []) ≡ (begin ++ changes_bytes selection (sent_of selection s o) clock published.changes) ++ commit
+  block_spelled : bytes_of_items (relation selection) (sent_of selection s o) (Block clock published ∷ []) ≡ (begin ++ changes_bytes selection (sent_of selection s o) clock published.changes) ++ commit
   block_spelled = ap frames_of (append-nil (transaction_words (relation selection) (sent_of selection s o) clock published)) ∙ block_is (relation selection) (sent_of selection s o) clock published
 
-  held_queued : held_of selection s o' ≡ held_of selection s o ++ spelled (relation selection) (sent_of selection s o) (Block clock published ∷ [])
+  held_queued : held_of selection s o' ≡ held_of selection s o ++ bytes_of_items (relation selection) (sent_of selection s o) (Block clock published ∷ [])
   held_queued =
       ap (λ (l : List ℕ). l ++ (frames_left o' ++ held_behind selection s o')) q.front
       ∙ ap (λ (l : List ℕ). o.front.items ++ (l ++ held_behind selection s o')) (frames_same o o' good.from good.to q.frames q.from q.to)
@@ -108,15 +108,15 @@ module _ (selection : PublicationSet) (s : ReorderState) (o o' : Outgoing) (read
       ∙ ap (λ (ws : List Waiting). sent_behind selection s.strands.pool sent ws) q.waiting
       ∙ sent_last selection s.strands.pool sent o.waiting.items last
 
-  pub queue_grows : AreLentIn s (readies o.waiting.items ++ ready ∷ []) → Grows selection clock (published ∷ []) (Ok tt) s s o o'
+  pub queue_grows : AreLentIn s (ready_states o.waiting.items ++ ready ∷ []) → Grows selection clock (published ∷ []) (Ok tt) s s o o'
   queue_grows lent = record { good = queued_good lent; held = held_queued; sent = sent_queued; err = tt }
 
-  pub queue_taken : (rs : List Record) → AreLentIn s (readies o.waiting.items ++ ready ∷ []) → HasTaken s rs → HasTaken (settled_of s o') rs
-  queue_taken rs lent taken = taken_settled s (readies o'.waiting.items) rs (subst (AreLentIn s) (sym waiting_readies) lent) taken
+  pub queue_taken : (rs : List Record) → AreLentIn s (ready_states o.waiting.items ++ ready ∷ []) → HasTaken s rs → HasTaken (settled_of s o') rs
+  queue_taken rs lent taken = taken_settled s (ready_states o'.waiting.items) rs (subst (AreLentIn s) (sym waiting_readies) lent) taken
 
 -- ---- one that doesn't
 
-module _ (selection : PublicationSet) (s s' : ReorderState) (o : Outgoing) (ready : ReadyState) (clock : ℤ) (good : IsOutgoing selection s o) (lent : AreLentIn s (readies o.waiting.items ++ ready ∷ [])) (is : s' ≡ given_back s ready) where
+module _ (selection : PublicationSet) (s s' : ReorderState) (o : Outgoing) (ready : ReadyState) (clock : ℤ) (good : IsOutgoing selection s o) (lent : AreLentIn s (ready_states o.waiting.items ++ ready ∷ [])) (is : s' ≡ after_giving_back s ready) where
   abbrev kept : Keeps selection s s' o
   kept = keeps_given_back selection s s' o ready good lent is
 
@@ -129,10 +129,10 @@ module _ (selection : PublicationSet) (s s' : ReorderState) (o : Outgoing) (read
   unqueued_grows ts e = let k = kept in record { good = k.good; held = tt; sent = tt; err = k.held }
 
   pub unqueued_taken : (rs : List Record) → HasTaken s rs → HasTaken (settled_of s' o) rs
-  unqueued_taken rs taken = subst (λ (t : ReorderState). HasTaken (settled_of t o) rs) (sym is) (taken_back s (readies o.waiting.items) ready rs lent taken)
+  unqueued_taken rs taken = subst (λ (t : ReorderState). HasTaken (settled_of t o) rs) (sym is) (taken_back s (ready_states o.waiting.items) ready rs lent taken)
 
-  pub unqueued_tidy : (count : ℕ) → IsTidy count [] (settled s (readies o.waiting.items ++ ready ∷ [])).strands → IsTidy count [] (settled_of s' o).strands
-  unqueued_tidy count tidy = subst (λ (t : ReorderState). IsTidy count [] (settled_of t o).strands) (sym is) (tidy_back s (readies o.waiting.items) ready count lent tidy)
+  pub unqueued_tidy : (count : ℕ) → IsTidy count [] (after_giving_all_back s (ready_states o.waiting.items ++ ready ∷ [])).strands → IsTidy count [] (settled_of s' o).strands
+  unqueued_tidy count tidy = subst (λ (t : ReorderState). IsTidy count [] (settled_of t o).strands) (sym is) (tidy_back s (ready_states o.waiting.items) ready count lent tidy)
 
   module _ (o' : Outgoing) (stay : StaysQueued o o') where
     -- memory was refused
@@ -148,5 +148,5 @@ module _ (selection : PublicationSet) (s s' : ReorderState) (o : Outgoing) (read
     pub refused_taken : (rs : List Record) → HasTaken s rs → HasTaken (settled_of s' o') rs
     refused_taken rs taken = subst (λ (t : ReorderState). HasTaken t rs) (sym same_settled) (unqueued_taken rs taken)
 
-    pub refused_tidy : (count : ℕ) → IsTidy count [] (settled s (readies o.waiting.items ++ ready ∷ [])).strands → IsTidy count [] (settled_of s' o').strands
+    pub refused_tidy : (count : ℕ) → IsTidy count [] (after_giving_all_back s (ready_states o.waiting.items ++ ready ∷ [])).strands → IsTidy count [] (settled_of s' o').strands
     refused_tidy count tidy = subst (λ (t : ReorderState). IsTidy count [] t.strands) (sym same_settled) (unqueued_tidy count tidy)

@@ -10,13 +10,13 @@ use Rattle.publication.specs.Publications.{PublicationSet}
 use Rattle.publication.specs.Selection.{selected_oids}
 use Rattle.reorder.specs.Pool.{PoolState}
 use Rattle.reorder.specs.Ready.{ready_entries}
-use Rattle.reorder.specs.Settled.{AreLentIn, given_back, settled}
+use Rattle.reorder.specs.Settled.{AreLentIn, after_giving_all_back, after_giving_back}
 use Rattle.reorder.specs.Taking.{ReorderState}
 use Rattle.reorder.proofs.Settling.{entries_given_back}
 use Rattle.stream.specs.declared.published.PublishedChange.{PublishedChange}
 use Rattle.stream.specs.Items.{relations_sent_by_all}
 use Rattle.sender.specs.Published.{published_changes}
-use Rattle.sender.specs.Waiting.{AreSelected, AreWithin, Makes, bytes_behind, changes_bytes, left_of, places, readies, sent_behind}
+use Rattle.sender.specs.Waiting.{AreSelected, AreWithin, Makes, bytes_behind, changes_bytes, left_of, places, ready_states, sent_behind}
 use Rattle.sender.specs.Outgoing.{HoldsSame, IsFilled, IsOutgoing, frames_left, held_behind, held_of, sent_of}
 use Rattle.sender.specs.declared.outgoing.Outgoing.{Outgoing}
 use Rattle.sender.specs.declared.outgoing.TheConstants.{FRAMES_LENGTH}
@@ -139,7 +139,7 @@ module _ (selection : PublicationSet) (s : ReorderState) (o o' : Outgoing) (more
       ∙ ap (λ (l : List ℕ). o.front.items ++ l) (append_assoc (frames_left o) more (held_behind selection s o'))
       ∙ ap (λ (l : List ℕ). o.front.items ++ (frames_left o ++ l)) (sym behind)
 
-  pub same_before : held_behind selection s o ≡ more ++ held_behind selection s o' → sent_of selection s o' ≡ sent_of selection s o → readies o'.waiting.items ≡ readies o.waiting.items
+  pub same_before : held_behind selection s o ≡ more ++ held_behind selection s o' → sent_of selection s o' ≡ sent_of selection s o → ready_states o'.waiting.items ≡ ready_states o.waiting.items
       → AreWithin (length o'.made.items) o'.waiting.items → places o'.waiting.items ≡ o'.placed → length o'.frames.items ≡ FRAMES_LENGTH
       → AreSelected selection (reverse o'.relations_sent.items) → (0 < length o'.waiting.items → length (selected_oids selection) ≤ vec_capacity o'.relations_sent) → HoldsSame selection s s o o'
   same_before behind sent ready within placed room selected capacity = record {
@@ -155,7 +155,7 @@ module _ (selection : PublicationSet) (s : ReorderState) (o o' : Outgoing) (more
     };
     held = held_as_before behind;
     sent = sent;
-    settled = ap (settled s) ready;
+    settled = ap (after_giving_all_back s) ready;
   }
 
 -- bytes that were made before the changes of the first that waits
@@ -178,7 +178,7 @@ first_moved selection s o o' w ws count good some low room comes is is' made pla
     same_before selection s o o' (take count o.made.items) good comes
     (ap (bytes_behind selection pool sent o.made.items) is ∙ made_moved selection pool sent o.made.items w ws count low ∙ ap (λ (l : List ℕ). take count o.made.items ++ l) (sym behind_is))
     (ap (λ (l : List ℕ). sent_behind selection pool l o'.waiting.items) sent_is ∙ ap (sent_behind selection pool sent) is' ∙ sym (ap (sent_behind selection pool sent) is))
-    (ap readies is' ∙ sym (ap readies is))
+    (ap ready_states is' ∙ sym (ap ready_states is))
     (subst (AreWithin (length o'.made.items)) (sym is') (omega arith, subst (λ (n : ℕ). AreWithin n ws) less_left within.1))
     (ap places is' ∙ omega (arith, placed_is, placed, low))
     full
@@ -198,7 +198,7 @@ last_moved selection s o o' count good room comes is waiting made placed relatio
     same_before selection s o o' (take count o.made.items) good comes
     (ap (bytes_behind selection pool sent o.made.items) is ∙ sym (take-append-drop count o.made.items) ∙ ap (λ (l : List ℕ). take count o.made.items ++ l) (sym behind_is))
     (ap (λ (l : List ℕ). sent_behind selection pool l o'.waiting.items) sent_is ∙ ap (sent_behind selection pool sent) is' ∙ sym (ap (sent_behind selection pool sent) is))
-    (ap readies is' ∙ sym (ap readies is))
+    (ap ready_states is' ∙ sym (ap ready_states is))
     (subst (AreWithin (length o'.made.items)) (sym is') tt)
     (ap (λ (q : _). places q.items) waiting ∙ good.placed ∙ sym placed)
     (comes.size ∙ room)
@@ -222,7 +222,7 @@ frame_made selection s o o' w ws next bytes good none room comes is is' made pla
     same_before selection s o o' bytes good comes
     (ap (bytes_behind selection pool sent o.made.items) is ∙ frame_moved selection pool sent sent' o.made.items bytes w ws next none makes ∙ ap (λ (l : List ℕ). bytes ++ l) (sym behind_is))
     (ap (sent_behind selection pool sent') is' ∙ ap (λ (l : List ℕ). sent_behind selection pool l ws) (sym makes.names) ∙ sym (ap (sent_behind selection pool sent) is))
-    (ap readies is' ∙ sym (ap readies is))
+    (ap ready_states is' ∙ sym (ap ready_states is))
     (subst (AreWithin (length o'.made.items)) (sym is') (subst (λ (n : ℕ). AreWithin n (moved_to w next ∷ ws)) (sym size) (within.0, within.1)))
     (ap places is' ∙ ap places (sym is) ∙ good.placed ∙ sym placed)
     (comes.size ∙ room)
@@ -231,15 +231,15 @@ frame_made selection s o o' w ws next bytes good none room comes is is' made pla
 
 -- the first has nothing left, and waits no more
 pub first_over : (selection : PublicationSet) (s s' : ReorderState) (o o' : Outgoing) (w : Waiting) → IsOutgoing selection s o → o.waiting.items ≡ w ∷ o'.waiting.items → w.before ≡ 0 → length w.ready.places ≤ w.next
-    → s' ≡ given_back s w.ready → o' ≡ record o { waiting = o'.waiting } → HoldsSame selection s s' o o'
+    → s' ≡ after_giving_back s w.ready → o' ≡ record o { waiting = o'.waiting } → HoldsSame selection s s' o o'
 first_over selection s s' o o' w good is none over back rest =
     let pool = s.strands.pool in
     let pool' = s'.strands.pool in
     let ws = o'.waiting.items in
     let sent = reverse o.relations_sent.items in
     let o2 : Outgoing = record o { waiting = o'.waiting } in
-    let lent : AreLentIn s (w.ready ∷ readies ws) = subst (λ (l : List Waiting). AreLentIn s (readies l)) is good.lent in
-    let later = entries_given_back s s' w.ready (readies ws) lent back in
+    let lent : AreLentIn s (w.ready ∷ ready_states ws) = subst (λ (l : List Waiting). AreLentIn s (ready_states l)) is good.lent in
+    let later = entries_given_back s s' w.ready (ready_states ws) lent back in
     let within : AreWithin (length o.made.items) (w ∷ ws) = subst (AreWithin (length o.made.items)) is good.within in
     let left = none_left selection pool w over in
     let bytes : bytes_behind selection pool sent o.made.items (w ∷ ws) ≡ bytes_behind selection pool sent o.made.items ws =
@@ -261,6 +261,6 @@ first_over selection s s' o o' w good is none over back rest =
       };
       held = ap (λ (l : List ℕ). o.front.items ++ (frames_left o ++ l)) behind;
       sent = sent_same selection pool pool' sent ws later.1 ∙ sym names ∙ sym (ap (sent_behind selection pool sent) is);
-      settled = ap (λ (t : ReorderState). settled t (readies ws)) back ∙ sym (ap (λ (l : List Waiting). settled s (readies l)) is);
+      settled = ap (λ (t : ReorderState). after_giving_all_back t (ready_states ws)) back ∙ sym (ap (λ (l : List Waiting). after_giving_all_back s (ready_states l)) is);
     } in
     subst (HoldsSame selection s s' o) (sym rest) whole

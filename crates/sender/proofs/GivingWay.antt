@@ -5,16 +5,16 @@ use Rattle.wal.specs.declared.record.Record.{Record}
 use Rattle.publication.specs.Publications.{PublicationSet}
 use Rattle.reorder.specs.Chunks.{IsTidy, LeavesNoRoom}
 use Rattle.reorder.specs.Ready.{ReadyState}
-use Rattle.reorder.specs.Settled.{AreLentIn, LeavesNoRoomBeside, lent_chunks, settled}
+use Rattle.reorder.specs.Settled.{AreLentIn, LeavesNoRoomBeside, after_giving_all_back, lent_chunks}
 use Rattle.reorder.specs.Taking.{HasTaken, ReorderState}
 use Rattle.reorder.proofs.Settling.{settled_taken}
 use Rattle.sender.specs.Outgoing.{HasFreeChunk, HoldsSame, held_of, sent_of, settled_of}
 use Rattle.sender.specs.Sending.{ReadOne, SenderState}
-use Rattle.sender.specs.Waiting.{readies}
+use Rattle.sender.specs.Waiting.{ready_states}
 use Rattle.sender.specs.declared.outgoing.Outgoing.{Outgoing}
 use Rattle.sender.proofs.States.{state}
 
-none_left : (s : ReorderState) (ws : List ReadyState) (rs : List Record) (count : ℕ) (r : Record) → (ws ≡ []) ⊎ HasFreeChunk s → HasTaken s rs → AreLentIn s ws → IsTidy count [] (settled s ws).strands
+none_left : (s : ReorderState) (ws : List ReadyState) (rs : List Record) (count : ℕ) (r : Record) → (ws ≡ []) ⊎ HasFreeChunk s → HasTaken s rs → AreLentIn s ws → IsTidy count [] (after_giving_all_back s ws).strands
     → LeavesNoRoomBeside (lent_chunks s ws) count rs r → LeavesNoRoom count rs r
 none_left s ws rs count r way taken are tidy full =
     let split = full.split in
@@ -33,12 +33,12 @@ module _ (selection : PublicationSet) (old new : ReorderState) (o o' : Outgoing)
   tidy_then count tidy = subst (λ (s : ReorderState). IsTidy count [] s.strands) (sym same.settled) tidy
 
   pub lacks_room_alone : (rs : List Record) (count : ℕ) (r : Record) → (o'.waiting.items ≡ []) ⊎ HasFreeChunk new → HasTaken (settled_of old o) rs → IsTidy count [] (settled_of old o).strands
-      → (HasTaken new rs → IsTidy count [] (settled_of new o').strands → LeavesNoRoomBeside (lent_chunks new (readies o'.waiting.items)) count rs r) → LeavesNoRoom count rs r
+      → (HasTaken new rs → IsTidy count [] (settled_of new o').strands → LeavesNoRoomBeside (lent_chunks new (ready_states o'.waiting.items)) count rs r) → LeavesNoRoom count rs r
   lacks_room_alone rs count r way taken tidy full =
-      let ws = readies o'.waiting.items in
+      let ws = ready_states o'.waiting.items in
       let then : HasTaken new rs = settled_taken new ws rs same.good.lent (subst (λ (s : ReorderState). HasTaken s rs) (sym same.settled) taken) in
       none_left new ws rs count r
-      (⊎_elim (λ (none : o'.waiting.items ≡ []). inl (ap readies none)) (λ (free : HasFreeChunk new). inr free) way)
+      (⊎_elim (λ (none : o'.waiting.items ≡ []). inl (ap ready_states none)) (λ (free : HasFreeChunk new). inr free) way)
       then same.good.lent (tidy_then count tidy) (full then (tidy_then count tidy))
 
   -- what is read behind the same is read behind what it was

@@ -5,9 +5,9 @@ use Rattle.std.specs.declared.alloc.AllocError.{AllocError}
 use Rattle.std.proofs.Common.{⊎_elim, inl, inr}
 use Rattle.std.proofs.lemmas.List.{length-append}
 use Rattle.publication.specs.Publications.{PublicationSet}
-use Rattle.reorder.specs.Settled.{AreLentIn, settled}
+use Rattle.reorder.specs.Settled.{AreLentIn, after_giving_all_back}
 use Rattle.reorder.specs.Taking.{ReorderState}
-use Rattle.sender.specs.Waiting.{AreSelected, AreWithin, bytes_behind, places, readies, sent_behind}
+use Rattle.sender.specs.Waiting.{AreSelected, AreWithin, bytes_behind, places, ready_states, sent_behind}
 use Rattle.sender.specs.Outgoing.{AddsBytes, IsOutgoing, IsSameQueue, IsSized, frames_left, held_behind, held_of, sent_of, settled_of}
 use Rattle.sender.specs.declared.outgoing.Outgoing.{Outgoing}
 use Rattle.sender.specs.declared.outgoing.TheConstants.{FRAMES_LENGTH}
@@ -67,11 +67,11 @@ module _ (selection : PublicationSet) (s : ReorderState) (o o' : Outgoing) (good
       ∙ ap (λ (ws : List Waiting). sent_behind selection s.strands.pool (reverse o.relations_sent.items) ws) rest.waiting
 
   pub settled_kept : settled_of s o' ≡ settled_of s o
-  settled_kept = ap (λ (ws : List Waiting). settled s (readies ws)) rest.waiting
+  settled_kept = ap (λ (ws : List Waiting). after_giving_all_back s (ready_states ws)) rest.waiting
 
   good_as : AreWithin (length o'.made.items) o.waiting.items → (length o'.frames.items ≡ FRAMES_LENGTH) ⊎ ((length o'.frames.items ≡ 0) × (o'.made.items ≡ [])) → IsOutgoing selection s o'
   good_as within room = record {
-    lent = subst (λ (ws : List Waiting). AreLentIn s (readies ws)) (sym rest.waiting) good.lent;
+    lent = subst (λ (ws : List Waiting). AreLentIn s (ready_states ws)) (sym rest.waiting) good.lent;
     within = subst (λ (ws : List Waiting). AreWithin (length o'.made.items) ws) (sym rest.waiting) within;
     placed = ap places rest.waiting ∙ good.placed ∙ sym rest.placed;
     from = omega (arith, rest.from, rest.to, good.from);

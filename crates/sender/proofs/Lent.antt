@@ -9,10 +9,10 @@ use Rattle.reorder.specs.Pool.{AreApart, StaysLent}
 use Rattle.reorder.specs.Ready.{ReadyState, ready_entries}
 use Rattle.reorder.specs.Chunks.{IsHeldBy, IsOwned, IsTidy}
 use Rattle.reorder.specs.Taking.{HasTaken, ReorderState}
-use Rattle.reorder.specs.Settled.{AreLentIn, given_back, settled}
+use Rattle.reorder.specs.Settled.{AreLentIn, after_giving_all_back, after_giving_back}
 use Rattle.reorder.proofs.Settling.{entries_given_back, entries_lent, taken_settled}
 use Rattle.reorder.proofs.Filling.{settled_tidy, tidy_settled}
-use Rattle.sender.specs.Waiting.{AreWithin, bytes_behind, readies}
+use Rattle.sender.specs.Waiting.{AreWithin, bytes_behind, ready_states}
 use Rattle.sender.specs.Outgoing.{IsOutgoing, frames_left, held_behind, held_of, sent_of}
 use Rattle.sender.specs.declared.outgoing.Outgoing.{Outgoing}
 use Rattle.sender.specs.declared.waiting.Waiting.{Waiting}
@@ -45,10 +45,10 @@ tidy_first s ws ready count tidy = record { chunks = tidy.chunks; owned = λ hea
     by_owner head (inl o) = inl o
     by_owner head (inr held) = inr (moved ws head held)
 
-pub tidy_back : (s : ReorderState) (ws : List ReadyState) (ready : ReadyState) (count : ℕ) → AreLentIn s (ws ++ ready ∷ []) → IsTidy count [] (settled s (ws ++ ready ∷ [])).strands → IsTidy count [] (settled (given_back s ready) ws).strands
+pub tidy_back : (s : ReorderState) (ws : List ReadyState) (ready : ReadyState) (count : ℕ) → AreLentIn s (ws ++ ready ∷ []) → IsTidy count [] (after_giving_all_back s (ws ++ ready ∷ [])).strands → IsTidy count [] (after_giving_all_back (after_giving_back s ready) ws).strands
 tidy_back s ws ready count are tidy = settled_tidy s (ready ∷ ws) count (lent_first s ws ready are) (tidy_first s ws ready count (tidy_settled s (ws ++ ready ∷ []) count are tidy))
 
-pub taken_back : (s : ReorderState) (ws : List ReadyState) (ready : ReadyState) (rs : List Record) → AreLentIn s (ws ++ ready ∷ []) → HasTaken s rs → HasTaken (settled (given_back s ready) ws) rs
+pub taken_back : (s : ReorderState) (ws : List ReadyState) (ready : ReadyState) (rs : List Record) → AreLentIn s (ws ++ ready ∷ []) → HasTaken s rs → HasTaken (after_giving_all_back (after_giving_back s ready) ws) rs
 taken_back s ws ready rs are taken = taken_settled s (ready ∷ ws) rs (lent_first s ws ready are) taken
 
 -- ---- all that is held, where the regrouping changes
@@ -59,8 +59,8 @@ pub record Keeps (selection : PublicationSet) (s s' : ReorderState) (o : Outgoin
   pub held : held_of selection s' o ≡ held_of selection s o
   pub sent : sent_of selection s' o ≡ sent_of selection s o
 
-keeps : (selection : PublicationSet) (s s' : ReorderState) (o : Outgoing) → IsOutgoing selection s o → AreLentIn s' (readies o.waiting.items)
-    → map (ready_entries s'.strands.pool) (readies o.waiting.items) ≡ map (ready_entries s.strands.pool) (readies o.waiting.items) → Keeps selection s s' o
+keeps : (selection : PublicationSet) (s s' : ReorderState) (o : Outgoing) → IsOutgoing selection s o → AreLentIn s' (ready_states o.waiting.items)
+    → map (ready_entries s'.strands.pool) (ready_states o.waiting.items) ≡ map (ready_entries s.strands.pool) (ready_states o.waiting.items) → Keeps selection s s' o
 keeps selection s s' o good lent same = record {
   good = record { lent = lent; within = good.within; placed = good.placed; from = good.from; to = good.to; room = good.room; sent = good.sent; capacity = good.capacity };
   held = ap (λ (l : List ℕ). o.front.items ++ (frames_left o ++ l)) (bytes_same selection s.strands.pool s'.strands.pool (reverse o.relations_sent.items) o.made.items o.waiting.items same);
@@ -69,12 +69,12 @@ keeps selection s s' o good lent same = record {
 
 -- a record is taken
 pub keeps_lent : (selection : PublicationSet) (s s' : ReorderState) (o : Outgoing) → IsOutgoing selection s o → StaysLent s.strands.pool s'.strands.pool → Keeps selection s s' o
-keeps_lent selection s s' o good stays = let e = entries_lent s s' (readies o.waiting.items) good.lent stays in keeps selection s s' o good e.0 e.1
+keeps_lent selection s s' o good stays = let e = entries_lent s s' (ready_states o.waiting.items) good.lent stays in keeps selection s s' o good e.0 e.1
 
 -- what was made ready last is given back
-pub keeps_given_back : (selection : PublicationSet) (s s' : ReorderState) (o : Outgoing) (ready : ReadyState) → IsOutgoing selection s o → AreLentIn s (readies o.waiting.items ++ ready ∷ []) → s' ≡ given_back s ready → Keeps selection s s' o
+pub keeps_given_back : (selection : PublicationSet) (s s' : ReorderState) (o : Outgoing) (ready : ReadyState) → IsOutgoing selection s o → AreLentIn s (ready_states o.waiting.items ++ ready ∷ []) → s' ≡ after_giving_back s ready → Keeps selection s s' o
 keeps_given_back selection s s' o ready good lent is =
-    let e = entries_given_back s s' ready (readies o.waiting.items) (lent_first s (readies o.waiting.items) ready lent) is in
+    let e = entries_given_back s s' ready (ready_states o.waiting.items) (lent_first s (ready_states o.waiting.items) ready lent) is in
     keeps selection s s' o good e.0 e.1
 
 -- ---- where nothing is held

@@ -12,7 +12,7 @@ use Rattle.publication.specs.Logged.{IsNoteAt, note_message}
 use Rattle.publication.specs.Selection.{relation}
 use Rattle.publication.specs.Spelling.{IsPut}
 use Rattle.reorder.specs.Taking.{ReorderState}
-use Rattle.stream.specs.Items.{Block, relations_sent_through, spelled, xlogdata_word}
+use Rattle.stream.specs.Items.{Block, bytes_of_items, relations_sent_through, xlogdata_word}
 use Rattle.sender.specs.Published.{published_note}
 use Rattle.sender.specs.Outgoing.{AddsBytes, Grows, IsOutgoing, held_of, sent_of}
 use Rattle.sender.specs.declared.outgoing.Outgoing.{Outgoing}
@@ -25,7 +25,7 @@ module _ (selection : PublicationSet) (s : ReorderState) (o o' : Outgoing) (cloc
       → AddsBytes (frame COPY_DATA (xlogdata end end clock bytes)) result o o' → Grows selection clock (told start end m ∷ []) result s s o o'
   added_grows start end m bytes (Ok u) good text at adds =
       let g = bytes_added selection s o o' (frame COPY_DATA (xlogdata end end clock bytes)) (Ok u) good adds in
-      let whole : spelled (relation selection) (sent_of selection s o) (Block clock (told start end m) ∷ []) ≡ frame COPY_DATA (xlogdata end end clock bytes) =
+      let whole : bytes_of_items (relation selection) (sent_of selection s o) (Block clock (told start end m) ∷ []) ≡ frame COPY_DATA (xlogdata end end clock bytes) =
       frames_one (xlogdata_word end clock m) ∙ ap (λ (l : List ℕ). frame COPY_DATA (xlogdata end end clock l)) (sym text) in
       let none : relations_sent_through (sent_of selection s o) (told start end m ∷ []) ≡ sent_of selection s o =
       ap (λ (n : Logical). relations_sent_through (sent_of selection s o) (told start end n ∷ [])) at.is in

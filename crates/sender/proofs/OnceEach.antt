@@ -6,7 +6,7 @@ use Rattle.std.proofs.lemmas.Bool.{eq-eqb, eqb-true}
 use Rattle.tables.specs.declared.table.Table.{Table}
 use Rattle.tables.specs.Tables.{table_of}
 use Rattle.publication.specs.Publications.{PublicationSet}
-use Rattle.publication.specs.Selection.{has_table, list_by, narrowed, selected_oids, selected_table}
+use Rattle.publication.specs.Selection.{has_table, list_by, selected_oids, selected_table, table_as_published}
 use Rattle.sender.proofs.Heads.{either}
 use Rattle.sender.specs.Waiting.{AreEach, AreSelected}
 
@@ -83,7 +83,7 @@ is_selected : (selection : PublicationSet) (oid : ℕ) → IsSome (selected_tabl
 is_selected selection oid some = by_test (has_table selection oid) refl some
   where
     narrow : Table → Table
-    narrow t = narrowed (list_by selection.publications oid) t
+    narrow t = table_as_published (list_by selection.publications oid) t
 
     some_before : (o : Option Table) → IsSome (option_map narrow o) → IsSome o
     some_before None e = e

@@ -7,7 +7,7 @@ use Rattle.reorder.specs.Ready.{ready_entries}
 use Rattle.stream.specs.declared.published.PublishedChange.{PublishedChange}
 use Rattle.stream.specs.Items.{relations_sent_by_all}
 use Rattle.sender.specs.Published.{published_changes}
-use Rattle.sender.specs.Waiting.{AreWithin, bytes_behind, changes_bytes, left_of, places, readies, sent_behind}
+use Rattle.sender.specs.Waiting.{AreWithin, bytes_behind, changes_bytes, left_of, places, ready_states, sent_behind}
 use Rattle.sender.specs.declared.waiting.Waiting.{Waiting}
 
 -- ---- lists
@@ -125,7 +125,7 @@ module _ (selection : PublicationSet) (pool pool' : PoolState) where
   left_same : (w : Waiting) → ready_entries pool' w.ready ≡ ready_entries pool w.ready → left_of selection pool' w ≡ left_of selection pool w
   left_same w same = ap (λ es. published_changes selection (drop w.next es)) same
 
-  pub bytes_same : (sent made : List ℕ) (ws : List Waiting) → map (ready_entries pool') (readies ws) ≡ map (ready_entries pool) (readies ws) → bytes_behind selection pool' sent made ws ≡ bytes_behind selection pool sent made ws
+  pub bytes_same : (sent made : List ℕ) (ws : List Waiting) → map (ready_entries pool') (ready_states ws) ≡ map (ready_entries pool) (ready_states ws) → bytes_behind selection pool' sent made ws ≡ bytes_behind selection pool sent made ws
   bytes_same sent made [] same = refl
   bytes_same sent made (w ∷ ws) same =
       let here = left_same w (heads same) in
@@ -138,7 +138,7 @@ module _ (selection : PublicationSet) (pool pool' : PoolState) where
       tails : {A : Type 0} {x y : A} {xs ys : List A} → x ∷ xs ≡ y ∷ ys → xs ≡ ys
       tails e = cc
 
-  pub sent_same : (sent : List ℕ) (ws : List Waiting) → map (ready_entries pool') (readies ws) ≡ map (ready_entries pool) (readies ws) → sent_behind selection pool' sent ws ≡ sent_behind selection pool sent ws
+  pub sent_same : (sent : List ℕ) (ws : List Waiting) → map (ready_entries pool') (ready_states ws) ≡ map (ready_entries pool) (ready_states ws) → sent_behind selection pool' sent ws ≡ sent_behind selection pool sent ws
   sent_same sent [] same = refl
   sent_same sent (w ∷ ws) same =
       ap (λ (cs : List PublishedChange). sent_behind selection pool' (relations_sent_by_all sent cs) ws) (left_same w (heads same)) ∙ sent_same (relations_sent_by_all sent (left_of selection pool w)) ws (tails same)

@@ -5,17 +5,17 @@ use Rattle.wal.specs.declared.record.Record.{Record}
 use Rattle.wal.specs.Log.{Entry}
 use Rattle.publication.specs.Publications.{PublicationSet}
 use Rattle.publication.specs.Selection.{relation}
-use Rattle.stream.specs.Items.{FitsPublished, relations_sent_through, spelled}
+use Rattle.stream.specs.Items.{FitsPublished, bytes_of_items, relations_sent_through}
 use Rattle.reorder.specs.Chunks.{IsTidy, held_with}
 use Rattle.reorder.specs.Pool.{IsLent, StaysLent}
 use Rattle.reorder.specs.Ready.{ReadyState}
 use Rattle.reorder.specs.declared.ready.Step.{Step}
 use Rattle.reorder.specs.declared.ready.Step.TheVariants as steps
-use Rattle.reorder.specs.Settled.{AreLentIn, lent_chunks, settled}
+use Rattle.reorder.specs.Settled.{AreLentIn, after_giving_all_back, lent_chunks}
 use Rattle.reorder.specs.Taking.{HasTaken, IsStepApart, IsStepHeld, ReorderState, Takes}
 use Rattle.reorder.proofs.Filling.{tidy_more, tidy_quiet}
 use Rattle.reorder.proofs.Settling.{entries_lent, lent_more, settled_taken}
-use Rattle.sender.specs.Waiting.{readies, readies_with}
+use Rattle.sender.specs.Waiting.{ready_states, ready_states_with}
 use Rattle.sender.specs.Outgoing.{Grows, IsOutgoing, held_of, sent_of, settled_of}
 use Rattle.sender.specs.Sending.{ReadOne, blocks, published_by_record}
 use Rattle.sender.specs.declared.outgoing.Outgoing.{Outgoing}
@@ -23,7 +23,7 @@ use Rattle.sender.proofs.Lent.{Keeps, none_waits}
 use Rattle.sender.proofs.States.{state}
 
 -- what it has taken while these are ready, it has taken once they are given back
-pub takes_settled : (old new last : ReorderState) (ws : List ReadyState) (r : Record) (ready : Option (List Entry)) → AreLentIn old ws → Takes old new r ready → ((rs : List Record) → HasTaken new rs → HasTaken last rs) → Takes (settled old ws) last r ready
+pub takes_settled : (old new last : ReorderState) (ws : List ReadyState) (r : Record) (ready : Option (List Entry)) → AreLentIn old ws → Takes old new r ready → ((rs : List Record) → HasTaken new rs → HasTaken last rs) → Takes (after_giving_all_back old ws) last r ready
 takes_settled old new last ws r ready are takes then = record {
   after = λ before taken may behind.
       let t = takes.after before (settled_taken old ws before are taken) may behind in
@@ -32,22 +32,22 @@ takes_settled old new last ws r ready are takes then = record {
 
 -- what is ready with it lies in the arena
 pub lent_step : (old new : ReorderState) (ws : List ReadyState) (step : Step) → AreLentIn old ws → StaysLent old.strands.pool new.strands.pool → IsStepHeld new step
-    → ((lent : List (ℕ × Option ℕ)) → IsLent old.strands.pool lent → IsStepApart step lent) → AreLentIn new (readies_with ws step)
+    → ((lent : List (ℕ × Option ℕ)) → IsLent old.strands.pool lent → IsStepApart step lent) → AreLentIn new (ready_states_with ws step)
 lent_step old new ws steps.Quiet are stays held apart = (entries_lent old new ws are stays).0
 lent_step old new ws (steps.Ready ready) are stays held apart = lent_more old new ws ready are (entries_lent old new ws are stays).0 held apart
 
-pub tidy_step : (old new : ReorderState) (ws : List ReadyState) (step : Step) (count : ℕ) → AreLentIn old ws → AreLentIn new (readies_with ws step)
-    → ((n : ℕ) (held : List ReadyState) → IsTidy n held old.strands → IsTidy n (held_with held step) new.strands) → IsTidy count [] (settled old ws).strands → IsTidy count [] (settled new (readies_with ws step)).strands
+pub tidy_step : (old new : ReorderState) (ws : List ReadyState) (step : Step) (count : ℕ) → AreLentIn old ws → AreLentIn new (ready_states_with ws step)
+    → ((n : ℕ) (held : List ReadyState) → IsTidy n held old.strands → IsTidy n (held_with held step) new.strands) → IsTidy count [] (after_giving_all_back old ws).strands → IsTidy count [] (after_giving_all_back new (ready_states_with ws step)).strands
 tidy_step old new ws steps.Quiet count before after takes tidy = tidy_quiet old new ws count before after takes tidy
 tidy_step old new ws (steps.Ready ready) count before after takes tidy = tidy_more old new ws ready count before after takes tidy
 
 -- nothing is lent where nothing is held
-pub none_lent : (selection : PublicationSet) (s : ReorderState) (o : Outgoing) → IsOutgoing selection s o → held_of selection s o ≡ [] → lent_chunks s (readies o.waiting.items) ≡ 0
-none_lent selection s o good none = ap (λ ws. lent_chunks s (readies ws)) (none_waits selection s o good none)
+pub none_lent : (selection : PublicationSet) (s : ReorderState) (o : Outgoing) → IsOutgoing selection s o → held_of selection s o ≡ [] → lent_chunks s (ready_states o.waiting.items) ≡ 0
+none_lent selection s o good none = ap (λ ws. lent_chunks s (ready_states ws)) (none_waits selection s o good none)
 
 -- ---- a record that was read
 
-pub read_one : (clock : ℤ) (selection : PublicationSet) (start position end : ℕ) (failed : Bool) (r : Record) (old mid new : ReorderState) (o o' : Outgoing) (ready : Option (List Entry)) → AreLentIn old (readies o.waiting.items) → Keeps selection old mid o
+pub read_one : (clock : ℤ) (selection : PublicationSet) (start position end : ℕ) (failed : Bool) (r : Record) (old mid new : ReorderState) (o o' : Outgoing) (ready : Option (List Entry)) → AreLentIn old (ready_states o.waiting.items) → Keeps selection old mid o
     → Takes old mid r ready → end ≡ r.end → Grows selection clock (published_by_record selection start r ready) (Ok tt) mid new o o' → AllByRecursion (FitsPublished (relation selection)) (published_by_record selection start r ready)
     → ((rs : List Record) → HasTaken mid rs → HasTaken (settled_of new o') rs)
     → ReadOne clock (state selection start position failed (held_of selection old o) (sent_of selection old o) (settled_of old o)) (state selection start end failed (held_of selection new o') (sent_of selection new o') (settled_of new o')) r
@@ -55,13 +55,13 @@ read_one clock selection start position end failed r old mid new o o' ready are 
     let ts = published_by_record selection start r ready in
     record {
       ready = ready;
-      takes = takes_settled old mid (settled_of new o') (readies o.waiting.items) r ready are takes taken;
+      takes = takes_settled old mid (settled_of new o') (ready_states o.waiting.items) r ready are takes taken;
       selection = refl;
       start = refl;
       position = is;
       held =
-          grows.held ∙ ap (λ (l : List ℕ). l ++ spelled (relation selection) (sent_of selection mid o) (blocks clock ts)) kept.held
-          ∙ ap (λ (l : List ℕ). held_of selection old o ++ spelled (relation selection) l (blocks clock ts)) kept.sent;
+          grows.held ∙ ap (λ (l : List ℕ). l ++ bytes_of_items (relation selection) (sent_of selection mid o) (blocks clock ts)) kept.held
+          ∙ ap (λ (l : List ℕ). held_of selection old o ++ bytes_of_items (relation selection) l (blocks clock ts)) kept.sent;
       fit = fit;
       relations_sent = grows.sent ∙ ap (λ (l : List ℕ). relations_sent_through l ts) kept.sent;
     }

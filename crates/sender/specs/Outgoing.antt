@@ -4,16 +4,16 @@ use Rattle.std.specs.declared.alloc.AllocError.{AllocError}
 use Rattle.publication.specs.Publications.{PublicationSet}
 use Rattle.publication.specs.Selection.{relation, selected_oids}
 use Rattle.stream.specs.declared.published.Published.{Published}
-use Rattle.stream.specs.Items.{Block, relations_sent_through, spelled, xlogdata_word}
+use Rattle.stream.specs.Items.{Block, bytes_of_items, relations_sent_through, xlogdata_word}
 use Rattle.stream.specs.Words.{word_bytes}
 use Rattle.reorder.specs.Ready.{ReadyState}
 use Rattle.sender.specs.Spelled.{begin_with, commit_with}
 use Rattle.sender.specs.declared.header.Header.{Header}
 use Rattle.reorder.specs.Chunks.{IsTidy, live_chunks}
-use Rattle.reorder.specs.Settled.{AreLentIn, lent_chunks, settled}
+use Rattle.reorder.specs.Settled.{AreLentIn, after_giving_all_back, lent_chunks}
 use Rattle.reorder.specs.Taking.{HasTaken, ReorderState}
 use Rattle.wal.specs.declared.record.Record.{Record}
-use Rattle.sender.specs.Waiting.{AreSelected, AreWithin, bytes_behind, places, readies, sent_behind}
+use Rattle.sender.specs.Waiting.{AreSelected, AreWithin, bytes_behind, places, ready_states, sent_behind}
 use Rattle.sender.specs.declared.outgoing.Outgoing.{Outgoing}
 use Rattle.sender.specs.declared.outgoing.TheConstants.{FRAMES_LENGTH}
 
@@ -35,12 +35,12 @@ sent_of selection s o = sent_behind selection s.strands.pool (reverse o.relation
 
 -- the regrouping as it is once all that is held has gone out
 abbrev pub settled_of : ReorderState → Outgoing → ReorderState
-settled_of s o = settled s (readies o.waiting.items)
+settled_of s o = after_giving_all_back s (ready_states o.waiting.items)
 
 -- What holds between two calls: the transactions that wait lie in the arena, each has its place among the bytes that are made, there is
 -- room for frames where any are to be made, and for the OIDs of all Relations that are to be sent.
 pub record IsOutgoing (selection : PublicationSet) (s : ReorderState) (o : Outgoing) : Type 0 where
-  pub lent : AreLentIn s (readies o.waiting.items)
+  pub lent : AreLentIn s (ready_states o.waiting.items)
   pub within : AreWithin (length o.made.items) o.waiting.items
   pub placed : places o.waiting.items ≡ o.placed
   pub from : o.from ≤ o.to
@@ -59,7 +59,7 @@ pub record HoldsSame (selection : PublicationSet) (s s' : ReorderState) (o o' : 
 -- Blocks of these transactions came behind what was held, or, where memory was refused, nothing.
 pub record Grows (selection : PublicationSet) (clock : ℤ) (ts : List Published) (result : Result (Unit {0}) AllocError) (s s' : ReorderState) (o o' : Outgoing) : Type 0 where
   pub good : IsOutgoing selection s' o'
-  pub held : OnOk result (held_of selection s' o' ≡ held_of selection s o ++ spelled (relation selection) (sent_of selection s o) (map (Block clock) ts))
+  pub held : OnOk result (held_of selection s' o' ≡ held_of selection s o ++ bytes_of_items (relation selection) (sent_of selection s o) (map (Block clock) ts))
   pub sent : OnOk result (sent_of selection s' o' ≡ relations_sent_through (sent_of selection s o) ts)
   pub err : OnErr result (held_of selection s' o' ≡ held_of selection s o)
 
@@ -131,4 +131,4 @@ pub record MovesOut (selection : PublicationSet) (count : ℕ) (s s' : ReorderSt
 -- Whatever was taken, a chunk is free beside those of the transactions in progress and of what is lent.
 abbrev pub HasFreeChunk : ReorderState → Type 0
 HasFreeChunk s =
-    (rs : List Record) (ws : List ReadyState) (count : ℕ) → HasTaken s rs → AreLentIn s ws → IsTidy count [] (settled s ws).strands → live_chunks rs + lent_chunks s ws < count
+    (rs : List Record) (ws : List ReadyState) (count : ℕ) → HasTaken s rs → AreLentIn s ws → IsTidy count [] (after_giving_all_back s ws).strands → live_chunks rs + lent_chunks s ws < count

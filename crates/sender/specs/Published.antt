@@ -5,7 +5,7 @@ use Rattle.pgoutput.specs.declared.logical.Logical.{Logical}
 use Rattle.publication.specs.Publications.{PublicationSet}
 use Rattle.wal.specs.declared.record.Record.{Record}
 use Rattle.tables.specs.declared.change.Change.{Change}
-use Rattle.wal.specs.Log.{Entry, Transaction, noted, committed_from}
+use Rattle.wal.specs.Log.{Entry, Transaction, note_as_transaction, committed_from}
 use Rattle.publication.specs.Logged.{change_message, note_message}
 use Rattle.publication.specs.Projection.{MessageFits}
 use Rattle.sender.specs.declared.header.Header.{Header}
@@ -47,12 +47,12 @@ has_message t = not (length t.changes == 0)
 
 -- what a note publishes
 abbrev pub published_note : PublicationSet → (start end : ℕ) → Change → List Published
-published_note selection start end change = filter has_message (published_as selection (noted start end change) ∷ [])
+published_note selection start end change = filter has_message (published_as selection (note_as_transaction start end change) ∷ [])
 
 -- the transactions and notes that these records publish, given those before them
 abbrev pub published_from : PublicationSet → ℕ → List Record → List Record → List Published
 published_from selection s before rs = filter has_message (map (published_as selection) (committed_from s before rs))
 
 -- the published transactions of a log that commit at the start position or later, and the notes from there on, in the order of the log
-abbrev pub published : PublicationSet → List Record → ℕ → List Published
-published selection log s = published_from selection s [] log
+abbrev pub published_transactions : PublicationSet → List Record → ℕ → List Published
+published_transactions selection log s = published_from selection s [] log

@@ -11,10 +11,10 @@ use Rattle.reorder.specs.Chunks.{IsTidy, LeavesNoRoom, live_chunks}
 use Rattle.reorder.specs.Taking.{ReorderState, HasTaken, MayCome, StartsBehind, Takes}
 use Rattle.publication.specs.Selection.{relation}
 use Rattle.stream.specs.declared.published.Published.{Published}
-use Rattle.stream.specs.Items.{Item, Block, FitsPublished, spelled, relations_sent_through}
+use Rattle.stream.specs.Items.{Item, Block, FitsPublished, bytes_of_items, relations_sent_through}
 use Rattle.sender.specs.declared.fault.SendFault.{SendFault}
 use Rattle.sender.specs.declared.fault.SendFault.TheVariants.{ArenaFull, Memory}
-use Rattle.sender.specs.Published.{published, published_as, published_from, published_note, has_message}
+use Rattle.sender.specs.Published.{published_transactions, published_as, published_from, published_note, has_message}
 
 -- what determines the bytes to come
 pub record SenderState : Type 0 where
@@ -34,7 +34,7 @@ MayFollow before (r ∷ rs) = MayCome before r.body × StartsBehind before r × 
 -- The sender is as these records, and no others, leave one.
 pub record HasRead (s : SenderState) (rs : List Record) : Type 0 where
   pub taken : HasTaken s.reorder rs
-  pub relations_sent : s.relations_sent ≡ relations_sent_through [] (published s.selection rs s.start)
+  pub relations_sent : s.relations_sent ≡ relations_sent_through [] (published_transactions s.selection rs s.start)
 
 -- blocks of these transactions, all under one clock
 abbrev pub blocks : ℤ → List Published → List Item
@@ -42,12 +42,12 @@ blocks clock ts = map (Block clock) ts
 
 -- the bytes of these transactions' blocks, where those of earlier ones have been sent
 abbrev pub published_bytes : PublicationSet → ℤ → List Published → List Published → List ℕ
-published_bytes selection clock earlier ts = spelled (relation selection) (relations_sent_through [] earlier) (blocks clock ts)
+published_bytes selection clock earlier ts = bytes_of_items (relation selection) (relations_sent_through [] earlier) (blocks clock ts)
 
 -- What was held has grown by exactly the blocks of the transactions that these records publish, given those before them, and a
 -- stream has room for each of their fields.
 pub record AddsPublished (clock : ℤ) (old : SenderState) (held : List ℕ) (before rs : List Record) : Type 0 where
-  pub adds : held ≡ old.held ++ published_bytes old.selection clock (published old.selection before old.start) (published_from old.selection old.start before rs)
+  pub adds : held ≡ old.held ++ published_bytes old.selection clock (published_transactions old.selection before old.start) (published_from old.selection old.start before rs)
   pub fit : AllByRecursion (FitsPublished (relation old.selection)) (published_from old.selection old.start before rs)
 
 -- All records were read: whatever was read before, if these may follow, they are read too, and what they publish is held.
@@ -115,7 +115,7 @@ pub record ReadOne (clock : ℤ) (old new : SenderState) (r : Record) : Type 0 w
   pub selection : new.selection ≡ old.selection
   pub start : new.start ≡ old.start
   pub position : new.position ≡ r.end
-  pub held : new.held ≡ old.held ++ spelled (relation old.selection) old.relations_sent (blocks clock (published_by_record old.selection old.start r ready))
+  pub held : new.held ≡ old.held ++ bytes_of_items (relation old.selection) old.relations_sent (blocks clock (published_by_record old.selection old.start r ready))
   pub fit : AllByRecursion (FitsPublished (relation old.selection)) (published_by_record old.selection old.start r ready)
   pub relations_sent : new.relations_sent ≡ relations_sent_through old.relations_sent (published_by_record old.selection old.start r ready)
 

@@ -13,13 +13,13 @@ use Rattle.sender.specs.declared.header.Header.{Header}
 use Rattle.sender.specs.Published.{CanBeTold}
 
 -- what was read, and where nothing was, a message that names no table
-abbrev pub read : Result Logical OutFault → Logical
-read (Ok m) = m
-read (Err fault) = logical.Truncate (record { options = record { cascade = false; restart_identity = false }; oids = [] })
+abbrev pub decoded_message : Result Logical OutFault → Logical
+decoded_message (Ok m) = m
+decoded_message (Err fault) = logical.Truncate (record { options = record { cascade = false; restart_identity = false }; oids = [] })
 
 -- the message that the bytes spell
 abbrev pub message_in : List ℕ → Logical
-message_in bytes = read (whole_of bytes)
+message_in bytes = decoded_message (whole_of bytes)
 
 -- the change at the position that the bytes tell
 abbrev pub told_at : ℕ → List ℕ → PublishedChange

@@ -48,13 +48,13 @@ places [] = 0
 places (w ∷ ws) = w.before + places ws
 
 -- what is ready of those that wait
-abbrev pub readies : List Waiting → List ReadyState
-readies ws = map (λ w. w.ready) ws
+abbrev pub ready_states : List Waiting → List ReadyState
+ready_states ws = map (λ w. w.ready) ws
 
 -- what is ready, with what a record made ready behind it
-abbrev pub readies_with : List ReadyState → Step → List ReadyState
-readies_with rs steps.Quiet = rs
-readies_with rs (steps.Ready ready) = rs ++ ready ∷ []
+abbrev pub ready_states_with : List ReadyState → Step → List ReadyState
+ready_states_with rs steps.Quiet = rs
+ready_states_with rs (steps.Ready ready) = rs ++ ready ∷ []
 
 -- no table stands twice
 abbrev pub AreEach : List ℕ → Type 0

@@ -1,7 +1,7 @@
 //! Reading records one by one.
 
 ghost use Rattle.std.specs.Prelude.{◌≡◌, ℕ, List, false, Err, IfErr, OnErr, OnOk};
-ghost use Rattle.wal.specs.Records.{shared};
+ghost use Rattle.wal.specs.Records.{shared_records};
 ghost use Rattle.reorder.specs.Chunks.{LeavesNoRoom};
 ghost use Rattle.reorder.specs.Taking.{HasTaken, MayCome};
 ghost use Rattle.wal.specs.declared.record.Record.{Record as Logged};
@@ -16,12 +16,12 @@ use wal::Record;
 impl Sender {
     pub(crate) fn take_all(&mut self, records: &[Arc<Record>], clock: i64) -> Result<(), SendFault>
         requires { self.old.failed ≡ false }
-        ensures ok { OnOk result (ReadAll clock self.old self.new (shared records.now)) }
+        ensures ok { OnOk result (ReadAll clock self.old self.new (shared_records records.now)) }
         ensures running { OnOk result (self.new.failed ≡ false) }
-        ensures out { OnErr result (RanOut clock self.old self.new (shared records.now)) }
+        ensures out { OnErr result (RanOut clock self.old self.new (shared_records records.now)) }
         ensures err { IfErr result IsOut }
         ensures room { result ≡ Err SendFault.ArenaFull →
-            LacksRoom self.old self.new (shared records.now) }
+            LacksRoom self.old self.new (shared_records records.now) }
         ensures chunks { OnOk result
             ((count : ℕ) → HasChunks self.old count → HasChunks self.new count) }
     {

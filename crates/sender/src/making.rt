@@ -88,8 +88,13 @@ fn frame_at_next(
     ensures capacity { vec_capacity relations_sent.new ≡ vec_capacity relations_sent.old }
 {
     let (head, room) = out.split_at_mut(HEAD_LENGTH);
-    let Some((position, length)) = put_entry(selection, reorder, &mut waiting.ready, waiting.next, room)
-    else {
+    let Some((position, length)) = put_entry(
+        selection,
+        reorder,
+        &mut waiting.ready,
+        waiting.next,
+        room,
+    ) else {
         waiting.next += 1;
         return 0;
     };

@@ -8,12 +8,12 @@ ghost use Rattle.publication.specs.Selection.{relation};
 ghost use Rattle.stream.specs.Items.{FitsPublished};
 ghost use Rattle.reorder.specs.Chunks.{IsTidy};
 ghost use Rattle.reorder.specs.Ready.{IsReadyIn, ready_entries};
-ghost use Rattle.reorder.specs.Settled.{AreLentIn, settled};
-ghost use Rattle.reorder.specs.Taking.{HasTaken, ReorderState, readied};
+ghost use Rattle.reorder.specs.Settled.{AreLentIn, after_giving_all_back};
+ghost use Rattle.reorder.specs.Taking.{HasTaken, ReorderState, readied_changes};
 ghost use Rattle.sender.specs.Published.{published_changes, published_note, published_with};
 ghost use Rattle.sender.specs.Sending.{published_by_record};
 ghost use Rattle.sender.specs.Spelled.{Yields};
-ghost use Rattle.sender.specs.Waiting.{readies, readies_with};
+ghost use Rattle.sender.specs.Waiting.{ready_states, ready_states_with};
 ghost use Rattle.sender.specs.Outgoing.{Grows, IsOutgoing, settled_of};
 
 use crate::header::Header;
@@ -36,18 +36,21 @@ impl Outgoing {
         room: &mut Vec<u8>,
     ) -> Result<(), AllocError>
         requires good { IsOutgoing selection.now reorder.old self.old }
-        requires lent { AreLentIn reorder.old (readies_with (readies self.old.waiting.items) step) }
+        requires lent { AreLentIn reorder.old
+            (ready_states_with (ready_states self.old.waiting.items) step) }
         ensures grows { Grows selection.now clock
-            (published_by_record selection.now start next.now (readied reorder.old step)) result
+            (published_by_record selection.now start next.now
+            (readied_changes reorder.old step)) result
             reorder.old reorder.new self.old self.new }
         ensures fit { OnOk result
             (AllByRecursion (FitsPublished (relation selection.now))
-            (published_by_record selection.now start next.now (readied reorder.old step))) }
+            (published_by_record selection.now start next.now (readied_changes reorder.old step))) }
         ensures taken { (rs : List Logged) → HasTaken reorder.old rs →
             HasTaken (settled_of reorder.new self.new) rs }
         ensures tidy { (count : ℕ) →
             IsTidy count []
-            (settled reorder.old (readies_with (readies self.old.waiting.items) step)).strands →
+            (after_giving_all_back reorder.old
+            (ready_states_with (ready_states self.old.waiting.items) step)).strands →
             IsTidy count [] (settled_of reorder.new self.new).strands }
     {
         match step {
@@ -123,7 +126,7 @@ impl Outgoing {
         room: &mut Vec<u8>,
     ) -> Result<(), AllocError>
         requires good { IsOutgoing selection.now reorder.old self.old }
-        requires lent { AreLentIn reorder.old (readies self.old.waiting.items ++ ready ∷ []) }
+        requires lent { AreLentIn reorder.old (ready_states self.old.waiting.items ++ ready ∷ []) }
         ensures grows { Grows selection.now clock
             (published_by_record selection.now start next.now
             (Some (ready_entries reorder.old.strands.pool ready)))
@@ -136,7 +139,8 @@ impl Outgoing {
             HasTaken (settled_of reorder.new self.new) rs }
         ensures tidy { (count : ℕ) →
             IsTidy count []
-            (settled reorder.old (readies self.old.waiting.items ++ ready ∷ [])).strands →
+            (after_giving_all_back reorder.old
+            (ready_states self.old.waiting.items ++ ready ∷ [])).strands →
             IsTidy count [] (settled_of reorder.new self.new).strands }
     {
         match judge(selection, start, next, reorder, &mut ready, room) {
@@ -162,7 +166,7 @@ impl Outgoing {
         clock: i64,
     ) -> Result<(), AllocError>
         requires good { IsOutgoing selection.now reorder.old self.old }
-        requires lent { AreLentIn reorder.old (readies self.old.waiting.items ++ ready ∷ []) }
+        requires lent { AreLentIn reorder.old (ready_states self.old.waiting.items ++ ready ∷ []) }
         ensures grows { Grows selection.now clock
             (published_with selection.now (ready_entries reorder.old.strands.pool ready) header.now
             ∷ [])
@@ -171,7 +175,8 @@ impl Outgoing {
             HasTaken (settled_of reorder.new self.new) rs }
         ensures tidy { (count : ℕ) →
             IsTidy count []
-            (settled reorder.old (readies self.old.waiting.items ++ ready ∷ [])).strands →
+            (after_giving_all_back reorder.old
+            (ready_states self.old.waiting.items ++ ready ∷ [])).strands →
             IsTidy count [] (settled_of reorder.new self.new).strands }
     {
         match self.commit(selection, ready, header, clock) {

@@ -2,7 +2,7 @@
 
 ghost use Rattle.std.specs.Prelude.{◌≡◌, ◌≢◌, ◌↔◌, ◌++◌, ◌==◌, ◌<◌, ◌^◌, ◌+◌, [], List, None, replicate, ℕ, false, true, not, min, take, drop, length, Err, IfOk, IsOk, OnErr, OnOk};
 ghost use Rattle.wal.specs.Log.{follows};
-ghost use Rattle.wal.specs.Records.{shared};
+ghost use Rattle.wal.specs.Records.{shared_records};
 ghost use Rattle.stream.specs.Words.{word_bytes};
 ghost use Rattle.stream.specs.Items.{keepalive_word};
 ghost use Rattle.sender.specs.Sending.{HasChunks, HasRead, LacksRoom, LeavesChunks, ReadAll, RanOut};
@@ -101,21 +101,22 @@ impl Sender {
 
     /// Reads records. What they publish is held from then on, under this clock. Judged in this order: G3, G4, then G1 and G2.
     pub fn feed(&mut self, records: &[Arc<Record>], clock: i64) -> Result<(), SendFault>
-        ensures ok { OnOk result (ReadAll clock self.old self.new (shared records.now)) }
+        ensures ok { OnOk result (ReadAll clock self.old self.new (shared_records records.now)) }
         ensures running { OnOk result (self.new.failed ≡ false) }
-        ensures follow { OnOk result (follows self.old.position (shared records.now) ≡ true) }
+        ensures follow { OnOk result
+            (follows self.old.position (shared_records records.now) ≡ true) }
         ensures full { result ≡ Err SendFault.ArenaFull →
-            RanOut clock self.old self.new (shared records.now) }
+            RanOut clock self.old self.new (shared_records records.now) }
         ensures room { result ≡ Err SendFault.ArenaFull →
-            LacksRoom self.old self.new (shared records.now) }
+            LacksRoom self.old self.new (shared_records records.now) }
         ensures chunks { OnOk result
             ((count : ℕ) → HasChunks self.old count → HasChunks self.new count) }
         ensures memory { result ≡ Err SendFault.Memory →
-            RanOut clock self.old self.new (shared records.now) }
+            RanOut clock self.old self.new (shared_records records.now) }
         ensures failed { (result ≡ Err SendFault.Failed) ↔ (self.old.failed ≡ true) }
         ensures gap { (result ≡ Err SendFault.Gap)
             ↔ ((self.old.failed ≡ false)
-            × (follows self.old.position (shared records.now) ≡ false)) }
+            × (follows self.old.position (shared_records records.now) ≡ false)) }
         ensures unchanged { self.old.failed ≡ true → self.new ≡ self.old }
         ensures unread { result ≡ Err SendFault.Gap → self.new ≡ self.old }
     {
@@ -213,7 +214,7 @@ impl Sender {
 
 /// Whether the records stand one behind the other from the position on.
 fn do_follow(position: u64, records: &[Arc<Record>]) -> bool
-    ensures { result ≡ follows position (shared records.now) }
+    ensures { result ≡ follows position (shared_records records.now) }
 {
     let mut next = position;
     for record in records {

@@ -5,7 +5,7 @@ ghost use Rattle.std.specs.Io.KnownBytes.{Appends};
 ghost use mathlib.Core.List.{IsPrefix};
 ghost use Rattle.std.specs.declared.io.Error.{Error};
 ghost use Rattle.wal.specs.Log.{IsWellFormedLog};
-ghost use Rattle.shared_log.specs.Fronts.{settled};
+ghost use Rattle.shared_log.specs.Fronts.{settled_records};
 ghost use Rattle.shared_log.specs.Readers.{HasSeen, seen_of};
 ghost use Rattle.shared_log.specs.declared.fault.ReadFault.{ReadFault};
 ghost use Rattle.sender.specs.declared.fault.SendFault.{SendFault};
@@ -45,7 +45,7 @@ pub fn turn<L: LogName, W: Write>(
         reader.new.place
         ≡ reader.old.place + length (fetched_from reader.old.place (seen_of reader.new)) }
     ensures fresh { has_fetched result ≡ true →
-        IsPrefix (settled reader.new.told) (seen_of reader.new)
+        IsPrefix (settled_records reader.new.told) (seen_of reader.new)
         × IsWellFormedLog (seen_of reader.new) }
     ensures why { (fault : ReadFault) → result ≡ Err (fault_of_fetch fault) →
         HasSeen fault reader.old reader.new }

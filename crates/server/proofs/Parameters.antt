@@ -7,7 +7,7 @@ use Rattle.std.proofs.lemmas.List.{length-append}
 use Rattle.std.proofs.lemmas.List.Concat.{flat_map-cons}
 use Rattle.frames.specs.declared.parameter.Parameter.{Parameter}
 use Rattle.pqformat.specs.Fields.{string}
-use Rattle.pqformat.specs.Steps.{closed}
+use Rattle.pqformat.specs.Steps.{closed_list}
 use Rattle.frames.specs.Parameter.{parameter}
 use Rattle.server.specs.Opening.{latest, value_of, first_of}
 
@@ -28,7 +28,7 @@ latest_within most name found (p ∷ ps) within short =
     by_test true inner = inner (Some p.value) (omega (arith, short, long_parameter p ps))
     by_test false inner = inner found within
 
-pub name_within : (most : ℕ) (ps : List Parameter) → length (closed parameter ps) ≤ most → length (first_of (value_of (codes "database") ps) (value_of (codes "user") ps)) ≤ most
+pub name_within : (most : ℕ) (ps : List Parameter) → length (closed_list parameter ps) ≤ most → length (first_of (value_of (codes "database") ps) (value_of (codes "user") ps)) ≤ most
 name_within most ps short = by_value (value_of (codes "database") ps) (value_of (codes "user") ps) (all (codes "database")) (all (codes "user"))
   where
     all : (name : List ℕ) → IsWithin most (value_of name ps)

@@ -6,7 +6,7 @@ use Rattle.std.proofs.lemmas.List.Concat.{flat_map-cons}
 use Rattle.frames.specs.declared.row_description.ColumnDescription.{ColumnDescription}
 use Rattle.frames.specs.declared.data_row.DataValue.{DataValue}
 use Rattle.frames.specs.declared.data_row.DataValue.TheVariants.{Null, Bytes}
-use Rattle.frames.specs.Plain.{counted}
+use Rattle.frames.specs.Plain.{counted_items}
 use Rattle.frames.specs.RowDescription.{column}
 use Rattle.frames.specs.DataRow.{data_value, FitsValue}
 use Rattle.frames.proofs.Lengths.{length_column, length_value, length_counted}
@@ -17,7 +17,7 @@ short_columns [] short = omega arith
 short_columns (c ∷ columns) short =
     omega (arith, short.0, short_columns columns short.1, length_column c, length-append (column c) (flat_map column columns), ap length (flat_map-cons column c columns))
 
-pub columns_fit : (columns : List ColumnDescription) → length columns ≤ 4 → AllByRecursion (λ c. length c.name ≤ 40) columns → 4 + length (counted column columns) < 2 ^ 32
+pub columns_fit : (columns : List ColumnDescription) → length columns ≤ 4 → AllByRecursion (λ c. length c.name ≤ 40) columns → 4 + length (counted_items column columns) < 2 ^ 32
 columns_fit columns four short = omega (arith, short_columns columns short, length_counted (length columns) (flat_map column columns))
 
 small_value : (v : DataValue) → IsSmall v → length (data_value v) ≤ 65540
@@ -29,7 +29,7 @@ small_values [] small = omega arith
 small_values (v ∷ values) small =
     omega (arith, small_value v small.0, small_values values small.1, length-append (data_value v) (flat_map data_value values), ap length (flat_map-cons data_value v values))
 
-pub values_fit : (values : List DataValue) → length values ≤ 4 → AllByRecursion IsSmall values → 4 + length (counted data_value values) < 2 ^ 32
+pub values_fit : (values : List DataValue) → length values ≤ 4 → AllByRecursion IsSmall values → 4 + length (counted_items data_value values) < 2 ^ 32
 values_fit values four small = omega (arith, small_values values small, length_counted (length values) (flat_map data_value values))
 
 fits : (v : DataValue) → IsSmall v → FitsValue v

@@ -16,7 +16,7 @@ use Rattle.server.specs.declared.stage.Stage.TheVariants.{Fresh, Idle, Streaming
 use Rattle.server.specs.Calls.{Call, AreAsked}
 use Rattle.server.specs.Conversation.{Gave}
 use Rattle.server.specs.Turns.{Turn, IsTurn, AreTurns, Waits, HaveEnded, IsConversation, end_turn}
-use Rattle.server.specs.Segment.{Went, HasText, IsAny, Ended, Happened, IfStopping, UnlessMemory, heard, phase_of}
+use Rattle.server.specs.Segment.{Went, HasText, IsAny, Ended, Happened, IfStopping, UnlessMemory, bytes_heard, phase_of}
 
 kind-append : (Kind : Turn → Type 0) (ts us : List Turn) → AllByRecursion Kind ts → AllByRecursion Kind us → AllByRecursion Kind (ts ++ us)
 kind-append Kind [] us first then = then
@@ -170,7 +170,7 @@ all-sent told service x d out b e mid c f end first desk (inr (same, says)) = rw
 
 -- one more event
 pub began-on : {D : Type 0} (told : D → Call → D → Type 0) (service : Service) (x : List ℕ) (d : D) (out : List ℕ) (b : Connection) (e : D) (mid : List ℕ) (event : Event) (c : Connection) (f : D) (end : List ℕ)
-    → Began told service x d out b e mid → Happened told event b e mid c f end → Began told service (x ++ heard event) d out c f end
+    → Began told service x d out b e mid → Happened told event b e mid c f end → Began told service (x ++ bytes_heard event) d out c f end
 began-on told service x d out b e mid (Came bytes) c f end first then = began-took told service x bytes.items d out b e mid c f end first then.0 then.1
 began-on told service x d out b e mid AllSent c f end first (desk, then) = all-sent told service x d out b e mid c f end first desk (either b.stage (Ended b mid c end) ((c ≡ b) × (end ≡ mid)) then)
 

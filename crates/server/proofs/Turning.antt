@@ -26,7 +26,7 @@ use Rattle.server.specs.declared.stage.Stage.TheVariants.{Fresh, Closed}
 use Rattle.server.specs.declared.stage.Turned.{Turned}
 use Rattle.server.specs.Calls.{Call}
 use Rattle.server.specs.Conversation.{Gave, Tried}
-use Rattle.server.specs.Said.{refused}
+use Rattle.server.specs.Said.{error_of_refusal}
 use Rattle.server.specs.Turns.{Turn, IsTurn, IsFrameTurn, Hears, Opens, Streams, refusal_of}
 use Rattle.server.specs.Segment.{Went, HasText, Asks, Said, IsTurned, TakesTurn}
 use Rattle.server.proofs.Steps.{nothing_tried, tried_as}
@@ -83,7 +83,7 @@ front_turned told service stage Answers pending count front next Same desk out d
 
 pub front_refused : {D : Type 0} (told : D → Call → D → Type 0) (service : Service) (stage : Stage) (Answers : Front → List Call → List ℕ → Stage → Type 0) (pending : List ℕ) (fault : FrameFault) (Same : Type 0) (desk : D) (out out' : List ℕ)
     → ((t : Turn) (n : Stage) → IsFrameTurn Answers t n → IsTurn service stage t n)
-    → fault ≢ Memory → Gives (Err fault) (framed_front pending) → out' ≡ out ++ refused (refusal_of fault)
+    → fault ≢ Memory → Gives (Err fault) (framed_front pending) → out' ≡ out ++ error_of_refusal (refusal_of fault)
     → IsTurned service stage pending (record { stage = Closed; count = length pending }) Same (λ fact. Gave told fact desk out desk out')
 front_refused told service stage Answers pending fault Same desk out out' turn other gives says =
     let is : framed_front pending ≡ Err fault = read_fault fault (framed_front pending) other gives in
@@ -93,8 +93,8 @@ front_refused told service stage Answers pending fault Same desk out out' turn o
       omega arith,
       record {
         asked = [];
-        text = refused (refusal_of fault);
-        fact = turn (record { text = take (length pending) pending; asked = []; said = refused (refusal_of fault) }) Closed (inr (fault, rw whole is, (refl, refl, refl)));
+        text = error_of_refusal (refusal_of fault);
+        fact = turn (record { text = take (length pending) pending; asked = []; said = error_of_refusal (refusal_of fault) }) Closed (inr (fault, rw whole is, (refl, refl, refl)));
         asks = refl;
         says = says;
       },
@@ -110,7 +110,7 @@ startup_turned service pending count startup next Same out out' le spells said =
 )
 
 pub startup_refused : (service : Service) (pending : List ℕ) (fault : FrameFault) (Same : Type 0) (out out' : List ℕ)
-    → fault ≢ Memory → Gives (Err fault) (framed_startup pending) → out' ≡ out ++ refused (refusal_of fault)
+    → fault ≢ Memory → Gives (Err fault) (framed_startup pending) → out' ≡ out ++ error_of_refusal (refusal_of fault)
     → IsTurned service Fresh pending (record { stage = Closed; count = length pending }) Same (λ fact. Said fact out out')
 startup_refused service pending fault Same out out' other gives says =
     let is : framed_startup pending ≡ Err fault = read_fault fault (framed_startup pending) other gives in
@@ -118,7 +118,7 @@ startup_refused service pending fault Same out out' other gives says =
     inr (
       faulty_startup pending fault is,
       omega arith,
-      record { text = refused (refusal_of fault); fact = inr (fault, rw whole is, (refl, refl, refl)); says = says },
+      record { text = error_of_refusal (refusal_of fault); fact = inr (fault, rw whole is, (refl, refl, refl)); says = says },
     )
 
 pub quiet_turned : {D : Type 0} (told : D → Call → D → Type 0) (service : Service) (stage : Stage) (pending : List ℕ) (desk : D) (out out' : List ℕ) (r : Result Turned AllocError)
@@ -153,7 +153,7 @@ closed_turned told service (b ∷ bytes) desk out = inr (omega arith, omega arit
 pub refused_takes : {D : Type 0} (told : D → Call → D → Type 0) (service : Service) (stage : Stage) (Answers : Front → List Call → List ℕ → Stage → Type 0) (pending : List ℕ) (fault : FrameFault) (desk : D) (out out' : List ℕ) (r : Result Turned AllocError)
     → ((t : Turn) (n : Stage) → IsFrameTurn Answers t n → IsTurn service stage t n)
     → Gives (Err fault) (framed_front pending)
-    → OnOk r (fault ≢ Memory) → IfOk r (λ t. t ≡ record { stage = Closed; count = length pending }) → OnOk r (out' ≡ out ++ refused (refusal_of fault)) → OnErr r (Extends out out')
+    → OnOk r (fault ≢ Memory) → IfOk r (λ t. t ≡ record { stage = Closed; count = length pending }) → OnOk r (out' ≡ out ++ error_of_refusal (refusal_of fault)) → OnErr r (Extends out out')
     → TakesTurn told service stage pending r desk out desk out'
 refused_takes told service stage Answers pending fault desk out out' (Ok t) turn gives other is says keeps =
     subst (λ (x : Turned). IsTurned service stage pending x ((desk ≡ desk) × (out' ≡ out)) (λ fact. Gave told fact desk out desk out')) (sym is)
@@ -162,7 +162,7 @@ refused_takes told service stage Answers pending fault desk out out' (Err e) tur
 
 pub startup_refused_turned : (service : Service) (pending : List ℕ) (fault : FrameFault) (out out' : List ℕ) (r : Result Turned AllocError)
     → Gives (Err fault) (framed_startup pending)
-    → OnOk r (fault ≢ Memory) → IfOk r (λ t. t ≡ record { stage = Closed; count = length pending }) → OnOk r (out' ≡ out ++ refused (refusal_of fault))
+    → OnOk r (fault ≢ Memory) → IfOk r (λ t. t ≡ record { stage = Closed; count = length pending }) → OnOk r (out' ≡ out ++ error_of_refusal (refusal_of fault))
     → IfOk r (λ t. IsTurned service Fresh pending t (out' ≡ out) (λ fact. Said fact out out'))
 startup_refused_turned service pending fault out out' (Ok t) gives other is says =
     subst (λ (x : Turned). IsTurned service Fresh pending x (out' ≡ out) (λ fact. Said fact out out')) (sym is)
@@ -184,12 +184,12 @@ turned_went told old desk out t new desk' out' service stage pending (inr (some,
 
 -- ---- frames out of their place
 
-pub out_of_place : (dialect : Dialect) (database : List ℕ) (f : Front) → ((bytes : CopyData) × (f ≡ fronts.CopyData bytes)) ⊎ ((f ≡ fronts.CopyDone) ⊎ ((fail : CopyFail) × (f ≡ fronts.CopyFail fail))) → Hears dialect database f [] (refused Violation) Closed
-out_of_place dialect database f (inl (bytes, is)) = subst (λ (g : Front). Hears dialect database g [] (refused Violation) Closed) (sym is) (refl, refl, refl)
-out_of_place dialect database f (inr (inl is)) = subst (λ (g : Front). Hears dialect database g [] (refused Violation) Closed) (sym is) (refl, refl, refl)
-out_of_place dialect database f (inr (inr (fail, is))) = subst (λ (g : Front). Hears dialect database g [] (refused Violation) Closed) (sym is) (refl, refl, refl)
+pub out_of_place : (dialect : Dialect) (database : List ℕ) (f : Front) → ((bytes : CopyData) × (f ≡ fronts.CopyData bytes)) ⊎ ((f ≡ fronts.CopyDone) ⊎ ((fail : CopyFail) × (f ≡ fronts.CopyFail fail))) → Hears dialect database f [] (error_of_refusal Violation) Closed
+out_of_place dialect database f (inl (bytes, is)) = subst (λ (g : Front). Hears dialect database g [] (error_of_refusal Violation) Closed) (sym is) (refl, refl, refl)
+out_of_place dialect database f (inr (inl is)) = subst (λ (g : Front). Hears dialect database g [] (error_of_refusal Violation) Closed) (sym is) (refl, refl, refl)
+out_of_place dialect database f (inr (inr (fail, is))) = subst (λ (g : Front). Hears dialect database g [] (error_of_refusal Violation) Closed) (sym is) (refl, refl, refl)
 
 -- the same in a stream
-pub out_of_stream : (database : List ℕ) (f : Front) → ((query : Query) × (f ≡ fronts.Query query)) ⊎ ((fail : CopyFail) × (f ≡ fronts.CopyFail fail)) → Streams database f [] (refused Violation) Closed
-out_of_stream database f (inl (query, is)) = subst (λ (g : Front). Streams database g [] (refused Violation) Closed) (sym is) (refl, refl, refl)
-out_of_stream database f (inr (fail, is)) = subst (λ (g : Front). Streams database g [] (refused Violation) Closed) (sym is) (refl, refl, refl)
+pub out_of_stream : (database : List ℕ) (f : Front) → ((query : Query) × (f ≡ fronts.Query query)) ⊎ ((fail : CopyFail) × (f ≡ fronts.CopyFail fail)) → Streams database f [] (error_of_refusal Violation) Closed
+out_of_stream database f (inl (query, is)) = subst (λ (g : Front). Streams database g [] (error_of_refusal Violation) Closed) (sym is) (refl, refl, refl)
+out_of_stream database f (inr (fail, is)) = subst (λ (g : Front). Streams database g [] (error_of_refusal Violation) Closed) (sym is) (refl, refl, refl)

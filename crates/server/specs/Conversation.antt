@@ -16,7 +16,7 @@ use Rattle.server.specs.declared.table_name.TableName.{TableName}
 use Rattle.server.specs.Answers.{path_set, mode_shown, publications_told, tables_told}
 use Rattle.server.specs.Calls.{Call, End, System, CreateSlot, DropSlot, StartStream, AreAsked}
 use Rattle.server.specs.Calls as calls
-use Rattle.server.specs.Said.{refused_ready, identified, created, dropped, started}
+use Rattle.server.specs.Said.{error_and_ready, answer_to_identify, answer_to_create, answer_to_drop, answer_to_start}
 use Rattle.questions.specs.declared.question.Question.{Question}
 use Rattle.questions.specs.declared.question.Question.TheVariants.{SearchPath, DirectoryMode, InitialCopy, Publications, Tables, DropWhenFree}
 use Rattle.questions.specs.Questions.{SpellsQuestion}
@@ -48,11 +48,11 @@ is_ok (Err fault) = false
 
 -- Each command makes its own calls, each once. One of them may begin a stream.
 abbrev pub Runs : List ℕ → Command → Bool → List Call → List ℕ → Type 0
-Runs database Identify begins asked text = (end : ℕ) × (systemid : List ℕ) × (asked ≡ End end ∷ System systemid ∷ []) × (text ≡ identified systemid end database) × (begins ≡ false)
-Runs database (Create slot) begins asked text = (answer : Result ℕ DeskFault) × (asked ≡ CreateSlot slot answer ∷ []) × (text ≡ created slot answer) × (begins ≡ false)
-Runs database (Drop slot) begins asked text = (answer : Result (Unit {0}) DeskFault) × (asked ≡ DropSlot slot answer ∷ []) × (text ≡ dropped answer) × (begins ≡ false)
+Runs database Identify begins asked text = (end : ℕ) × (systemid : List ℕ) × (asked ≡ End end ∷ System systemid ∷ []) × (text ≡ answer_to_identify systemid end database) × (begins ≡ false)
+Runs database (Create slot) begins asked text = (answer : Result ℕ DeskFault) × (asked ≡ CreateSlot slot answer ∷ []) × (text ≡ answer_to_create slot answer) × (begins ≡ false)
+Runs database (Drop slot) begins asked text = (answer : Result (Unit {0}) DeskFault) × (asked ≡ DropSlot slot answer ∷ []) × (text ≡ answer_to_drop answer) × (begins ≡ false)
 Runs database (Start slot position options) begins asked text =
-    (answer : Result (Unit {0}) DeskFault) × (asked ≡ StartStream slot position options answer ∷ []) × (text ≡ started answer) × (begins ≡ is_ok answer)
+    (answer : Result (Unit {0}) DeskFault) × (asked ≡ StartStream slot position options answer ∷ []) × (text ≡ answer_to_start answer) × (begins ≡ is_ok answer)
 
 -- the slot of a command to make one is no longer than slots' names are
 abbrev pub HasShortSlot : Command → Type 0
@@ -63,7 +63,7 @@ HasShortSlot _ = Unit {0}
 pub record IsRefused (query : List ℕ) (asked : List Call) (text : List ℕ) : Type 0 where
   pub fault : CmdFault
   pub nothing : asked ≡ []
-  pub answer : text ≡ refused_ready (refusals.Command fault)
+  pub answer : text ≡ error_and_ready (refusals.Command fault)
   pub read : Tells query (Err fault)
   pub no_command : fault ≢ commands.Memory → (c : Command) → SpellsCommand query c → ⊥
 
@@ -76,11 +76,11 @@ Replies database query begins asked text = ((c : Command) × SpellsCommand query
 abbrev pub AnswersQuestion : Question → List Call → List ℕ → Type 0
 AnswersQuestion SearchPath asked text = (asked ≡ []) × (text ≡ path_set)
 AnswersQuestion DirectoryMode asked text = (asked ≡ []) × (text ≡ mode_shown)
-AnswersQuestion InitialCopy asked text = (asked ≡ []) × (text ≡ refused_ready refusals.InitialCopy)
+AnswersQuestion InitialCopy asked text = (asked ≡ []) × (text ≡ error_and_ready refusals.InitialCopy)
 AnswersQuestion (Publications names) asked text =
     (answer : Result (List (List ℕ)) DeskFault) × (asked ≡ calls.Publications names answer ∷ []) × (text ≡ publications_told answer)
 AnswersQuestion (Tables names) asked text = (answer : Result (List TableName) DeskFault) × (asked ≡ calls.Tables names answer ∷ []) × (text ≡ tables_told answer)
-AnswersQuestion (DropWhenFree slot) asked text = (answer : Result (Unit {0}) DeskFault) × (asked ≡ DropSlot slot answer ∷ []) × (text ≡ dropped answer)
+AnswersQuestion (DropWhenFree slot) asked text = (answer : Result (Unit {0}) DeskFault) × (asked ≡ DropSlot slot answer ∷ []) × (text ≡ answer_to_drop answer)
 
 -- a text that is a question
 abbrev pub IsAnswered : List ℕ → List Call → List ℕ → Type 0

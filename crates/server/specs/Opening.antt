@@ -21,5 +21,5 @@ first_of None (Some b) = b
 first_of None None = []
 
 -- the name of the database, if replication on it is asked for
-unfoldable pub opened : List Parameter → Option (List ℕ)
-opened ps = if is_database (value_of (codes "replication") ps) then Some (first_of (value_of (codes "database") ps) (value_of (codes "user") ps)) else None
+unfoldable pub opened_database : List Parameter → Option (List ℕ)
+opened_database ps = if is_database (value_of (codes "replication") ps) then Some (first_of (value_of (codes "database") ps) (value_of (codes "user") ps)) else None

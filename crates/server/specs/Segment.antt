@@ -20,7 +20,7 @@ use Rattle.server.specs.Conversation.{Gave, Tried}
 use Rattle.server.specs.declared.conversation.Event.{Event}
 use Rattle.server.specs.declared.conversation.Event.TheVariants.{Came, AllSent}
 use Rattle.server.specs.Turns.{Turn, IsTurn, AreTurns, Waits, end_turn}
-use Rattle.server.specs.Said.{ended}
+use Rattle.server.specs.Said.{end_of_stream}
 
 -- a turn for a text, so not the end of a stream
 abbrev pub HasText : Turn → Type 0
@@ -62,12 +62,12 @@ pub record Ended (old : Connection) (out : List ℕ) (new : Connection) (out' : 
   pub same : new.service ≡ old.service
   pub turn : IsTurn old.service old.stage end_turn new.stage
   pub keep : new.pending.items ≡ old.pending.items
-  pub say : out' ≡ out ++ ended
+  pub say : out' ≡ out ++ end_of_stream
 
 -- what the client sent in it
-abbrev pub heard : Event → List ℕ
-heard (Came bytes) = bytes.items
-heard AllSent = []
+abbrev pub bytes_heard : Event → List ℕ
+bytes_heard (Came bytes) = bytes.items
+bytes_heard AllSent = []
 
 -- the first, if a stream stops at this stage, and else the second
 abbrev pub IfStopping : Stage → Type 0 → Type 0 → Type 0

@@ -21,8 +21,8 @@ use Rattle.server.specs.declared.stage.Stage.{Stage}
 use Rattle.server.specs.declared.stage.Stage.TheVariants.{Fresh, Idle, Streaming, Stopping, Closed}
 use Rattle.server.specs.Calls.{Call, Flushed}
 use Rattle.server.specs.Conversation.{RepliesIn}
-use Rattle.server.specs.Opening.{opened}
-use Rattle.server.specs.Said.{refused, greeted, ended}
+use Rattle.server.specs.Opening.{opened_database}
+use Rattle.server.specs.Said.{error_of_refusal, answer_to_startup, end_of_stream}
 
 pub record Turn : Type 0 where
   pub text : List ℕ
@@ -40,7 +40,7 @@ refusal_of _ = Violation
 
 -- what it can't go on from
 abbrev pub Refuses : Refusal → List Call → List ℕ → Stage → Type 0
-Refuses refusal = Says (refused refusal) Closed
+Refuses refusal = Says (error_of_refusal refusal) Closed
 
 -- ---- before a session
 
@@ -50,7 +50,7 @@ session None = Closed
 
 -- Encryption is declined by a single byte, and the startup is still waited for.
 abbrev pub Opens : Service → Startup → List Call → List ℕ → Stage → Type 0
-Opens service (Session parameters) = Says (greeted service (opened parameters)) (session (opened parameters))
+Opens service (Session parameters) = Says (answer_to_startup service (opened_database parameters)) (session (opened_database parameters))
 Opens service Ssl = Says (codes "N") Fresh
 Opens service Gss = Says (codes "N") Fresh
 Opens service (Cancel process key) = Says [] Closed
@@ -87,7 +87,7 @@ Streams database (CopyFail fail) asked said next = Refuses Violation asked said 
 
 -- A stream that stops is ended by a turn of its own, for no text: once all of the stream has been said.
 abbrev pub end_turn : Turn
-end_turn = record { text = []; asked = []; said = ended }
+end_turn = record { text = []; asked = []; said = end_of_stream }
 
 -- ---- turns
 

@@ -2,8 +2,8 @@
 
 ghost use Rattle.std.specs.Prelude.{◌≡◌, ◌≤◌, ◌++◌, ◌∷◌, [], length, codes, OnOk, IfOk};
 ghost use Rattle.frames.specs.declared.data_row.DataValue.TheVariants.{Bytes, Null};
-ghost use Rattle.replcmd.specs.Position.{printed};
-ghost use Rattle.server.specs.Said.{shown, text_type, int4_type};
+ghost use Rattle.replcmd.specs.Position.{position_text};
+ghost use Rattle.server.specs.Said.{column_of, text_type, int4_type};
 
 use crate::say::{int4_column, position_value, text_column, value};
 use frames::{ColumnDescription, DataValue};
@@ -16,7 +16,7 @@ fn push_text_column(
     name: &str,
 ) -> Result<(), AllocError>
     ensures { OnOk result
-        (columns.new.items ≡ columns.old.items ++ (shown text_type name.now ∷ [])) }
+        (columns.new.items ≡ columns.old.items ++ (column_of text_type name.now ∷ [])) }
 {
     let column = text_column(alloc, name)?;
     columns.push(column)?;
@@ -29,7 +29,7 @@ fn push_int4_column(
     name: &str,
 ) -> Result<(), AllocError>
     ensures { OnOk result
-        (columns.new.items ≡ columns.old.items ++ (shown int4_type name.now ∷ [])) }
+        (columns.new.items ≡ columns.old.items ++ (column_of int4_type name.now ∷ [])) }
 {
     let column = int4_column(alloc, name)?;
     columns.push(column)?;
@@ -50,8 +50,8 @@ fn push_position(
     position: u64,
 ) -> Result<(), AllocError>
     ensures value { OnOk result
-        (values.new.items ≡ values.old.items ++ (Bytes (printed position) ∷ [])) }
-    ensures small { OnOk result (length (printed position) ≤ 17) }
+        (values.new.items ≡ values.old.items ++ (Bytes (position_text position) ∷ [])) }
+    ensures small { OnOk result (length (position_text position) ≤ 17) }
 {
     let value = position_value(alloc, position)?;
     values.push(value)?;
@@ -61,8 +61,8 @@ fn push_position(
 pub(crate) fn identity_columns(alloc: Global) -> Result<Items<ColumnDescription>, AllocError>
     ensures { IfOk result
         (λ columns. columns
-        ≡ shown text_type (codes "systemid") ∷ shown int4_type (codes "timeline")
-        ∷ shown text_type (codes "xlogpos") ∷ shown text_type (codes "dbname") ∷ []) }
+        ≡ column_of text_type (codes "systemid") ∷ column_of int4_type (codes "timeline")
+        ∷ column_of text_type (codes "xlogpos") ∷ column_of text_type (codes "dbname") ∷ []) }
 {
     let mut columns = Vec::new(alloc);
     push_text_column(alloc, &mut columns, "systemid")?;
@@ -80,9 +80,9 @@ pub(crate) fn identity_values(
 ) -> Result<Items<DataValue>, AllocError>
     ensures value { IfOk result
         (λ values. values
-        ≡ Bytes systemid.now ∷ Bytes (codes "1") ∷ Bytes (printed end) ∷ Bytes database.now
+        ≡ Bytes systemid.now ∷ Bytes (codes "1") ∷ Bytes (position_text end) ∷ Bytes database.now
         ∷ []) }
-    ensures small { IfOk result (λ _. length (printed end) ≤ 17) }
+    ensures small { IfOk result (λ _. length (position_text end) ≤ 17) }
 {
     let mut values = Vec::new(alloc);
     push_value(alloc, &mut values, systemid)?;
@@ -95,8 +95,8 @@ pub(crate) fn identity_values(
 pub(crate) fn slot_columns(alloc: Global) -> Result<Items<ColumnDescription>, AllocError>
     ensures { IfOk result
         (λ columns. columns
-        ≡ shown text_type (codes "slot_name") ∷ shown text_type (codes "consistent_point")
-        ∷ shown text_type (codes "snapshot_name") ∷ shown text_type (codes "output_plugin")
+        ≡ column_of text_type (codes "slot_name") ∷ column_of text_type (codes "consistent_point")
+        ∷ column_of text_type (codes "snapshot_name") ∷ column_of text_type (codes "output_plugin")
         ∷ []) }
 {
     let mut columns = Vec::new(alloc);
@@ -114,8 +114,8 @@ pub(crate) fn slot_values(
 ) -> Result<Items<DataValue>, AllocError>
     ensures value { IfOk result
         (λ values. values
-        ≡ Bytes slot.now ∷ Bytes (printed position) ∷ Null ∷ Bytes (codes "pgoutput") ∷ []) }
-    ensures small { IfOk result (λ _. length (printed position) ≤ 17) }
+        ≡ Bytes slot.now ∷ Bytes (position_text position) ∷ Null ∷ Bytes (codes "pgoutput") ∷ []) }
+    ensures small { IfOk result (λ _. length (position_text position) ≤ 17) }
 {
     let mut values = Vec::new(alloc);
     push_value(alloc, &mut values, slot)?;

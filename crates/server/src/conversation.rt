@@ -3,7 +3,7 @@
 ghost use Rattle.std.specs.Prelude.{◌≢◌, OnOk, Err};
 ghost use Rattle.std.specs.List.{flat_map};
 ghost use Rattle.server.specs.Conversation.{Gave};
-ghost use Rattle.server.specs.Segment.{Happened, UnlessMemory, heard};
+ghost use Rattle.server.specs.Segment.{Happened, UnlessMemory, bytes_heard};
 ghost use Rattle.server.specs.Turns.{IsConversation};
 
 use crate::connection::{Connection, Phase};
@@ -67,7 +67,8 @@ pub fn converse<D: Desk>(
     out: &mut BytesMut,
 ) -> Result<(), AllocError>
     ensures { OnOk result
-        (Gave D.told (IsConversation service (flat_map heard events.now)) desk.old out.old.items
+        (Gave D.told
+        (IsConversation service (flat_map bytes_heard events.now)) desk.old out.old.items
         desk.new out.new.items) }
 {
     let mut connection = Connection::served(alloc, service);

@@ -2,10 +2,10 @@
 
 ghost use Rattle.std.specs.Prelude.{◌≡◌, ◌≤◌, ◌+◌, ◌++◌, length, option_map, OnOk, OnErr, IfOk, codes};
 ghost use Rattle.pqformat.specs.Putting.{Extends, Puts};
-ghost use Rattle.pqformat.specs.Steps.{closed};
+ghost use Rattle.pqformat.specs.Steps.{closed_list};
 ghost use Rattle.frames.specs.Parameter.{parameter};
-ghost use Rattle.server.specs.Opening.{value_of, opened, is_database, first_of};
-ghost use Rattle.server.specs.Said.{greeted, greeting_of};
+ghost use Rattle.server.specs.Opening.{value_of, opened_database, is_database, first_of};
+ghost use Rattle.server.specs.Said.{answer_to_startup, greeting_of};
 
 use crate::database::{Database, MOST_DATABASE_BYTES};
 use crate::refusal::Refusal;
@@ -70,17 +70,18 @@ fn greet(alloc: Global, service: Service, out: &mut BytesMut) -> Result<(), Allo
 ///
 /// The session must ask for `replication=database`. Other parameters are passed over, and of a repeated name the last
 /// pair counts. Refused, for want of memory: what stood in `out` still stands at its front.
-#[tactic(auto, using(pqformat::proofs::Putting::in_place), unfolding(crate::specs::Opening::opened))]
+#[tactic(auto, using(pqformat::proofs::Putting::in_place), unfolding(crate::specs::Opening::opened_database))]
 pub(crate) fn open(
     alloc: Global,
     service: Service,
     parameters: &[Parameter],
     out: &mut BytesMut,
 ) -> Result<Option<Database>, AllocError>
-    requires { length (closed parameter parameters.now) ≤ MOST_DATABASE_BYTES }
-    ensures database { IfOk result (λ d. d ≡ opened parameters.now) }
+    requires { length (closed_list parameter parameters.now) ≤ MOST_DATABASE_BYTES }
+    ensures database { IfOk result (λ d. d ≡ opened_database parameters.now) }
     ensures says { OnOk result
-        (out.new.items ≡ out.old.items ++ greeted service (opened parameters.now)) }
+        (out.new.items
+        ≡ out.old.items ++ answer_to_startup service (opened_database parameters.now)) }
     ensures kept { OnErr result (Extends out.old.items out.new.items) }
 {
     if !asks_for_replication(parameters) {

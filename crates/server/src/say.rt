@@ -7,8 +7,8 @@ ghost use Rattle.frames.specs.Back.{HasCounts, back_body};
 ghost use Rattle.frames.specs.declared.data_row.DataValue.TheVariants.{Bytes};
 ghost use Rattle.frames.specs.declared.back.Back.TheVariants.{AuthenticationOk, ErrorResponse as ErrorFrame, CopyDone};
 ghost use Rattle.pqformat.specs.Putting.{Puts};
-ghost use Rattle.replcmd.specs.Position.{printed};
-ghost use Rattle.server.specs.Said.{said, error_frame, refused, refused_ready, ready, greeting, completed, status, shown, text_type, int4_type, IsSmall, identity_columns, identity_values, slot_columns, slot_values, key_frame, columns_frame, values_frame, slot_made, identified, created, dropped, started, ended};
+ghost use Rattle.replcmd.specs.Position.{position_text};
+ghost use Rattle.server.specs.Said.{sent_frame, error_frame, error_of_refusal, error_and_ready, ready, greeting, completion, status, column_of, text_type, int4_type, IsSmall, identity_columns, identity_values, slot_columns, slot_values, key_frame, columns_frame, values_frame, slot_made, answer_to_identify, answer_to_create, answer_to_drop, answer_to_start, end_of_stream};
 
 use crate::answer_rows::{identity_columns, identity_values, slot_columns, slot_values};
 use crate::fault::DeskFault;
@@ -36,11 +36,11 @@ pub const NO_MODIFIER: i32 = -1;
 /// The attribute of a column that is no table's.
 pub const NO_ATTRIBUTE: i16 = 0;
 
-#[tactic(auto, using(pqformat::proofs::Putting::in_place), unfolding(crate::specs::Said::said))]
+#[tactic(auto, using(pqformat::proofs::Putting::in_place), unfolding(crate::specs::Said::sent_frame))]
 fn say(out: &mut BytesMut, frame: Back) -> Result<(), AllocError>
     requires length { FitsLength (back_body frame) }
     requires counts { HasCounts frame }
-    ensures { Puts result out.old.items out.new.items (said frame) }
+    ensures { Puts result out.old.items out.new.items (sent_frame frame) }
 {
     let written = write_back(&frame, out);
     drop(frame);
@@ -89,13 +89,13 @@ fn error_fields(alloc: Global, code: &str, text: &str) -> Result<Items<ErrorFiel
     Ok(Items::new(fields))
 }
 
-#[tactic(auto, using(pqformat::proofs::Putting::in_place), unfolding(crate::specs::Said::refused))]
+#[tactic(auto, using(pqformat::proofs::Putting::in_place), unfolding(crate::specs::Said::error_of_refusal))]
 pub(crate) fn say_refused(
     alloc: Global,
     out: &mut BytesMut,
     refusal: Refusal,
 ) -> Result<(), AllocError>
-    ensures { Puts result out.old.items out.new.items (refused refusal) }
+    ensures { Puts result out.old.items out.new.items (error_of_refusal refusal) }
 {
     let (code, text) = refusal.told();
     let fields = error_fields(alloc, code, text)?;
@@ -109,7 +109,7 @@ pub(crate) fn say_refused_ready(
     out: &mut BytesMut,
     refusal: Refusal,
 ) -> Result<(), AllocError>
-    ensures { Puts result out.old.items out.new.items (refused_ready refusal) }
+    ensures { Puts result out.old.items out.new.items (error_and_ready refusal) }
 {
     say_refused(alloc, out, refusal)?;
     say_ready(out)
@@ -124,7 +124,7 @@ pub(crate) fn say_status(
 ) -> Result<(), AllocError>
     requires name { length name.now ≤ 40 }
     requires value { length value.now ≤ 40 }
-    ensures { Puts result out.old.items out.new.items (said (status name.now value.now)) }
+    ensures { Puts result out.old.items out.new.items (sent_frame (status name.now value.now)) }
 {
     let name = Text::copy_of(alloc, name)?;
     let value = Text::copy_of(alloc, value)?;
@@ -133,14 +133,14 @@ pub(crate) fn say_status(
 
 #[tactic(auto, using(pqformat::proofs::Putting::in_place), unfolding(pqformat::specs::Fields::int32))]
 pub(crate) fn say_authenticated(out: &mut BytesMut) -> Result<(), AllocError>
-    ensures { Puts result out.old.items out.new.items (said AuthenticationOk) }
+    ensures { Puts result out.old.items out.new.items (sent_frame AuthenticationOk) }
 {
     say(out, Back::AuthenticationOk)
 }
 
 #[tactic(auto, using(pqformat::proofs::Putting::in_place), unfolding(pqformat::specs::Fields::int32))]
 pub(crate) fn say_key(out: &mut BytesMut, process: u32) -> Result<(), AllocError>
-    ensures { Puts result out.old.items out.new.items (said (key_frame process)) }
+    ensures { Puts result out.old.items out.new.items (sent_frame (key_frame process)) }
 {
     say(
         out,
@@ -161,7 +161,7 @@ pub(crate) fn say_greeting(alloc: Global, out: &mut BytesMut, number: u32) -> Re
 }
 
 fn column(alloc: Global, name: &str, data_type: ColumnType) -> Result<ColumnDescription, AllocError>
-    ensures { IfOk result (λ c. c ≡ shown data_type name.now) }
+    ensures { IfOk result (λ c. c ≡ column_of data_type name.now) }
 {
     Ok(ColumnDescription {
         name: Text::copy_of(alloc, name)?,
@@ -173,7 +173,7 @@ fn column(alloc: Global, name: &str, data_type: ColumnType) -> Result<ColumnDesc
 }
 
 pub(crate) fn text_column(alloc: Global, name: &str) -> Result<ColumnDescription, AllocError>
-    ensures { IfOk result (λ c. c ≡ shown text_type name.now) }
+    ensures { IfOk result (λ c. c ≡ column_of text_type name.now) }
 {
     let data_type = ColumnType {
         oid: TEXT_OID,
@@ -184,7 +184,7 @@ pub(crate) fn text_column(alloc: Global, name: &str) -> Result<ColumnDescription
 }
 
 pub(crate) fn int4_column(alloc: Global, name: &str) -> Result<ColumnDescription, AllocError>
-    ensures { IfOk result (λ c. c ≡ shown int4_type name.now) }
+    ensures { IfOk result (λ c. c ≡ column_of int4_type name.now) }
 {
     let data_type = ColumnType {
         oid: INT4_OID,
@@ -204,20 +204,20 @@ pub(crate) fn value(alloc: Global, text: &str) -> Result<DataValue, AllocError>
 #[tactic(auto, using(pqformat::proofs::Putting::in_place), unfolding(pqformat::specs::Fields::int32))]
 pub(crate) fn say_completed(alloc: Global, out: &mut BytesMut, tag: &str) -> Result<(), AllocError>
     requires { length tag.now ≤ 40 }
-    ensures { Puts result out.old.items out.new.items (said (completed tag.now)) }
+    ensures { Puts result out.old.items out.new.items (sent_frame (completion tag.now)) }
 {
     let tag = Text::copy_of(alloc, tag)?;
     say(out, Back::CommandComplete(CommandComplete { tag }))
 }
 
 /// The answer of DROP_REPLICATION_SLOT.
-#[tactic(auto, using(pqformat::proofs::Putting::in_place), unfolding(crate::specs::Said::dropped))]
+#[tactic(auto, using(pqformat::proofs::Putting::in_place), unfolding(crate::specs::Said::answer_to_drop))]
 pub(crate) fn say_dropped(
     alloc: Global,
     out: &mut BytesMut,
     answer: Result<(), DeskFault>,
 ) -> Result<(), AllocError>
-    ensures { Puts result out.old.items out.new.items (dropped answer) }
+    ensures { Puts result out.old.items out.new.items (answer_to_drop answer) }
 {
     match answer {
         Ok(()) => {
@@ -229,13 +229,13 @@ pub(crate) fn say_dropped(
 }
 
 /// The answer of START_REPLICATION.
-#[tactic(auto, using(pqformat::proofs::Putting::in_place), unfolding(crate::specs::Said::started, pqformat::specs::Fields::int32, pqformat::specs::Fields::int16))]
+#[tactic(auto, using(pqformat::proofs::Putting::in_place), unfolding(crate::specs::Said::answer_to_start, pqformat::specs::Fields::int32, pqformat::specs::Fields::int16))]
 pub(crate) fn say_started(
     alloc: Global,
     out: &mut BytesMut,
     answer: Result<(), DeskFault>,
 ) -> Result<(), AllocError>
-    ensures { Puts result out.old.items out.new.items (started answer) }
+    ensures { Puts result out.old.items out.new.items (answer_to_start answer) }
 {
     match answer {
         Ok(()) => {
@@ -251,15 +251,15 @@ pub(crate) fn say_started(
 
 #[tactic(auto, using(pqformat::proofs::Putting::in_place), unfolding(pqformat::specs::Fields::int32))]
 fn say_copy_done(out: &mut BytesMut) -> Result<(), AllocError>
-    ensures { Puts result out.old.items out.new.items (said CopyDone) }
+    ensures { Puts result out.old.items out.new.items (sent_frame CopyDone) }
 {
     say(out, Back::CopyDone)
 }
 
 /// The end of a stream.
-#[tactic(auto, using(pqformat::proofs::Putting::in_place), unfolding(crate::specs::Said::ended))]
+#[tactic(auto, using(pqformat::proofs::Putting::in_place), unfolding(crate::specs::Said::end_of_stream))]
 pub(crate) fn say_ended(alloc: Global, out: &mut BytesMut) -> Result<(), AllocError>
-    ensures { Puts result out.old.items out.new.items ended }
+    ensures { Puts result out.old.items out.new.items end_of_stream }
 {
     say_copy_done(out)?;
     say_completed(alloc, out, "START_REPLICATION")?;
@@ -267,8 +267,8 @@ pub(crate) fn say_ended(alloc: Global, out: &mut BytesMut) -> Result<(), AllocEr
 }
 
 pub(crate) fn position_value(alloc: Global, position: u64) -> Result<DataValue, AllocError>
-    ensures value { IfOk result (λ v. v ≡ Bytes (printed position)) }
-    ensures small { IfOk result (λ _. length (printed position) ≤ 17) }
+    ensures value { IfOk result (λ v. v ≡ Bytes (position_text position)) }
+    ensures small { IfOk result (λ _. length (position_text position) ≤ 17) }
 {
     let text = write_position(alloc, position)?;
     value(alloc, text.as_str())
@@ -281,7 +281,7 @@ pub(crate) fn say_columns(
 ) -> Result<(), AllocError>
     requires count { length columns ≤ 4 }
     requires names { AllByRecursion (λ c. length c.name ≤ 40) columns }
-    ensures { Puts result out.old.items out.new.items (said (columns_frame columns)) }
+    ensures { Puts result out.old.items out.new.items (sent_frame (columns_frame columns)) }
 {
     say(out, Back::RowDescription(RowDescription { columns }))
 }
@@ -290,14 +290,14 @@ pub(crate) fn say_columns(
 pub(crate) fn say_values(out: &mut BytesMut, values: Items<DataValue>) -> Result<(), AllocError>
     requires count { length values ≤ 4 }
     requires each { AllByRecursion IsSmall values }
-    ensures { Puts result out.old.items out.new.items (said (values_frame values)) }
+    ensures { Puts result out.old.items out.new.items (sent_frame (values_frame values)) }
 {
     say(out, Back::DataRow(DataRow { values }))
 }
 
 #[tactic(auto, using(pqformat::proofs::Putting::in_place))]
 fn say_identity_columns(alloc: Global, out: &mut BytesMut) -> Result<(), AllocError>
-    ensures { Puts result out.old.items out.new.items (said identity_columns) }
+    ensures { Puts result out.old.items out.new.items (sent_frame identity_columns) }
 {
     let columns = identity_columns(alloc)?;
     say_columns(out, columns)
@@ -314,14 +314,14 @@ fn say_identity_values(
     requires systemid { length systemid.now ≤ 2 ^ 16 }
     requires database { length database.now ≤ 2 ^ 16 }
     ensures { Puts result out.old.items out.new.items
-        (said (identity_values systemid.now end database.now)) }
+        (sent_frame (identity_values systemid.now end database.now)) }
 {
     let values = identity_values(alloc, systemid, end, database)?;
     say_values(out, values)
 }
 
 /// The answer of IDENTIFY_SYSTEM.
-#[tactic(auto, using(pqformat::proofs::Putting::in_place), unfolding(crate::specs::Said::identified))]
+#[tactic(auto, using(pqformat::proofs::Putting::in_place), unfolding(crate::specs::Said::answer_to_identify))]
 pub(crate) fn say_identified(
     alloc: Global,
     out: &mut BytesMut,
@@ -331,7 +331,8 @@ pub(crate) fn say_identified(
 ) -> Result<(), AllocError>
     requires systemid { length systemid.now ≤ 2 ^ 16 }
     requires database { length database.now ≤ 2 ^ 16 }
-    ensures { Puts result out.old.items out.new.items (identified systemid.now end database.now) }
+    ensures { Puts result out.old.items out.new.items
+        (answer_to_identify systemid.now end database.now) }
 {
     say_identity_columns(alloc, out)?;
     say_identity_values(alloc, out, systemid, end, database)?;
@@ -341,7 +342,7 @@ pub(crate) fn say_identified(
 
 #[tactic(auto, using(pqformat::proofs::Putting::in_place))]
 fn say_slot_columns(alloc: Global, out: &mut BytesMut) -> Result<(), AllocError>
-    ensures { Puts result out.old.items out.new.items (said slot_columns) }
+    ensures { Puts result out.old.items out.new.items (sent_frame slot_columns) }
 {
     let columns = slot_columns(alloc)?;
     say_columns(out, columns)
@@ -355,7 +356,7 @@ fn say_slot_values(
     position: u64,
 ) -> Result<(), AllocError>
     requires { length slot.now ≤ 2 ^ 16 }
-    ensures { Puts result out.old.items out.new.items (said (slot_values slot.now position)) }
+    ensures { Puts result out.old.items out.new.items (sent_frame (slot_values slot.now position)) }
 {
     let values = slot_values(alloc, slot, position)?;
     say_values(out, values)
@@ -373,7 +374,7 @@ fn say_slot(alloc: Global, out: &mut BytesMut, slot: &str, position: u64) -> Res
 }
 
 /// The answer of CREATE_REPLICATION_SLOT.
-#[tactic(auto, using(pqformat::proofs::Putting::in_place), unfolding(crate::specs::Said::created))]
+#[tactic(auto, using(pqformat::proofs::Putting::in_place), unfolding(crate::specs::Said::answer_to_create))]
 pub(crate) fn say_created(
     alloc: Global,
     out: &mut BytesMut,
@@ -381,7 +382,7 @@ pub(crate) fn say_created(
     answer: Result<u64, DeskFault>,
 ) -> Result<(), AllocError>
     requires { length slot.now ≤ 2 ^ 16 }
-    ensures { Puts result out.old.items out.new.items (created slot.now answer) }
+    ensures { Puts result out.old.items out.new.items (answer_to_create slot.now answer) }
 {
     match answer {
         Ok(position) => say_slot(alloc, out, slot, position),

@@ -4,7 +4,7 @@ ghost use Rattle.std.specs.Prelude.{◌≡◌, ◌≤◌, ◌++◌, length, code
 ghost use Rattle.std.specs.Fmt.{decimal};
 ghost use Rattle.std.specs.List.{flat_map, AllByRecursion};
 ghost use Rattle.pqformat.specs.Putting.{Puts};
-ghost use Rattle.server.specs.Answers.{single_row, single_column, table_row, table_columns, selected, path_set, mode_shown, publications_told, tables_told};
+ghost use Rattle.server.specs.Answers.{single_row, single_column, table_row, table_columns, end_of_rows, path_set, mode_shown, publications_told, tables_told};
 ghost use Rattle.server.specs.Calls.{IsShort, IsShortName};
 ghost use Rattle.server.specs.Said.{other_greeting};
 
@@ -107,9 +107,9 @@ fn selected_tag(alloc: Global, count: u64) -> Result<String, AllocError>
 }
 
 /// The end of an answer of so many rows.
-#[tactic(auto, using(pqformat::proofs::Putting::in_place), unfolding(crate::specs::Answers::selected))]
+#[tactic(auto, using(pqformat::proofs::Putting::in_place), unfolding(crate::specs::Answers::end_of_rows))]
 fn say_selected(alloc: Global, out: &mut BytesMut, count: u64) -> Result<(), AllocError>
-    ensures { Puts result out.old.items out.new.items (selected count) }
+    ensures { Puts result out.old.items out.new.items (end_of_rows count) }
 {
     let tag = selected_tag(alloc, count)?;
     say_completed(alloc, out, tag.as_str())?;

@@ -2,7 +2,7 @@
 
 ghost use Rattle.std.specs.Prelude.{◌≡◌, ◌≢◌, ◌++◌, length, IfOk, OnOk, OnErr};
 ghost use Rattle.pqformat.specs.Putting.{Extends};
-ghost use Rattle.server.specs.Said.{refused};
+ghost use Rattle.server.specs.Said.{error_of_refusal};
 ghost use Rattle.server.specs.Turns.{refusal_of};
 
 use crate::database::Database;
@@ -44,7 +44,8 @@ pub(crate) fn refuse(
     ensures readable { OnOk result (fault ≢ FrameFault.Memory) }
     ensures closes { IfOk result
         (λ t. t ≡ record { stage = Stage.Closed; count = length pending.now }) }
-    ensures says { OnOk result (out.new.items ≡ out.old.items ++ refused (refusal_of fault)) }
+    ensures says { OnOk result
+        (out.new.items ≡ out.old.items ++ error_of_refusal (refusal_of fault)) }
     ensures kept { OnErr result (Extends out.old.items out.new.items) }
 {
     match fault {

@@ -4,7 +4,7 @@ ghost use Rattle.std.specs.Prelude.{◌≡◌, ◌≤◌, ◌+◌, length, OnErr
 ghost use Rattle.frames.specs.Parameter.{parameter};
 ghost use Rattle.frames.specs.Startup.{startup_body};
 ghost use Rattle.pqformat.specs.Putting.{Extends, Puts};
-ghost use Rattle.pqformat.specs.Steps.{closed};
+ghost use Rattle.pqformat.specs.Steps.{closed_list};
 ghost use Rattle.frames.specs.declared.startup.Startup.TheVariants.{Session};
 ghost use Rattle.server.specs.Segment.{IsTurned, TakesTurn, Said};
 ghost use Rattle.server.specs.Turns.{Opens};
@@ -29,7 +29,7 @@ fn open_session(
     parameters: &[Parameter],
     out: &mut BytesMut,
 ) -> Result<Stage, AllocError>
-    requires { length (closed parameter parameters.now) ≤ MOST_DATABASE_BYTES }
+    requires { length (closed_list parameter parameters.now) ≤ MOST_DATABASE_BYTES }
     ensures says { IfOk result
         (λ next. Said (λ asked said. Opens service (Session parameters.now) asked said next)
         out.old.items out.new.items) }

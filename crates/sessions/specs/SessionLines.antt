@@ -6,7 +6,7 @@ use Rattle.tables.specs.Tables.{table_named}
 use Rattle.store.specs.Rows.{Key}
 use Rattle.txlog.specs.declared.fault.SessionFault.{SessionFault}
 use Rattle.txlog.specs.declared.fault.SessionFault.TheVariants as faults
-use Rattle.txlog.specs.Publishing.{PublisherState, IsRefusalOrMemory, begun, changed, updated, deleted, message_with, noted, saved, rolled_back, released, after_commit, after_abort, begin_refusal, insert_refusal, update_refusal, delete_refusal, truncate_refusal, message_refusal, note_refusal, receipt_of, savepoint_refusal, rollback_refusal, release_refusal, end_refusal}
+use Rattle.txlog.specs.Publishing.{PublisherState, IsRefusalOrMemory, after_begin, after_change, after_update, after_delete, message_with, after_note, after_savepoint, after_rollback, after_release, after_commit, after_abort, begin_refusal, insert_refusal, update_refusal, delete_refusal, truncate_refusal, message_refusal, note_refusal, receipt_of, savepoint_refusal, rollback_refusal, release_refusal, end_refusal}
 use Rattle.txlog.specs.Receipts.{Committed}
 use Rattle.schedule.specs.declared.event.Event.{Event}
 use Rattle.schedule.specs.declared.event.Event.TheVariants as events
@@ -31,7 +31,7 @@ insert_refused (Some table) xid row p = insert_refusal xid table.oid (row_in tab
 
 abbrev pub inserted_in : Option Table → ℕ → List Literal → PublisherState → PublisherState
 inserted_in None xid row p = p
-inserted_in (Some table) xid row p = changed xid (changes.Insert table.oid (row_in table.columns row)) p
+inserted_in (Some table) xid row p = after_change xid (changes.Insert table.oid (row_in table.columns row)) p
 
 -- a key has a literal for each column of the primary key, in table order
 abbrev pub key_in : Table → List Literal → Key
@@ -43,7 +43,7 @@ update_refused (Some table) xid key row p = update_refusal xid (key_in table key
 
 abbrev pub updated_in : Option Table → ℕ → List Literal → List Literal → PublisherState → PublisherState
 updated_in None xid key row p = p
-updated_in (Some table) xid key row p = updated xid (key_in table key) (row_in table.columns row) p
+updated_in (Some table) xid key row p = after_update xid (key_in table key) (row_in table.columns row) p
 
 abbrev pub delete_refused : Option Table → ℕ → List Literal → PublisherState → Option SessionFault
 delete_refused None xid key p = Some faults.UnknownTable
@@ -51,7 +51,7 @@ delete_refused (Some table) xid key p = delete_refusal xid (key_in table key) p
 
 abbrev pub deleted_in : Option Table → ℕ → List Literal → PublisherState → PublisherState
 deleted_in None xid key p = p
-deleted_in (Some table) xid key p = deleted xid (key_in table key) p
+deleted_in (Some table) xid key p = after_delete xid (key_in table key) p
 
 -- the OIDs of the tables of these names, in order; none where one of them is not known
 abbrev pub with_oid : Option Table → Option (List ℕ) → Option (List ℕ)
@@ -68,7 +68,7 @@ truncate_refused (Some oids) xid p = truncate_refusal xid oids p
 
 abbrev pub truncated_in : Option (List ℕ) → ℕ → PublisherState → PublisherState
 truncated_in None xid p = p
-truncated_in (Some oids) xid p = changed xid (changes.Truncate oids) p
+truncated_in (Some oids) xid p = after_change xid (changes.Truncate oids) p
 
 -- a name that is in use
 abbrev pub if_known : Option ℕ → (ℕ → Ask) → Option Ask
@@ -96,15 +96,15 @@ step_refusal (steps.Commit time) xid p = end_refusal xid p
 step_refusal steps.Abort xid p = end_refusal xid p
 
 abbrev pub after_step : SessionStep → ℕ → PublisherState → PublisherState
-after_step steps.Begin xid p = begun p
+after_step steps.Begin xid p = after_begin p
 after_step (steps.Insert table row) xid p = inserted_in (table_named table p.tables) xid row p
 after_step (steps.Update table key row) xid p = updated_in (table_named table p.tables) xid key row p
 after_step (steps.Delete table key) xid p = deleted_in (table_named table p.tables) xid key p
 after_step (steps.Truncate names) xid p = truncated_in (oids_named p.tables names) xid p
-after_step (steps.Message prefix content) xid p = changed xid (message_with prefix content) p
-after_step steps.Savepoint xid p = saved xid p
-after_step (steps.Rollback depth) xid p = rolled_back xid depth p
-after_step (steps.Release depth) xid p = released xid depth p
+after_step (steps.Message prefix content) xid p = after_change xid (message_with prefix content) p
+after_step steps.Savepoint xid p = after_savepoint xid p
+after_step (steps.Rollback depth) xid p = after_rollback xid depth p
+after_step (steps.Release depth) xid p = after_release xid depth p
 after_step (steps.Commit time) xid p = after_commit xid time p
 after_step steps.Abort xid p = after_abort xid p
 
@@ -125,7 +125,7 @@ step_ask t step p ts = if_known (xid_of t ts) (asks t step p ts)
 
 -- the call of a note, which is of no transaction
 abbrev pub note_ask : List ℕ → List ℕ → PublisherState → List NamedTx → Ask
-note_ask prefix content p ts = record { refusal = note_refusal prefix content p; done = noted prefix content p; transactions = ts }
+note_ask prefix content p ts = record { refusal = note_refusal prefix content p; done = after_note prefix content p; transactions = ts }
 
 -- The call of a line: none for lines that aren't a session's.
 abbrev pub ask_of : Event → PublisherState → List NamedTx → Option Ask

@@ -4,7 +4,7 @@ ghost use Rattle.std.specs.Prelude.{◌≡◌, ◌<◌, IfOk, OnErr, is_some, le
 ghost use Rattle.schedule.specs.declared.event.Event.TheVariants.{Session as OfSession};
 ghost use Rattle.sessions.specs.Transactions.{xid_of};
 ghost use Rattle.sessions.specs.SessionLines.{receipt_due, step_ask, takes_memory};
-ghost use Rattle.txlog.specs.Publishing.{note_refusal, noted};
+ghost use Rattle.txlog.specs.Publishing.{after_note, note_refusal};
 ghost use Rattle.sessions.specs.Sessions.{Called, Grows, IsNamedAt, IsStepOf, is_within, named_tx, sessions_state};
 
 use crate::session::{Session, place_of};
@@ -186,7 +186,7 @@ pub(crate) fn note<L: LogName, R: Wait>(
     content: &Text,
 ) -> Answer
     ensures called { Called (note_refusal prefix.now content.now publisher.old)
-        (noted prefix.now content.now publisher.old) publisher.old result publisher.new }
+        (after_note prefix.now content.now publisher.old) publisher.old result publisher.new }
     ensures grows { Grows publisher.old.log publisher.new.log }
 {
     match publisher.note(rt, prefix.as_str(), content.as_str().as_bytes()) {

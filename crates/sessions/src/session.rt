@@ -2,7 +2,7 @@
 
 ghost use Rattle.std.specs.Prelude.{◌≡◌, ◌<◌, map, length, None, IfErr, IfOk, IfSome, OnErr, OnOk, is_some, true};
 ghost use Rattle.tables.specs.Tables.{table_named};
-ghost use Rattle.txlog.specs.Publishing.{IsRefusalOrMemory, changed, message_with, receipt_of, saved, rolled_back, released, after_commit, after_abort, message_refusal, savepoint_refusal, rollback_refusal, release_refusal, end_refusal};
+ghost use Rattle.txlog.specs.Publishing.{IsRefusalOrMemory, after_change, message_with, receipt_of, after_savepoint, after_rollback, after_release, after_commit, after_abort, message_refusal, savepoint_refusal, rollback_refusal, release_refusal, end_refusal};
 ghost use Rattle.sessions.specs.SessionLines.{after_step, delete_refused, deleted_in, insert_refused, inserted_in, oids_named, step_refusal, takes_memory, truncate_refused, truncated_in, update_refused, updated_in};
 ghost use Rattle.sessions.specs.Sessions.{Called, Grows, is_within, named_tx, place_from};
 
@@ -194,7 +194,8 @@ impl Session {
         content: &Text,
     ) -> Answer
         ensures called { Called (message_refusal self.old.tx prefix.now content.now publisher.old)
-            (changed self.old.tx (message_with prefix.now content.now) publisher.old) publisher.old
+            (after_change self.old.tx
+            (message_with prefix.now content.now) publisher.old) publisher.old
             result publisher.new }
         ensures same { self.new ≡ self.old }
         ensures grows { Grows publisher.old.log publisher.new.log }
@@ -208,7 +209,7 @@ impl Session {
 
     fn savepoint<L: LogName, R: Wait>(&mut self, rt: &R, publisher: &mut Publisher<L>) -> Answer
         ensures called { Called (savepoint_refusal self.old.tx publisher.old)
-            (saved self.old.tx publisher.old) publisher.old result publisher.new }
+            (after_savepoint self.old.tx publisher.old) publisher.old result publisher.new }
         ensures same { self.new ≡ self.old }
         ensures grows { Grows publisher.old.log publisher.new.log }
     {
@@ -225,7 +226,7 @@ impl Session {
         depth: u32,
     ) -> Answer
         ensures called { Called (rollback_refusal self.old.tx depth publisher.old)
-            (rolled_back self.old.tx depth publisher.old) publisher.old result publisher.new }
+            (after_rollback self.old.tx depth publisher.old) publisher.old result publisher.new }
         ensures same { self.new ≡ self.old }
         ensures grows { Grows publisher.old.log publisher.new.log }
     {
@@ -237,7 +238,7 @@ impl Session {
 
     fn release<L: LogName>(&mut self, publisher: &mut Publisher<L>, depth: u32) -> Answer
         ensures called { Called (release_refusal self.old.tx depth publisher.old)
-            (released self.old.tx depth publisher.old) publisher.old result publisher.new }
+            (after_release self.old.tx depth publisher.old) publisher.old result publisher.new }
         ensures same { self.new ≡ self.old }
         ensures grows { Grows publisher.old.log publisher.new.log }
     {

@@ -10,14 +10,14 @@ use Rattle.wal.specs.declared.record.Record.{Record}
 use Rattle.wal.specs.Log.{IsWellFormedLog}
 use Rattle.shared_log.specs.declared.entry.Entry.{Entry}
 use Rattle.shared_log.specs.declared.rule.View.{View}
-use Rattle.shared_log.specs.Fronts.{shown}
+use Rattle.shared_log.specs.Fronts.{shown_records}
 use Rattle.shared_log.specs.Kept.{with_restarts}
 use Rattle.shared_log.specs.Sharing.{Keeps, Saw, newcomer}
 use Rattle.shared_log.proofs.Prefixes.{begins_itself, begins_longer}
 
 -- the log goes on from what it was, and whoever made it so has seen it whole
 pub goes_on : (name : Book) (seat : ℕ) (v : View) (old new : List Record) (old_kept kept : List (Record × ℕ)) (old_book book : Book) (old_front front : List Entry) (views : List View) → Keeps name old old_kept old_book old_front views → get_elem? views seat ≡ some v
-    → IsPrefix old new → IsWellFormedLog new → book ≡ name → new ≡ shown front → kept ≡ with_restarts new → (w : View) × Keeps name new kept book front (slice_set views seat w) × Saw name v new kept book front w
+    → IsPrefix old new → IsWellFormedLog new → book ≡ name → new ≡ shown_records front → kept ≡ with_restarts new → (w : View) × Keeps name new kept book front (slice_set views seat w) × Saw name v new kept book front w
 goes_on name seat v old new old_kept kept old_book book old_front front views keeps at longer good named says restarts = (
   record { seen = new },
   record {

@@ -14,7 +14,7 @@ use Rattle.shared_log.specs.declared.entry.Entry.{Entry}
 use Rattle.shared_log.specs.declared.entry.Entry.TheVariants.{Offered, Confirmed}
 use Rattle.shared_log.specs.declared.copy.Put.{Put}
 use Rattle.shared_log.specs.declared.law.Law.{Law}
-use Rattle.shared_log.specs.Fronts.{settled, settled_from, shown}
+use Rattle.shared_log.specs.Fronts.{settled_from, settled_records, shown_records}
 use Rattle.shared_log.specs.declared.copy.Logged.{Logged}
 use Rattle.shared_log.specs.declared.openings.Opening.{Opening}
 use Rattle.shared_log.specs.Kept.{kept_in, with_restarts, with_restarts_from}
@@ -33,14 +33,14 @@ both P (x ∷ xs) ys first second = (first.0, both P xs ys first.1 second)
 pub offered_stands : (records : List (Record × ℕ)) (waiting new : List Put) (count end : ℕ) (front next sure : List Entry) (r : Record) → Stands records waiting count end front sure → next ≡ front ++ Offered r ∷ []
     → AllByRecursion (λ put. put.place ≡ count) new → Stands records (waiting ++ new) count end next sure
 offered_stands records waiting new count end front next sure r stands is all =
-    let same : settled next ≡ settled front = ap settled is ∙ settled_offer front r in
+    let same : settled_records next ≡ settled_records front = ap settled_records is ∙ settled_offer front r in
     record {
       shown = stands.shown ∙ ap with_restarts (sym same);
       counted = stands.counted ∙ ap length (sym same);
       ends = stands.ends ∙ ap (end_of FIRST_POSITION) (sym same);
       alike = stands.alike ∙ sym same;
       confirmed = stands.confirmed;
-      waits = both (λ (put : Put). put.place ≡ length (settled next)) waiting new (moved waiting (ap length (sym same)) stands.waits) (moved new (stands.counted ∙ ap length (sym same)) all);
+      waits = both (λ (put : Put). put.place ≡ length (settled_records next)) waiting new (moved waiting (ap length (sym same)) stands.waits) (moved new (stands.counted ∙ ap length (sym same)) all);
     }
   where
     moved : (puts : List Put) {n m : ℕ} → n ≡ m → AllByRecursion (λ put. put.place ≡ n) puts → AllByRecursion (λ put. put.place ≡ m) puts
@@ -49,13 +49,13 @@ offered_stands records waiting new count end front next sure r stands is all =
 
 -- it stands in the log, and was confirmed
 pub confirmed_stands : (records : List (Record × ℕ)) (waiting : List Put) (count end : ℕ) (front next sure : List Entry) (r : Record) (new_end : ℕ) → Stands records waiting count end front sure → next ≡ front ++ Offered r ∷ []
-    → r.end ≡ new_end → (restart : ℕ) → restart ≡ oldest (settled front ++ r ∷ []) → (grown : List (Record × ℕ)) → grown ≡ with_restarts (settled front) ++ (r, restart) ∷ [] → Stands grown [] (count + 1) new_end (next ++ Confirmed ∷ []) (next ++ Confirmed ∷ [])
+    → r.end ≡ new_end → (restart : ℕ) → restart ≡ oldest (settled_records front ++ r ∷ []) → (grown : List (Record × ℕ)) → grown ≡ with_restarts (settled_records front) ++ (r, restart) ∷ [] → Stands grown [] (count + 1) new_end (next ++ Confirmed ∷ []) (next ++ Confirmed ∷ [])
 confirmed_stands records waiting count end front next sure r new_end stands is ends restart restart_is grown grown_is =
-    let now : settled (next ++ Confirmed ∷ []) ≡ settled front ++ r ∷ [] = settled_confirm next ∙ ap shown is ∙ shown_offer front r in
+    let now : settled_records (next ++ Confirmed ∷ []) ≡ settled_records front ++ r ∷ [] = settled_confirm next ∙ ap shown_records is ∙ shown_offer front r in
     record {
-      shown = grown_is ∙ ap (λ (n : ℕ). with_restarts (settled front) ++ (r, n) ∷ []) restart_is ∙ sym (restarts-push [] (settled front) r) ∙ ap with_restarts (sym now);
-      counted = omega (arith, stands.counted, length-append (settled front) (r ∷ []), ap length now);
-      ends = sym ends ∙ sym (end_of-append FIRST_POSITION (settled front) (r ∷ [])) ∙ ap (end_of FIRST_POSITION) (sym now);
+      shown = grown_is ∙ ap (λ (n : ℕ). with_restarts (settled_records front) ++ (r, n) ∷ []) restart_is ∙ sym (restarts-push [] (settled_records front) r) ∙ ap with_restarts (sym now);
+      counted = omega (arith, stands.counted, length-append (settled_records front) (r ∷ []), ap length now);
+      ends = sym ends ∙ sym (end_of-append FIRST_POSITION (settled_records front) (r ∷ [])) ∙ ap (end_of FIRST_POSITION) (sym now);
       alike = refl;
       confirmed = ends_confirm next;
       waits = tt;
@@ -87,10 +87,10 @@ published_is records log s pending waiting put records_is pending_is all at =
 -- ---- The transactions in progress.
 
 -- an offer begins and ends none
-pub openings_offered : (front next : List Entry) (r : Record) (os new : List Opening) → next ≡ front ++ Offered r ∷ [] → new ≡ os → AreOpenings (settled front) os → AreOpenings (settled next) new
+pub openings_offered : (front next : List Entry) (r : Record) (os new : List Opening) → next ≡ front ++ Offered r ∷ [] → new ≡ os → AreOpenings (settled_records front) os → AreOpenings (settled_records next) new
 openings_offered front next r os new is same are =
-    let now : settled next ≡ settled front = ap settled is ∙ settled_offer front r in
-    subst (λ l. AreOpenings l new) (sym now) (subst (λ l. AreOpenings (settled front) l) (sym same) are)
+    let now : settled_records next ≡ settled_records front = ap settled_records is ∙ settled_offer front r in
+    subst (λ l. AreOpenings l new) (sym now) (subst (λ l. AreOpenings (settled_records front) l) (sym same) are)
 
 -- a record of a transaction, or of none, at the end of what is settled
 pub record IsOf (log : List Record) (r : Record) (top : Option ℕ) (over : Bool) : Type 0 where
@@ -98,25 +98,25 @@ pub record IsOf (log : List Record) (r : Record) (top : Option ℕ) (over : Bool
   pub top_is : owner_of (log ++ r ∷ []) r ≡ top
   pub over_is : is_end r.body ≡ over
 
-pub openings_grown : (front next : List Entry) (r : Record) (os old new : List Opening) (top : Option ℕ) (over : Bool) (count : ℕ) → next ≡ front ++ Offered r ∷ [] → IsOf (settled front) r top over → count ≡ length (settled front)
-    → old ≡ os → new ≡ openings_after top over count old → AreOpenings (settled front) os → AreOpenings (settled (next ++ Confirmed ∷ [])) new
+pub openings_grown : (front next : List Entry) (r : Record) (os old new : List Opening) (top : Option ℕ) (over : Bool) (count : ℕ) → next ≡ front ++ Offered r ∷ [] → IsOf (settled_records front) r top over → count ≡ length (settled_records front)
+    → old ≡ os → new ≡ openings_after top over count old → AreOpenings (settled_records front) os → AreOpenings (settled_records (next ++ Confirmed ∷ [])) new
 openings_grown front next r os old new top over count is of counted same noted are =
-    let now : settled (next ++ Confirmed ∷ []) ≡ settled front ++ r ∷ [] = settled_confirm next ∙ ap shown is ∙ shown_offer front r in
-    let new_is : new ≡ openings_after top over (length (settled front)) os = noted ∙ ap (λ (n : ℕ). openings_after top over n old) counted ∙ ap (openings_after top over (length (settled front))) same in
-    subst (λ l. AreOpenings l new) (sym now) (subst (λ l. AreOpenings (settled front ++ r ∷ []) l) (sym new_is) (openings-next (settled front) r os top over of.good of.top_is of.over_is are))
+    let now : settled_records (next ++ Confirmed ∷ []) ≡ settled_records front ++ r ∷ [] = settled_confirm next ∙ ap shown_records is ∙ shown_offer front r in
+    let new_is : new ≡ openings_after top over (length (settled_records front)) os = noted ∙ ap (λ (n : ℕ). openings_after top over n old) counted ∙ ap (openings_after top over (length (settled_records front))) same in
+    subst (λ l. AreOpenings l new) (sym now) (subst (λ l. AreOpenings (settled_records front ++ r ∷ []) l) (sym new_is) (openings-next (settled_records front) r os top over of.good of.top_is of.over_is are))
 
-pub restart_grown : (front : List Entry) (r : Record) (os old : List Opening) (top : Option ℕ) (over : Bool) (count restart : ℕ) → IsOf (settled front) r top over → count ≡ length (settled front)
-    → old ≡ os → restart ≡ restart_after top over count old → AreOpenings (settled front) os → restart ≡ oldest (settled front ++ r ∷ [])
+pub restart_grown : (front : List Entry) (r : Record) (os old : List Opening) (top : Option ℕ) (over : Bool) (count restart : ℕ) → IsOf (settled_records front) r top over → count ≡ length (settled_records front)
+    → old ≡ os → restart ≡ restart_after top over count old → AreOpenings (settled_records front) os → restart ≡ oldest (settled_records front ++ r ∷ [])
 restart_grown front r os old top over count restart of counted same is are =
-    is ∙ ap (λ (n : ℕ). restart_after top over n old) counted ∙ ap (restart_after top over (length (settled front))) same
-    ∙ oldest-next (settled front) r os top over of.good of.top_is of.over_is are
+    is ∙ ap (λ (n : ℕ). restart_after top over n old) counted ∙ ap (restart_after top over (length (settled_records front))) same
+    ∙ oldest-next (settled_records front) r os top over of.good of.top_is of.over_is are
 
 -- what is shown behind it
-pub shown_grown : (front : List Entry) (r : Record) (restart : ℕ) (items : List Logged) → restart ≡ oldest (settled front ++ r ∷ []) → kept_in items ≡ with_restarts (settled front) ++ (r, restart) ∷ [] → kept_in items ≡ with_restarts (settled front ++ r ∷ [])
+pub shown_grown : (front : List Entry) (r : Record) (restart : ℕ) (items : List Logged) → restart ≡ oldest (settled_records front ++ r ∷ []) → kept_in items ≡ with_restarts (settled_records front) ++ (r, restart) ∷ [] → kept_in items ≡ with_restarts (settled_records front ++ r ∷ [])
 shown_grown front r restart items restart_is is =
-    is ∙ ap (λ (n : ℕ). with_restarts (settled front) ++ (r, n) ∷ []) restart_is ∙ sym (restarts-push [] (settled front) r)
+    is ∙ ap (λ (n : ℕ). with_restarts (settled_records front) ++ (r, n) ∷ []) restart_is ∙ sym (restarts-push [] (settled_records front) r)
 
-pub of_self : (self : List Record) (front : List Entry) (r : Record) (top : Option ℕ) (over : Bool) → settled front ≡ self → IsWellFormedLog (self ++ r ∷ []) → owner_of (self ++ r ∷ []) r ≡ top → is_end r.body ≡ over → IsOf (settled front) r top over
+pub of_self : (self : List Record) (front : List Entry) (r : Record) (top : Option ℕ) (over : Bool) → settled_records front ≡ self → IsWellFormedLog (self ++ r ∷ []) → owner_of (self ++ r ∷ []) r ≡ top → is_end r.body ≡ over → IsOf (settled_records front) r top over
 of_self self front r top over is good top_is over_is =
     subst (λ l. IsOf l r top over) (sym is) (record { good = good; top_is = top_is; over_is = over_is })
 
@@ -141,8 +141,8 @@ settled_short log o (Offered r ∷ es) = omega (arith, settled_short log (Some r
 settled_short log None (Confirmed ∷ es) = omega (arith, settled_short (log ++ []) None es, length-append log [])
 settled_short log (Some r) (Confirmed ∷ es) = omega (arith, settled_short (log ++ r ∷ []) None es, length-append log (r ∷ []))
 
-pub settled_within : (es : List Entry) → length (settled es) ≤ length es
+pub settled_within : (es : List Entry) → length (settled_records es) ≤ length es
 settled_within es = omega (arith, settled_short [] None es)
 
-pub few_settled : (count most : ℕ) (front seen : List Entry) (n : ℕ) → count ≡ length (settled front) → seen ≡ front → n ≡ length seen → n < most → count < most
+pub few_settled : (count most : ℕ) (front seen : List Entry) (n : ℕ) → count ≡ length (settled_records front) → seen ≡ front → n ≡ length seen → n < most → count < most
 few_settled count most front seen n counted same long few = omega (arith, counted, settled_within front, ap length same, long, few)

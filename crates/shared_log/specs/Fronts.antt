@@ -16,8 +16,8 @@ settled_from log offered (Offered r ∷ es) = settled_from log (Some r) es
 settled_from log offered (Confirmed ∷ es) = settled_from (log ++ one_of offered) None es
 
 -- the records that stand in the log
-abbrev pub settled : List Entry → List Record
-settled es = settled_from [] None es
+abbrev pub settled_records : List Entry → List Record
+settled_records es = settled_from [] None es
 
 -- the record that was offered last and is not confirmed
 abbrev pub open_from : Option Record → List Entry → Option Record
@@ -26,8 +26,8 @@ open_from offered (Offered r ∷ es) = open_from (Some r) es
 open_from offered (Confirmed ∷ es) = open_from None es
 
 -- the records that stand in the log, and the one that is offered
-abbrev pub shown : List Entry → List Record
-shown es = settled es ++ one_of (open_from None es)
+abbrev pub shown_records : List Entry → List Record
+shown_records es = settled_records es ++ one_of (open_from None es)
 
 -- nothing is offered: the history is empty, or a record was confirmed last
 abbrev pub ends_from : Bool → List Entry → Bool

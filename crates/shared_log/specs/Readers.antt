@@ -8,7 +8,7 @@ use Rattle.shared_log.specs.declared.entry.Entry.{Entry}
 use Rattle.shared_log.specs.declared.fault.ReadFault.{ReadFault}
 use Rattle.shared_log.specs.declared.fault.ReadFault.TheVariants as reads
 use Rattle.shared_log.specs.declared.reader.LogReader.{LogReader}
-use Rattle.shared_log.specs.Fronts.{settled, shown}
+use Rattle.shared_log.specs.Fronts.{settled_records, shown_records}
 
 -- the log as its last entry found it
 abbrev pub seen_of : {L : Type 0} → LogReader L → List Record
@@ -17,11 +17,11 @@ seen_of r = (view r.reader.place).seen
 -- The log was seen as it stood before the last record that the reader was told of: behind what shows it there is more than that
 -- record's confirmation.
 abbrev pub IsBehind : List Entry → List Record → Type 0
-IsBehind told seen = (front : List Entry) × (seen ≡ shown front) × IsPrefix front told × (length front + 1 < length told)
+IsBehind told seen = (front : List Entry) × (seen ≡ shown_records front) × IsPrefix front told × (length front + 1 < length told)
 
 -- What a fetch that gave no records has seen: nothing more where its entry was refused; a log that lacks what the reader
 -- had been told; and, where memory was refused, one with all of that.
 abbrev pub HasSeen : {L : Type 0} → ReadFault → LogReader L → LogReader L → Type 0
 HasSeen reads.NoEntry old new = seen_of new ≡ seen_of old
 HasSeen reads.Stale old new = IsPrefix (seen_of old) (seen_of new) × IsBehind new.told (seen_of new)
-HasSeen reads.Memory old new = IsPrefix (settled new.told) (seen_of new) × IsWellFormedLog (seen_of new)
+HasSeen reads.Memory old new = IsPrefix (settled_records new.told) (seen_of new) × IsWellFormedLog (seen_of new)

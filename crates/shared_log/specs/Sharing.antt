@@ -8,7 +8,7 @@ use Rattle.wal.specs.declared.record.Record.{Record}
 use Rattle.wal.specs.Log.{IsWellFormedLog}
 use Rattle.shared_log.specs.declared.entry.Entry.{Entry}
 use Rattle.shared_log.specs.declared.rule.View.{View}
-use Rattle.shared_log.specs.Fronts.{shown}
+use Rattle.shared_log.specs.Fronts.{shown_records}
 use Rattle.shared_log.specs.Kept.{with_restarts}
 
 -- The published log is well formed, its restart places lie beside it, it is what a beginning of its history shows, and all that
@@ -17,7 +17,7 @@ pub record Keeps (name : Book) (log : List Record) (kept : List (Record × ℕ))
   pub good : IsWellFormedLog log
   pub restarts : kept ≡ with_restarts log
   pub named : book ≡ name
-  pub says : log ≡ shown front
+  pub says : log ≡ shown_records front
   pub seen : (seat : ℕ) (v : View) → get_elem? views seat ≡ some v → IsPrefix v.seen log
 
 -- who has seen nothing
@@ -31,4 +31,4 @@ pub record Saw (name : Book) (old : View) (log : List Record) (kept : List (Reco
   pub good : IsWellFormedLog log
   pub restarts : kept ≡ with_restarts log
   pub named : book ≡ name
-  pub says : log ≡ shown front
+  pub says : log ≡ shown_records front

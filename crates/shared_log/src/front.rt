@@ -3,7 +3,7 @@
 ghost use Rattle.std.specs.Prelude.{◌≡◌, ◌+◌, ◌<◌, ◌≤◌, ◌^◌, ◌++◌, ◌∷◌, [], length, false, true, MatchBool};
 ghost use mathlib.Core.List.{IsPrefix};
 ghost use Rattle.shared_log.specs.Book.{IsLonger};
-ghost use Rattle.shared_log.specs.Fronts.{ends_confirmed, settled, shown};
+ghost use Rattle.shared_log.specs.Fronts.{ends_confirmed, settled_records, shown_records};
 ghost use Rattle.shared_log.specs.declared.entry.Entry.TheVariants.{Offered, Confirmed};
 
 use crate::entry::Entry;
@@ -123,7 +123,8 @@ impl<L: LogName> Front<L> {
     pub(crate) fn is_in(&self, mark: &Mark) -> bool
         requires book { mark.now.seen.book ≡ L.book }
         requires ends { ends_confirmed self.now ≡ true }
-        ensures held { result ≡ true → IsPrefix (settled self.now) (shown mark.now.seen.log) }
+        ensures held { result ≡ true
+            → IsPrefix (settled_records self.now) (shown_records mark.now.seen.log) }
         ensures behind { result ≡ false →
             IsPrefix mark.now.seen.log self.now × (length mark.now.seen.log + 1 < length self.now) }
     {

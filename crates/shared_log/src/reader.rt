@@ -3,8 +3,8 @@
 ghost use Rattle.std.specs.Prelude.{◌≡◌, ◌+◌, ◌≤◌, ◌++◌, [], List, true, IfErr, IfOk, OnErr, drop, length, take, vec_len};
 ghost use mathlib.Core.List.{IsPrefix};
 ghost use Rattle.wal.specs.Log.{IsWellFormedLog};
-ghost use Rattle.wal.specs.Records.{shared};
-ghost use Rattle.shared_log.specs.Fronts.{ends_confirmed, settled};
+ghost use Rattle.wal.specs.Records.{shared_records};
+ghost use Rattle.shared_log.specs.Fronts.{ends_confirmed, settled_records};
 ghost use Rattle.shared_log.specs.Kept.{records_in};
 
 use crate::copy::{LogCopy, Logged};
@@ -39,10 +39,10 @@ impl<L: LogName> LogReader<L> {
         ensures grows { IsPrefix (seen_of self.old) (seen_of self.new) }
         ensures told { self.new.told ≡ self.old.told }
         ensures gives { IfOk result
-            (λ v. (shared v.items ≡ take max (drop self.old.place (seen_of self.new)))
+            (λ v. (shared_records v.items ≡ take max (drop self.old.place (seen_of self.new)))
             × (self.new.place ≡ self.old.place + vec_len v)) }
         ensures holds { IfOk result
-            (λ _. IsPrefix (settled self.new.told) (seen_of self.new)
+            (λ _. IsPrefix (settled_records self.new.told) (seen_of self.new)
             × IsWellFormedLog (seen_of self.new)) }
         ensures err { OnErr result (self.new.place ≡ self.old.place) }
         ensures why { IfErr result (λ fault. HasSeen fault self.old self.new) }
@@ -81,10 +81,10 @@ impl<L: LogName> LogReader<L> {
         ensures grows { IsPrefix (seen_of self) (seen_of result.0) }
         ensures told { result.0.told ≡ self.told }
         ensures gives { IfOk result.1
-            (λ v. (shared v.items ≡ take max (drop self.place (seen_of result.0)))
+            (λ v. (shared_records v.items ≡ take max (drop self.place (seen_of result.0)))
             × (result.0.place ≡ self.place + vec_len v)) }
         ensures holds { IfOk result.1
-            (λ _. IsPrefix (settled result.0.told) (seen_of result.0)
+            (λ _. IsPrefix (settled_records result.0.told) (seen_of result.0)
             × IsWellFormedLog (seen_of result.0)) }
         ensures err { OnErr result.1 (result.0.place ≡ self.place) }
         ensures why { IfErr result.1 (λ fault. HasSeen fault self result.0) }
@@ -150,7 +150,7 @@ impl<L: LogName> LogReader<L> {
 
 /// Shares of the records.
 fn shares(alloc: Global, records: &[Logged]) -> Result<Vec<Arc<Record>>, AllocError>
-    ensures { IfOk result (λ v. shared v.items ≡ records_in records.now) }
+    ensures { IfOk result (λ v. shared_records v.items ≡ records_in records.now) }
 {
     let mut copies = Vec::new(alloc);
     for logged in records {

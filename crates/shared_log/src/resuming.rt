@@ -5,7 +5,7 @@ ghost use mathlib.Core.List.{IsPrefix};
 ghost use Rattle.wal.specs.Log.{IsWellFormedLog, end_of};
 ghost use Rattle.wal.specs.Restart.{oldest, place_from, restart, restart_place};
 ghost use Rattle.wal.specs.declared.record.TheConstants.{FIRST_POSITION};
-ghost use Rattle.shared_log.specs.Fronts.{settled};
+ghost use Rattle.shared_log.specs.Fronts.{settled_records};
 ghost use Rattle.shared_log.specs.Kept.{kept_in, records_in, with_restarts};
 
 use crate::copy::Logged;
@@ -30,7 +30,7 @@ impl<L: LogName> LogReader<L> {
         ensures position { IfOk result
             (λ position. position ≡ restart start (take limit (seen_of self.new))) }
         ensures holds { OnOk result
-            (IsPrefix (settled self.new.told) (seen_of self.new)
+            (IsPrefix (settled_records self.new.told) (seen_of self.new)
             × IsWellFormedLog (seen_of self.new)) }
         ensures err { OnErr result (self.new.place ≡ self.old.place) }
         ensures why { IfErr result (λ fault. HasSeen fault self.old self.new) }
@@ -49,7 +49,7 @@ impl<L: LogName> LogReader<L> {
         ensures position { IfOk result.1
             (λ position. position ≡ restart start (take limit (seen_of result.0))) }
         ensures holds { OnOk result.1
-            (IsPrefix (settled result.0.told) (seen_of result.0)
+            (IsPrefix (settled_records result.0.told) (seen_of result.0)
             × IsWellFormedLog (seen_of result.0)) }
         ensures err { OnErr result.1 (result.0.place ≡ self.place) }
         ensures why { IfErr result.1 (λ fault. HasSeen fault self result.0) }

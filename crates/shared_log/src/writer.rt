@@ -7,7 +7,7 @@ ghost use Rattle.wal.specs.Records.{record_after};
 ghost use Rattle.wal.specs.declared.record.TheConstants.{FIRST_POSITION};
 ghost use Rattle.std.specs.Arc.{arc_value};
 ghost use Rattle.std.specs.List.{AllByRecursion};
-ghost use Rattle.shared_log.specs.Fronts.{ends_confirmed, settled};
+ghost use Rattle.shared_log.specs.Fronts.{ends_confirmed, settled_records};
 ghost use Rattle.shared_log.specs.Openings.{is_end, owner_of};
 ghost use Rattle.shared_log.specs.Telling.{TellsOf};
 ghost use Rattle.shared_log.specs.declared.entry.Entry.TheVariants.{Confirmed};
@@ -51,16 +51,16 @@ pub struct LogWriter<L: LogName> {
 impl<L: LogName> Model for LogWriter<L> {
     ghost use Rattle.std.specs.Prelude.{List, drop};
     ghost use Rattle.wal.specs.declared.record.Record.{Record as Written};
-    ghost use Rattle.shared_log.specs.Fronts.{settled};
+    ghost use Rattle.shared_log.specs.Fronts.{settled_records};
     ghost use Rattle.shared_log.specs.Kept.{kept_in};
     ghost use Rattle.shared_log.specs.Openings.{AreOpenings};
     ghost use Rattle.shared_log.specs.Writing.{Stands};
 
     ghost Value = { List Written };
 
-    ghost view = { λ w. settled w.front };
+    ghost view = { λ w. settled_records w.front };
 
-    ghost invariant = { λ w. Stands (kept_in w.writer.desk.shown.value.records.items) (drop w.writer.behind w.writer.log.items) w.count w.end w.front w.sure × AreOpenings (settled w.front) w.openings.items.items };
+    ghost invariant = { λ w. Stands (kept_in w.writer.desk.shown.value.records.items) (drop w.writer.behind w.writer.log.items) w.count w.end w.front w.sure × AreOpenings (settled_records w.front) w.openings.items.items };
 }
 
 impl<L: LogName> LogWriter<L> {
@@ -133,7 +133,7 @@ impl<L: LogName> LogWriter<L> {
         ensures count { result ≡ length self.old }
         ensures same { self.new ≡ self.old }
         ensures kept { IsPrefix reader.old.told reader.new.told }
-        ensures told { IsPrefix self.old (settled reader.new.told) }
+        ensures told { IsPrefix self.old (settled_records reader.new.told) }
         ensures place { (seen_of reader.new ≡ seen_of reader.old)
             × (reader.new.place ≡ reader.old.place) }
     {
@@ -166,7 +166,7 @@ impl<L: LogName> LogWriter<L> {
         ensures ok { IfOk result
             (λ r. (self.new ≡ self.old ++ record_after self.old body ∷ [])
             × TellsOf (record_after self.old body) r.start r.end × (r.place ≡ length self.old)
-            × (settled r.front ≡ self.new)) }
+            × (settled_records r.front ≡ self.new)) }
         ensures err { OnErr result (self.new ≡ self.old) }
     {
         mem::replace_with(self, (rt, top, body), |writer, about: (&R, u32, Body)| {
@@ -186,7 +186,7 @@ impl<L: LogName> LogWriter<L> {
         ensures ok { IfOk result
             (λ r. (self.new ≡ self.old ++ record_after self.old (Body.Note message) ∷ [])
             × TellsOf (record_after self.old (Body.Note message)) r.start r.end
-            × (r.place ≡ length self.old) × (settled r.front ≡ self.new)) }
+            × (r.place ≡ length self.old) × (settled_records r.front ≡ self.new)) }
         ensures err { OnErr result (self.new ≡ self.old) }
     {
         mem::replace_with(self, (rt, message), |writer, about: (&R, LoggedChange)| {
@@ -207,7 +207,7 @@ impl<L: LogName> LogWriter<L> {
         ensures ok { IfOk result.1
             (λ r. (result.0 ≡ self ++ record_after self body ∷ [])
             × TellsOf (record_after self body) r.start r.end × (r.place ≡ length self)
-            × (settled r.front ≡ result.0)) }
+            × (settled_records r.front ≡ result.0)) }
         ensures err { OnErr result.1 (result.0 ≡ self) }
     {
         let start = self.end;
@@ -234,7 +234,7 @@ impl<L: LogName> LogWriter<L> {
         ensures ok { IfOk result.1
             (λ r. (result.0 ≡ self ++ arc_value entry ∷ [])
             × TellsOf (arc_value entry) r.start r.end × (r.place ≡ length self)
-            × (settled r.front ≡ result.0)) }
+            × (settled_records r.front ≡ result.0)) }
         ensures err { OnErr result.1 (result.0 ≡ self) }
     {
         let LogWriter {

@@ -7,21 +7,21 @@ use Rattle.slots.specs.declared.step.View.{View}
 use Rattle.slots.specs.Standings.{held_by}
 use Rattle.slots.specs.Facts.{Facts, facts, facts_after}
 use Rattle.slots.specs.Rule.{StandsAs, slot_step, with_step}
-use Rattle.slots.specs.Seats.{Did, DidAt, with_steps, passed, AreTaken, Created}
+use Rattle.slots.specs.Seats.{Did, DidAt, with_steps, steps_past, AreTaken, Created}
 use Rattle.slots.proofs.Facts.{facts_here, facts_there}
 
-passed_snoc : (i : ℕ) (xs : List ℕ) (x : ℕ) → passed i (xs ++ x ∷ []) ≡ passed i xs ++ slot_step Create (i + length xs) x x ∷ []
+passed_snoc : (i : ℕ) (xs : List ℕ) (x : ℕ) → steps_past i (xs ++ x ∷ []) ≡ steps_past i xs ++ slot_step Create (i + length xs) x x ∷ []
 passed_snoc i [] x = ap (λ (p : ℕ). slot_step Create p x x ∷ []) (omega arith)
-passed_snoc i (y ∷ ys) x = ap (λ (l : List SlotStep). slot_step Create i y y ∷ l) (passed_snoc (suc i) ys x ∙ ap (λ (p : ℕ). passed (suc i) ys ++ slot_step Create p x x ∷ []) (omega arith))
+passed_snoc i (y ∷ ys) x = ap (λ (l : List SlotStep). slot_step Create i y y ∷ l) (passed_snoc (suc i) ys x ∙ ap (λ (p : ℕ). steps_past (suc i) ys ++ slot_step Create p x x ∷ []) (omega arith))
 
 taken_snoc : (v : View) (i : ℕ) (xs : List ℕ) (x : ℕ) → AreTaken v i xs → (x ≡ 0 → ⊥) → StandsAs v (i + length xs) x → AreTaken v i (xs ++ x ∷ [])
 taken_snoc v i [] x all not stands = (not, subst (λ (p : ℕ). StandsAs v p x) (omega arith) stands, tt)
 taken_snoc v i (y ∷ ys) x all not stands = (all.0, all.1, taken_snoc v (suc i) ys x all.2 not (subst (λ (p : ℕ). StandsAs v p x) (omega arith) stands))
 
 -- the steps at lower places say nothing of a higher one
-facts_passed : (q i : ℕ) (xs : List ℕ) (ss : List SlotStep) → i + length xs ≤ q → facts q (ss ++ passed i xs) ≡ facts q ss
+facts_passed : (q i : ℕ) (xs : List ℕ) (ss : List SlotStep) → i + length xs ≤ q → facts q (ss ++ steps_past i xs) ≡ facts q ss
 facts_passed q i [] ss high = ap (facts q) (append-nil ss)
-facts_passed q i (x ∷ xs) ss high = ap (facts q) (sym (append_assoc ss (slot_step Create i x x ∷ []) (passed (suc i) xs)))
+facts_passed q i (x ∷ xs) ss high = ap (facts q) (sym (append_assoc ss (slot_step Create i x x ∷ []) (steps_past (suc i) xs)))
     ∙ facts_passed q (suc i) xs (ss ++ slot_step Create i x x ∷ []) (omega arith) ∙ facts_there q ss (slot_step Create i x x) (λ e. omega arith)
 
 stands_back : (v w : View) (p x : ℕ) → facts p w.steps ≡ facts p v.steps → w.number ≡ v.number → w.seats ≡ v.seats → StandsAs w p x → StandsAs v p x
@@ -37,7 +37,7 @@ pub record Passed (old : View) (n : ℕ) (now : View) : Type 0 where
   pub founds : List ℕ
   pub count : length founds ≡ n
   pub taken : AreTaken old 0 founds
-  pub steps : now ≡ with_steps old (passed 0 founds)
+  pub steps : now ≡ with_steps old (steps_past 0 founds)
 
 pub none_passed : (v : View) → Passed v 0 v
 none_passed v = record { founds = []; count = refl; taken = tt; steps = ap (λ (l : List SlotStep). record { number = v.number; seats = v.seats; steps = l }) (sym (append-nil v.steps)) }
@@ -59,8 +59,8 @@ module _ (v : View) (n : ℕ) (u : View) (so_far : Passed v n u) where
     taken = taken_snoc v 0 so_far.founds x so_far.taken not (subst (λ (p : ℕ). StandsAs v p x) (sym at) (stands_back v u n x same_facts same_number same_seats did.1));
     steps = did.0 ∙ ap (λ (z : View). with_step z (slot_step Create n x x)) so_far.steps
         ∙ ap (λ (l : List SlotStep). record { number = v.number; seats = v.seats; steps = l })
-        (append_assoc v.steps (passed 0 so_far.founds) (slot_step Create n x x ∷ [])
-        ∙ ap (λ (l : List SlotStep). v.steps ++ l) (ap (λ (p : ℕ). passed 0 so_far.founds ++ slot_step Create p x x ∷ []) (sym at) ∙ sym (passed_snoc 0 so_far.founds x)));
+        (append_assoc v.steps (steps_past 0 so_far.founds) (slot_step Create n x x ∷ [])
+        ∙ ap (λ (l : List SlotStep). v.steps ++ l) (ap (λ (p : ℕ). steps_past 0 so_far.founds ++ slot_step Create p x x ∷ []) (sym at) ∙ sym (passed_snoc 0 so_far.founds x)));
   }
 
   pub one_created : (a b w : View) (found position to : ℕ) → Did Create n 0 (held_by u.number) u a → to ≡ max found position → DidAt Raise n found to a b
@@ -79,7 +79,7 @@ module _ (v : View) (n : ℕ) (u : View) (so_far : Passed v n u) where
     steps = released ∙ ap (λ (z : View). with_step z (slot_step Release n (held_by z.number) 1)) (raised.0 ∙ ap (λ (t : ℕ). with_step a (slot_step Raise n found t)) is)
         ∙ ap (λ (z : View). with_step (with_step z (slot_step Raise n found (max found position))) (slot_step Release n (held_by z.number) 1)) did.0
         ∙ ap (λ (z : View). with_step (with_step (with_step z (slot_step Create n 0 (held_by z.number))) (slot_step Raise n found (max found position))) (slot_step Release n (held_by z.number) 1)) so_far.steps
-        ∙ ap (λ (l : List SlotStep). record { number = v.number; seats = v.seats; steps = l }) (three v.steps (passed 0 so_far.founds) _ _ _);
+        ∙ ap (λ (l : List SlotStep). record { number = v.number; seats = v.seats; steps = l }) (three v.steps (steps_past 0 so_far.founds) _ _ _);
   }
     where
       never : StandsAs v n 0

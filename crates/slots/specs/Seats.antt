@@ -36,13 +36,13 @@ abbrev pub IsRefusal : SlotFault → ℕ → Type 0
 IsRefusal e found = cond (found == 0) (e ≡ Missing) (cond (found == 2) (e ≡ Missing) ((2 < found) × (e ≡ InUse)))
 
 -- the steps of a create at the places from `place` on, which found these words there, none of them 0
-abbrev pub passed : ℕ → List ℕ → List SlotStep
-passed place [] = []
-passed place (found ∷ founds) = slot_step Create place found found ∷ passed (suc place) founds
+abbrev pub steps_past : ℕ → List ℕ → List SlotStep
+steps_past place [] = []
+steps_past place (found ∷ founds) = slot_step Create place found found ∷ steps_past (suc place) founds
 
 -- the steps of a create that took this place, raised it to the position and released it
-abbrev pub created : ℕ → ℕ → List ℕ → ℕ → ℕ → List SlotStep
-created place seat founds found position = passed 0 founds ++ slot_step Create place 0 (held_by seat) ∷ slot_step Raise place found (max found position) ∷ slot_step Release place (held_by seat) 1 ∷ []
+abbrev pub steps_of_create : ℕ → ℕ → List ℕ → ℕ → ℕ → List SlotStep
+steps_of_create place seat founds found position = steps_past 0 founds ++ slot_step Create place 0 (held_by seat) ∷ slot_step Raise place found (max found position) ∷ slot_step Release place (held_by seat) 1 ∷ []
 
 -- a create found these words at the places from `place` on, and none of them was 0
 abbrev pub AreTaken : View → ℕ → List ℕ → Type 0
@@ -57,14 +57,14 @@ pub record Created (old : View) (position place : ℕ) (new : View) : Type 0 whe
   pub never : StandsAs old place 0
   pub found : ℕ
   pub follows : FollowsOn old place found
-  pub steps : new ≡ with_steps old (created place old.number founds found position)
+  pub steps : new ≡ with_steps old (steps_of_create place old.number founds found position)
 
 -- a create found each of the 16 places taken
 pub record NoneLeft (old new : View) : Type 0 where
   pub founds : List ℕ
   pub count : length founds ≡ 16
   pub taken : AreTaken old 0 founds
-  pub steps : new ≡ with_steps old (passed 0 founds)
+  pub steps : new ≡ with_steps old (steps_past 0 founds)
 
 -- the view of the first of as many new seats
 abbrev pub first_of : ℕ → View

@@ -8,7 +8,7 @@ use Rattle.wal.specs.declared.record.Record.{Record}
 use Rattle.wal.specs.Log.{IsWellFormedLog, IsSized, follows, end_of}
 use Rattle.sender.proofs.Sections.{all_front, all_back, followed, follows_parts, starts_below}
 use Rattle.starts.specs.Acting.{read_by}
-use Rattle.starts.specs.Acting.{unread}
+use Rattle.starts.specs.Acting.{unread_records}
 
 all_read_by : (at : ℕ) (m n : List Record) → follows at m ≡ true → AllByRecursion IsSized m → (p : ℕ) → end_of at m ≤ p → read_by p (m ++ n) ≡ m ++ read_by p n
 all_read_by at [] n goes sized p le = refl
@@ -39,7 +39,7 @@ read_by_place log place good =
     ∙ all_read_by FIRST_POSITION m n parts.0 (all_front IsSized m n sized) (end_of FIRST_POSITION m) (omega arith)
     ∙ ap (λ l. m ++ l) (none_read_by (end_of FIRST_POSITION m) n parts.1 (all_back IsSized m n sized)) ∙ append-nil m
 
-none_read : (at : ℕ) (m n : List Record) → follows at m ≡ true → AllByRecursion IsSized m → (p : ℕ) → end_of at m ≤ p → unread p (m ++ n) ≡ unread p n
+none_read : (at : ℕ) (m n : List Record) → follows at m ≡ true → AllByRecursion IsSized m → (p : ℕ) → end_of at m ≤ p → unread_records p (m ++ n) ≡ unread_records p n
 none_read at [] n goes sized p le = refl
 none_read at (r ∷ m) n goes sized p le =
     let next = followed at r m goes in
@@ -47,14 +47,14 @@ none_read at (r ∷ m) n goes sized p le =
     let passes : leb r.end p ≡ true = le-leb _ _ (omega (arith, rest.0)) in
     rw passes (none_read r.end m n next.1 sized.1 p le)
 
-all_unread : (p : ℕ) (n : List Record) → follows p n ≡ true → AllByRecursion IsSized n → unread p n ≡ n
+all_unread : (p : ℕ) (n : List Record) → follows p n ≡ true → AllByRecursion IsSized n → unread_records p n ≡ n
 all_unread p [] goes sized = refl
 all_unread p (r ∷ n) goes sized =
     let next = followed p r n goes in
     let stops : leb r.end p ≡ false = lt-leb r.end p (omega (arith, next.0, sized.0)) in
     rw stops refl
 
-pub unread_place : (log : List Record) (place : ℕ) → IsWellFormedLog log → unread (end_of FIRST_POSITION (take place log)) log ≡ drop place log
+pub unread_place : (log : List Record) (place : ℕ) → IsWellFormedLog log → unread_records (end_of FIRST_POSITION (take place log)) log ≡ drop place log
 unread_place log place good =
     let m = take place log in
     let n = drop place log in
@@ -64,6 +64,6 @@ unread_place log place good =
     let goes = subst F (sym whole) good.follows in
     let sized = subst S (sym whole) good.sizes in
     let parts = follows_parts FIRST_POSITION m n goes in
-    ap (unread (end_of FIRST_POSITION m)) (sym whole)
+    ap (unread_records (end_of FIRST_POSITION m)) (sym whole)
     ∙ none_read FIRST_POSITION m n parts.0 (all_front IsSized m n sized) (end_of FIRST_POSITION m) (omega arith)
     ∙ all_unread (end_of FIRST_POSITION m) n parts.1 (all_back IsSized m n sized)

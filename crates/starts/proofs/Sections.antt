@@ -7,7 +7,7 @@ use Rattle.wal.specs.declared.record.Record.{Record}
 use Rattle.wal.specs.Log.{IsWellFormedLog, end_of}
 use Rattle.sender.specs.declared.fault.SendFault.{SendFault}
 use Rattle.sender.specs.declared.fault.SendFault.TheVariants as sends
-use Rattle.sender.specs.Published.{published, published_from}
+use Rattle.sender.specs.Published.{published_from, published_transactions}
 use Rattle.sender.specs.Sending.{SenderState, published_bytes, ReadAll, RanOut}
 use Rattle.schedule.specs.declared.answer.Answer.{Answer}
 use Rattle.schedule.specs.declared.answer.Answer.TheVariants as answers
@@ -20,7 +20,7 @@ use Rattle.starts.specs.declared.start.Stage.{Stage}
 use Rattle.starts.specs.declared.start.Stage.TheVariants as stages
 use Rattle.starts.specs.State.{StartState}
 use Rattle.starts.specs.Acting.{read_by}
-use Rattle.starts.specs.Acting.{unread, after_action, after_reading, BreaksDown, Acts}
+use Rattle.starts.specs.Acting.{unread_records, after_action, after_reading, BreaksDown, Acts}
 use Rattle.starts.specs.Starts.{IsServedBy, open_state}
 use Rattle.starts.proofs.Positions.{read_by_place, unread_place}
 
@@ -28,15 +28,15 @@ use Rattle.starts.proofs.Positions.{read_by_place, unread_place}
 
 read_is : (log : List Record) (place : ℕ) (clock : ℤ) (name produced : List ℕ) (s new : SenderState) (section : List Record) → IsWellFormedLog log → s.position ≡ end_of FIRST_POSITION (take place log)
     → new.selection ≡ s.selection → new.start ≡ s.start → new.position ≡ end_of s.position section → new.failed ≡ s.failed
-    → new.held ≡ s.held ++ published_bytes s.selection clock (published s.selection (take place log) s.start) (published_from s.selection s.start (take place log) section)
+    → new.held ≡ s.held ++ published_bytes s.selection clock (published_transactions s.selection (take place log) s.start) (published_from s.selection s.start (take place log) section)
     → open_state name produced new ≡ after_reading log clock section (open_state name produced s)
 read_is log place clock name produced s new section good at selection start position failed held =
     let pre_is : take place log ≡ read_by s.position log = sym (read_by_place log place good) ∙ ap (λ (p : ℕ). read_by p log) (sym at) in
-    let held_is = held ∙ ap (λ l. s.held ++ published_bytes s.selection clock (published s.selection l s.start) (published_from s.selection s.start l section)) pre_is in
+    let held_is = held ∙ ap (λ l. s.held ++ published_bytes s.selection clock (published_transactions s.selection l s.start) (published_from s.selection s.start l section)) pre_is in
     rw (selection, start, position, failed, held_is) refl
 
-unread_is : (log : List Record) (place max : ℕ) (s : SenderState) → IsWellFormedLog log → s.position ≡ end_of FIRST_POSITION (take place log) → next_records max place log ≡ take max (unread s.position log)
-unread_is log place max s good at = ap (take max) (sym (unread_place log place good)) ∙ ap (λ (p : ℕ). take max (unread p log)) (sym at)
+unread_is : (log : List Record) (place max : ℕ) (s : SenderState) → IsWellFormedLog log → s.position ≡ end_of FIRST_POSITION (take place log) → next_records max place log ≡ take max (unread_records s.position log)
+unread_is log place max s good at = ap (take max) (sym (unread_place log place good)) ∙ ap (λ (p : ℕ). take max (unread_records p log)) (sym at)
 
 fed_acts : (log : List Record) (place max : ℕ) (clock : ℤ) (name produced : List ℕ) (s new : SenderState) → IsWellFormedLog log → IsServing log place produced s
     → s.failed ≡ false → new.failed ≡ false → ReadAll clock s new (next_records max place log)

@@ -6,7 +6,7 @@ use Rattle.publication.specs.Publications.{PublicationSet}
 use Rattle.stream.specs.Words.{word_bytes}
 use Rattle.stream.specs.Items.{keepalive_word}
 use Rattle.sender.specs.declared.fault.SendFault.TheVariants as sends
-use Rattle.sender.specs.Published.{published, published_from}
+use Rattle.sender.specs.Published.{published_from, published_transactions}
 use Rattle.sender.specs.Sending.{published_bytes}
 use Rattle.schedule.specs.declared.answer.Answer.{Answer}
 use Rattle.schedule.specs.declared.answer.Answer.TheVariants as answers
@@ -25,20 +25,20 @@ read_by position [] = []
 read_by position (r ∷ rs) = if nat_le r.end position then r ∷ read_by position rs else []
 
 -- the records behind a position
-abbrev pub unread : ℕ → List Record → List Record
-unread position [] = []
-unread position (r ∷ rs) = if nat_le r.end position then unread position rs else r ∷ rs
+abbrev pub unread_records : ℕ → List Record → List Record
+unread_records position [] = []
+unread_records position (r ∷ rs) = if nat_le r.end position then unread_records position rs else r ∷ rs
 
 -- these records are read under a clock: what they publish is held, in blocks behind those of the records before them
 abbrev pub after_reading : List Record → ℤ → List Record → StartState → StartState
 after_reading log clock section s = record s {
   position = end_of s.position section;
-  held = s.held ++ published_bytes s.selection clock (published s.selection (read_by s.position log) s.start) (published_from s.selection s.start (read_by s.position log) section);
+  held = s.held ++ published_bytes s.selection clock (published_transactions s.selection (read_by s.position log) s.start) (published_from s.selection s.start (read_by s.position log) section);
 }
 
 -- what an action leaves; a cut loses what is held, and nothing else
 abbrev pub after_action : List Record → Action → StartState → StartState
-after_action log (actions.Read max clock) s = after_reading log clock (take max (unread s.position log)) s
+after_action log (actions.Read max clock) s = after_reading log clock (take max (unread_records s.position log)) s
 after_action log (actions.Keepalive clock) s = record s { held = s.held ++ word_bytes (keepalive_word s.position clock false) }
 after_action log (actions.Drain n) s = record s { produced = s.produced ++ take n s.held; held = drop n s.held }
 after_action log actions.Cut s = record s { is_open = false; failed = false; held = [] }
@@ -46,8 +46,8 @@ after_action log actions.Cut s = record s { is_open = false; failed = false; hel
 -- a read under which the arena was full or memory was refused: some of its records were read, and the sender has failed
 pub record BreaksDown (log : List Record) (max : ℕ) (clock : ℤ) (old new : StartState) : Type 0 where
   pub count : ℕ
-  pub fewer : count < length (take max (unread old.position log))
-  pub is : new ≡ record (after_reading log clock (take count (take max (unread old.position log))) old) { failed = true }
+  pub fewer : count < length (take max (unread_records old.position log))
+  pub is : new ≡ record (after_reading log clock (take count (take max (unread_records old.position log))) old) { failed = true }
 
 -- what reads the log, and so may be refused an entry
 abbrev pub is_read : Action → Bool

@@ -20,6 +20,6 @@ abbrev pub is_open_for : List ℕ → StartState → Bool
 is_open_for connection s = bytes_eq s.connection connection && s.is_open
 
 -- how many senders are running: one for each open start, whether it has failed or not
-abbrev pub running : List StartState → ℕ
-running [] = 0
-running (s ∷ starts) = if s.is_open then running starts + 1 else running starts
+abbrev pub running_count : List StartState → ℕ
+running_count [] = 0
+running_count (s ∷ starts) = if s.is_open then running_count starts + 1 else running_count starts

@@ -2,7 +2,7 @@
 
 ghost use Rattle.std.specs.Prelude.{◌≡◌, ◌-◌, ◌≢◌, Err, List, ℕ, IfErr, IfOk, OnErr, length};
 ghost use mathlib.Core.List.{IsPrefix};
-ghost use Rattle.shared_log.specs.Fronts.{settled};
+ghost use Rattle.shared_log.specs.Fronts.{settled_records};
 ghost use Rattle.shared_log.specs.Readers.{HasSeen, seen_of};
 ghost use Rattle.txlog.specs.Invariants.{IsPublisher};
 ghost use Rattle.wal.specs.Restart.{restart};
@@ -47,7 +47,7 @@ pub(crate) fn read_on<L: LogName>(
         Serves publisher.old.log written walsender.new }
     ensures unread { OnErr result (walsender.new.sender ≡ walsender.old.sender) }
     ensures why { IfErr result (λ fault. HasSeen fault walsender.old.reader walsender.new.reader) }
-    ensures told { IsPrefix publisher.old.log (settled walsender.new.reader.told) }
+    ensures told { IsPrefix publisher.old.log (settled_records walsender.new.reader.told) }
     ensures publisher { IsPublisher publisher.old }
 {
     let unread = unread_of(publisher, &mut walsender.reader);
@@ -58,7 +58,7 @@ pub(crate) fn read_on<L: LogName>(
 fn unread_of<L: LogName>(publisher: &mut Publisher<L>, reader: &mut LogReader<L>) -> usize
     ensures same { publisher.new ≡ publisher.old }
     ensures unread { result ≡ length publisher.old.log - reader.old.place }
-    ensures told { IsPrefix publisher.old.log (settled reader.new.told) }
+    ensures told { IsPrefix publisher.old.log (settled_records reader.new.told) }
     ensures place { (seen_of reader.new ≡ seen_of reader.old)
         × (reader.new.place ≡ reader.old.place) }
     ensures publisher { IsPublisher publisher.old }

@@ -4,7 +4,7 @@ ghost use Rattle.std.specs.Prelude.{◌≡◌, ◌≢◌, ◌+◌, ◌<◌, ◌�
 ghost use mathlib.Core.List.{IsPrefix};
 ghost use Rattle.wal.specs.declared.record.Record.{Record};
 ghost use Rattle.walsender.specs.Serving.{BeginsAt};
-ghost use Rattle.starts.specs.State.{is_open_for, running};
+ghost use Rattle.starts.specs.State.{is_open_for, running_count};
 ghost use Rattle.starts.specs.Acting.{Acts, is_read, new_start, takes_memory};
 ghost use Rattle.starts.specs.Starts.{IsServed, is_open, seen_at, start_state};
 
@@ -115,8 +115,8 @@ impl<L: LogName> Start<L> {
         ensures memory { result ≡ Err WorldFault.Memory → takes_memory action ≡ true }
         ensures served { IsServed publisher.old.log self.new }
         ensures same { publisher.new ≡ publisher.old }
-        ensures readers { vec_len readers.new + running (start_state self.new ∷ [])
-            ≡ vec_len readers.old + running (start_state self.old ∷ []) }
+        ensures readers { vec_len readers.new + running_count (start_state self.new ∷ [])
+            ≡ vec_len readers.old + running_count (start_state self.old ∷ []) }
         ensures capacity { vec_capacity readers.new ≡ vec_capacity readers.old }
     {
         match action {

@@ -23,7 +23,7 @@ use Rattle.store.specs.Slots.{same_key, vacant, slot_at}
 use Rattle.store.specs.Rows.{Key, key_text, key_of, key_in}
 use Rattle.tables.specs.Spelling.{row_length}
 use Rattle.tables.specs.Tables.{table_of, fits_table, fits_key, FitsRow, FitsChange, FitsMessage}
-use Rattle.store.specs.History.{Made, made, is_other, is_held, is_key_held, is_there, row_place, table_place, of_table, unless, insert_fault, delete_fault, update_fault, insert_refusal, delete_refusal, update_refusal, Deletes, Updates}
+use Rattle.store.specs.History.{Made, change_made, is_other, is_held, is_key_held, is_there, row_place, table_place, of_table, unless, insert_fault, delete_fault, update_fault, insert_refusal, delete_refusal, update_refusal, Deletes, Updates}
 use Rattle.store.specs.Keeping.{StoreState, Put, Keeps, Makes, IsRefusal, DeletesAt, UpdatesAt, RefusedExactly, key_held, keys_fault, places_fault, row_at}
 use Rattle.store.proofs.Keys.{row_key_le, key_length}
 use Rattle.tables.proofs.Lengths.{row_length_is}
@@ -155,7 +155,7 @@ off_one tables top p (m ∷ h) ps = ((ps.0, tt), off_one tables top p h ps.1)
 
 pub insert_made : (s new : StoreState) (h : List Made) (top oid : ℕ) (row : List Value) (place : List ℕ) → place ≡ row_place s.tables oid row → FitsRow s.tables oid row →
     insert_fault s.tables oid row (key_held s top (key_of s.tables oid row)) (is_some (row_at s (key_of s.tables oid row))) ≡ None →
-    Makes top ((place, Some row) ∷ []) s new → Keeps s h → Keeps new (h ++ made top (changes.Insert oid row) ∷ [])
+    Makes top ((place, Some row) ∷ []) s new → Keeps s h → Keeps new (h ++ change_made top (changes.Insert oid row) ∷ [])
 insert_made s new h top oid row place at fits none makes keeps =
     keeps_made s new top (changes.Insert oid row) h (λ k. refl) fits (row_place_le s.tables oid row fits, tt)
     (off_one s.tables top (row_place s.tables oid row, Some row) h
@@ -164,12 +164,12 @@ insert_made s new h top oid row place at fits none makes keeps =
 
 pub delete_made : (s new : StoreState) (h : List Made) (top : ℕ) (key : Key) (place : List ℕ) (change : Change) → key.oid < 2 ^ 32 → place ≡ key_text key →
     delete_fault s.tables key (key_held s top key) (is_some (row_at s key)) ≡ None → DeletesAt s key.oid place change → Makes top ((place, None) ∷ []) s new → Keeps s h →
-    Keeps new (h ++ made top change ∷ [])
+    Keeps new (h ++ change_made top change ∷ [])
 delete_made s new h top key place change small at none deletes makes keeps =
     let was : row_at s key ≡ Some deletes.old = ap (λ (p : List ℕ). (slot_at s.slots p).row) (sym at) ∙ deletes.was in
     let found = found_row s h key deletes.old small keeps was in
     let free = free_key s h top key keeps (delete_none s.tables key (key_held s top key) (is_some (row_at s key)) none).0 in
-    subst (λ (x : Change). Keeps new (h ++ made top x ∷ [])) (sym deletes.made)
+    subst (λ (x : Change). Keeps new (h ++ change_made top x ∷ [])) (sym deletes.made)
     (keeps_made s new top (changes.Delete key.oid deletes.old) h (λ k. refl) found.fits (row_place_le s.tables key.oid deletes.old found.fits, tt)
     (off_one s.tables top (row_place s.tables key.oid deletes.old, None) h (subst (λ (p : List ℕ). AllByRecursion (Off s.tables top p) h) found.place free))
     (subst (λ (p : List ℕ). Makes top ((p, None) ∷ []) s new) (at ∙ found.place) makes) keeps)
@@ -190,7 +190,7 @@ pub update_made : (s new : StoreState) (h : List Made) (top : ℕ) (key : Key) (
     to ≡ row_place s.tables key.oid row → FitsRow s.tables key.oid row →
     update_fault s.tables key row (key_held s top key || key_held s top (key_of s.tables key.oid row)) (is_some (row_at s key))
     (not (same_key (key_text key) (row_place s.tables key.oid row)) && is_some (row_at s (key_of s.tables key.oid row))) ≡ None →
-    UpdatesAt s key.oid from row change → Makes top ((from, None) ∷ (to, Some row) ∷ []) s new → Keeps s h → Keeps new (h ++ made top change ∷ [])
+    UpdatesAt s key.oid from row change → Makes top ((from, None) ∷ (to, Some row) ∷ []) s new → Keeps s h → Keeps new (h ++ change_made top change ∷ [])
 update_made s new h top key row from to change small at at_to fits none updates makes keeps =
     let was : row_at s key ≡ Some updates.old = ap (λ (p : List ℕ). (slot_at s.slots p).row) (sym at) ∙ updates.was in
     let found = found_row s h key updates.old small keeps was in
@@ -199,7 +199,7 @@ update_made s new h top key row from to change small at at_to fits none updates 
     (not (same_key (key_text key) (row_place s.tables key.oid row)) && is_some (row_at s (key_of s.tables key.oid row))) none).0 in
     let free = free_key s h top key keeps (or_left (key_held s top key) (key_held s top (key_of s.tables key.oid row)) held) in
     let free_to = free_key s h top (key_of s.tables key.oid row) keeps (or_right (key_held s top key) (key_held s top (key_of s.tables key.oid row)) held) in
-    subst (λ (x : Change). Keeps new (h ++ made top x ∷ [])) (sym updates.made)
+    subst (λ (x : Change). Keeps new (h ++ change_made top x ∷ [])) (sym updates.made)
     (keeps_made s new top (changes.Update key.oid updates.old row) h (λ k. refl) (found.fits, fits)
     (row_place_le s.tables key.oid updates.old found.fits, (row_place_le s.tables key.oid row fits, tt))
     (off_two s.tables top (row_place s.tables key.oid updates.old, None) (row_place s.tables key.oid row, Some row) h
@@ -296,5 +296,5 @@ all_apart : (tables : List Table) (top : ℕ) (h : List Made) → AllByRecursion
 all_apart tables top [] = tt
 all_apart tables top (m ∷ h) = (tt, all_apart tables top h)
 
-pub message_made : (s new : StoreState) (h : List Made) (top : ℕ) (message : Message) → FitsMessage message → Makes top [] s new → Keeps s h → Keeps new (h ++ made top (changes.Message message) ∷ [])
+pub message_made : (s new : StoreState) (h : List Made) (top : ℕ) (message : Message) → FitsMessage message → Makes top [] s new → Keeps s h → Keeps new (h ++ change_made top (changes.Message message) ∷ [])
 message_made s new h top message fits makes keeps = keeps_made s new top (changes.Message message) h (λ k. refl) fits tt (all_apart s.tables top h) makes keeps

@@ -9,8 +9,8 @@ use Rattle.tables.specs.declared.table.Table.{Table}
 use Rattle.tables.specs.declared.change.Change.{Change}
 use Rattle.tables.specs.declared.change.Change.TheVariants as changes
 use Rattle.store.specs.Slots.{same_key, undone_at}
-use Rattle.store.specs.History.{Made, is_top, rolled_back, count_of}
-use Rattle.store.specs.Keeping.{Put, put_at, is_put, puts_of, emptied, is_emptied, touches, slot_by, slot_from, IsUndo, OwnFirst, AreNotes, Follows, KeepsOff, AreApart}
+use Rattle.store.specs.History.{Made, is_top, history_after_rollback, count_of}
+use Rattle.store.specs.Keeping.{Put, put_at, is_put, puts_of, slot_after_emptying, is_emptied, touches, slot_by, slot_from, IsUndo, OwnFirst, AreNotes, Follows, KeepsOff, AreApart}
 use Rattle.store.proofs.Undoing.{keys_same}
 
 abbrev Slots : Type 0
@@ -53,7 +53,7 @@ put_off top (p ∷ ps) k s off = by_test (same_key k p.0) off (put_off top ps k 
     by_test true off rest = absurd cc
     by_test false off rest = rest off
 
-pub emptied_off : (change : Change) (k : List ℕ) (s : Slot) → is_emptied change k ≡ false → emptied change k s ≡ s
+pub emptied_off : (change : Change) (k : List ℕ) (s : Slot) → is_emptied change k ≡ false → slot_after_emptying change k s ≡ s
 emptied_off (changes.Truncate oids) k s off = rw off refl
 emptied_off (changes.Insert oid row) k s off = refl
 emptied_off (changes.Update oid old row) k s off = refl
@@ -143,34 +143,34 @@ pub apart_more : (tables : List Table) (ms : List Made) (m : Made) → AreApart 
 apart_more tables [] m all off = (tt, tt)
 apart_more tables (x ∷ ms) m all off = (all_more (KeepsOff tables x) ms m all.0 off.0, apart_more tables ms m all.1 off.1)
 
-pub all_rolled : (P : Made → Type 0) (top n : ℕ) (ms : List Made) → AllByRecursion P ms → AllByRecursion P (rolled_back top n ms)
+pub all_rolled : (P : Made → Type 0) (top n : ℕ) (ms : List Made) → AllByRecursion P ms → AllByRecursion P (history_after_rollback top n ms)
 all_rolled P top n [] all = tt
 all_rolled P top zero (m ∷ ms) all = by_own (is_top top m.top) (all_rolled P top zero ms all.1)
   where
-    by_own : (a : Bool) → AllByRecursion P (rolled_back top zero ms) → AllByRecursion P (cond a (rolled_back top zero ms) (m ∷ rolled_back top zero ms))
+    by_own : (a : Bool) → AllByRecursion P (history_after_rollback top zero ms) → AllByRecursion P (cond a (history_after_rollback top zero ms) (m ∷ history_after_rollback top zero ms))
     by_own true rest = rest
     by_own false rest = (all.0, rest)
 all_rolled P top (suc n) (m ∷ ms) all = by_own (is_top top m.top) (all_rolled P top n ms all.1) (all_rolled P top (suc n) ms all.1)
   where
-    by_own : (a : Bool) → AllByRecursion P (rolled_back top n ms) → AllByRecursion P (rolled_back top (suc n) ms) →
-        AllByRecursion P (cond a (m ∷ rolled_back top n ms) (m ∷ rolled_back top (suc n) ms))
+    by_own : (a : Bool) → AllByRecursion P (history_after_rollback top n ms) → AllByRecursion P (history_after_rollback top (suc n) ms) →
+        AllByRecursion P (cond a (m ∷ history_after_rollback top n ms) (m ∷ history_after_rollback top (suc n) ms))
     by_own true less rest = (all.0, less)
     by_own false less rest = (all.0, rest)
 
-pub apart_rolled : (tables : List Table) (top n : ℕ) (ms : List Made) → AreApart tables ms → AreApart tables (rolled_back top n ms)
+pub apart_rolled : (tables : List Table) (top n : ℕ) (ms : List Made) → AreApart tables ms → AreApart tables (history_after_rollback top n ms)
 apart_rolled tables top n [] all = tt
 apart_rolled tables top zero (m ∷ ms) all = by_own (is_top top m.top) (apart_rolled tables top zero ms all.1) (all_rolled (KeepsOff tables m) top zero ms all.0)
   where
-    by_own : (a : Bool) → AreApart tables (rolled_back top zero ms) → AllByRecursion (KeepsOff tables m) (rolled_back top zero ms) →
-        AreApart tables (cond a (rolled_back top zero ms) (m ∷ rolled_back top zero ms))
+    by_own : (a : Bool) → AreApart tables (history_after_rollback top zero ms) → AllByRecursion (KeepsOff tables m) (history_after_rollback top zero ms) →
+        AreApart tables (cond a (history_after_rollback top zero ms) (m ∷ history_after_rollback top zero ms))
     by_own true rest off = rest
     by_own false rest off = (off, rest)
 apart_rolled tables top (suc n) (m ∷ ms) all =
     by_own (is_top top m.top) (apart_rolled tables top n ms all.1) (all_rolled (KeepsOff tables m) top n ms all.0) (apart_rolled tables top (suc n) ms all.1)
     (all_rolled (KeepsOff tables m) top (suc n) ms all.0)
   where
-    by_own : (a : Bool) → AreApart tables (rolled_back top n ms) → AllByRecursion (KeepsOff tables m) (rolled_back top n ms) → AreApart tables (rolled_back top (suc n) ms) →
-        AllByRecursion (KeepsOff tables m) (rolled_back top (suc n) ms) → AreApart tables (cond a (m ∷ rolled_back top n ms) (m ∷ rolled_back top (suc n) ms))
+    by_own : (a : Bool) → AreApart tables (history_after_rollback top n ms) → AllByRecursion (KeepsOff tables m) (history_after_rollback top n ms) → AreApart tables (history_after_rollback top (suc n) ms) →
+        AllByRecursion (KeepsOff tables m) (history_after_rollback top (suc n) ms) → AreApart tables (cond a (m ∷ history_after_rollback top n ms) (m ∷ history_after_rollback top (suc n) ms))
     by_own true less off rest still = (off, less)
     by_own false less off rest still = (still, rest)
 
@@ -193,7 +193,7 @@ notes_none tables top [] b all = refl
 notes_none tables top (m ∷ ms) b all =
     subst (λ (a : Bool). OwnFirst (IsUndo tables m b) (AreNotes tables top ms (after tables m b)) a []) (sym all.0) (notes_none tables top ms (after tables m b) all.1)
 
-rolled_none : (top : ℕ) (ms : List Made) → NoneBy top ms → rolled_back top zero ms ≡ ms
+rolled_none : (top : ℕ) (ms : List Made) → NoneBy top ms → history_after_rollback top zero ms ≡ ms
 rolled_none top [] all = refl
 rolled_none top (m ∷ ms) all = rw all.0 (ap (λ (xs : List Made). m ∷ xs) (rolled_none top ms all.1))
 
@@ -217,7 +217,7 @@ stays tables top m (n ∷ ms) k s own off none on =
     by_test false away = off_touch tables n k s away
 
 last_undone : (tables : List Table) (top : ℕ) (m : Made) (ms : List Made) (b : Slots) (g : List Undo) (k : List ℕ) → is_top top m.top ≡ true → AllByRecursion (KeepsOff tables m) ms → NoneBy top ms →
-    IsUndo tables m b g → undone_at g k (slot_from tables ms k (slot_by tables m k (b k))) ≡ slot_from tables (rolled_back top zero ms) k (b k)
+    IsUndo tables m b g → undone_at g k (slot_from tables ms k (slot_by tables m k (b k))) ≡ slot_from tables (history_after_rollback top zero ms) k (b k)
 last_undone tables top m ms b g k own off none undo =
     by_test (touches tables m.change k) refl ∙ ap (λ (xs : List Made). slot_from tables xs k (b k)) (sym (rolled_none top ms none))
   where
@@ -232,14 +232,14 @@ not_empty [] g is = absurd cc
 not_empty (x ∷ gs) g is = absurd cc
 
 pub undone_rolled : (tables : List Table) (top : ℕ) (ms : List Made) (b : Slots) (gs : List (List Undo)) (g : List Undo) (k : List ℕ) → AreApart tables ms → AreNotes tables top ms b (gs ++ g ∷ []) →
-    undone_at g k (slot_from tables ms k (b k)) ≡ slot_from tables (rolled_back top (length gs) ms) k (b k)
+    undone_at g k (slot_from tables ms k (b k)) ≡ slot_from tables (history_after_rollback top (length gs) ms) k (b k)
 undone_rolled tables top [] b gs g k apart h = absurd (not_empty gs g h)
 undone_rolled tables top (m ∷ ms) b [] g k apart h = by_own (is_top top m.top) refl h (undone_rolled tables top ms (after tables m b) [] g k apart.1)
   where
     by_own : (a : Bool) → is_top top m.top ≡ a → OwnFirst (IsUndo tables m b) (AreNotes tables top ms (after tables m b)) a (g ∷ []) →
         (AreNotes tables top ms (after tables m b) (g ∷ []) →
-        undone_at g k (slot_from tables ms k (slot_by tables m k (b k))) ≡ slot_from tables (rolled_back top zero ms) k (slot_by tables m k (b k))) →
-        undone_at g k (slot_from tables ms k (slot_by tables m k (b k))) ≡ slot_from tables (cond a (rolled_back top zero ms) (m ∷ rolled_back top zero ms)) k (b k)
+        undone_at g k (slot_from tables ms k (slot_by tables m k (b k))) ≡ slot_from tables (history_after_rollback top zero ms) k (slot_by tables m k (b k))) →
+        undone_at g k (slot_from tables ms k (slot_by tables m k (b k))) ≡ slot_from tables (cond a (history_after_rollback top zero ms) (m ∷ history_after_rollback top zero ms)) k (b k)
     by_own true own h rest = last_undone tables top m ms b g k own apart.0 (none_noted tables top ms (after tables m b) h.1) h.0
     by_own false own h rest = rest h
 undone_rolled tables top (m ∷ ms) b (x ∷ gs) g k apart h =
@@ -247,36 +247,36 @@ undone_rolled tables top (m ∷ ms) b (x ∷ gs) g k apart h =
   where
     by_own : (a : Bool) → OwnFirst (IsUndo tables m b) (AreNotes tables top ms (after tables m b)) a (x ∷ (gs ++ g ∷ [])) →
         (AreNotes tables top ms (after tables m b) (gs ++ g ∷ []) →
-        undone_at g k (slot_from tables ms k (slot_by tables m k (b k))) ≡ slot_from tables (rolled_back top (length gs) ms) k (slot_by tables m k (b k))) →
+        undone_at g k (slot_from tables ms k (slot_by tables m k (b k))) ≡ slot_from tables (history_after_rollback top (length gs) ms) k (slot_by tables m k (b k))) →
         (AreNotes tables top ms (after tables m b) (x ∷ (gs ++ g ∷ [])) →
-        undone_at g k (slot_from tables ms k (slot_by tables m k (b k))) ≡ slot_from tables (rolled_back top (suc (length gs)) ms) k (slot_by tables m k (b k))) →
-        undone_at g k (slot_from tables ms k (slot_by tables m k (b k))) ≡ slot_from tables (cond a (m ∷ rolled_back top (length gs) ms) (m ∷ rolled_back top (suc (length gs)) ms)) k (b k)
+        undone_at g k (slot_from tables ms k (slot_by tables m k (b k))) ≡ slot_from tables (history_after_rollback top (suc (length gs)) ms) k (slot_by tables m k (b k))) →
+        undone_at g k (slot_from tables ms k (slot_by tables m k (b k))) ≡ slot_from tables (cond a (m ∷ history_after_rollback top (length gs) ms) (m ∷ history_after_rollback top (suc (length gs)) ms)) k (b k)
     by_own true h less rest = less h.1
     by_own false h less rest = rest h
 
 pub notes_rolled : (tables : List Table) (top : ℕ) (ms : List Made) (b : Slots) (gs : List (List Undo)) (g : List Undo) → AreNotes tables top ms b (gs ++ g ∷ []) →
-    AreNotes tables top (rolled_back top (length gs) ms) b gs
+    AreNotes tables top (history_after_rollback top (length gs) ms) b gs
 notes_rolled tables top [] b gs g h = absurd (not_empty gs g h)
 notes_rolled tables top (m ∷ ms) b [] g h = by_own (is_top top m.top) refl h (notes_rolled tables top ms (after tables m b) [] g)
   where
     by_own : (a : Bool) → is_top top m.top ≡ a → OwnFirst (IsUndo tables m b) (AreNotes tables top ms (after tables m b)) a (g ∷ []) →
-        (AreNotes tables top ms (after tables m b) (g ∷ []) → AreNotes tables top (rolled_back top zero ms) (after tables m b) []) →
-        AreNotes tables top (cond a (rolled_back top zero ms) (m ∷ rolled_back top zero ms)) b []
+        (AreNotes tables top ms (after tables m b) (g ∷ []) → AreNotes tables top (history_after_rollback top zero ms) (after tables m b) []) →
+        AreNotes tables top (cond a (history_after_rollback top zero ms) (m ∷ history_after_rollback top zero ms)) b []
     by_own true own h rest =
-        notes_none tables top (rolled_back top zero ms) b (all_rolled (λ n. is_top top n.top ≡ false) top zero ms (none_noted tables top ms (after tables m b) h.1))
+        notes_none tables top (history_after_rollback top zero ms) b (all_rolled (λ n. is_top top n.top ≡ false) top zero ms (none_noted tables top ms (after tables m b) h.1))
     by_own false own h rest =
-        subst (λ (a : Bool). OwnFirst (IsUndo tables m b) (AreNotes tables top (rolled_back top zero ms) (after tables m b)) a []) (sym own) (rest h)
+        subst (λ (a : Bool). OwnFirst (IsUndo tables m b) (AreNotes tables top (history_after_rollback top zero ms) (after tables m b)) a []) (sym own) (rest h)
 notes_rolled tables top (m ∷ ms) b (x ∷ gs) g h =
     by_own (is_top top m.top) refl h (notes_rolled tables top ms (after tables m b) gs g) (notes_rolled tables top ms (after tables m b) (x ∷ gs) g)
   where
     by_own : (a : Bool) → is_top top m.top ≡ a → OwnFirst (IsUndo tables m b) (AreNotes tables top ms (after tables m b)) a (x ∷ (gs ++ g ∷ [])) →
-        (AreNotes tables top ms (after tables m b) (gs ++ g ∷ []) → AreNotes tables top (rolled_back top (length gs) ms) (after tables m b) gs) →
-        (AreNotes tables top ms (after tables m b) (x ∷ (gs ++ g ∷ [])) → AreNotes tables top (rolled_back top (suc (length gs)) ms) (after tables m b) (x ∷ gs)) →
-        AreNotes tables top (cond a (m ∷ rolled_back top (length gs) ms) (m ∷ rolled_back top (suc (length gs)) ms)) b (x ∷ gs)
+        (AreNotes tables top ms (after tables m b) (gs ++ g ∷ []) → AreNotes tables top (history_after_rollback top (length gs) ms) (after tables m b) gs) →
+        (AreNotes tables top ms (after tables m b) (x ∷ (gs ++ g ∷ [])) → AreNotes tables top (history_after_rollback top (suc (length gs)) ms) (after tables m b) (x ∷ gs)) →
+        AreNotes tables top (cond a (m ∷ history_after_rollback top (length gs) ms) (m ∷ history_after_rollback top (suc (length gs)) ms)) b (x ∷ gs)
     by_own true own h less rest =
-        subst (λ (a : Bool). OwnFirst (IsUndo tables m b) (AreNotes tables top (rolled_back top (length gs) ms) (after tables m b)) a (x ∷ gs)) (sym own) (h.0, less h.1)
+        subst (λ (a : Bool). OwnFirst (IsUndo tables m b) (AreNotes tables top (history_after_rollback top (length gs) ms) (after tables m b)) a (x ∷ gs)) (sym own) (h.0, less h.1)
     by_own false own h less rest =
-        subst (λ (a : Bool). OwnFirst (IsUndo tables m b) (AreNotes tables top (rolled_back top (suc (length gs)) ms) (after tables m b)) a (x ∷ gs)) (sym own) (rest h)
+        subst (λ (a : Bool). OwnFirst (IsUndo tables m b) (AreNotes tables top (history_after_rollback top (suc (length gs)) ms) (after tables m b)) a (x ∷ gs)) (sym own) (rest h)
 
 -- another transaction's journal stays
 abbrev Differ : ℕ → ℕ → Type 0
@@ -297,31 +297,31 @@ dropped_agrees tables u top m ms b differ own off =
     by_test n keeps theirs k on false away = off_touch tables m k (b k) away
 
 pub notes_others : (tables : List Table) (u top n : ℕ) (ms : List Made) (b : Slots) (gs : List (List Undo)) → Differ u top → AreApart tables ms → AreNotes tables u ms b gs →
-    AreNotes tables u (rolled_back top n ms) b gs
+    AreNotes tables u (history_after_rollback top n ms) b gs
 notes_others tables u top n [] b gs differ apart h = h
 notes_others tables u top zero (m ∷ ms) b gs differ apart h =
     by_own (is_top top m.top) refl (λ hs. notes_others tables u top zero ms (after tables m b) hs differ apart.1) (is_top u m.top) refl h
   where
-    by_own : (a : Bool) → is_top top m.top ≡ a → ((hs : List (List Undo)) → AreNotes tables u ms (after tables m b) hs → AreNotes tables u (rolled_back top zero ms) (after tables m b) hs) →
+    by_own : (a : Bool) → is_top top m.top ≡ a → ((hs : List (List Undo)) → AreNotes tables u ms (after tables m b) hs → AreNotes tables u (history_after_rollback top zero ms) (after tables m b) hs) →
         (c : Bool) → is_top u m.top ≡ c → OwnFirst (IsUndo tables m b) (AreNotes tables u ms (after tables m b)) c gs →
-        AreNotes tables u (cond a (rolled_back top zero ms) (m ∷ rolled_back top zero ms)) b gs
+        AreNotes tables u (cond a (history_after_rollback top zero ms) (m ∷ history_after_rollback top zero ms)) b gs
     by_own true own rest true theirs h = let never : is_top top m.top ≡ false = differ m.top theirs in absurd cc
     by_own true own rest false theirs h =
-        notes_agree tables u (rolled_back top zero ms) (after tables m b) b gs
-        (dropped_agrees tables u top m (rolled_back top zero ms) b differ own (all_rolled (KeepsOff tables m) top zero ms apart.0)) (rest gs h)
+        notes_agree tables u (history_after_rollback top zero ms) (after tables m b) b gs
+        (dropped_agrees tables u top m (history_after_rollback top zero ms) b differ own (all_rolled (KeepsOff tables m) top zero ms apart.0)) (rest gs h)
     by_own false own rest c theirs h =
-        subst (λ (x : Bool). OwnFirst (IsUndo tables m b) (AreNotes tables u (rolled_back top zero ms) (after tables m b)) x gs) (sym theirs)
-        (own_rest (IsUndo tables m b) (AreNotes tables u ms (after tables m b)) (AreNotes tables u (rolled_back top zero ms) (after tables m b)) c gs rest h)
+        subst (λ (x : Bool). OwnFirst (IsUndo tables m b) (AreNotes tables u (history_after_rollback top zero ms) (after tables m b)) x gs) (sym theirs)
+        (own_rest (IsUndo tables m b) (AreNotes tables u ms (after tables m b)) (AreNotes tables u (history_after_rollback top zero ms) (after tables m b)) c gs rest h)
 notes_others tables u top (suc n) (m ∷ ms) b gs differ apart h =
     by_own (is_top top m.top) (λ hs. notes_others tables u top n ms (after tables m b) hs differ apart.1) (λ hs. notes_others tables u top (suc n) ms (after tables m b) hs differ apart.1)
   where
-    by_own : (a : Bool) → ((hs : List (List Undo)) → AreNotes tables u ms (after tables m b) hs → AreNotes tables u (rolled_back top n ms) (after tables m b) hs) →
-        ((hs : List (List Undo)) → AreNotes tables u ms (after tables m b) hs → AreNotes tables u (rolled_back top (suc n) ms) (after tables m b) hs) →
-        AreNotes tables u (cond a (m ∷ rolled_back top n ms) (m ∷ rolled_back top (suc n) ms)) b gs
+    by_own : (a : Bool) → ((hs : List (List Undo)) → AreNotes tables u ms (after tables m b) hs → AreNotes tables u (history_after_rollback top n ms) (after tables m b) hs) →
+        ((hs : List (List Undo)) → AreNotes tables u ms (after tables m b) hs → AreNotes tables u (history_after_rollback top (suc n) ms) (after tables m b) hs) →
+        AreNotes tables u (cond a (m ∷ history_after_rollback top n ms) (m ∷ history_after_rollback top (suc n) ms)) b gs
     by_own true less rest =
-        own_rest (IsUndo tables m b) (AreNotes tables u ms (after tables m b)) (AreNotes tables u (rolled_back top n ms) (after tables m b)) (is_top u m.top) gs less h
+        own_rest (IsUndo tables m b) (AreNotes tables u ms (after tables m b)) (AreNotes tables u (history_after_rollback top n ms) (after tables m b)) (is_top u m.top) gs less h
     by_own false less rest =
-        own_rest (IsUndo tables m b) (AreNotes tables u ms (after tables m b)) (AreNotes tables u (rolled_back top (suc n) ms) (after tables m b)) (is_top u m.top) gs rest h
+        own_rest (IsUndo tables m b) (AreNotes tables u ms (after tables m b)) (AreNotes tables u (history_after_rollback top (suc n) ms) (after tables m b)) (is_top u m.top) gs rest h
 
 -- COUNTING
 
@@ -335,39 +335,39 @@ notes_count tables top (m ∷ ms) b gs h = by_own (is_top top m.top) gs h (notes
     by_own true (g ∷ hs) h rest = ap suc (rest hs h.1)
     by_own false hs h rest = rest hs h
 
-pub rolled_all : (top n : ℕ) (ms : List Made) → count_of top ms ≤ n → rolled_back top n ms ≡ ms
+pub rolled_all : (top n : ℕ) (ms : List Made) → count_of top ms ≤ n → history_after_rollback top n ms ≡ ms
 rolled_all top n [] le = refl
 rolled_all top zero (m ∷ ms) le = by_own (is_top top m.top) le (rolled_all top zero ms)
   where
-    by_own : (a : Bool) → cond a (suc (count_of top ms)) (count_of top ms) ≤ 0 → (count_of top ms ≤ 0 → rolled_back top zero ms ≡ ms) →
-        cond a (rolled_back top zero ms) (m ∷ rolled_back top zero ms) ≡ m ∷ ms
+    by_own : (a : Bool) → cond a (suc (count_of top ms)) (count_of top ms) ≤ 0 → (count_of top ms ≤ 0 → history_after_rollback top zero ms ≡ ms) →
+        cond a (history_after_rollback top zero ms) (m ∷ history_after_rollback top zero ms) ≡ m ∷ ms
     by_own true le rest = absurd (omega (arith, le))
     by_own false le rest = ap (λ (xs : List Made). m ∷ xs) (rest le)
 rolled_all top (suc n) (m ∷ ms) le = by_own (is_top top m.top) le (rolled_all top n ms) (rolled_all top (suc n) ms)
   where
-    by_own : (a : Bool) → cond a (suc (count_of top ms)) (count_of top ms) ≤ suc n → (count_of top ms ≤ n → rolled_back top n ms ≡ ms) → (count_of top ms ≤ suc n → rolled_back top (suc n) ms ≡ ms) →
-        cond a (m ∷ rolled_back top n ms) (m ∷ rolled_back top (suc n) ms) ≡ m ∷ ms
+    by_own : (a : Bool) → cond a (suc (count_of top ms)) (count_of top ms) ≤ suc n → (count_of top ms ≤ n → history_after_rollback top n ms ≡ ms) → (count_of top ms ≤ suc n → history_after_rollback top (suc n) ms ≡ ms) →
+        cond a (m ∷ history_after_rollback top n ms) (m ∷ history_after_rollback top (suc n) ms) ≡ m ∷ ms
     by_own true le less rest = ap (λ (xs : List Made). m ∷ xs) (less (omega (arith, le)))
     by_own false le less rest = ap (λ (xs : List Made). m ∷ xs) (rest le)
 
-pub rolled_twice : (top i n : ℕ) (ms : List Made) → i ≤ n → rolled_back top i (rolled_back top n ms) ≡ rolled_back top i ms
+pub rolled_twice : (top i n : ℕ) (ms : List Made) → i ≤ n → history_after_rollback top i (history_after_rollback top n ms) ≡ history_after_rollback top i ms
 rolled_twice top i n [] le = refl
 rolled_twice top zero zero (m ∷ ms) le = by_own (is_top top m.top) refl (rolled_twice top zero zero ms (omega arith))
   where
-    by_own : (a : Bool) → is_top top m.top ≡ a → rolled_back top zero (rolled_back top zero ms) ≡ rolled_back top zero ms →
-        rolled_back top zero (cond a (rolled_back top zero ms) (m ∷ rolled_back top zero ms)) ≡ cond a (rolled_back top zero ms) (m ∷ rolled_back top zero ms)
+    by_own : (a : Bool) → is_top top m.top ≡ a → history_after_rollback top zero (history_after_rollback top zero ms) ≡ history_after_rollback top zero ms →
+        history_after_rollback top zero (cond a (history_after_rollback top zero ms) (m ∷ history_after_rollback top zero ms)) ≡ cond a (history_after_rollback top zero ms) (m ∷ history_after_rollback top zero ms)
     by_own true own rest = rest
     by_own false own rest = rw own (ap (λ (xs : List Made). m ∷ xs) rest)
 rolled_twice top zero (suc n) (m ∷ ms) le = by_own (is_top top m.top) refl (rolled_twice top zero n ms (omega arith)) (rolled_twice top zero (suc n) ms (omega arith))
   where
-    by_own : (a : Bool) → is_top top m.top ≡ a → rolled_back top zero (rolled_back top n ms) ≡ rolled_back top zero ms → rolled_back top zero (rolled_back top (suc n) ms) ≡ rolled_back top zero ms →
-        rolled_back top zero (cond a (m ∷ rolled_back top n ms) (m ∷ rolled_back top (suc n) ms)) ≡ cond a (rolled_back top zero ms) (m ∷ rolled_back top zero ms)
+    by_own : (a : Bool) → is_top top m.top ≡ a → history_after_rollback top zero (history_after_rollback top n ms) ≡ history_after_rollback top zero ms → history_after_rollback top zero (history_after_rollback top (suc n) ms) ≡ history_after_rollback top zero ms →
+        history_after_rollback top zero (cond a (m ∷ history_after_rollback top n ms) (m ∷ history_after_rollback top (suc n) ms)) ≡ cond a (history_after_rollback top zero ms) (m ∷ history_after_rollback top zero ms)
     by_own true own less rest = rw own less
     by_own false own less rest = rw own (ap (λ (xs : List Made). m ∷ xs) rest)
 rolled_twice top (suc i) zero (m ∷ ms) le = absurd (omega (arith, le))
 rolled_twice top (suc i) (suc n) (m ∷ ms) le = by_own (is_top top m.top) refl (rolled_twice top i n ms (omega (arith, le))) (rolled_twice top (suc i) (suc n) ms le)
   where
-    by_own : (a : Bool) → is_top top m.top ≡ a → rolled_back top i (rolled_back top n ms) ≡ rolled_back top i ms → rolled_back top (suc i) (rolled_back top (suc n) ms) ≡ rolled_back top (suc i) ms →
-        rolled_back top (suc i) (cond a (m ∷ rolled_back top n ms) (m ∷ rolled_back top (suc n) ms)) ≡ cond a (m ∷ rolled_back top i ms) (m ∷ rolled_back top (suc i) ms)
+    by_own : (a : Bool) → is_top top m.top ≡ a → history_after_rollback top i (history_after_rollback top n ms) ≡ history_after_rollback top i ms → history_after_rollback top (suc i) (history_after_rollback top (suc n) ms) ≡ history_after_rollback top (suc i) ms →
+        history_after_rollback top (suc i) (cond a (m ∷ history_after_rollback top n ms) (m ∷ history_after_rollback top (suc n) ms)) ≡ cond a (m ∷ history_after_rollback top i ms) (m ∷ history_after_rollback top (suc i) ms)
     by_own true own less rest = rw own (ap (λ (xs : List Made). m ∷ xs) less)
     by_own false own less rest = rw own (ap (λ (xs : List Made). m ∷ xs) rest)

@@ -15,7 +15,7 @@ use Rattle.store.specs.Slots.{same_key, vacant}
 use Rattle.store.specs.Rows.{Key, Rows, key_text}
 use Rattle.tables.specs.Tables.{FitsRow, FitsChange}
 use Rattle.store.specs.History.{Made, is_other, is_within, is_among, is_held, rows_with, rows_from, row_place, table_place, places_of}
-use Rattle.store.specs.Keeping.{Put, all_emptied, put_at, is_put, puts_of, without_row, emptied, is_emptied, touches, slot_by, slot_from, Follows, KeepsOff, AreApart}
+use Rattle.store.specs.Keeping.{Put, all_emptied, put_at, is_put, puts_of, without_row, slot_after_emptying, is_emptied, touches, slot_by, slot_from, Follows, KeepsOff, AreApart}
 use Rattle.store.proofs.Undoing.{same_self, keys_same}
 use Rattle.store.proofs.Histories.{or_left, or_right, put_off}
 
@@ -86,7 +86,7 @@ not_put (x ∷ oids) k off =
     by_test false on rest = rest
 
 row_by : (tables : List Table) (top : Option ℕ) (change : Change) (key : Key) (s : Slot) (rows : Rows) → s.row ≡ rows key →
-    (put_at top (puts_of tables change) (key_text key) (emptied change (key_text key) s)).row ≡ rows_with tables change rows key
+    (put_at top (puts_of tables change) (key_text key) (slot_after_emptying change (key_text key) s)).row ≡ rows_with tables change rows key
 row_by tables top (changes.Insert oid row) key s rows is =
     let a = same_key (key_text key) (row_place tables oid row) in
     row_if a (record { row = Some row; owner = top }) s ∙ ap (λ (r : Option (List Value)). cond a (Some row) r) is
@@ -133,7 +133,7 @@ put_owner top (p ∷ ps) k s =
     by_test true false = refl
     by_test false b = refl
 
-emptied_owner : (change : Change) (k : List ℕ) (s : Slot) → (emptied change k s).owner ≡ s.owner
+emptied_owner : (change : Change) (k : List ℕ) (s : Slot) → (slot_after_emptying change k s).owner ≡ s.owner
 emptied_owner (changes.Insert oid row) k s = refl
 emptied_owner (changes.Update oid old row) k s = refl
 emptied_owner (changes.Delete oid old) k s = refl
@@ -146,7 +146,7 @@ emptied_owner (changes.Truncate oids) k s = by_test (is_within oids k)
 
 pub owner_by : (tables : List Table) (m : Made) (k : List ℕ) (s : Slot) → (slot_by tables m k s).owner ≡ cond (is_put k (puts_of tables m.change)) m.top s.owner
 owner_by tables m k s =
-    put_owner m.top (puts_of tables m.change) k (emptied m.change k s)
+    put_owner m.top (puts_of tables m.change) k (slot_after_emptying m.change k s)
     ∙ ap (λ (o : Option ℕ). cond (is_put k (puts_of tables m.change)) m.top o) (emptied_owner m.change k s)
 
 pub and_false : (a b : Bool) → (a && b) ≡ false → b ≡ true → a ≡ false
@@ -307,7 +307,7 @@ home_gone tables top true k s home row is = absurd (never is)
 home_gone tables top false k s home row is = home row is
 
 home_by : (tables : List Table) (top : Option ℕ) (change : Change) (k : List ℕ) (s : Slot) → FitsChange tables change → AtHome tables k s →
-    AtHome tables k (put_at top (puts_of tables change) k (emptied change k s))
+    AtHome tables k (put_at top (puts_of tables change) k (slot_after_emptying change k s))
 home_by tables top (changes.Insert oid row) k s fits home = home_put tables top oid row k s fits home
 home_by tables top (changes.Update oid old row) k s fits home =
     home_put tables top oid row k (cond (same_key k (row_place tables oid old)) (record { row = None; owner = top }) s) fits.1

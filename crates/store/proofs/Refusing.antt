@@ -13,9 +13,9 @@ use Rattle.tables.specs.declared.change_body.TheConstants.{MAX_TRUNCATED}
 use Rattle.tables.specs.declared.change.Change.{Change}
 use Rattle.tables.specs.declared.change.Change.TheVariants as changes
 use Rattle.store.specs.declared.store_fault.StoreFault.TheVariants as faults
-use Rattle.store.specs.Slots.{same_key, Entries, slot_at, HavePlaces, undone, undone_at}
+use Rattle.store.specs.Slots.{same_key, Entries, slot_at, HavePlaces, slots_after_undo, undone_at}
 use Rattle.tables.specs.Tables.{table_of, FitsChange}
-use Rattle.store.specs.History.{Made, made, is_other, is_within, is_among, is_held, is_any_held, places_of, table_place, unless, truncate_fault, truncate_refusal}
+use Rattle.store.specs.History.{Made, change_made, is_other, is_within, is_among, is_held, is_any_held, places_of, table_place, unless, truncate_fault, truncate_refusal}
 use Rattle.tables.specs.Tables.{repeats}
 use Rattle.store.specs.Keeping.{StoreState, journal_of, all_emptied, is_put, puts_of, is_emptied, touches, KeepsOff, Keeps, AreShort, IsSame}
 use Rattle.store.specs.Emptying.{AreAtPlace, is_other_within, emptied_at, AreNoted, Does}
@@ -139,7 +139,7 @@ emptied_within oids k on = by_test (is_within oids k) refl on
         let away : is_put k (all_emptied oids) ≡ false = not_put oids k off in
         absurd cc
 
-all_off : (tables : List Table) (top : ℕ) (oids : List ℕ) (h : List Made) → is_any_held tables top h oids ≡ false → AllByRecursion (λ m. KeepsOff tables m (made top (changes.Truncate oids))) h
+all_off : (tables : List Table) (top : ℕ) (oids : List ℕ) (h : List Made) → is_any_held tables top h oids ≡ false → AllByRecursion (λ m. KeepsOff tables m (change_made top (changes.Truncate oids))) h
 all_off tables top oids [] free = tt
 all_off tables top oids (m ∷ h) free = (
   λ k on also. follows_own top m.top (and_false (is_other top m.top) (list_any (is_within oids) (places_of tables m.change))
@@ -159,7 +159,7 @@ truncate_none tables oids held none = by_tests (not (list_all (λ oid. is_some (
     by_tests false false false false none = refl
 
 pub truncate_made : (s new : StoreState) (h : List Made) (top : ℕ) (oids : List ℕ) → FitsChange s.tables (changes.Truncate oids) → truncate_refusal s.tables h top oids ≡ None →
-    Does top (changes.Truncate oids) s new → Keeps s h → Keeps new (h ++ made top (changes.Truncate oids) ∷ [])
+    Does top (changes.Truncate oids) s new → Keeps s h → Keeps new (h ++ change_made top (changes.Truncate oids) ∷ [])
 truncate_made s new h top oids fits none does keeps =
     keeps_does s new top (changes.Truncate oids) h fits (all_off s.tables top oids h (truncate_none s.tables oids (is_any_held s.tables top h oids) none)) does keeps
 
@@ -242,5 +242,5 @@ emptied_does s new top oids slots undos same kept stands noted journals = record
 }
 
 pub emptied_same : (s new : StoreState) (oids : List ℕ) (slots : Entries) (undos : List Undo) → new.tables ≡ s.tables → AreNoted oids s.slots slots undos →
-    (HavePlaces slots undos → new.slots ≡ undone slots undos) → ((x : ℕ) → journal_of x new.journals ≡ journal_of x s.journals) → IsSame s new
+    (HavePlaces slots undos → new.slots ≡ slots_after_undo slots undos) → ((x : ℕ) → journal_of x new.journals ≡ journal_of x s.journals) → IsSame s new
 emptied_same s new oids slots undos same noted back journals = record { tables = same; slots = noted_undone oids s.slots slots new.slots undos noted back; journals = journals }

@@ -9,12 +9,12 @@ use Rattle.store.specs.declared.slot.Slot.{Slot}
 use Rattle.store.specs.declared.slot.Undo.{Undo}
 use Rattle.tables.specs.declared.table.Table.{Table}
 use Rattle.tables.specs.declared.change.Change.{Change}
-use Rattle.store.specs.Slots.{same_key, vacant, Entries, slot_at, put, HavePlaces, undone, undone_at}
+use Rattle.store.specs.Slots.{same_key, vacant, Entries, slot_at, slots_with, HavePlaces, slots_after_undo, undone_at}
 use Rattle.store.specs.Rows.{Key, key_text}
 use Rattle.tables.specs.Tables.{FitsChange}
 use Rattle.store.specs.Emptying.{Does}
-use Rattle.store.specs.History.{Made, made, is_top, is_other, is_held, is_key_held, table_place, rows_after, rolled_back, count_of, forgotten}
-use Rattle.store.specs.Keeping.{Journals, StoreState, journal_of, Put, put_at, put_all, noted_of, is_put, puts_of, is_emptied, touches, slot_by, slot_from, freed, is_in_journal, IsUndo, AreNotes, KeepsOff, nothing_at, Keeps, AreShort, SameSlots, Makes, IsSame, key_held, row_at}
+use Rattle.store.specs.History.{Made, change_made, is_top, is_other, is_held, is_key_held, table_place, rows_after, history_after_rollback, count_of, history_after_end}
+use Rattle.store.specs.Keeping.{Journals, StoreState, journal_of, Put, put_at, put_all, noted_of, is_put, puts_of, is_emptied, touches, slot_by, slot_from, slot_after_end, is_in_journal, IsUndo, AreNotes, KeepsOff, nothing_at, Keeps, AreShort, SameSlots, Makes, IsSame, key_held, row_at}
 use Rattle.store.proofs.Undoing.{slot_put, slot_undone, places_kept, place_made, undone_keeps, keys_same, same_self, short_put, short_undone}
 use Rattle.store.proofs.Histories.{all_map, all_more, emptied_off, top_self, slot_more, notes_more, notes_beside, apart_more, all_rolled, apart_rolled, undone_rolled, notes_rolled, notes_others, notes_count, rolled_all, rolled_twice}
 use Rattle.store.proofs.Holding.{rows_are, held_is, OffAll, keeps_off}
@@ -44,7 +44,7 @@ keeps_new tables = record {
 slot_all : (top : Option ℕ) (ps : List Put) (es : Entries) (k : List ℕ) → slot_at (put_all top ps es) k ≡ put_at top ps k (slot_at es k)
 slot_all top [] es k = refl
 slot_all top (p ∷ ps) es k =
-    slot_all top ps (put p.0 (record { row = p.1; owner = top }) es) k ∙ ap (put_at top ps k) (slot_put p.0 (record { row = p.1; owner = top }) es k)
+    slot_all top ps (slots_with p.0 (record { row = p.1; owner = top }) es) k ∙ ap (put_at top ps k) (slot_put p.0 (record { row = p.1; owner = top }) es k)
 
 puts_undone : (top : Option ℕ) (ps : List Put) (es : Entries) (k : List ℕ) → undone_at (noted_of top ps es) k (put_at top ps k (slot_at es k)) ≡ slot_at es k
 puts_undone top [] es k = refl
@@ -56,7 +56,7 @@ puts_undone top (p ∷ ps) es k =
     slot = record { row = p.1; owner = top }
 
     next : Entries
-    next = put p.0 (record { row = p.1; owner = top }) es
+    next = slots_with p.0 (record { row = p.1; owner = top }) es
 
     by_test : (a : Bool) → (a ≡ true → k ≡ p.0) → cond a (slot_at es p.0) (cond a slot (slot_at es k)) ≡ slot_at es k
     by_test true same = ap (slot_at es) (sym (same refl))
@@ -65,12 +65,12 @@ puts_undone top (p ∷ ps) es k =
 keeps_places : (top : Option ℕ) (ps : List Put) (es : Entries) (us : List Undo) → HavePlaces es us → HavePlaces (put_all top ps es) us
 keeps_places top [] es us all = all
 keeps_places top (p ∷ ps) es us all =
-    keeps_places top ps (put p.0 (record { row = p.1; owner = top }) es) us (places_kept p.0 (record { row = p.1; owner = top }) es us all)
+    keeps_places top ps (slots_with p.0 (record { row = p.1; owner = top }) es) us (places_kept p.0 (record { row = p.1; owner = top }) es us all)
 
 has_places : (top : Option ℕ) (ps : List Put) (es : Entries) → HavePlaces (put_all top ps es) (noted_of top ps es)
 has_places top [] es = tt
 has_places top (p ∷ ps) es =
-    let next : Entries = put p.0 (record { row = p.1; owner = top }) es in
+    let next : Entries = slots_with p.0 (record { row = p.1; owner = top }) es in
     let u : Undo = record { key = p.0; before = slot_at es p.0 } in
     ((keeps_places top ps next (u ∷ []) (place_made p.0 (record { row = p.1; owner = top }) es, tt)).0, has_places top ps next)
 
@@ -79,11 +79,11 @@ ShortPuts ps = AllByRecursion (λ p. length p.0 ≤ MAX_KEY_LENGTH) ps
 
 short_all : (top : Option ℕ) (ps : List Put) (es : Entries) → ShortPuts ps → AreShort es → AreShort (put_all top ps es)
 short_all top [] es le all = all
-short_all top (p ∷ ps) es le all = short_all top ps (put p.0 (record { row = p.1; owner = top }) es) le.1 (short_put p.0 (record { row = p.1; owner = top }) es le.0 all)
+short_all top (p ∷ ps) es le all = short_all top ps (slots_with p.0 (record { row = p.1; owner = top }) es) le.1 (short_put p.0 (record { row = p.1; owner = top }) es le.0 all)
 
 puts_noted : (P : List ℕ → Type 0) (top : Option ℕ) (ps : List Put) (es : Entries) → AllByRecursion (λ p. P p.0) ps → AllByRecursion (λ u. P u.key) (noted_of top ps es)
 puts_noted P top [] es all = tt
-puts_noted P top (p ∷ ps) es all = (all.0, puts_noted P top ps (put p.0 (record { row = p.1; owner = top }) es) all.1)
+puts_noted P top (p ∷ ps) es all = (all.0, puts_noted P top ps (slots_with p.0 (record { row = p.1; owner = top }) es) all.1)
 
 left_true : (a b : Bool) → a ≡ true → (a || b) ≡ true
 left_true true b is = refl
@@ -101,8 +101,8 @@ all_put all (p ∷ ps) among =
 -- A CHANGE
 
 -- a change of places that no other transaction holds
-pub keeps_does : (s new : StoreState) (top : ℕ) (change : Change) (h : List Made) → FitsChange s.tables change → AllByRecursion (λ e. KeepsOff s.tables e (made top change)) h →
-    Does top change s new → Keeps s h → Keeps new (h ++ made top change ∷ [])
+pub keeps_does : (s new : StoreState) (top : ℕ) (change : Change) (h : List Made) → FitsChange s.tables change → AllByRecursion (λ e. KeepsOff s.tables e (change_made top change)) h →
+    Does top change s new → Keeps s h → Keeps new (h ++ change_made top change ∷ [])
 keeps_does s new top change h fits off does keeps = with_tables new s.tables (h ++ m ∷ []) does.tables (record {
   stands = λ k. does.slots k ∙ ap (slot_by s.tables m k) (keeps.stands k) ∙ sym (slot_more s.tables h m k vacant);
   notes = λ x. by_own x (is_top x (Some top)) refl;
@@ -113,7 +113,7 @@ keeps_does s new top change h fits off does keeps = with_tables new s.tables (h 
 })
   where
     m : Made
-    m = made top change
+    m = change_made top change
 
     undo : IsUndo s.tables m (λ k. slot_from s.tables h k (nothing_at k)) does.undos
     undo = record {
@@ -162,10 +162,10 @@ does_puts s new top change puts_alone short makes = record {
     after k = ap (λ (es : Entries). slot_at es k) makes.slots ∙ slot_all (Some top) ps s.slots k
 
 pub keeps_made : (s new : StoreState) (top : ℕ) (change : Change) (h : List Made) → ((k : List ℕ) → is_emptied change k ≡ false) → FitsChange s.tables change →
-    ShortPuts (puts_of s.tables change) → AllByRecursion (OffAll s.tables top (puts_of s.tables change)) h → Makes top (puts_of s.tables change) s new → Keeps s h → Keeps new (h ++ made top change ∷ [])
+    ShortPuts (puts_of s.tables change) → AllByRecursion (OffAll s.tables top (puts_of s.tables change)) h → Makes top (puts_of s.tables change) s new → Keeps s h → Keeps new (h ++ change_made top change ∷ [])
 keeps_made s new top change h puts_alone fits short off makes keeps =
     keeps_does s new top change h fits
-    (all_map (OffAll s.tables top (puts_of s.tables change)) (λ e. KeepsOff s.tables e (made top change)) h (λ e free. keeps_off s.tables top e (made top change) refl puts_alone free) off)
+    (all_map (OffAll s.tables top (puts_of s.tables change)) (λ e. KeepsOff s.tables e (change_made top change)) h (λ e free. keeps_off s.tables top e (change_made top change) refl puts_alone free) off)
     (does_puts s new top change puts_alone short makes) keeps
 
 -- NO CHANGE
@@ -181,11 +181,11 @@ keeps_same s new h same keeps = with_tables new s.tables h same.tables (record {
 })
 
 pub same_puts : (s new : StoreState) (top : ℕ) (ps : List Put) (slots : Entries) → new.tables ≡ s.tables → slots ≡ put_all (Some top) ps s.slots → ShortPuts ps →
-    (HavePlaces slots (noted_of (Some top) ps s.slots) → new.slots ≡ undone slots (noted_of (Some top) ps s.slots)) → ((x : ℕ) → journal_of x new.journals ≡ journal_of x s.journals) → IsSame s new
+    (HavePlaces slots (noted_of (Some top) ps s.slots) → new.slots ≡ slots_after_undo slots (noted_of (Some top) ps s.slots)) → ((x : ℕ) → journal_of x new.journals ≡ journal_of x s.journals) → IsSame s new
 same_puts s new top ps slots same made short back journals =
     let us : List Undo = noted_of (Some top) ps s.slots in
-    let whole : new.slots ≡ undone (put_all (Some top) ps s.slots) us =
-    back (subst (λ (es : Entries). HavePlaces es us) (sym made) (has_places (Some top) ps s.slots)) ∙ ap (λ (es : Entries). undone es us) made in
+    let whole : new.slots ≡ slots_after_undo (put_all (Some top) ps s.slots) us =
+    back (subst (λ (es : Entries). HavePlaces es us) (sym made) (has_places (Some top) ps s.slots)) ∙ ap (λ (es : Entries). slots_after_undo es us) made in
     record {
       tables = same;
       journals = journals;
@@ -216,14 +216,14 @@ all_last P (y ∷ xs) x all = let rest = all_last P xs x all.1 in ((all.0, rest.
 
 -- the last change of a transaction is undone
 pub keeps_popped : (s new : StoreState) (top : ℕ) (undos : List Undo) (h : List Made) → new.tables ≡ s.tables → journal_of top s.journals ≡ journal_of top new.journals ++ undos ∷ [] →
-    ((x : ℕ) → nat_eq top x ≡ false → journal_of x new.journals ≡ journal_of x s.journals) → (HavePlaces s.slots undos → new.slots ≡ undone s.slots undos) →
-    Keeps s h → Keeps new (rolled_back top (length (journal_of top new.journals)) h)
-keeps_popped s new top undos h same popped others back keeps = with_tables new s.tables (rolled_back top n h) same (record {
+    ((x : ℕ) → nat_eq top x ≡ false → journal_of x new.journals ≡ journal_of x s.journals) → (HavePlaces s.slots undos → new.slots ≡ slots_after_undo s.slots undos) →
+    Keeps s h → Keeps new (history_after_rollback top (length (journal_of top new.journals)) h)
+keeps_popped s new top undos h same popped others back keeps = with_tables new s.tables (history_after_rollback top n h) same (record {
   stands = λ k. ap (λ (es : Entries). slot_at es k) whole ∙ slot_undone s.slots undos k ∙ ap (λ (t : Slot). undone_at undos k t) (keeps.stands k)
       ∙ undone_rolled s.tables top h nothing_at left undos k keeps.apart own;
   notes = λ x. by_test x (nat_eq top x) refl;
   apart = apart_rolled s.tables top n h keeps.apart;
-  places = λ x. subst (λ (es : Entries). AllByRecursion (HavePlaces es) (journal_of x new.journals)) (sym whole) (all_map (HavePlaces s.slots) (HavePlaces (undone s.slots undos)) (journal_of x new.journals)
+  places = λ x. subst (λ (es : Entries). AllByRecursion (HavePlaces es) (journal_of x new.journals)) (sym whole) (all_map (HavePlaces s.slots) (HavePlaces (slots_after_undo s.slots undos)) (journal_of x new.journals)
       (λ us all. undone_keeps s.slots undos us all) (still x (nat_eq top x) refl));
   short = subst AreShort (sym whole) (short_undone s.slots undos parts.1 keeps.short);
   fits = all_rolled (λ m. FitsChange s.tables m.change) top n h keeps.fits;
@@ -241,17 +241,17 @@ keeps_popped s new top undos h same popped others back keeps = with_tables new s
     parts : AllByRecursion (HavePlaces s.slots) (journal_of top new.journals) × HavePlaces s.slots undos
     parts = all_last (HavePlaces s.slots) (journal_of top new.journals) undos (subst (AllByRecursion (HavePlaces s.slots)) popped (keeps.places top))
 
-    whole : new.slots ≡ undone s.slots undos
+    whole : new.slots ≡ slots_after_undo s.slots undos
     whole = back parts.1
 
     top_of : (x : ℕ) → nat_eq top x ≡ true → top ≡ x
     top_of x is = eqb-true top x is
 
-    by_test : (x : ℕ) (a : Bool) → nat_eq top x ≡ a → AreNotes s.tables x (rolled_back top n h) nothing_at (journal_of x new.journals)
+    by_test : (x : ℕ) (a : Bool) → nat_eq top x ≡ a → AreNotes s.tables x (history_after_rollback top n h) nothing_at (journal_of x new.journals)
     by_test x true is =
-        subst (λ (y : ℕ). AreNotes s.tables y (rolled_back top n h) nothing_at (journal_of y new.journals)) (top_of x is) (notes_rolled s.tables top h nothing_at left undos own)
+        subst (λ (y : ℕ). AreNotes s.tables y (history_after_rollback top n h) nothing_at (journal_of y new.journals)) (top_of x is) (notes_rolled s.tables top h nothing_at left undos own)
     by_test x false is =
-        subst (AreNotes s.tables x (rolled_back top n h) nothing_at) (sym (others x is)) (notes_others s.tables x top n h nothing_at (journal_of x s.journals) (differ x top is) keeps.apart (keeps.notes x))
+        subst (AreNotes s.tables x (history_after_rollback top n h) nothing_at) (sym (others x is)) (notes_others s.tables x top n h nothing_at (journal_of x s.journals) (differ x top is) keeps.apart (keeps.notes x))
 
     still : (x : ℕ) (a : Bool) → nat_eq top x ≡ a → AllByRecursion (HavePlaces s.slots) (journal_of x new.journals)
     still x true is = subst (λ (y : ℕ). AllByRecursion (HavePlaces s.slots) (journal_of y new.journals)) (top_of x is) parts.0
@@ -259,17 +259,17 @@ keeps_popped s new top undos h same popped others back keeps = with_tables new s
 
 -- as far as a loop has come
 abbrev pub Undoing : ℕ → ℕ → StoreState → List Made → Type 0
-Undoing top mark s h = (now : List Made) × Keeps s now × (rolled_back top mark now ≡ rolled_back top mark h)
+Undoing top mark s h = (now : List Made) × Keeps s now × (history_after_rollback top mark now ≡ history_after_rollback top mark h)
 
 pub undoing_more : (s new : StoreState) (top mark : ℕ) (undos : List Undo) (h : List Made) → new.tables ≡ s.tables → journal_of top s.journals ≡ journal_of top new.journals ++ undos ∷ [] →
-    ((x : ℕ) → nat_eq top x ≡ false → journal_of x new.journals ≡ journal_of x s.journals) → (HavePlaces s.slots undos → new.slots ≡ undone s.slots undos) →
+    ((x : ℕ) → nat_eq top x ≡ false → journal_of x new.journals ≡ journal_of x s.journals) → (HavePlaces s.slots undos → new.slots ≡ slots_after_undo s.slots undos) →
     mark < length (journal_of top s.journals) → Undoing top mark s h → Undoing top mark new h
 undoing_more s new top mark undos h same popped others back behind (now, keeps, is) =
     let n : ℕ = length (journal_of top new.journals) in
     let le : mark ≤ n = omega (arith, behind, ap (λ (gs : List (List Undo)). length gs) popped, length-append (journal_of top new.journals) (undos ∷ [])) in
-    (rolled_back top n now, keeps_popped s new top undos now same popped others back keeps, rolled_twice top mark n now le ∙ is)
+    (history_after_rollback top n now, keeps_popped s new top undos now same popped others back keeps, rolled_twice top mark n now le ∙ is)
 
-pub undoing_done : (s new : StoreState) (top mark : ℕ) (h : List Made) → IsSame s new → length (journal_of top s.journals) ≤ mark → Undoing top mark s h → Keeps new (rolled_back top mark h)
+pub undoing_done : (s new : StoreState) (top mark : ℕ) (h : List Made) → IsSame s new → length (journal_of top s.journals) ≤ mark → Undoing top mark s h → Keeps new (history_after_rollback top mark h)
 undoing_done s new top mark h same le (now, keeps, is) =
     let few : count_of top now ≤ mark = omega (arith, le, notes_count s.tables top now nothing_at (journal_of top s.journals) (keeps.notes top)) in
     subst (Keeps new) (sym (rolled_all top mark now few) ∙ is) (keeps_same s new now same keeps)
@@ -281,10 +281,10 @@ mark_is s top h keeps = notes_count s.tables top h nothing_at (journal_of top s.
 
 pub keeps_forgotten : (s new : StoreState) (top : ℕ) (h : List Made) → new.tables ≡ s.tables →
     ((x : ℕ) → journal_of x new.journals ≡ cond (nat_eq top x) [] (journal_of x s.journals)) →
-    ((k : List ℕ) → slot_at new.slots k ≡ cond (is_in_journal k (journal_of top s.journals)) (freed top (slot_at s.slots k)) (slot_at s.slots k)) →
-    ((us : List Undo) → HavePlaces s.slots us → HavePlaces new.slots us) → (AreShort s.slots → AreShort new.slots) → Keeps s h → Keeps new (forgotten top h)
-keeps_forgotten s new top h same journals slots places short keeps = with_tables new s.tables (forgotten top h) same (record {
-  stands = λ k. slots k ∙ ap (λ (t : Slot). cond (is_in_journal k (journal_of top s.journals)) (freed top t) t) (keeps.stands k)
+    ((k : List ℕ) → slot_at new.slots k ≡ cond (is_in_journal k (journal_of top s.journals)) (slot_after_end top (slot_at s.slots k)) (slot_at s.slots k)) →
+    ((us : List Undo) → HavePlaces s.slots us → HavePlaces new.slots us) → (AreShort s.slots → AreShort new.slots) → Keeps s h → Keeps new (history_after_end top h)
+keeps_forgotten s new top h same journals slots places short keeps = with_tables new s.tables (history_after_end top h) same (record {
+  stands = λ k. slots k ∙ ap (λ (t : Slot). cond (is_in_journal k (journal_of top s.journals)) (slot_after_end top t) t) (keeps.stands k)
       ∙ freed_noted s.tables top h (journal_of top s.journals) k (keeps.notes top) ∙ sym (from_freed s.tables top h k vacant);
   notes = λ x. by_test x (nat_eq top x) refl;
   apart = apart_forgotten s.tables top h keeps.apart;
@@ -296,12 +296,12 @@ keeps_forgotten s new top h same journals slots places short keeps = with_tables
     journal_is : (x : ℕ) (a : Bool) → nat_eq top x ≡ a → journal_of x new.journals ≡ cond a [] (journal_of x s.journals)
     journal_is x a is = journals x ∙ ap (λ (b : Bool). cond b [] (journal_of x s.journals)) is
 
-    by_test : (x : ℕ) (a : Bool) → nat_eq top x ≡ a → AreNotes s.tables x (forgotten top h) nothing_at (journal_of x new.journals)
+    by_test : (x : ℕ) (a : Bool) → nat_eq top x ≡ a → AreNotes s.tables x (history_after_end top h) nothing_at (journal_of x new.journals)
     by_test x true is =
-        subst (AreNotes s.tables x (forgotten top h) nothing_at) (sym (journal_is x true is))
-        (subst (λ (y : ℕ). AreNotes s.tables y (forgotten top h) nothing_at []) (eqb-true top x is) (notes_settled s.tables top h nothing_at))
+        subst (AreNotes s.tables x (history_after_end top h) nothing_at) (sym (journal_is x true is))
+        (subst (λ (y : ℕ). AreNotes s.tables y (history_after_end top h) nothing_at []) (eqb-true top x is) (notes_settled s.tables top h nothing_at))
     by_test x false is =
-        subst (AreNotes s.tables x (forgotten top h) nothing_at) (sym (journal_is x false is))
+        subst (AreNotes s.tables x (history_after_end top h) nothing_at) (sym (journal_is x false is))
         (notes_forgotten s.tables top x h nothing_at nothing_at (journal_of x s.journals) (differ x top is) keeps.apart (λ k. refl) (unowned_vacant s.tables top x h) (keeps.notes x))
 
     still : (x : ℕ) (a : Bool) → nat_eq top x ≡ a → AllByRecursion (HavePlaces new.slots) (journal_of x new.journals)
@@ -338,14 +338,14 @@ long_vacant s key long short = ap (λ (t : Slot). t.row) (long_slot s key long s
 
 pub shown_forgotten : (tables : List Table) (slots freed_slots : Entries) (journals rest : Journals) (top : ℕ) (journal : List (List Undo)) (s : StoreState) (h : List Made) → state tables slots journals ≡ s →
     journal ≡ journal_of top journals → ((x : ℕ) → journal_of x rest ≡ cond (nat_eq top x) [] (journal_of x journals)) →
-    ((k : List ℕ) → slot_at freed_slots k ≡ cond (is_in_journal k journal) (freed top (slot_at slots k)) (slot_at slots k)) → ((us : List Undo) → HavePlaces slots us → HavePlaces freed_slots us) →
-    (AreShort slots → AreShort freed_slots) → Keeps s h → Keeps (state tables freed_slots rest) (forgotten top h)
+    ((k : List ℕ) → slot_at freed_slots k ≡ cond (is_in_journal k journal) (slot_after_end top (slot_at slots k)) (slot_at slots k)) → ((us : List Undo) → HavePlaces slots us → HavePlaces freed_slots us) →
+    (AreShort slots → AreShort freed_slots) → Keeps s h → Keeps (state tables freed_slots rest) (history_after_end top h)
 shown_forgotten tables slots freed_slots journals rest top journal s h shown is others freed_is places short keeps =
     keeps_forgotten (state tables slots journals) (state tables freed_slots rest) top h refl others
-    (λ k. freed_is k ∙ ap (λ (gs : List (List Undo)). cond (is_in_journal k gs) (freed top (slot_at slots k)) (slot_at slots k)) is) places short (subst (λ (t : StoreState). Keeps t h) (sym shown) keeps)
+    (λ k. freed_is k ∙ ap (λ (gs : List (List Undo)). cond (is_in_journal k gs) (slot_after_end top (slot_at slots k)) (slot_at slots k)) is) places short (subst (λ (t : StoreState). Keeps t h) (sym shown) keeps)
 
 pub none_forgotten : (tables : List Table) (slots : Entries) (journals rest : Journals) (top : ℕ) (s : StoreState) (h : List Made) → state tables slots journals ≡ s → journal_of top journals ≡ [] →
-    ((x : ℕ) → journal_of x rest ≡ cond (nat_eq top x) [] (journal_of x journals)) → Keeps s h → Keeps (state tables slots rest) (forgotten top h)
+    ((x : ℕ) → journal_of x rest ≡ cond (nat_eq top x) [] (journal_of x journals)) → Keeps s h → Keeps (state tables slots rest) (history_after_end top h)
 none_forgotten tables slots journals rest top s h shown none others keeps =
     shown_forgotten tables slots slots journals rest top [] s h shown (sym none) others (λ k. refl) (λ us all. all) (λ all. all) keeps
 

@@ -10,7 +10,7 @@ use Rattle.pqformat.proofs.Numbers.{length-int32}
 use Rattle.store.specs.declared.slot.Slot.{Slot}
 use Rattle.store.specs.declared.slot.Undo.{Undo}
 use Rattle.tables.specs.declared.kinds.Value.{Value}
-use Rattle.store.specs.Slots.{same_key, Entries, entries_of, slot_at, put, HasPlace, HavePlaces, undone, undone_at}
+use Rattle.store.specs.Slots.{same_key, Entries, entries_of, slot_at, slots_with, HasPlace, HavePlaces, slots_after_undo, undone_at}
 use Rattle.store.specs.History.{is_other, is_within, is_among, table_place}
 use Rattle.store.specs.Keeping.{all_emptied, put_at, without_row, AreShort, SameSlots}
 use Rattle.store.specs.Emptying.{AreAtPlace, is_other_within, filled_within, taken_at, IsOf, AreNoted}
@@ -147,7 +147,7 @@ taken_all oids es k = taken_is (filled_within oids es) k (slot_at es k) ∙ by_t
 -- STEP BY STEP
 
 pub taken_next : (places : List (List ℕ)) (i : ℕ) (p : List ℕ) (owner : Option ℕ) (now next : Entries) (k : List ℕ) (total : Slot) → drop i places ≡ p ∷ drop (i + 1) places →
-    owner ≡ (slot_at now p).owner → next ≡ put p (slot None owner) now → taken_at (drop i places) k (slot_at now k) ≡ total → taken_at (drop (i + 1) places) k (slot_at next k) ≡ total
+    owner ≡ (slot_at now p).owner → next ≡ slots_with p (slot None owner) now → taken_at (drop i places) k (slot_at now k) ≡ total → taken_at (drop (i + 1) places) k (slot_at next k) ≡ total
 taken_next places i p owner now next k total left owned made so_far =
     ap (taken_at (drop (i + 1) places) k) (ap (λ (es : Entries). slot_at es k) made ∙ slot_put p (slot None owner) now k ∙ by_test (same_key k p) (keys_same k p))
     ∙ ap (λ (ps : List (List ℕ)). taken_at ps k (slot_at now k)) (sym left) ∙ so_far
@@ -156,7 +156,7 @@ taken_next places i p owner now next k total left owned made so_far =
     by_test true same = ap (slot None) (owned ∙ ap (λ (j : List ℕ). (slot_at now j).owner) (sym (same refl)))
     by_test false same = refl
 
-pub held_next : (top : ℕ) (oids : List ℕ) (i oid : ℕ) (now next : Entries) (k : List ℕ) (total : Slot) → drop i oids ≡ oid ∷ drop (i + 1) oids → next ≡ put (table_place oid) (slot None (Some top)) now →
+pub held_next : (top : ℕ) (oids : List ℕ) (i oid : ℕ) (now next : Entries) (k : List ℕ) (total : Slot) → drop i oids ≡ oid ∷ drop (i + 1) oids → next ≡ slots_with (table_place oid) (slot None (Some top)) now →
     put_at (Some top) (all_emptied (drop i oids)) k (slot_at now k) ≡ total → put_at (Some top) (all_emptied (drop (i + 1) oids)) k (slot_at next k) ≡ total
 held_next top oids i oid now next k total left made so_far =
     ap (put_at (Some top) (all_emptied (drop (i + 1) oids)) k) (ap (λ (es : Entries). slot_at es k) made ∙ slot_put (table_place oid) (slot None (Some top)) now k)
@@ -171,13 +171,13 @@ restores_last : (us : List Undo) (u : Undo) (k : List ℕ) (s : Slot) → undone
 restores_last [] u k s = refl
 restores_last (x ∷ us) u k s = ap (λ (t : Slot). cond (same_key k x.key) x.before t) (restores_last us u k s)
 
-pub noted_next : (oids : List ℕ) (start now next : Entries) (undos more : List Undo) (p : List ℕ) (v : Slot) → IsOf oids start p → next ≡ put p v now →
+pub noted_next : (oids : List ℕ) (start now next : Entries) (undos more : List Undo) (p : List ℕ) (v : Slot) → IsOf oids start p → next ≡ slots_with p v now →
     more ≡ undos ++ record { key = p; before = slot_at now p } ∷ [] → AreNoted oids start now undos → AreNoted oids start next more
 noted_next oids start now next undos more p v here made noted h =
     let P : Entries → List Undo → Type 0 = AreNoted oids start in
-    subst (λ (es : Entries). P es more) (sym made) (subst (P (put p v now)) (sym noted) (record {
-      restore = λ k. restores_last undos u k (slot_at (put p v now) k) ∙ ap (undone_at undos k) (by_place k) ∙ h.restore k;
-      there = all_more (HasPlace (put p v now)) undos u (places_kept p v now undos h.there) (place_made p v now);
+    subst (λ (es : Entries). P es more) (sym made) (subst (P (slots_with p v now)) (sym noted) (record {
+      restore = λ k. restores_last undos u k (slot_at (slots_with p v now) k) ∙ ap (undone_at undos k) (by_place k) ∙ h.restore k;
+      there = all_more (HasPlace (slots_with p v now)) undos u (places_kept p v now undos h.there) (place_made p v now);
       within = all_more (λ x. is_within oids x.key ≡ true) undos u h.within here.within;
       places = λ us all. places_kept p v now us (h.places us all);
       short = λ all. short_put p v now (here.short all) (h.short all);
@@ -186,7 +186,7 @@ noted_next oids start now next undos more p v here made noted h =
     u : Undo
     u = record { key = p; before = slot_at now p }
 
-    by_place : (k : List ℕ) → cond (same_key k p) (slot_at now p) (slot_at (put p v now) k) ≡ slot_at now k
+    by_place : (k : List ℕ) → cond (same_key k p) (slot_at now p) (slot_at (slots_with p v now) k) ≡ slot_at now k
     by_place k = ap (λ (s : Slot). cond (same_key k p) (slot_at now p) s) (slot_put p v now k) ∙ by_test (same_key k p) (keys_same k p)
       where
         by_test : (a : Bool) → (a ≡ true → k ≡ p) → cond a (slot_at now p) (cond a v (slot_at now k)) ≡ slot_at now k
@@ -196,7 +196,7 @@ noted_next oids start now next undos more p v here made noted h =
 pub noted_same : (oids : List ℕ) (start now next : Entries) (undos more : List Undo) → next ≡ now → more ≡ undos → AreNoted oids start now undos → AreNoted oids start next more
 noted_same oids start now next undos more same noted h = subst (λ (es : Entries). AreNoted oids start es more) (sym same) (subst (AreNoted oids start now) (sym noted) h)
 
-pub noted_undone : (oids : List ℕ) (old now new : Entries) (undos : List Undo) → AreNoted oids old now undos → (HavePlaces now undos → new ≡ undone now undos) → SameSlots old new
+pub noted_undone : (oids : List ℕ) (old now new : Entries) (undos : List Undo) → AreNoted oids old now undos → (HavePlaces now undos → new ≡ slots_after_undo now undos) → SameSlots old new
 noted_undone oids old now new undos h back = subst (SameSlots old) (sym (back h.there)) (record {
   slots = λ k. slot_undone now undos k ∙ h.restore k;
   places = λ us all. undone_keeps now undos us (h.places us all);

@@ -7,7 +7,7 @@ use Rattle.store.specs.declared.slot.Slot.{Slot}
 use Rattle.store.specs.declared.slot.Undo.{Undo}
 use Rattle.tables.specs.declared.change.Change.{Change}
 use Rattle.store.specs.Slots.{same_key, Entries, slot_at, HavePlaces, undone_at}
-use Rattle.store.specs.History.{made, is_other, is_within}
+use Rattle.store.specs.History.{change_made, is_other, is_within}
 use Rattle.store.specs.Keeping.{StoreState, journal_of, all_emptied, put_at, without_row, touches, slot_by, AreShort}
 
 -- each slot stands at its place: no place has two
@@ -50,7 +50,7 @@ pub record AreNoted (oids : List ℕ) (old new : Entries) (undos : List Undo) : 
 pub record Does (top : ℕ) (change : Change) (old new : StoreState) : Type 0 where
   pub undos : List Undo
   pub tables : new.tables ≡ old.tables
-  pub slots : (place : List ℕ) → slot_at new.slots place ≡ slot_by old.tables (made top change) place (slot_at old.slots place)
+  pub slots : (place : List ℕ) → slot_at new.slots place ≡ slot_by old.tables (change_made top change) place (slot_at old.slots place)
   pub restore : (place : List ℕ) → undone_at undos place (slot_at new.slots place) ≡ slot_at old.slots place
   pub touched : AllByRecursion (λ u. touches old.tables change u.key ≡ true) undos
   pub there : HavePlaces new.slots undos

@@ -22,8 +22,8 @@ pub record Made : Type 0 where
   pub top : Option ℕ
   pub change : Change
 
-abbrev pub made : ℕ → Change → Made
-made top change = record { top = Some top; change = change }
+abbrev pub change_made : ℕ → Change → Made
+change_made top change = record { top = Some top; change = change }
 
 -- whether a live transaction is this one, or another one
 abbrev pub is_top : ℕ → Option ℕ → Bool
@@ -94,10 +94,10 @@ is_any_held tables top history oids =
 -- UNDOING
 
 -- the history without the changes of a transaction behind its first ones
-abbrev pub rolled_back : ℕ → ℕ → List Made → List Made
-rolled_back top n [] = []
-rolled_back top zero (m ∷ ms) = if is_top top m.top then rolled_back top zero ms else m ∷ rolled_back top zero ms
-rolled_back top (suc n) (m ∷ ms) = if is_top top m.top then m ∷ rolled_back top n ms else m ∷ rolled_back top (suc n) ms
+abbrev pub history_after_rollback : ℕ → ℕ → List Made → List Made
+history_after_rollback top n [] = []
+history_after_rollback top zero (m ∷ ms) = if is_top top m.top then history_after_rollback top zero ms else m ∷ history_after_rollback top zero ms
+history_after_rollback top (suc n) (m ∷ ms) = if is_top top m.top then m ∷ history_after_rollback top n ms else m ∷ history_after_rollback top (suc n) ms
 
 -- how many changes a transaction has made
 abbrev pub count_of : ℕ → List Made → ℕ
@@ -105,14 +105,14 @@ count_of top [] = 0
 count_of top (m ∷ ms) = if is_top top m.top then suc (count_of top ms) else count_of top ms
 
 -- the history once a transaction has ended: its changes are nobody's
-abbrev pub no_longer : ℕ → Option ℕ → Option ℕ
-no_longer top owner = if is_top top owner then None else owner
+abbrev pub owner_after_end : ℕ → Option ℕ → Option ℕ
+owner_after_end top owner = if is_top top owner then None else owner
 
-abbrev pub settled : ℕ → Made → Made
-settled top m = record m { top = no_longer top m.top }
+abbrev pub change_after_end : ℕ → Made → Made
+change_after_end top m = record m { top = owner_after_end top m.top }
 
-abbrev pub forgotten : ℕ → List Made → List Made
-forgotten top history = map (settled top) history
+abbrev pub history_after_end : ℕ → List Made → List Made
+history_after_end top history = map (change_after_end top) history
 
 -- REFUSALS, judged in the order S1 (table), S2 (shape), S6 (length), S5 (held), S4 (not there), S3 (there)
 

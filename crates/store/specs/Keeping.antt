@@ -12,10 +12,10 @@ use Rattle.tables.specs.declared.change.Change.{Change}
 use Rattle.tables.specs.declared.change.Change.TheVariants as changes
 use Rattle.store.specs.declared.store_fault.StoreFault.{StoreFault}
 use Rattle.store.specs.declared.store_fault.StoreFault.TheVariants as faults
-use Rattle.store.specs.Slots.{same_key, vacant, Entries, slot_at, put, HavePlaces, undone_at}
+use Rattle.store.specs.Slots.{same_key, vacant, Entries, slot_at, slots_with, HavePlaces, undone_at}
 use Rattle.tables.specs.Tables.{FitsChange}
 use Rattle.store.specs.Rows.{Key, key_text}
-use Rattle.store.specs.History.{Made, unless, is_top, is_other, no_longer, is_within, row_place, table_place}
+use Rattle.store.specs.History.{Made, unless, is_top, is_other, owner_after_end, is_within, row_place, table_place}
 
 abbrev pub Journals : Type 0
 Journals = List (ℕ × List (List Undo))
@@ -57,32 +57,32 @@ put_at top (p ∷ ps) place slot = put_at top ps place (if same_key place p.0 th
 -- the same of all slots, and what stood at each place before
 abbrev pub put_all : Option ℕ → List Put → Entries → Entries
 put_all top [] slots = slots
-put_all top (p ∷ ps) slots = put_all top ps (put p.0 (record { row = p.1; owner = top }) slots)
+put_all top (p ∷ ps) slots = put_all top ps (slots_with p.0 (record { row = p.1; owner = top }) slots)
 
 abbrev pub noted_of : Option ℕ → List Put → Entries → List Undo
 noted_of top [] slots = []
 noted_of top (p ∷ ps) slots =
-    record { key = p.0; before = slot_at slots p.0 } ∷ noted_of top ps (put p.0 (record { row = p.1; owner = top }) slots)
+    record { key = p.0; before = slot_at slots p.0 } ∷ noted_of top ps (slots_with p.0 (record { row = p.1; owner = top }) slots)
 
 -- the row goes, the holder stays
 abbrev pub without_row : Slot → Slot
 without_row slot = record slot { row = None }
 
-abbrev pub emptied : Change → List ℕ → Slot → Slot
-emptied (changes.Truncate oids) place slot = if is_within oids place then without_row slot else slot
-emptied change place slot = slot
+abbrev pub slot_after_emptying : Change → List ℕ → Slot → Slot
+slot_after_emptying (changes.Truncate oids) place slot = if is_within oids place then without_row slot else slot
+slot_after_emptying change place slot = slot
 
 -- the slot at a place after a change, and after those of a history
 abbrev pub slot_by : List Table → Made → List ℕ → Slot → Slot
-slot_by tables m place slot = put_at m.top (puts_of tables m.change) place (emptied m.change place slot)
+slot_by tables m place slot = put_at m.top (puts_of tables m.change) place (slot_after_emptying m.change place slot)
 
 abbrev pub slot_from : List Table → List Made → List ℕ → Slot → Slot
 slot_from tables [] place slot = slot
 slot_from tables (m ∷ ms) place slot = slot_from tables ms place (slot_by tables m place slot)
 
 -- the slot at a place once a transaction has ended
-abbrev pub freed : ℕ → Slot → Slot
-freed top slot = record slot { owner = no_longer top slot.owner }
+abbrev pub slot_after_end : ℕ → Slot → Slot
+slot_after_end top slot = record slot { owner = owner_after_end top slot.owner }
 
 -- whether something was noted of a place
 abbrev pub is_noted : List ℕ → List Undo → Bool

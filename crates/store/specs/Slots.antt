@@ -26,8 +26,8 @@ abbrev pub slot_at : Entries → List ℕ → Slot
 slot_at slots key = unwrap_or (lookup (same_key key) slots) vacant
 
 -- a slot is put at a place
-abbrev pub put : List ℕ → Slot → Entries → Entries
-put key slot slots = insert_entry same_key slots key slot
+abbrev pub slots_with : List ℕ → Slot → Entries → Entries
+slots_with key slot slots = insert_entry same_key slots key slot
 
 -- the place that was changed has a slot, and so has each
 abbrev pub HasPlace : Entries → Undo → Type 0
@@ -37,9 +37,9 @@ abbrev pub HavePlaces : Entries → List Undo → Type 0
 HavePlaces slots undos = AllByRecursion (HasPlace slots) undos
 
 -- the slots after a change is undone, the last of its places first
-abbrev pub undone : Entries → List Undo → Entries
-undone slots [] = slots
-undone slots (u ∷ us) = put u.key u.before (undone slots us)
+abbrev pub slots_after_undo : Entries → List Undo → Entries
+slots_after_undo slots [] = slots
+slots_after_undo slots (u ∷ us) = slots_with u.key u.before (slots_after_undo slots us)
 
 -- the slot at a place after that
 abbrev pub undone_at : List Undo → List ℕ → Slot → Slot

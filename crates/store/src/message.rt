@@ -1,7 +1,7 @@
 //! Messages that transactions make: they change no row and hold nothing.
 
 ghost use Rattle.std.specs.Prelude.{◌≡◌, ◌++◌, ◌∷◌, [], IfErr, IfOk, List, None, OnErr, OnOk};
-ghost use Rattle.store.specs.History.{Made, made, message_fault};
+ghost use Rattle.store.specs.History.{Made, change_made, message_fault};
 ghost use Rattle.store.specs.Keeping.{IsSame, Keeps, Makes, RefusedExactly, RefusedOrMemory};
 ghost use Rattle.tables.specs.Spelling.{IsShort};
 ghost use Rattle.tables.specs.Tables.{FitsChange, FitsMessage};
@@ -51,7 +51,7 @@ impl Store {
             ((history : List Made) → Keeps self.old history →
             Keeps self.new
             (history
-            ++ made top
+            ++ change_made top
             (Change.Message (record { prefix = prefix.now; content = content.now }))
             ∷ [])) }
         ensures err { OnErr result

@@ -2,7 +2,7 @@
 
 ghost use Rattle.std.specs.Prelude.{◌≡◌};
 ghost use Rattle.store.specs.History.{is_other};
-ghost use Rattle.store.specs.Keeping.{freed};
+ghost use Rattle.store.specs.Keeping.{slot_after_end};
 ghost use Rattle.store.specs.Slots.{vacant};
 
 use pqformat::Items;
@@ -45,7 +45,7 @@ impl Slot {
 
     /// The transaction holds it no longer, if it did.
     pub fn release(&mut self, top: u32)
-        ensures { self.new ≡ freed top self.old }
+        ensures { self.new ≡ slot_after_end top self.old }
     {
         if self.owner == Some(top) {
             self.owner = None;

@@ -3,8 +3,8 @@
 ghost use Rattle.std.specs.Prelude.{List, ℕ, ◌≡◌, ◌≤◌, ◌++◌, ◌∷◌, [], IfOk, OnErr, OnOk, length, if◌then◌else◌};
 ghost use Rattle.std.specs.Option.{option_copied};
 ghost use Rattle.store.specs.Emptying.{AreAtPlace, filled_within, is_other_within};
-ghost use Rattle.store.specs.Keeping.{AreShort, SameSlots, freed, is_in_journal, is_noted, noted_of, put_all};
-ghost use Rattle.store.specs.Slots.{HasPlace, HavePlaces, put, same_key, slot_at, undone};
+ghost use Rattle.store.specs.Keeping.{AreShort, SameSlots, is_in_journal, is_noted, noted_of, put_all, slot_after_end};
+ghost use Rattle.store.specs.Slots.{HasPlace, HavePlaces, same_key, slot_at, slots_after_undo, slots_with};
 ghost use Rattle.store.specs.declared.slot.Undo.{Undo as Noted};
 
 use crate::journals::Journal;
@@ -89,7 +89,7 @@ impl Slots {
 
     /// Puts a slot at a place, and answers what stood there. Without memory nothing changes.
     pub fn swap(&mut self, place: Vec<u8>, slot: Slot) -> Result<Slot, AllocError>
-        ensures ok { OnOk result (self.new ≡ put place.items slot self.old) }
+        ensures ok { OnOk result (self.new ≡ slots_with place.items slot self.old) }
         ensures before { IfOk result (λ before. before ≡ slot_at self.old place.items) }
         ensures err { OnErr result (self.new ≡ self.old) }
     {
@@ -101,7 +101,7 @@ impl Slots {
 
     /// Undoes a change, the last of its places first. It takes no memory.
     pub fn undo(&mut self, undos: Items<Undo>)
-        ensures { HavePlaces self.old undos → self.new ≡ undone self.old undos }
+        ensures { HavePlaces self.old undos → self.new ≡ slots_after_undo self.old undos }
     {
         let mut undos = undos.into_vec();
         while let Some(undo) = undos.pop() {
@@ -110,7 +110,7 @@ impl Slots {
     }
 
     fn put_back(&mut self, undo: Undo)
-        ensures { HasPlace self.old undo → self.new ≡ put undo.key undo.before self.old }
+        ensures { HasPlace self.old undo → self.new ≡ slots_with undo.key undo.before self.old }
     {
         let Undo { key, before } = undo;
         match self.by_place.insert(key.into_vec(), before) {
@@ -129,7 +129,7 @@ impl Slots {
         row: Option<Row>,
     ) -> Result<(), AllocError>
         ensures ok { OnOk result
-            (self.new ≡ put place.now (record { row = row; owner = owner }) self.old) }
+            (self.new ≡ slots_with place.now (record { row = row; owner = owner }) self.old) }
         ensures noted { OnOk result
             (undos.new.items
             ≡ undos.old.items ++ record { key = place.now; before = slot_at self.old place.now }
@@ -194,7 +194,7 @@ impl Slots {
     pub fn free_all(&mut self, top: u32, journal: Journal)
         ensures slots { (place : List ℕ) →
             slot_at self.new place
-            ≡ (if is_in_journal place journal then freed top (slot_at self.old place)
+            ≡ (if is_in_journal place journal then slot_after_end top (slot_at self.old place)
             else slot_at self.old place) }
         ensures places { (others : List Noted) → HavePlaces self.old others →
             HavePlaces self.new others }
@@ -210,7 +210,7 @@ impl Slots {
     pub fn free(&mut self, top: u32, undos: Items<Undo>)
         ensures slots { (place : List ℕ) →
             slot_at self.new place
-            ≡ (if is_noted place undos then freed top (slot_at self.old place)
+            ≡ (if is_noted place undos then slot_after_end top (slot_at self.old place)
             else slot_at self.old place) }
         ensures places { (others : List Noted) → HavePlaces self.old others →
             HavePlaces self.new others }
@@ -225,7 +225,7 @@ impl Slots {
     fn free_place(&mut self, top: u32, place: &[u8])
         ensures slots { (other : List ℕ) →
             slot_at self.new other
-            ≡ (if same_key other place.now then freed top (slot_at self.old other)
+            ≡ (if same_key other place.now then slot_after_end top (slot_at self.old other)
             else slot_at self.old other) }
         ensures places { (others : List Noted) → HavePlaces self.old others →
             HavePlaces self.new others }

@@ -5,9 +5,9 @@ ghost use Rattle.std.specs.Option.{option_copied};
 ghost use Rattle.tables.specs.declared.config.TheConstants.{MAX_TABLES};
 ghost use Rattle.store.specs.Keeping.{AreShort, DeletesAt, IsSame, Keeps, Makes, UpdatesAt, RefusedExactly, RefusedOrMemory, journal_of, key_held, keys_fault, places_fault, row_at};
 ghost use Rattle.store.specs.Emptying.{Does};
-ghost use Rattle.store.specs.History.{Made, count_of, delete_fault, delete_refusal, forgotten, insert_fault, insert_refusal, is_other, made, rolled_back, row_place, rows_after, table_place, truncate_refusal, unless, update_fault, update_refusal, Deletes, Updates};
+ghost use Rattle.store.specs.History.{Made, change_made, count_of, delete_fault, delete_refusal, history_after_end, history_after_rollback, insert_fault, insert_refusal, is_other, row_place, rows_after, table_place, truncate_refusal, unless, update_fault, update_refusal, Deletes, Updates};
 ghost use Rattle.store.specs.Rows.{key_of, key_text};
-ghost use Rattle.store.specs.Slots.{HavePlaces, same_key, slot_at, undone};
+ghost use Rattle.store.specs.Slots.{HavePlaces, same_key, slot_at, slots_after_undo};
 ghost use Rattle.tables.specs.Spelling.{IsShort};
 ghost use Rattle.tables.specs.Tables.{FitsRow, FitsChange};
 
@@ -85,7 +85,7 @@ impl Store {
     pub fn undo_to(&mut self, top: u32, mark: usize)
         ensures tables { self.new.tables ≡ self.old.tables }
         ensures keeps { (history : List Made) → Keeps self.old history →
-            Keeps self.new (rolled_back top mark history) }
+            Keeps self.new (history_after_rollback top mark history) }
     {
         while let Some(undos) = self.journals.pop_behind(top, mark) {
             self.slots.undo(undos);
@@ -96,7 +96,7 @@ impl Store {
     pub fn forget(&mut self, top: u32)
         ensures tables { self.new.tables ≡ self.old.tables }
         ensures keeps { (history : List Made) → Keeps self.old history →
-            Keeps self.new (forgotten top history) }
+            Keeps self.new (history_after_end top history) }
     {
         if let Some(journal) = self.journals.remove(top) {
             self.slots.free_all(top, journal);
@@ -110,7 +110,7 @@ impl Store {
         ensures short { IfOk result IsShort }
         ensures ok { OnOk result
             ((history : List Made) → Keeps self.old history →
-            Keeps self.new (history ++ made top (Change.Insert oid row) ∷ [])) }
+            Keeps self.new (history ++ change_made top (Change.Insert oid row) ∷ [])) }
         ensures err { OnErr result
             ((history : List Made) → Keeps self.old history → Keeps self.new history) }
         ensures refused { (history : List Made) → Keeps self.old history →
@@ -154,7 +154,7 @@ impl Store {
             change) }
         ensures ok { IfOk result
             (λ change. (history : List Made) → Keeps self.old history →
-            Keeps self.new (history ++ made top change ∷ [])) }
+            Keeps self.new (history ++ change_made top change ∷ [])) }
         ensures err { OnErr result
             ((history : List Made) → Keeps self.old history → Keeps self.new history) }
         ensures refused { (history : List Made) → Keeps self.old history →
@@ -206,7 +206,7 @@ impl Store {
             Deletes self.old.tables history (record { oid = oid; values = key.now }) change) }
         ensures ok { IfOk result
             (λ change. (history : List Made) → Keeps self.old history →
-            Keeps self.new (history ++ made top change ∷ [])) }
+            Keeps self.new (history ++ change_made top change ∷ [])) }
         ensures err { OnErr result
             ((history : List Made) → Keeps self.old history → Keeps self.new history) }
         ensures refused { (history : List Made) → Keeps self.old history →
@@ -243,7 +243,7 @@ impl Store {
         ensures short { IfOk result IsShort }
         ensures ok { OnOk result
             ((history : List Made) → Keeps self.old history →
-            Keeps self.new (history ++ made top (Change.Truncate oids.now) ∷ [])) }
+            Keeps self.new (history ++ change_made top (Change.Truncate oids.now) ∷ [])) }
         ensures err { OnErr result
             ((history : List Made) → Keeps self.old history → Keeps self.new history) }
         ensures refused { (history : List Made) → Keeps self.old history →
@@ -317,7 +317,8 @@ impl Store {
             ≡ (if top == x then journal_of x self.old.journals ++ undos ∷ []
             else journal_of x self.old.journals)) }
         ensures undone { OnErr result
-            (HavePlaces self.old.slots undos → self.new.slots ≡ undone self.old.slots undos) }
+            (HavePlaces self.old.slots undos
+            → self.new.slots ≡ slots_after_undo self.old.slots undos) }
         ensures same { OnErr result
             ((x : ℕ) → journal_of x self.new.journals ≡ journal_of x self.old.journals) }
     {

@@ -32,7 +32,7 @@ use Rattle.stream.specs.declared.published.Published.{Published}
 use Rattle.stream.specs.declared.published.PublishedChange.{PublishedChange}
 use Rattle.stream.proofs.Lists.{all_of_both}
 use Rattle.stream.specs.Words.{word_body, word_bytes, FitsWord}
-use Rattle.stream.specs.Items.{Item, KeepaliveItem, Block, words_by, note_words, transaction_words, xlogdata_word, tables_of, is_relation_sent, relations_due, relations_sent_by, relation_words, change_words, changes_words, item_words, relations_sent_after, words_of, spelled, IsShortMessage, FitsRelationOf, IsOfChange, FitsChange, FitsNote, FitChanges, FitsPublished, FitsItem, FitItems}
+use Rattle.stream.specs.Items.{Item, KeepaliveItem, Block, words_by, note_words, transaction_words, xlogdata_word, tables_of, is_relation_sent, relations_due, relations_sent_by, relation_words, change_words, changes_words, item_words, relations_sent_after, words_of, bytes_of_items, IsShortMessage, FitsRelationOf, IsOfChange, FitsChange, FitsNote, FitChanges, FitsPublished, FitsItem, FitItems}
 
 -- ---- frames to words
 
@@ -415,7 +415,7 @@ words_fit relation relations_sent (i ∷ items) fits =
 -- ---- a stream has one reading, and so has each beginning of one
 
 pub one_reading : IsSpelledOnce → (relation : ℕ → Relation) (a b : List Item) (x : List ℕ) → FitItems relation a → FitItems relation b
-    → spelled relation [] a ++ x ≡ spelled relation [] b → (more : List Item) × (b ≡ a ++ more)
+    → bytes_of_items relation [] a ++ x ≡ bytes_of_items relation [] b → (more : List Item) × (b ≡ a ++ more)
 one_reading once relation a b x fits_a fits_b e =
     let w = begins word_bytes FitsWord (words_are_code once) words_are_full (words_of relation [] a) (words_of relation [] b) x (words_fit relation [] a fits_a) (words_fit relation [] b fits_b) e in
     begun_words relation [] a b w.more fits_a fits_b (sym w.is)

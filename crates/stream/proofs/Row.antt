@@ -9,7 +9,7 @@ use Rattle.pgoutput.specs.declared.tuple.Cell.TheVariants as cells
 use Rattle.stream.specs.declared.word.Word.TheVariants as words
 use Rattle.stream.specs.declared.published.Published.{Published}
 use Rattle.stream.specs.Words.{word_bytes}
-use Rattle.stream.specs.Items.{Block, xlogdata_word, words_of, spelled}
+use Rattle.stream.specs.Items.{Block, xlogdata_word, words_of, bytes_of_items}
 
 -- public.item: id int4, the key; name text; qty int8
 abbrev item : Relation
@@ -56,7 +56,7 @@ the_words : words_of (λ _. item) [] (Block (pos 9) transaction ∷ [])
     ∷ xlogdata_word 0x1000050 (pos 9) (logical.Commit (record { position = 0x1000030; end = 0x1000050; time = pos 5 })) ∷ []
 the_words = refl
 
-the_bytes : spelled (λ _. item) [] (Block (pos 9) transaction ∷ []) ≡ begin_frame ++ (relation_frame ++ (insert_frame ++ commit_frame))
+the_bytes : bytes_of_items (λ _. item) [] (Block (pos 9) transaction ∷ []) ≡ begin_frame ++ (relation_frame ++ (insert_frame ++ commit_frame))
 unfolding int16 int32 int64
 the_bytes = refl
 
@@ -95,7 +95,7 @@ message_frame = 0x64 ∷ 0x00 ∷ 0x00 ∷ 0x00 ∷ 0x2f ∷ 0x77 ∷ 0x00 ∷ 0
 abbrev commit_with_message : List ℕ
 commit_with_message = 0x64 ∷ 0x00 ∷ 0x00 ∷ 0x00 ∷ 0x37 ∷ 0x77 ∷ 0x00 ∷ 0x00 ∷ 0x00 ∷ 0x00 ∷ 0x01 ∷ 0x00 ∷ 0x00 ∷ 0x60 ∷ 0x00 ∷ 0x00 ∷ 0x00 ∷ 0x00 ∷ 0x01 ∷ 0x00 ∷ 0x00 ∷ 0x60 ∷ 0x00 ∷ 0x00 ∷ 0x00 ∷ 0x00 ∷ 0x00 ∷ 0x00 ∷ 0x00 ∷ 0x09 ∷ 0x43 ∷ 0x00 ∷ 0x00 ∷ 0x00 ∷ 0x00 ∷ 0x00 ∷ 0x01 ∷ 0x00 ∷ 0x00 ∷ 0x40 ∷ 0x00 ∷ 0x00 ∷ 0x00 ∷ 0x00 ∷ 0x01 ∷ 0x00 ∷ 0x00 ∷ 0x60 ∷ 0x00 ∷ 0x00 ∷ 0x00 ∷ 0x00 ∷ 0x00 ∷ 0x00 ∷ 0x00 ∷ 0x05 ∷ []
 
-messages_and_notes : spelled (λ _. item) [] (Block (pos 9) note ∷ Block (pos 9) with_message ∷ [])
+messages_and_notes : bytes_of_items (λ _. item) [] (Block (pos 9) note ∷ Block (pos 9) with_message ∷ [])
     ≡ note_frame ++ (begin_with_message ++ (message_frame ++ commit_with_message))
 unfolding int16 int32 int64
 messages_and_notes = refl

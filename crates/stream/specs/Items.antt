@@ -112,8 +112,8 @@ words_of relation relations_sent [] = []
 words_of relation relations_sent (item ∷ items) = item_words relation relations_sent item ++ words_of relation (relations_sent_after relations_sent item) items
 
 -- what the items spell
-abbrev pub spelled : (ℕ → Relation) → List ℕ → List Item → List ℕ
-spelled relation relations_sent items = frames_of (words_of relation relations_sent items)
+abbrev pub bytes_of_items : (ℕ → Relation) → List ℕ → List Item → List ℕ
+bytes_of_items relation relations_sent items = frames_of (words_of relation relations_sent items)
 
 -- the tables whose Relation was sent, once these transactions are sent too
 abbrev pub relations_sent_through : List ℕ → List Published → List ℕ

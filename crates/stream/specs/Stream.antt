@@ -4,7 +4,7 @@ use Rattle.std.specs.Prelude.{◌≡◌, ℕ, ◌≤◌, List, [], ◌∷◌}
 use Rattle.std.specs.List.{AllByRecursion}
 use Rattle.pgoutput.specs.declared.relation.Relation.{Relation}
 use Rattle.stream.specs.declared.published.Published.{Published}
-use Rattle.stream.specs.Items.{Item, KeepaliveItem, spelled, transactions_of, FitItems}
+use Rattle.stream.specs.Items.{Item, KeepaliveItem, bytes_of_items, transactions_of, FitItems}
 
 -- Safe keepalives. Each one carries a number that is at most the limit, the end of what was read of the log; and every
 -- transaction whose commit record starts below that number stands whole before the keepalive. Told from behind: no
@@ -17,6 +17,6 @@ AreSafeKeepalives limit (_ ∷ items) = AreSafeKeepalives limit items
 pub record IsStream (relation : ℕ → Relation) (bytes : List ℕ) (transactions : List Published) (limit : ℕ) : Type 0 where
   pub items : List Item
   pub fits : FitItems relation items
-  pub spells : bytes ≡ spelled relation [] items
+  pub spells : bytes ≡ bytes_of_items relation [] items
   pub sends : transactions_of items ≡ transactions
   pub safe : AreSafeKeepalives limit items

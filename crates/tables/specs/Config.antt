@@ -99,8 +99,8 @@ unfoldable pub columns_in : List (List ℕ) → Data → Option (List Column)
 columns_in key d = and_then (as_array d) (λ ds. and_then (columns_behind key [] ds) unless_empty)
 
 -- the member of this name, where it is there and is read so
-abbrev pub told : {M X : Type 0} → M → List ℕ → (Data → Option X) → Data → Result X M
-told which key read d = ok_or (and_then (get key d) read) which
+abbrev pub told_member : {M X : Type 0} → M → List ℕ → (Data → Option X) → Data → Result X M
+told_member which key read d = ok_or (and_then (get key d) read) which
 
 abbrev pub count_of : Members → ℕ
 count_of no_members = 0
@@ -117,15 +117,15 @@ has_others d = is_more_than (if is_some (get (codes "identity") d) then 6 else 5
 -- the columns, of which some have the names of the key
 unfoldable pub columns_at : Data → Result (List Column) Member
 columns_at d = do
-  key ← told members.Key (codes "key") names_in d
-  columns ← told members.Columns (codes "columns") (columns_in key) d
+  key ← told_member members.Key (codes "key") names_in d
+  columns ← told_member members.Columns (codes "columns") (columns_in key) d
   if list_all (is_column columns) key then Ok columns else Err members.Key
 
 unfoldable pub table_in : Data → Result Table Member
 table_in d = do
-  oid ← told members.Oid (codes "oid") oid_in d
-  schema ← told members.Schema (codes "schema") name_in d
-  name ← told members.Name (codes "name") name_in d
+  oid ← told_member members.Oid (codes "oid") oid_in d
+  schema ← told_member members.Schema (codes "schema") name_in d
+  name ← told_member members.Name (codes "name") name_in d
   identity ← ok_or (identity_in (get (codes "identity") d)) members.Identity
   columns ← columns_at d
   if has_others d then Err members.Other

@@ -6,7 +6,7 @@ ghost use Rattle.std.specs.List.{list_all};
 ghost use Rattle.toml.specs.Data.{get};
 ghost use Rattle.toml.specs.View.{view, items_view};
 ghost use Rattle.tables.specs.declared.config_table.Unread.TheVariants.{Memory};
-ghost use Rattle.tables.specs.Config.{another_column, columns_at, columns_behind, columns_in, has_others, identity_in, is_column, name_in, names_in, next_column, oid_in, pair_in, table_in, told, Reads};
+ghost use Rattle.tables.specs.Config.{another_column, columns_at, columns_behind, columns_in, has_others, identity_in, is_column, name_in, names_in, next_column, oid_in, pair_in, table_in, told_member, Reads};
 ghost use Rattle.std.specs.Option.{ok_or};
 ghost use Rattle.tables.specs.declared.config_fault.Member.TheVariants as members;
 ghost use Rattle.tables.specs.Tables.{AreColumns, IsName, IsTable};
@@ -67,7 +67,7 @@ pub(crate) fn table_in(alloc: Global, value: &Value) -> Result<Table, Unread>
 }
 
 fn oid_at(table: &Value) -> Result<u32, Unread>
-    ensures { Reads result (told members.Oid (codes "oid") oid_in (view table.now)) }
+    ensures { Reads result (told_member members.Oid (codes "oid") oid_in (view table.now)) }
 {
     let oid = table.get("oid").and_then(oid_in);
     oid.ok_or(Unread::Wrong(Member::Oid))
@@ -75,7 +75,7 @@ fn oid_at(table: &Value) -> Result<u32, Unread>
 
 /// The name in this member, which `which` tells where there is none.
 fn name_at(alloc: Global, table: &Value, member: &str, which: Member) -> Result<Text, Unread>
-    ensures value { Reads result (told which member.now name_in (view table.now)) }
+    ensures value { Reads result (told_member which member.now name_in (view table.now)) }
     ensures named { IfOk result IsName }
 {
     match table.get(member).and_then(name_in) {
@@ -107,7 +107,7 @@ fn columns_at(alloc: Global, table: &Value) -> Result<Items<Column>, Unread>
 }
 
 fn key_at(alloc: Global, table: &Value) -> Result<Items<Text>, Unread>
-    ensures { Reads result (told members.Key (codes "key") names_in (view table.now)) }
+    ensures { Reads result (told_member members.Key (codes "key") names_in (view table.now)) }
 {
     let Some(value) = table.get("key") else {
         return Err(Unread::Wrong(Member::Key));
@@ -119,7 +119,7 @@ fn key_at(alloc: Global, table: &Value) -> Result<Items<Text>, Unread>
 /// The columns beside a key of these names.
 fn columns_beside(alloc: Global, key: &[Text], table: &Value) -> Result<Items<Column>, Unread>
     ensures value { Reads result
-        (told members.Columns (codes "columns") (columns_in key.now) (view table.now)) }
+        (told_member members.Columns (codes "columns") (columns_in key.now) (view table.now)) }
     ensures fits { IfOk result AreColumns }
 {
     let Some(value) = table.get("columns") else {

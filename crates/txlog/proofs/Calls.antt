@@ -8,7 +8,7 @@ use Rattle.tables.specs.declared.change.Change.{Change}
 use Rattle.tables.specs.declared.change.Change.TheVariants as changes
 use Rattle.tables.specs.Spelling.{IsShort}
 use Rattle.tables.specs.Tables.{FitsChange}
-use Rattle.store.specs.History.{made, count_of, rolled_back, forgotten}
+use Rattle.store.specs.History.{change_made, count_of, history_after_rollback, history_after_end}
 use Rattle.store.specs.Keeping.{StoreState, Keeps}
 use Rattle.tables.proofs.Lengths.{insert_length, delete_length, two_rows_length, truncate_length, message_length}
 use Rattle.txlog.specs.declared.savepoint.Savepoint.{Savepoint}
@@ -17,10 +17,10 @@ use Rattle.wal.specs.declared.record.TheConstants.{FIRST_POSITION}
 use Rattle.wal.specs.declared.record.Record.{Record}
 use Rattle.wal.specs.declared.record.Body.TheVariants.{Assign, Change as Changed, AbortSub, Abort, Commit, Note}
 use Rattle.wal.specs.Log.{IsOpen, IsMessage, IsWellFormedLog, end_of, size_of, top_of}
-use Rattle.txlog.specs.Rows.{standing, history_of}
+use Rattle.txlog.specs.Rows.{standing_changes, history_of}
 use Rattle.txlog.specs.Publishing as calls
 use Rattle.wal.specs.Records.{record_after}
-use Rattle.txlog.specs.Publishing.{LiveTransaction, PublisherState, xids, log_end, with_record, room, is_live, savepoints_of, innermost, with_savepoints, without, new_publisher, begun, changed, next_savepoint, after_commit, receipt_of}
+use Rattle.txlog.specs.Publishing.{LiveTransaction, PublisherState, xids, log_end, with_record, room, is_live, savepoints_of, innermost, with_savepoints, without, new_publisher, after_begin, after_change, next_savepoint, after_commit, receipt_of}
 use Rattle.txlog.specs.Invariants.{IsPublisher, IsInProgress, IsBehind, IsMarked, KeepsLog, is_own, is_under}
 use Rattle.wal.proofs.Lists.{all_append}
 use Rattle.txlog.proofs.LiveList.{found, restored}
@@ -61,7 +61,7 @@ innermost_open s xid h is =
 
 -- a change that the tables took, and its record
 pub changed_kept : (store new : StoreState) (s : PublisherState) (xid : ℕ) (change : Change) → KeepsLog store s → is_live xid s.live ≡ true → 0 < room s →
-    FitsChange s.tables change → IsShort change → Keeps new (history_of s.log ++ made xid change ∷ []) → KeepsLog new (changed xid change s)
+    FitsChange s.tables change → IsShort change → Keeps new (history_of s.log ++ change_made xid change ∷ []) → KeepsLog new (after_change xid change s)
 changed_kept store new s xid change h is free fits short keeps =
     let at = innermost_open s xid h.publisher is in
     record {
@@ -81,12 +81,12 @@ noted_kept store s change h free is fits short = record {
 
 -- a change that the tables took, and that was undone
 pub unchanged_kept : (store new : StoreState) (s : PublisherState) (xid mark : ℕ) (change : Change) → KeepsLog store s → mark ≡ count_of xid (history_of s.log) →
-    Keeps new (rolled_back xid mark (history_of s.log ++ made xid change ∷ [])) → KeepsLog new s
+    Keeps new (history_after_rollback xid mark (history_of s.log ++ change_made xid change ∷ [])) → KeepsLog new s
 unchanged_kept store new s xid mark change h at keeps =
     record {
       publisher = h.publisher;
       marked = h.marked;
-      rows = subst (Keeps new) (ap (λ (n : ℕ). rolled_back xid n (history_of s.log ++ made xid change ∷ [])) at ∙ rolled_last xid change (history_of s.log)) keeps;
+      rows = subst (Keeps new) (ap (λ (n : ℕ). history_after_rollback xid n (history_of s.log ++ change_made xid change ∷ [])) at ∙ rolled_last xid change (history_of s.log)) keeps;
     }
 
 pub rows_kept : (store new : StoreState) (s : PublisherState) → KeepsLog store s → Keeps new (history_of s.log) → KeepsLog new s
@@ -121,7 +121,7 @@ committed_is tables s now tx xid place start end time kept log live same fixed n
 
 pub committed_kept : (store new : StoreState) (tables : List Table) (s : PublisherState) (xid : ℕ) (time kept : ℤ) (log : List Record) (live : List LiveTransaction) → KeepsLog store s →
     true ≡ is_live xid s.live → FitsSigned w64 time → kept ≡ time → log ≡ s.log ++ record_after s.log (Commit xid kept) ∷ [] → live ≡ without xid s.live →
-    Keeps new (forgotten xid (history_of s.log)) → tables ≡ s.tables → KeepsLog new (record s { tables = tables; log = log; live = live })
+    Keeps new (history_after_end xid (history_of s.log)) → tables ≡ s.tables → KeepsLog new (record s { tables = tables; log = log; live = live })
 committed_kept store new tables s xid time kept log live h is fits t grown fewer keeps fixed =
     rw (fixed, grown, fewer) (record {
       publisher = after_commit-IsPublisher s xid kept h.publisher (sym is) (rw t fits);
@@ -131,7 +131,7 @@ committed_kept store new tables s xid time kept log live h is fits t grown fewer
 
 pub aborted_kept : (store new : StoreState) (tables : List Table) (s : PublisherState) (xid : ℕ) (log : List Record) (live : List LiveTransaction) → KeepsLog store s →
     true ≡ is_live xid s.live → log ≡ s.log ++ record_after s.log (Abort xid) ∷ [] → live ≡ without xid s.live →
-    Keeps new (forgotten xid (rolled_back xid 0 (history_of s.log))) → tables ≡ s.tables → KeepsLog new (record s { tables = tables; log = log; live = live })
+    Keeps new (history_after_end xid (history_after_rollback xid 0 (history_of s.log))) → tables ≡ s.tables → KeepsLog new (record s { tables = tables; log = log; live = live })
 aborted_kept store new tables s xid log live h is grown fewer keeps fixed =
     let running = open_at s xid h.publisher (sym is) in
     rw (fixed, grown, fewer) (record {
@@ -154,7 +154,7 @@ xid_at (p ∷ savepoints) (suc n) s is = xid_at savepoints n s is
 
 -- the state after a savepoint of this xid is rolled back
 abbrev moved_back : ℕ → ℕ → ℕ → PublisherState → PublisherState
-moved_back xid depth x s = calls.released xid depth (with_record (AbortSub x) s)
+moved_back xid depth x s = calls.after_release xid depth (with_record (AbortSub x) s)
 
 pub saved_kept : (store : StoreState) (s now : PublisherState) (xid parent depth : ℕ) (savepoint : Savepoint) (log : List Record) (live : List LiveTransaction) → s ≡ now → KeepsLog store s →
     is_live xid now.live ≡ true → 0 < room now → depth ≡ length (savepoints_of xid now.live) → depth < MAX_DEPTH → parent ≡ innermost xid s.live → savepoint ≡ next_savepoint xid s →
@@ -173,7 +173,7 @@ saved_kept store s now xid parent depth savepoint log live same h is free at sha
 pub rolled_back_kept : (store new : StoreState) (tables : List Table) (s now : PublisherState) (xid depth : ℕ) (savepoint : Savepoint) (log : List Record) (live : List LiveTransaction) → s ≡ now → KeepsLog store s →
     is_live xid now.live ≡ true → 0 < room now → 0 < depth → depth ≤ length (savepoints_of xid now.live) → slice_get (savepoints_of xid now.live) (depth - 1) ≡ Some savepoint →
     log ≡ s.log ++ record_after s.log (AbortSub savepoint.xid) ∷ [] → live ≡ with_savepoints xid (take (depth - 1) (savepoints_of xid s.live)) s.live →
-    Keeps new (rolled_back xid savepoint.mark (history_of s.log)) → tables ≡ s.tables → KeepsLog new (record s { tables = tables; log = log; live = live })
+    Keeps new (history_after_rollback xid savepoint.mark (history_of s.log)) → tables ≡ s.tables → KeepsLog new (record s { tables = tables; log = log; live = live })
 rolled_back_kept store new tables s now xid depth savepoint log live same h is free some enough at grown less keeps fixed =
     let back : savepoints_of xid now.live ≡ savepoints_of xid s.live = ap (λ (n : PublisherState). savepoints_of xid n.live) (sym same) in
     let lives : is_live xid s.live ≡ true = ap (λ (n : PublisherState). is_live xid n.live) same ∙ is in
@@ -181,7 +181,7 @@ rolled_back_kept store new tables s now xid depth savepoint log live same h is f
     let value : savepoint.xid ≡ slice_index (xids (savepoints_of xid s.live)) (depth - 1) = sym (xid_at (savepoints_of xid s.live) (depth - 1) savepoint here) in
     let within : depth ≤ length (savepoints_of xid s.live) = omega (arith, enough, ap length back) in
     let running = open_at s xid h.publisher lives in
-    let mark = mark_at (λ (p : Savepoint). IsBehind (is_own s.log xid) (is_under s.log p.xid) p.mark (standing s.log)) (savepoints_of xid s.live) (depth - 1) savepoint here
+    let mark = mark_at (λ (p : Savepoint). IsBehind (is_own s.log xid) (is_under s.log p.xid) p.mark (standing_changes s.log)) (savepoints_of xid s.live) (depth - 1) savepoint here
     (found (IsMarked s.log) xid s.live lives h.marked) in
     let moved : IsPublisher (moved_back xid depth savepoint.xid s) × AllByRecursion (IsMarked (moved_back xid depth savepoint.xid s).log) (moved_back xid depth savepoint.xid s).live =
     subst (λ (x : ℕ). IsPublisher (moved_back xid depth x s) × AllByRecursion (IsMarked (moved_back xid depth x s).log) (moved_back xid depth x s).live) (sym value)
@@ -194,12 +194,12 @@ rolled_back_kept store new tables s now xid depth savepoint log live same h is f
 
 pub rolled_back_is : (tables : List Table) (s now : PublisherState) (tx xid depth : ℕ) (savepoint : Savepoint) (log : List Record) (live : List LiveTransaction) → s ≡ now → tables ≡ s.tables → xid ≡ tx →
     slice_get (savepoints_of xid now.live) (depth - 1) ≡ Some savepoint → log ≡ s.log ++ record_after s.log (AbortSub savepoint.xid) ∷ [] →
-    live ≡ with_savepoints xid (take (depth - 1) (savepoints_of xid s.live)) s.live → record s { tables = tables; log = log; live = live } ≡ calls.rolled_back tx depth now
+    live ≡ with_savepoints xid (take (depth - 1) (savepoints_of xid s.live)) s.live → record s { tables = tables; log = log; live = live } ≡ calls.after_rollback tx depth now
 rolled_back_is tables s now tx xid depth savepoint log live same fixed n at grown less =
     let here : slice_get (savepoints_of xid s.live) (depth - 1) ≡ Some savepoint = ap (λ (p : PublisherState). slice_get (savepoints_of xid p.live) (depth - 1)) same ∙ at in
     let value : savepoint.xid ≡ slice_index (xids (savepoints_of xid s.live)) (depth - 1) = sym (xid_at (savepoints_of xid s.live) (depth - 1) savepoint here) in
     let moved : record s { tables = tables; log = log; live = live } ≡ moved_back xid depth savepoint.xid s = rw (fixed, grown, less) refl in
-    moved ∙ ap (λ (x : ℕ). moved_back xid depth x s) value ∙ ap (λ (x : ℕ). calls.rolled_back x depth s) n ∙ ap (calls.rolled_back tx depth) same
+    moved ∙ ap (λ (x : ℕ). moved_back xid depth x s) value ∙ ap (λ (x : ℕ). calls.after_rollback x depth s) n ∙ ap (calls.after_rollback tx depth) same
 
 pub released_kept : (store : StoreState) (s : PublisherState) (xid depth : ℕ) (live : List LiveTransaction) → KeepsLog store s → true ≡ is_live xid s.live →
     live ≡ with_savepoints xid (take (depth - 1) (savepoints_of xid s.live)) s.live → KeepsLog store (record s { live = live })
@@ -232,7 +232,7 @@ unsaved s now xid depth savepoint log more less same is at pushed unwritten cut 
 pub new_kept : (store : StoreState) (tables : List Table) (records : ℕ) → records ≤ MAX_RECORDS → Keeps store [] → KeepsLog store (new_publisher tables records)
 new_kept store tables records le keeps = record { publisher = new_publisher-IsPublisher tables records le; marked = tt; rows = keeps }
 
-pub begun_kept : (store : StoreState) (s : PublisherState) → KeepsLog store s → length s.live < MAX_LIVE → 0 < room s → KeepsLog store (begun s)
+pub begun_kept : (store : StoreState) (s : PublisherState) → KeepsLog store s → length s.live < MAX_LIVE → 0 < room s → KeepsLog store (after_begin s)
 begun_kept store s h few free = record {
   publisher = begun-IsPublisher s h.publisher few free;
   marked = all_append (IsMarked s.log) s.live (record { xid = s.next_xid; savepoints = [] } ∷ []) h.marked (tt, tt);

@@ -10,7 +10,7 @@ use Rattle.store.specs.declared.store_fault.StoreFault.{StoreFault}
 use Rattle.store.specs.declared.store_fault.StoreFault.TheVariants as store_faults
 use Rattle.tables.specs.Spelling.{IsShort}
 use Rattle.tables.specs.Tables.{FitsChange}
-use Rattle.store.specs.History.{Made, made, count_of, rolled_back}
+use Rattle.store.specs.History.{Made, change_made, count_of, history_after_rollback}
 use Rattle.store.specs.Keeping as tables
 use Rattle.store.specs.Keeping.{StoreState, Keeps}
 use Rattle.txlog.specs.declared.changing.Changing.{Changing}
@@ -20,7 +20,7 @@ use Rattle.wal.specs.declared.record.Record.{Record}
 use Rattle.wal.specs.declared.record.Body.TheVariants.{Change as Changed}
 use Rattle.txlog.specs.Rows.{history_of}
 use Rattle.wal.specs.Records.{record_after}
-use Rattle.txlog.specs.Publishing.{PublisherState, room, is_live, innermost, changed, change_refusal, tables_refusal, room_refusal, fault_at, fault_of, IsRefusalOrMemory, RefusedOrMemory}
+use Rattle.txlog.specs.Publishing.{PublisherState, room, is_live, innermost, after_change, change_refusal, tables_refusal, room_refusal, fault_at, fault_of, IsRefusalOrMemory, RefusedOrMemory}
 use Rattle.txlog.specs.Invariants.{KeepsLog}
 use Rattle.wal.specs.Log.{IsWellFormedLog}
 use Rattle.txlog.proofs.Transitions.{changed-IsPublisher}
@@ -55,23 +55,23 @@ change_good store s now tx at change same h own inner free fits short some =
 -- a change that the tables took, whether the log took its record or not
 pub change_written : {A : Type 0} (store mid new : StoreState) (s now : PublisherState) (tx : ℕ) (at : Changing) (change : Change) (log : List Record) (result : Result A SessionFault) →
     s ≡ now → KeepsLog store s → (at.xid ≡ tx) × (is_live tx now.live ≡ true) → at.innermost ≡ innermost tx now.live → at.mark ≡ count_of tx (history_of now.log) → at.room ≡ room now →
-    FitsChange s.tables change → IsShort change → Keeps mid (history_of s.log ++ made at.xid change ∷ []) → mid.tables ≡ s.tables →
+    FitsChange s.tables change → IsShort change → Keeps mid (history_of s.log ++ change_made at.xid change ∷ []) → mid.tables ≡ s.tables →
     OnOk result ((log ≡ s.log ++ record_after s.log (Changed at.innermost change) ∷ []) × (new ≡ mid)) → OnOk result (0 < at.room) → OnErr result (log ≡ s.log) →
-    OnErr result ((history : List Made) → Keeps mid history → Keeps new (rolled_back at.xid at.mark history)) → new.tables ≡ mid.tables →
+    OnErr result ((history : List Made) → Keeps mid history → Keeps new (history_after_rollback at.xid at.mark history)) → new.tables ≡ mid.tables →
     KeepsLog new (record s { tables = new.tables; log = log })
 change_written store mid new s now tx at change log (Ok x) same h own inner marked free fits short keeps first ok some err undone fixed =
     let lives : is_live at.xid s.live ≡ true = ap (λ (p : PublisherState). is_live at.xid p.live) same ∙ ap (λ (n : ℕ). is_live n now.live) own.0 ∙ own.1 in
     let under : at.innermost ≡ innermost at.xid s.live = inner ∙ ap (λ (n : ℕ). innermost n now.live) (sym own.0) ∙ ap (λ (p : PublisherState). innermost at.xid p.live) (sym same) in
     let roomy : 0 < room s = omega (arith, some, free, ap room same) in
     let tables_are : new.tables ≡ s.tables = fixed ∙ first in
-    let state : record s { tables = new.tables; log = log } ≡ changed at.xid change s = rw (tables_are, ok.0, under) refl in
+    let state : record s { tables = new.tables; log = log } ≡ after_change at.xid change s = rw (tables_are, ok.0, under) refl in
     subst (λ (n : StoreState). KeepsLog n (record s { tables = new.tables; log = log })) (sym ok.1)
     (subst (KeepsLog mid) (sym state) (changed_kept store mid s at.xid change h lives roomy fits short keeps))
 change_written store mid new s now tx at change log (Err fault) same h own inner marked free fits short keeps first ok some err undone fixed =
     let tables_are : new.tables ≡ s.tables = fixed ∙ first in
     let state : record s { tables = new.tables; log = log } ≡ s = rw (tables_are, err) refl in
     let mark : at.mark ≡ count_of at.xid (history_of s.log) = marked ∙ ap (λ (n : ℕ). count_of n (history_of now.log)) (sym own.0) ∙ ap (λ (p : PublisherState). count_of at.xid (history_of p.log)) (sym same) in
-    subst (KeepsLog new) (sym state) (unchanged_kept store new s at.xid at.mark change h mark (undone (history_of s.log ++ made at.xid change ∷ []) keeps))
+    subst (KeepsLog new) (sym state) (unchanged_kept store new s at.xid at.mark change h mark (undone (history_of s.log ++ change_made at.xid change ∷ []) keeps))
 
 -- WHAT IS REFUSED
 

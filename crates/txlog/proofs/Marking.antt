@@ -10,9 +10,9 @@ use Rattle.wal.specs.declared.record.Body.{Body}
 use Rattle.wal.specs.declared.record.Body.TheVariants.{Assign, Change as Changed, AbortSub, Abort, Commit, Note}
 use Rattle.wal.specs.Log.{IsWellFormedLog, IsOpen, names, is_named, chain_step, chain_back, chain, last_of, top_of, Entry, entries}
 use Rattle.wal.specs.Places.{IsChain}
-use Rattle.txlog.specs.Rows.{stands, standing, made_by}
+use Rattle.txlog.specs.Rows.{stands, standing_changes, made_by}
 use Rattle.wal.specs.Records.{record_after}
-use Rattle.txlog.specs.Publishing.{LiveTransaction, PublisherState, xids, next_savepoint, with_record, is_live, savepoints_of, innermost, changed, saved, released, rolled_back, after_commit, after_abort}
+use Rattle.txlog.specs.Publishing.{LiveTransaction, PublisherState, xids, next_savepoint, with_record, is_live, savepoints_of, innermost, after_change, after_savepoint, after_release, after_rollback, after_commit, after_abort}
 use Rattle.txlog.specs.Invariants.{IsInProgress, IsRunning, IsPublisher, IsBehind, IsMarked, is_own, is_under}
 use Rattle.wal.proofs.Lists.{or_false, each, all_both, all_filter, all_fewer, eqb_comm, all_append}
 use Rattle.wal.proofs.Laws.{chain-append, chain-unassigned, top-kept, KeepsChains, all_when, changes_named}
@@ -109,14 +109,14 @@ absent_in_chain log z x none other =
 -- MARKS
 
 abbrev MarkedAt : List Record → ℕ → Savepoint → Type 0
-MarkedAt log t s = IsBehind (is_own log t) (is_under log s.xid) s.mark (standing log)
+MarkedAt log t s = IsBehind (is_own log t) (is_under log s.xid) s.mark (standing_changes log)
 
 of_xids : (P : ℕ → Type 0) (savepoints : List Savepoint) → AllByRecursion P (xids savepoints) → AllByRecursion (λ s. P s.xid) savepoints
 of_xids P [] all = tt
 of_xids P (s ∷ savepoints) all = (all.0, of_xids P savepoints all.1)
 
 -- after a record that names no parent, whatever stands then
-kept_mark : (log : List Record) (r : Record) → KeepsChains r.body → (t : ℕ) (s : Savepoint) (es : List Entry) → standing (log ++ r ∷ []) ≡ es →
+kept_mark : (log : List Record) (r : Record) → KeepsChains r.body → (t : ℕ) (s : Savepoint) (es : List Entry) → standing_changes (log ++ r ∷ []) ≡ es →
     IsBehind (is_own log t) (is_under log s.xid) s.mark es → MarkedAt (log ++ r ∷ []) t s
 kept_mark log r keeps t s es stood h =
     subst (λ (l : List Entry). IsBehind (is_own (log ++ r ∷ []) t) (is_under (log ++ r ∷ []) s.xid) s.mark l) (sym stood)
@@ -149,7 +149,7 @@ others s log xid step o both other =
 -- CALLS
 
 pub marked-changed : (s : PublisherState) (xid : ℕ) (change : Change) → IsPublisher s → AllByRecursion (IsMarked s.log) s.live → is_live xid s.live ≡ true →
-    AllByRecursion (IsMarked (changed xid change s).log) s.live
+    AllByRecursion (IsMarked (after_change xid change s).log) s.live
 marked-changed s xid change h marked is =
     let savepoints : List Savepoint = savepoints_of xid s.live in
     let y : ℕ = innermost xid s.live in
@@ -158,10 +158,10 @@ marked-changed s xid change h marked is =
     let running : IsInProgress s.log s.next_xid xid (xids savepoints) = open_at s xid h is in
     let is_open : IsOpen s.log y = IsOpen-innermost s.log s.next_xid xid (xids savepoints) running in
     let top : top_of s.log y ≡ xid = all_innermost (λ x. top_of s.log x ≡ xid) xid (xids savepoints) (xids-top s.log s.next_xid xid (xids savepoints) running) in
-    let stood : standing (s.log ++ r ∷ []) ≡ standing s.log ++ e ∷ [] = standing-change s.log r.start r.end y change is_open.running is_open.undropped in
+    let stood : standing_changes (s.log ++ r ∷ []) ≡ standing_changes s.log ++ e ∷ [] = standing-change s.log r.start r.end y change is_open.running is_open.undropped in
     let chained : chain s.log y ≡ onto (xid ∷ []) (xids savepoints) = chain-innermost s.log xid [] (xids savepoints) (chain-unassigned s.log xid running.top) running.nested in
     let pushed : (t : ℕ) (p : Savepoint) → is_under s.log p.xid e ≡ is_own s.log t e → MarkedAt s.log t p → MarkedAt (s.log ++ r ∷ []) t p =
-    λ t p same mark. kept_mark s.log r (λ above x. refl) t p (standing s.log ++ e ∷ []) stood (behind_push (is_own s.log t) (is_under s.log p.xid) p.mark (standing s.log) e same mark) in
+    λ t p same mark. kept_mark s.log r (λ above x. refl) t p (standing_changes s.log ++ e ∷ []) stood (behind_push (is_own s.log t) (is_under s.log p.xid) p.mark (standing_changes s.log) e same mark) in
     let of_other : (t : ℕ) (p : Savepoint) → (t == xid) ≡ false → TopAndMark s.log t p → MarkedAt (s.log ++ r ∷ []) t p =
     λ t p other both. pushed t p
     (not_under s.log h.log.good p.xid t xid e both.0 top other ∙ sym (ap (λ (n : ℕ). n == t) top ∙ eqb_comm xid t ∙ other)) both.1 in
@@ -176,7 +176,7 @@ marked-changed s xid change h marked is =
     pushed xid p (both.0 ∙ sym (ap (λ (n : ℕ). n == xid) top ∙ eq-eqb xid xid refl)) both.1) savepoints own))
 
 pub marked-saved : (s : PublisherState) (xid : ℕ) → IsPublisher s → AllByRecursion (IsMarked s.log) s.live → is_live xid s.live ≡ true →
-    AllByRecursion (IsMarked (saved xid s).log) (saved xid s).live
+    AllByRecursion (IsMarked (after_savepoint xid s).log) (after_savepoint xid s).live
 marked-saved s xid h marked is =
     let savepoints : List Savepoint = savepoints_of xid s.live in
     let sub : ℕ = s.next_xid in
@@ -184,30 +184,30 @@ marked-saved s xid h marked is =
     let r : Record = record_after s.log (Assign sub parent) in
     let unheard : is_named s.log sub ≡ false = h.fresh sub (omega arith) in
     let running : IsInProgress s.log s.next_xid xid (xids savepoints) = open_at s xid h is in
-    let stood : standing (s.log ++ r ∷ []) ≡ standing s.log = standing-assign s.log r.start r.end sub parent unheard in
-    let apart : AllByRecursion (λ (e : Entry). (sub == e.xid) ≡ false) (standing s.log) = all_filter _ (stands s.log) (entries s.log) (changes_named s.log sub unheard) in
+    let stood : standing_changes (s.log ++ r ∷ []) ≡ standing_changes s.log = standing-assign s.log r.start r.end sub parent unheard in
+    let apart : AllByRecursion (λ (e : Entry). (sub == e.xid) ≡ false) (standing_changes s.log) = all_filter _ (stands s.log) (entries s.log) (changes_named s.log sub unheard) in
     let moved : (t : ℕ) (p : Savepoint) → MarkedAt s.log t p → MarkedAt (s.log ++ r ∷ []) t p =
     λ t p mark. subst (λ (l : List Entry). IsBehind (is_own (s.log ++ r ∷ []) t) (is_under (s.log ++ r ∷ []) p.xid) p.mark l) (sym stood)
-    (behind_agrees (is_own s.log t) (is_under s.log p.xid) (is_own (s.log ++ r ∷ []) t) (is_under (s.log ++ r ∷ []) p.xid) p.mark (standing s.log)
+    (behind_agrees (is_own s.log t) (is_under s.log p.xid) (is_own (s.log ++ r ∷ []) t) (is_under (s.log ++ r ∷ []) p.xid) p.mark (standing_changes s.log)
     (all_when _ _ (λ (e : Entry) (other : (sub == e.xid) ≡ false).
     let same : chain (s.log ++ r ∷ []) e.xid ≡ chain s.log e.xid = chain-assign s.log r sub parent e.xid refl other in
-    (ap (λ (l : List ℕ). last_of e.xid l == t) same, ap (list_any (λ y. p.xid == y)) same)) (standing s.log) apart) mark) in
+    (ap (λ (l : List ℕ). last_of e.xid l == t) same, ap (list_any (λ y. p.xid == y)) same)) (standing_changes s.log) apart) mark) in
     let fresh : MarkedAt s.log xid (next_savepoint xid s) =
-    behind_all xid (made_by s.log) (is_own s.log xid) (is_under s.log sub) (standing s.log) (tells_own s.log xid running.running)
-    (all_when _ _ (λ (e : Entry) (other : (sub == e.xid) ≡ false). absent_in_chain s.log sub e.xid unheard other) (standing s.log) apart) in
+    behind_all xid (made_by s.log) (is_own s.log xid) (is_under s.log sub) (standing_changes s.log) (tells_own s.log xid running.running)
+    (all_when _ _ (λ (e : Entry) (other : (sub == e.xid) ≡ false). absent_in_chain s.log sub e.xid unheard other) (standing_changes s.log) apart) in
     all_changed (IsMarked s.log) (IsMarked (s.log ++ r ∷ [])) xid (savepoints ++ next_savepoint xid s ∷ []) s.live h.rising marked
     (λ o mark other. all_when _ _ (moved o.xid) o.savepoints mark)
     (all_append (MarkedAt (s.log ++ r ∷ []) xid) savepoints (next_savepoint xid s ∷ []) (all_when _ _ (moved xid) savepoints (found (IsMarked s.log) xid s.live is marked))
     (moved xid (next_savepoint xid s) fresh, tt))
 
 pub marked-released : (s : PublisherState) (xid depth : ℕ) → IsPublisher s → AllByRecursion (IsMarked s.log) s.live → is_live xid s.live ≡ true →
-    AllByRecursion (IsMarked s.log) (released xid depth s).live
+    AllByRecursion (IsMarked s.log) (after_release xid depth s).live
 marked-released s xid depth h marked is =
     all_changed (IsMarked s.log) (IsMarked s.log) xid (take (depth - 1) (savepoints_of xid s.live)) s.live h.rising marked (λ o mark other. mark)
     (all_take _ (depth - 1) (savepoints_of xid s.live) (found (IsMarked s.log) xid s.live is marked))
 
 pub marked-rolled_back : (s : PublisherState) (xid depth : ℕ) → IsPublisher s → AllByRecursion (IsMarked s.log) s.live → is_live xid s.live ≡ true →
-    0 < depth → depth ≤ length (savepoints_of xid s.live) → AllByRecursion (IsMarked (rolled_back xid depth s).log) (rolled_back xid depth s).live
+    0 < depth → depth ≤ length (savepoints_of xid s.live) → AllByRecursion (IsMarked (after_rollback xid depth s).log) (after_rollback xid depth s).live
 marked-rolled_back s xid depth h marked is some enough =
     let savepoints : List Savepoint = savepoints_of xid s.live in
     let xs : List ℕ = xids savepoints in
@@ -223,13 +223,13 @@ marked-rolled_back s xid depth h marked is some enough =
     ∙ chain-innermost s.log xid [] (take (n + 1) xs) (chain-unassigned s.log xid running.top) (in_progress_cut s.log s.next_xid (n + 1) xid xs running).nested in
     let above : AllByRecursion (λ (x : ℕ). list_any (λ y. x == y) (chain s.log sub) ≡ true) (take (n + 1) xs) =
     subst (λ (l : List ℕ). AllByRecursion (λ x. list_any (λ y. x == y) l ≡ true) (take (n + 1) xs)) (sym chained) (members (xid ∷ []) (take (n + 1) xs)) in
-    let left : List Entry = filter (λ e. not (is_under s.log sub e)) (standing s.log) in
-    let stood : standing (s.log ++ r ∷ []) ≡ left = standing-undo s.log r.start r.end sub in
+    let left : List Entry = filter (λ e. not (is_under s.log sub e)) (standing_changes s.log) in
+    let stood : standing_changes (s.log ++ r ∷ []) ≡ left = standing-undo s.log r.start r.end sub in
     let cut : (t : ℕ) (p : Savepoint) → ((e : Entry) → is_under s.log sub e ≡ true → is_own s.log t e ≡ true → is_under s.log p.xid e ≡ true) →
     MarkedAt s.log t p → MarkedAt (s.log ++ r ∷ []) t p =
     λ t p keep mark. kept_mark s.log r (λ above x. refl) t p left stood
-    (behind_filter (is_own s.log t) (is_under s.log p.xid) (λ e. not (is_under s.log sub e)) p.mark (standing s.log)
-    (each _ (λ e gone. keep e (true_by_not (is_under s.log sub e) gone)) (standing s.log)) mark) in
+    (behind_filter (is_own s.log t) (is_under s.log p.xid) (λ e. not (is_under s.log sub e)) p.mark (standing_changes s.log)
+    (each _ (λ e gone. keep e (true_by_not (is_under s.log sub e) gone)) (standing_changes s.log)) mark) in
     let of_other : (t : ℕ) (p : Savepoint) → (t == xid) ≡ false → TopAndMark s.log t p → MarkedAt (s.log ++ r ∷ []) t p =
     λ t p other both. cut t p (λ e under own.
     let same : t ≡ xid = sym (eqb-true (top_of s.log e.xid) t own) ∙ sym (under_within s.log h.log.good sub e under).0 ∙ top in
@@ -250,24 +250,24 @@ marked-commit s xid time h marked =
     let r : Record = record_after s.log (Commit xid time) in
     all_without (IsMarked s.log) (IsMarked (s.log ++ r ∷ [])) xid s.live marked (λ o mark other.
     all_when (MarkedAt s.log o.xid) (MarkedAt (s.log ++ r ∷ []) o.xid)
-    (λ p one. kept_mark s.log r (λ above x. refl) o.xid p (standing s.log) (standing-commit s.log r.start r.end xid time) one) o.savepoints mark)
+    (λ p one. kept_mark s.log r (λ above x. refl) o.xid p (standing_changes s.log) (standing-commit s.log r.start r.end xid time) one) o.savepoints mark)
 
 pub marked-abort : (s : PublisherState) (xid : ℕ) → IsPublisher s → AllByRecursion (IsMarked s.log) s.live →
     AllByRecursion (IsMarked (after_abort xid s).log) (after_abort xid s).live
 marked-abort s xid h marked =
     let r : Record = record_after s.log (Abort xid) in
-    let left : List Entry = filter (λ e. not (is_own s.log xid e)) (standing s.log) in
+    let left : List Entry = filter (λ e. not (is_own s.log xid e)) (standing_changes s.log) in
     all_without (IsMarked s.log) (IsMarked (s.log ++ r ∷ [])) xid s.live marked (λ o mark other.
     all_when (MarkedAt s.log o.xid) (MarkedAt (s.log ++ r ∷ []) o.xid)
     (λ p one. kept_mark s.log r (λ above x. refl) o.xid p left (standing-abort s.log r.start r.end xid)
-    (behind_filter (is_own s.log o.xid) (is_under s.log p.xid) (λ e. not (is_own s.log xid e)) p.mark (standing s.log)
+    (behind_filter (is_own s.log o.xid) (is_under s.log p.xid) (λ e. not (is_own s.log xid e)) p.mark (standing_changes s.log)
     (each _ (λ e gone own.
     let same : o.xid ≡ xid = sym (eqb-true (top_of s.log e.xid) o.xid own) ∙ eqb-true (top_of s.log e.xid) xid (true_by_not (is_own s.log xid e) gone) in
-    absurd (eqb-false o.xid xid other same)) (standing s.log)) one)) o.savepoints mark)
+    absurd (eqb-false o.xid xid other same)) (standing_changes s.log)) one)) o.savepoints mark)
 
 pub marked-note : (s : PublisherState) (change : Change) → AllByRecursion (IsMarked s.log) s.live → AllByRecursion (IsMarked (with_record (Note change) s).log) s.live
 marked-note s change marked =
     let r : Record = record_after s.log (Note change) in
     all_when (IsMarked s.log) (IsMarked (s.log ++ r ∷ [])) (λ o mark.
     all_when (MarkedAt s.log o.xid) (MarkedAt (s.log ++ r ∷ []) o.xid)
-    (λ p one. kept_mark s.log r (λ above x. refl) o.xid p (standing s.log) (standing-note s.log r.start r.end change) one) o.savepoints mark) s.live marked
+    (λ p one. kept_mark s.log r (λ above x. refl) o.xid p (standing_changes s.log) (standing-note s.log r.start r.end change) one) o.savepoints mark) s.live marked

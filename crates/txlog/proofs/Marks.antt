@@ -2,7 +2,7 @@
 use Rattle.std.proofs.Common.{◌≡◌, ℕ, zero, suc, Bool, true, false, cond, not, List, [], ◌∷◌, ◌++◌, map, refl, sym, ap, subst, ◌∙◌, eq-eqb}
 use Rattle.std.specs.List.{filter, AllByRecursion}
 use Rattle.tables.specs.declared.change.Change.{Change}
-use Rattle.store.specs.History.{Made, made, is_top, rolled_back, count_of}
+use Rattle.store.specs.History.{Made, change_made, is_top, history_after_rollback, count_of}
 use Rattle.wal.specs.Log.{Entry}
 use Rattle.txlog.specs.Invariants.{IsBehind}
 
@@ -60,24 +60,24 @@ behind_all t made_of own under (e ∷ es) tells none =
 
 -- rolled back to its mark, a history is without what is under the savepoint
 pub undone_behind : (t : ℕ) (made_of : Entry → Made) (own under : Entry → Bool) (n : ℕ) (es : List Entry) → Tells t made_of own → IsBehind own under n es →
-    rolled_back t n (map made_of es) ≡ map made_of (filter (λ e. not (under e)) es)
+    history_after_rollback t n (map made_of es) ≡ map made_of (filter (λ e. not (under e)) es)
 undone_behind t made_of own under n [] tells h = refl
 undone_behind t made_of own under zero (e ∷ es) tells h = by_test (own e) (tells e) h.0 (undone_behind t made_of own under zero es tells h.1)
   where
-    by_test : (b : Bool) → is_top t (made_of e).top ≡ b → under e ≡ b → rolled_back t zero (map made_of es) ≡ map made_of (filter (λ e. not (under e)) es) →
-        rolled_back t zero (map made_of (e ∷ es)) ≡ map made_of (filter (λ e. not (under e)) (e ∷ es))
+    by_test : (b : Bool) → is_top t (made_of e).top ≡ b → under e ≡ b → history_after_rollback t zero (map made_of es) ≡ map made_of (filter (λ e. not (under e)) es) →
+        history_after_rollback t zero (map made_of (e ∷ es)) ≡ map made_of (filter (λ e. not (under e)) (e ∷ es))
     by_test true is u rest = rw (is, u) rest
     by_test false is u rest = rw (is, u) (ap (λ (ms : List Made). made_of e ∷ ms) rest)
 undone_behind t made_of own under (suc n) (e ∷ es) tells h = by_test (own e) (tells e) (undone_behind t made_of own under (cond (own e) n (suc n)) es tells h.1)
   where
-    by_test : (b : Bool) → is_top t (made_of e).top ≡ b → rolled_back t (cond b n (suc n)) (map made_of es) ≡ map made_of (filter (λ e. not (under e)) es) →
-        rolled_back t (suc n) (map made_of (e ∷ es)) ≡ map made_of (filter (λ e. not (under e)) (e ∷ es))
+    by_test : (b : Bool) → is_top t (made_of e).top ≡ b → history_after_rollback t (cond b n (suc n)) (map made_of es) ≡ map made_of (filter (λ e. not (under e)) es) →
+        history_after_rollback t (suc n) (map made_of (e ∷ es)) ≡ map made_of (filter (λ e. not (under e)) (e ∷ es))
     by_test true is rest = rw (is, h.0) (ap (λ (ms : List Made). made_of e ∷ ms) rest)
     by_test false is rest = rw (is, h.0) (ap (λ (ms : List Made). made_of e ∷ ms) rest)
 
 -- all of a transaction's are undone
 pub undone_all : (t : ℕ) (made_of : Entry → Made) (own : Entry → Bool) (es : List Entry) → Tells t made_of own →
-    rolled_back t 0 (map made_of es) ≡ map made_of (filter (λ e. not (own e)) es)
+    history_after_rollback t 0 (map made_of es) ≡ map made_of (filter (λ e. not (own e)) es)
 undone_all t made_of own es tells = undone_behind t made_of own own zero es tells (all_own es)
   where
     all_own : (es : List Entry) → IsBehind own own zero es
@@ -85,11 +85,11 @@ undone_all t made_of own es tells = undone_behind t made_of own own zero es tell
     all_own (e ∷ es) = (refl, all_own es)
 
 -- the last change undone
-pub rolled_last : (t : ℕ) (c : Change) (h : List Made) → rolled_back t (count_of t h) (h ++ made t c ∷ []) ≡ h
+pub rolled_last : (t : ℕ) (c : Change) (h : List Made) → history_after_rollback t (count_of t h) (h ++ change_made t c ∷ []) ≡ h
 rolled_last t c [] = rw (eq-eqb t t refl) refl
 rolled_last t c (m ∷ h) = by_test (is_top t m.top) refl (count_of t h) (rolled_last t c h)
   where
-    by_test : (b : Bool) → is_top t m.top ≡ b → (k : ℕ) → rolled_back t k (h ++ made t c ∷ []) ≡ h → rolled_back t (cond b (suc k) k) (m ∷ (h ++ made t c ∷ [])) ≡ m ∷ h
+    by_test : (b : Bool) → is_top t m.top ≡ b → (k : ℕ) → history_after_rollback t k (h ++ change_made t c ∷ []) ≡ h → history_after_rollback t (cond b (suc k) k) (m ∷ (h ++ change_made t c ∷ [])) ≡ m ∷ h
     by_test true is k rest = rw is (ap (λ (ms : List Made). m ∷ ms) rest)
     by_test false is zero rest = rw is (ap (λ (ms : List Made). m ∷ ms) rest)
     by_test false is (suc k) rest = rw is (ap (λ (ms : List Made). m ∷ ms) rest)

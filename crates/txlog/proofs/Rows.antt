@@ -12,7 +12,7 @@ use Rattle.wal.specs.declared.record.Body.{Body}
 use Rattle.wal.specs.declared.record.Body.TheVariants.{Assign, Change as Changed, AbortSub, Commit}
 use Rattle.store.specs.History.{is_key_held}
 use Rattle.txlog.specs.Rows.{history_of, rows_of}
-use Rattle.wal.specs.Log.{Entry, Transaction, IsWellFormedLog, committed}
+use Rattle.wal.specs.Log.{Entry, Transaction, IsWellFormedLog, committed_transactions}
 use Rattle.wal.specs.Restart.{restart}
 use Rattle.wal.proofs.LiveChanges.{live_changes}
 
@@ -49,17 +49,17 @@ by_second = record { is_note = false; start = 0x1000090; end = 0x10000B0; time =
 abbrev by_first : Transaction
 by_first = record { is_note = false; start = 0x10000B0; end = 0x10000D0; time = pos 2; xid = 700; changes = entry 0x1000000 700 first ∷ entry 0x1000060 700 third ∷ [] }
 
-interleaved-committed : committed interleaved 0 ≡ by_second ∷ by_first ∷ []
+interleaved-committed : committed_transactions interleaved 0 ≡ by_second ∷ by_first ∷ []
 interleaved-committed = refl
 
 -- a start position takes a Commit that starts there, and none before it
-interleaved-at_commit : committed interleaved 0x1000090 ≡ by_second ∷ by_first ∷ []
+interleaved-at_commit : committed_transactions interleaved 0x1000090 ≡ by_second ∷ by_first ∷ []
 interleaved-at_commit = refl
 
-interleaved-past_commit : committed interleaved 0x1000091 ≡ by_first ∷ []
+interleaved-past_commit : committed_transactions interleaved 0x1000091 ≡ by_first ∷ []
 interleaved-past_commit = refl
 
-interleaved-past_all : committed interleaved 0x2000000 ≡ []
+interleaved-past_all : committed_transactions interleaved 0x2000000 ≡ []
 interleaved-past_all = refl
 
 interleaved-well_formed : IsWellFormedLog interleaved
@@ -90,7 +90,7 @@ rolled_back = at 0x1000000 0x1000018 (Assign 701 700)
     ∷ at 0x10000A8 0x10000D8 (Changed 700 third)
     ∷ at 0x10000D8 0x10000F8 (Commit 700 (pos 1)) ∷ []
 
-rolled_back-committed : committed rolled_back 0 ≡ record { is_note = false; start = 0x10000D8; end = 0x10000F8; time = pos 1; xid = 700; changes = entry 0x10000A8 700 third ∷ [] } ∷ []
+rolled_back-committed : committed_transactions rolled_back 0 ≡ record { is_note = false; start = 0x10000D8; end = 0x10000F8; time = pos 1; xid = 700; changes = entry 0x10000A8 700 third ∷ [] } ∷ []
 rolled_back-committed = refl
 
 rolled_back-well_formed : IsWellFormedLog rolled_back
@@ -127,7 +127,7 @@ released = at 0x1000000 0x1000030 (Changed 700 first)
     ∷ at 0x1000078 0x10000A8 (Changed 700 third)
     ∷ at 0x10000A8 0x10000C8 (Commit 700 (pos 1)) ∷ []
 
-released-committed : committed released 0 ≡ record { is_note = false; start = 0x10000A8; end = 0x10000C8; time = pos 1; xid = 700; changes = entry 0x1000000 700 first ∷ entry 0x1000048 701 second ∷ entry 0x1000078 700 third ∷ [] } ∷ []
+released-committed : committed_transactions released 0 ≡ record { is_note = false; start = 0x10000A8; end = 0x10000C8; time = pos 1; xid = 700; changes = entry 0x1000000 700 first ∷ entry 0x1000048 701 second ∷ entry 0x1000078 700 third ∷ [] } ∷ []
 released-committed = refl
 
 released-live : live_changes released ≡ []

@@ -15,7 +15,7 @@ use Rattle.wal.specs.declared.record.Body.{Body}
 use Rattle.wal.specs.declared.record.Body.TheVariants.{Assign, Change as Changed, AbortSub, Abort, Commit, Note}
 use Rattle.wal.specs.Log.{IsSized, IsOpen, IsNext, FitsBody, FitsRecord, IsMessage, size_of, end_of, names, is_named, assigns, is_assigned, chain, last_of, top_of, undoes, is_undone, ends}
 use Rattle.wal.specs.Records.{record_after}
-use Rattle.txlog.specs.Publishing.{LiveTransaction, PublisherState, xids, with_record, next_savepoint, room, is_live, savepoints_of, innermost, with_savepoints, without, begun, changed, saved, released, rolled_back, ended, after_commit, after_abort}
+use Rattle.txlog.specs.Publishing.{LiveTransaction, PublisherState, xids, with_record, next_savepoint, room, is_live, savepoints_of, innermost, with_savepoints, without, after_begin, after_change, after_savepoint, after_release, after_rollback, after_end, after_commit, after_abort}
 use Rattle.txlog.specs.Invariants.{IsLog, IsInProgress, IsRunning, IsPublisher}
 use Rattle.wal.proofs.Laws.{end_of-append, follows-append, WellFormedAfter-append, is_named-one, is_assigned-one, is_undone-one, chain-append, chain-unassigned, all_when}
 use Rattle.wal.proofs.Lists.{eqb_comm, all_append}
@@ -108,7 +108,7 @@ in_progress_later log next more le t xs h = record {
   deep = h.deep;
 }
 
-pub begun-IsPublisher : (s : PublisherState) → IsPublisher s → length s.live < MAX_LIVE → 0 < room s → IsPublisher (begun s)
+pub begun-IsPublisher : (s : PublisherState) → IsPublisher s → length s.live < MAX_LIVE → 0 < room s → IsPublisher (after_begin s)
 begun-IsPublisher s h few free =
     let o : LiveTransaction = record { xid = s.next_xid; savepoints = [] } in
     let longer : length (s.live ++ record { xid = s.next_xid; savepoints = [] } ∷ []) ≡ length s.live + 1 = length-append s.live (record { xid = s.next_xid; savepoints = [] } ∷ []) in
@@ -139,7 +139,7 @@ running_cut : (log : List Record) (next n t : ℕ) (savepoints : List Savepoint)
 running_cut log next n t savepoints h =
     subst (λ (ys : List ℕ). IsInProgress log next t ys) (sym (xids_take n savepoints)) (in_progress_cut log next n t (xids savepoints) h)
 
-pub released-IsPublisher : (s : PublisherState) (xid depth : ℕ) → IsPublisher s → is_live xid s.live ≡ true → IsPublisher (released xid depth s)
+pub released-IsPublisher : (s : PublisherState) (xid depth : ℕ) → IsPublisher s → is_live xid s.live ≡ true → IsPublisher (after_release xid depth s)
 released-IsPublisher s xid depth h is =
     let kept : List Savepoint = take (depth - 1) (savepoints_of xid s.live) in
     let same : length (with_savepoints xid (take (depth - 1) (savepoints_of xid s.live)) s.live) ≡ length s.live = length-with_savepoints xid kept s.live in
@@ -173,7 +173,7 @@ innermost_below : (s : PublisherState) (xid : ℕ) → IsPublisher s → is_live
 innermost_below s xid h is = all_innermost (λ x. x < s.next_xid) xid (xids (savepoints_of xid s.live)) (open_at s xid h is).below
 
 pub changed-IsPublisher : (s : PublisherState) (xid : ℕ) (change : Change) → IsPublisher s → is_live xid s.live ≡ true → 0 < room s →
-    FitsChange s.tables change → size_of (Changed (innermost xid s.live) change) ≤ 2 ^ 14 → IsPublisher (changed xid change s)
+    FitsChange s.tables change → size_of (Changed (innermost xid s.live) change) ≤ 2 ^ 14 → IsPublisher (after_change xid change s)
 changed-IsPublisher s xid change h is free fits small =
     let body : Body = Changed (innermost xid s.live) change in
     let r : Record = record_after s.log (Changed (innermost xid s.live) change) in
@@ -217,7 +217,7 @@ quiet_by_top log next y t body p running top other quiet =
 
 ended-IsPublisher : (s : PublisherState) (xid : ℕ) (body : Body) → IsPublisher s → is_live xid s.live ≡ true →
     (is_assigned s.log xid ≡ false → IsOpen s.log xid → IsNext s.log body) → (xid < 2 ^ 32 → FitsBody s.tables body) → size_of body ≤ 2 ^ 14 →
-    ((x : ℕ) → names x body ≡ (x == xid)) → ((x : ℕ) → (xid == x) ≡ false → IsQuiet body x) → IsPublisher (ended xid body s)
+    ((x : ℕ) → names x body ≡ (x == xid)) → ((x : ℕ) → (xid == x) ≡ false → IsQuiet body x) → IsPublisher (after_end xid body s)
 ended-IsPublisher s xid body h is next fits small naming quiet =
     let o : IsInProgress s.log s.next_xid xid (xids (savepoints_of xid s.live)) = open_at s xid h is in
     let alone : IsOpen s.log xid = IsOpen-innermost s.log s.next_xid xid [] (in_progress_cut s.log s.next_xid 0 xid (xids (savepoints_of xid s.live)) o) in
@@ -248,7 +248,7 @@ after_abort-IsPublisher s xid h is =
     ended-IsPublisher s xid (Abort xid) h is (λ top alone. (top, alone)) (λ lt. lt) (omega arith) (λ x. refl)
     (λ x other. record { assigned = refl; ended = other; undone = refl })
 
-pub saved-IsPublisher : (s : PublisherState) (xid : ℕ) → IsPublisher s → is_live xid s.live ≡ true → length (savepoints_of xid s.live) < MAX_DEPTH → 0 < room s → IsPublisher (saved xid s)
+pub saved-IsPublisher : (s : PublisherState) (xid : ℕ) → IsPublisher s → is_live xid s.live ≡ true → length (savepoints_of xid s.live) < MAX_DEPTH → 0 < room s → IsPublisher (after_savepoint xid s)
 saved-IsPublisher s xid h is shallow free =
     let open_ones : List Savepoint = savepoints_of xid s.live in
     let more : List Savepoint = open_ones ++ next_savepoint xid s ∷ [] in
@@ -286,7 +286,7 @@ saved-IsPublisher s xid h is shallow free =
           (omega arith) assigned undropped chained running.below (omega (arith, shallow, xids_length open_ones))));
     }
 
-pub rolled_back-IsPublisher : (s : PublisherState) (xid depth : ℕ) → IsPublisher s → is_live xid s.live ≡ true → 0 < depth → depth ≤ length (savepoints_of xid s.live) → 0 < room s → IsPublisher (rolled_back xid depth s)
+pub rolled_back-IsPublisher : (s : PublisherState) (xid depth : ℕ) → IsPublisher s → is_live xid s.live ≡ true → 0 < depth → depth ≤ length (savepoints_of xid s.live) → 0 < room s → IsPublisher (after_rollback xid depth s)
 rolled_back-IsPublisher s xid depth h is some within free =
     let open_ones : List Savepoint = savepoints_of xid s.live in
     let xs : List ℕ = xids open_ones in

@@ -7,7 +7,7 @@ use Rattle.txlog.specs.declared.limits.TheConstants.{MAX_LIVE, MAX_DEPTH, MAX_RE
 use Rattle.wal.specs.declared.record.TheConstants.{FIRST_POSITION, FIRST_XID}
 use Rattle.wal.specs.declared.record.Record.{Record}
 use Rattle.wal.specs.Log.{Entry, IsWellFormedLog, IsLogInRange, end_of, chain, top_of, is_named, is_assigned, is_undone, has_ended}
-use Rattle.txlog.specs.Rows.{standing, history_of}
+use Rattle.txlog.specs.Rows.{standing_changes, history_of}
 use Rattle.txlog.specs.Publishing.{LiveTransaction, PublisherState, xids}
 
 -- the log is one, in range, and so short that its positions are far from their limit
@@ -67,7 +67,7 @@ IsBehind own under (suc n) (e ∷ es) = (under e ≡ false) × IsBehind own unde
 
 -- the mark of each savepoint parts the changes of its transaction that stand
 abbrev pub IsMarked : List Record → LiveTransaction → Type 0
-IsMarked log o = AllByRecursion (λ s. IsBehind (is_own log o.xid) (is_under log s.xid) s.mark (standing log)) o.savepoints
+IsMarked log o = AllByRecursion (λ s. IsBehind (is_own log o.xid) (is_under log s.xid) s.mark (standing_changes log)) o.savepoints
 
 -- THE PUBLISHER
 

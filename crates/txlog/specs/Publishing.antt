@@ -79,59 +79,59 @@ abbrev pub with_record : Body → PublisherState → PublisherState
 with_record body s = record s { log = s.log ++ record_after s.log body ∷ [] }
 
 -- a transaction begins: it takes the next xid, and no record is written
-abbrev pub begun : PublisherState → PublisherState
-begun s = record s { next_xid = s.next_xid + 1; live = s.live ++ record { xid = s.next_xid; savepoints = [] } ∷ [] }
+abbrev pub after_begin : PublisherState → PublisherState
+after_begin s = record s { next_xid = s.next_xid + 1; live = s.live ++ record { xid = s.next_xid; savepoints = [] } ∷ [] }
 
 -- a change carries the xid of the innermost open subtransaction
-abbrev pub changed : ℕ → Change → PublisherState → PublisherState
-changed xid change s = with_record (Changed (innermost xid s.live) change) s
+abbrev pub after_change : ℕ → Change → PublisherState → PublisherState
+after_change xid change s = with_record (Changed (innermost xid s.live) change) s
 
 -- the row with this key is taken for another, or taken away; the change holds the row that was there
 abbrev pub with_old : Option (List Value) → (List Value → PublisherState) → PublisherState → PublisherState
 with_old None change s = s
 with_old (Some old) change s = change old
 
-abbrev pub updated : ℕ → Key → List Value → PublisherState → PublisherState
-updated xid key row s = with_old (rows_of s.tables s.log key) (λ old. changed xid (changes.Update key.oid old row) s) s
+abbrev pub after_update : ℕ → Key → List Value → PublisherState → PublisherState
+after_update xid key row s = with_old (rows_of s.tables s.log key) (λ old. after_change xid (changes.Update key.oid old row) s) s
 
-abbrev pub deleted : ℕ → Key → PublisherState → PublisherState
-deleted xid key s = with_old (rows_of s.tables s.log key) (λ old. changed xid (changes.Delete key.oid old) s) s
+abbrev pub after_delete : ℕ → Key → PublisherState → PublisherState
+after_delete xid key s = with_old (rows_of s.tables s.log key) (λ old. after_change xid (changes.Delete key.oid old) s) s
 
 -- a message, of a transaction where a change would stand, or of none
 abbrev pub message_with : List ℕ → List ℕ → Change
 message_with prefix content = changes.Message (record { prefix = prefix; content = content })
 
-abbrev pub noted : List ℕ → List ℕ → PublisherState → PublisherState
-noted prefix content s = with_record (Note (message_with prefix content)) s
+abbrev pub after_note : List ℕ → List ℕ → PublisherState → PublisherState
+after_note prefix content s = with_record (Note (message_with prefix content)) s
 
 -- a new savepoint has the next xid, and marks how many changes of its transaction stand
 abbrev pub next_savepoint : ℕ → PublisherState → Savepoint
 next_savepoint xid s = record { xid = s.next_xid; mark = count_of xid (history_of s.log) }
 
 -- it goes under the innermost open one
-abbrev pub saved : ℕ → PublisherState → PublisherState
-saved xid s = record (with_record (Assign s.next_xid (innermost xid s.live)) s) {
+abbrev pub after_savepoint : ℕ → PublisherState → PublisherState
+after_savepoint xid s = record (with_record (Assign s.next_xid (innermost xid s.live)) s) {
   next_xid = s.next_xid + 1;
   live = with_savepoints xid (savepoints_of xid s.live ++ next_savepoint xid s ∷ []) s.live;
 }
 
 -- the savepoints of this depth and above are closed, and no record is written
-abbrev pub released : ℕ → ℕ → PublisherState → PublisherState
-released xid depth s = record s { live = with_savepoints xid (take (depth - 1) (savepoints_of xid s.live)) s.live }
+abbrev pub after_release : ℕ → ℕ → PublisherState → PublisherState
+after_release xid depth s = record s { live = with_savepoints xid (take (depth - 1) (savepoints_of xid s.live)) s.live }
 
 -- the savepoint of this depth is rolled back, and it and those above are closed
-abbrev pub rolled_back : ℕ → ℕ → PublisherState → PublisherState
-rolled_back xid depth s = released xid depth (with_record (AbortSub (slice_index (xids (savepoints_of xid s.live)) (depth - 1))) s)
+abbrev pub after_rollback : ℕ → ℕ → PublisherState → PublisherState
+after_rollback xid depth s = after_release xid depth (with_record (AbortSub (slice_index (xids (savepoints_of xid s.live)) (depth - 1))) s)
 
 -- a transaction ends by this record
-abbrev pub ended : ℕ → Body → PublisherState → PublisherState
-ended xid body s = record (with_record body s) { live = without xid s.live }
+abbrev pub after_end : ℕ → Body → PublisherState → PublisherState
+after_end xid body s = record (with_record body s) { live = without xid s.live }
 
 abbrev pub after_commit : ℕ → ℤ → PublisherState → PublisherState
-after_commit xid time s = ended xid (Commit xid time) s
+after_commit xid time s = after_end xid (Commit xid time) s
 
 abbrev pub after_abort : ℕ → PublisherState → PublisherState
-after_abort xid s = ended xid (Abort xid) s
+after_abort xid s = after_end xid (Abort xid) s
 
 -- what a commit tells: the place of its record in the log, where it starts and ends, and the transaction's xid
 abbrev pub receipt_of : ℕ → ℤ → PublisherState → Committed

@@ -29,11 +29,11 @@ abbrev pub made_by : List Record → Entry → Made
 made_by log e = record { top = while_live log (top_of log e.xid); change = e.change }
 
 -- the changes that stand, in the order of the log, each with its transaction while that is in progress
-abbrev pub standing : List Record → List Entry
-standing log = filter (stands log) (entries log)
+abbrev pub standing_changes : List Record → List Entry
+standing_changes log = filter (stands log) (entries log)
 
 abbrev pub history_of : List Record → List Made
-history_of log = map (made_by log) (standing log)
+history_of log = map (made_by log) (standing_changes log)
 
 -- the rows after all changes that stand
 abbrev pub rows_of : List Table → List Record → Rows

@@ -1,14 +1,14 @@
 //! How sessions change rows: the tables take the change, and the log a record of it. A message goes the same way.
 
 ghost use Rattle.std.specs.Prelude.{◌≡◌, ◌+◌, ◌∷◌, ◌++◌, [], ◌<◌, ◌^◌, IfErr, IfOk, List, OnErr, OnOk, false, true};
-ghost use Rattle.store.specs.History.{Made, count_of, rolled_back};
+ghost use Rattle.store.specs.History.{Made, count_of, history_after_rollback};
 ghost use Rattle.store.specs.Keeping.{Keeps};
 ghost use Rattle.tables.specs.Reading.{IsCoded};
 ghost use Rattle.tables.specs.Spelling.{IsShort};
 ghost use Rattle.txlog.specs.Invariants.{IsPublisher};
 ghost use Rattle.wal.specs.Log.{IsWellFormedLog, end_of, top_of};
 ghost use Rattle.wal.specs.Records.{record_after};
-ghost use Rattle.txlog.specs.Publishing.{RefusedOrMemory, changed, deleted, delete_refusal, fault_at, innermost, insert_refusal, is_live, message_refusal, message_with, room, truncate_refusal, update_refusal, updated};
+ghost use Rattle.txlog.specs.Publishing.{RefusedOrMemory, after_change, after_delete, delete_refusal, fault_at, innermost, insert_refusal, is_live, message_refusal, message_with, room, truncate_refusal, update_refusal, after_update};
 ghost use Rattle.txlog.specs.Rows.{history_of};
 ghost use Rattle.wal.specs.declared.record.TheConstants.{FIRST_POSITION};
 
@@ -42,7 +42,7 @@ impl<L: LogName> Publisher<L> {
         oid: u32,
         row: Row,
     ) -> Result<(), SessionFault>
-        ensures ok { OnOk result (self.new ≡ changed tx.old (Change.Insert oid row) self.old) }
+        ensures ok { OnOk result (self.new ≡ after_change tx.old (Change.Insert oid row) self.old) }
         ensures err { OnErr result (self.new ≡ self.old) }
         ensures refused { RefusedOrMemory (insert_refusal tx.old oid row self.old) result }
         ensures tx { tx.new ≡ tx.old }
@@ -66,7 +66,7 @@ impl<L: LogName> Publisher<L> {
         row: Row,
     ) -> Result<(), SessionFault>
         ensures ok { OnOk result
-            (self.new ≡ updated tx.old (record { oid = oid; values = key.now }) row self.old) }
+            (self.new ≡ after_update tx.old (record { oid = oid; values = key.now }) row self.old) }
         ensures err { OnErr result (self.new ≡ self.old) }
         ensures refused { RefusedOrMemory
             (update_refusal tx.old (record { oid = oid; values = key.now }) row self.old) result }
@@ -89,7 +89,7 @@ impl<L: LogName> Publisher<L> {
         key: &Row,
     ) -> Result<(), SessionFault>
         ensures ok { OnOk result
-            (self.new ≡ deleted tx.old (record { oid = oid; values = key.now }) self.old) }
+            (self.new ≡ after_delete tx.old (record { oid = oid; values = key.now }) self.old) }
         ensures err { OnErr result (self.new ≡ self.old) }
         ensures refused { RefusedOrMemory
             (delete_refusal tx.old (record { oid = oid; values = key.now }) self.old) result }
@@ -110,7 +110,8 @@ impl<L: LogName> Publisher<L> {
         tx: &mut Tx,
         oids: &[u32],
     ) -> Result<(), SessionFault>
-        ensures ok { OnOk result (self.new ≡ changed tx.old (Change.Truncate oids.now) self.old) }
+        ensures ok { OnOk result
+            (self.new ≡ after_change tx.old (Change.Truncate oids.now) self.old) }
         ensures err { OnErr result (self.new ≡ self.old) }
         ensures refused { RefusedOrMemory (truncate_refusal tx.old oids.now self.old) result }
         ensures tx { tx.new ≡ tx.old }
@@ -132,7 +133,7 @@ impl<L: LogName> Publisher<L> {
         content: &[u8],
     ) -> Result<(), SessionFault>
         ensures ok { OnOk result
-            (self.new ≡ changed tx.old (message_with prefix.now content.now) self.old) }
+            (self.new ≡ after_change tx.old (message_with prefix.now content.now) self.old) }
         ensures err { OnErr result (self.new ≡ self.old) }
         ensures refused { RefusedOrMemory (message_refusal tx.old prefix.now content.now self.old)
             result }
@@ -192,7 +193,7 @@ fn write<L: LogName, R: Wait>(
     ensures err { OnErr result (log.new ≡ log.old) }
     ensures undone { OnErr result
         ((history : List Made) → Keeps store.old history →
-        Keeps store.new (rolled_back at.xid at.mark history)) }
+        Keeps store.new (history_after_rollback at.xid at.mark history)) }
     ensures refused { IfErr result (λ fault. fault ≡ fault_at at.room StoreFault.Memory) }
     ensures tables { store.new.tables ≡ store.old.tables }
 {

@@ -3,7 +3,7 @@
 ghost use Rattle.std.specs.Prelude.{◌≡◌, ◌+◌, ◌∷◌, ◌++◌, [], ◌<◌, ◌^◌, IfErr, IfOk, OnErr, OnOk};
 ghost use Rattle.tables.specs.Tables.{FitsMessage};
 ghost use Rattle.txlog.specs.Invariants.{IsPublisher};
-ghost use Rattle.txlog.specs.Publishing.{RefusedOrMemory, log_end, note_refusal, noted};
+ghost use Rattle.txlog.specs.Publishing.{RefusedOrMemory, after_note, log_end, note_refusal};
 ghost use Rattle.wal.specs.Log.{IsWellFormedLog, end_of};
 ghost use Rattle.wal.specs.Records.{record_after};
 ghost use Rattle.wal.specs.declared.record.TheConstants.{FIRST_POSITION};
@@ -29,7 +29,7 @@ impl<L: LogName> Publisher<L> {
         content: &[u8],
     ) -> Result<u64, SessionFault>
         ensures start { IfOk result (λ start. start ≡ log_end self.old) }
-        ensures ok { OnOk result (self.new ≡ noted prefix.now content.now self.old) }
+        ensures ok { OnOk result (self.new ≡ after_note prefix.now content.now self.old) }
         ensures err { OnErr result (self.new ≡ self.old) }
         ensures refused { RefusedOrMemory (note_refusal prefix.now content.now self.old) result }
         ensures publisher { IsPublisher self.new }

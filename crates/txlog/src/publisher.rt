@@ -4,10 +4,10 @@ ghost use Rattle.std.specs.Prelude.{◌≡◌, ◌+◌, ◌-◌, ◌≤◌, ◌<
 ghost use Rattle.std.specs.List.{AllByRecursion};
 ghost use Rattle.std.specs.Option.{option_copied};
 ghost use mathlib.Core.List.{IsPrefix};
-ghost use Rattle.shared_log.specs.Fronts.{settled};
+ghost use Rattle.shared_log.specs.Fronts.{settled_records};
 ghost use Rattle.txlog.specs.Invariants.{IsPublisher};
 ghost use Rattle.txlog.specs.Rows.{rows_of};
-ghost use Rattle.txlog.specs.Publishing.{RefusedOrMemory, RefusedOrMemoryBack, RefusedExactly, after_abort, after_commit, new_publisher, begin_refusal, begun, end_refusal, is_live, log_end, receipt_of, release_refusal, released, rollback_refusal, rolled_back, room, saved, savepoint_refusal, savepoints_of};
+ghost use Rattle.txlog.specs.Publishing.{RefusedOrMemory, RefusedOrMemoryBack, RefusedExactly, after_abort, after_commit, new_publisher, begin_refusal, after_begin, end_refusal, is_live, log_end, receipt_of, release_refusal, after_release, rollback_refusal, after_rollback, room, after_savepoint, savepoint_refusal, savepoints_of};
 
 use crate::fault::SessionFault;
 use crate::limits::{MAX_DEPTH, MAX_LIVE};
@@ -119,7 +119,7 @@ impl<L: LogName> Publisher<L> {
         ensures count { result ≡ length self.old.log }
         ensures same { self.new ≡ self.old }
         ensures kept { IsPrefix reader.old.told reader.new.told }
-        ensures told { IsPrefix self.old.log (settled reader.new.told) }
+        ensures told { IsPrefix self.old.log (settled_records reader.new.told) }
         ensures place { (seen_of reader.new ≡ seen_of reader.old)
             × (reader.new.place ≡ reader.old.place) }
         ensures publisher { IsPublisher self.new }
@@ -145,7 +145,8 @@ impl<L: LogName> Publisher<L> {
 
     /// A new transaction. S10 where 256 are live, then S7 without room, then S11.
     pub fn begin(&mut self) -> Result<Tx, SessionFault>
-        ensures ok { IfOk result (λ tx. (tx ≡ self.old.next_xid) × (self.new ≡ begun self.old)) }
+        ensures ok { IfOk result
+            (λ tx. (tx ≡ self.old.next_xid) × (self.new ≡ after_begin self.old)) }
         ensures err { OnErr result (self.new ≡ self.old) }
         ensures refused { RefusedOrMemory (begin_refusal self.old) result }
         ensures publisher { IsPublisher self.new }
@@ -216,7 +217,7 @@ impl<L: LogName> Publisher<L> {
     pub fn savepoint<R: Wait>(&mut self, rt: &R, tx: &mut Tx) -> Result<u32, SessionFault>
         ensures depth { IfOk result
             (λ depth. depth ≡ length (savepoints_of tx.old self.old.live) + 1) }
-        ensures ok { OnOk result (self.new ≡ saved tx.old self.old) }
+        ensures ok { OnOk result (self.new ≡ after_savepoint tx.old self.old) }
         ensures err { OnErr result (self.new ≡ self.old) }
         ensures refused { RefusedOrMemory (savepoint_refusal tx.old self.old) result }
         ensures tx { tx.new ≡ tx.old }
@@ -271,7 +272,7 @@ impl<L: LogName> Publisher<L> {
         tx: &mut Tx,
         depth: u32,
     ) -> Result<(), SessionFault>
-        ensures ok { OnOk result (self.new ≡ rolled_back tx.old depth self.old) }
+        ensures ok { OnOk result (self.new ≡ after_rollback tx.old depth self.old) }
         ensures err { OnErr result (self.new ≡ self.old) }
         ensures refused { RefusedOrMemory (rollback_refusal tx.old depth self.old) result }
         ensures tx { tx.new ≡ tx.old }
@@ -310,7 +311,7 @@ impl<L: LogName> Publisher<L> {
 
     /// Releases the savepoint of this depth, 1 for the outermost, and those above. S14, S8 in this order.
     pub fn release(&mut self, tx: &mut Tx, depth: u32) -> Result<(), SessionFault>
-        ensures ok { OnOk result (self.new ≡ released tx.old depth self.old) }
+        ensures ok { OnOk result (self.new ≡ after_release tx.old depth self.old) }
         ensures err { OnErr result (self.new ≡ self.old) }
         ensures refused { RefusedExactly (release_refusal tx.old depth self.old) result }
         ensures tx { tx.new ≡ tx.old }

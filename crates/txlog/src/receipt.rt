@@ -1,7 +1,7 @@
 //! What a commit answers.
 
 ghost use Rattle.std.specs.Prelude.{◌≡◌, true};
-ghost use Rattle.shared_log.specs.Fronts.{settled};
+ghost use Rattle.shared_log.specs.Fronts.{settled_records};
 ghost use Rattle.txlog.specs.Receipts.{has_commit};
 
 use shared_log::LogName;
@@ -17,19 +17,19 @@ pub struct Receipt<L: LogName> {
 
 impl<L: LogName> Model for Receipt<L> {
     ghost use Rattle.std.specs.Prelude.{◌≡◌, true};
-    ghost use Rattle.shared_log.specs.Fronts.{settled};
+    ghost use Rattle.shared_log.specs.Fronts.{settled_records};
     ghost use Rattle.txlog.specs.Receipts.{Committed, has_commit};
 
     ghost Value = { Committed };
 
     ghost view = { λ r. record { place = r.told.place; start = r.told.start; end = r.told.end; xid = r.xid } };
 
-    ghost invariant = { λ r. has_commit (settled r.told.front) (record { place = r.told.place; start = r.told.start; end = r.told.end; xid = r.xid }) ≡ true };
+    ghost invariant = { λ r. has_commit (settled_records r.told.front) (record { place = r.told.place; start = r.told.start; end = r.told.end; xid = r.xid }) ≡ true };
 }
 
 impl<L: LogName> Receipt<L> {
     pub(crate) fn new(told: shared_log::Receipt<L>, xid: u32) -> Self
-        requires { has_commit (settled told.front)
+        requires { has_commit (settled_records told.front)
             (record { place = told.place; start = told.start; end = told.end; xid = xid })
             ≡ true }
         ensures { result
@@ -68,7 +68,7 @@ impl<L: LogName> Receipt<L> {
 
     /// What a reader learns. The Commit stands in the log that it then knows of.
     pub fn told(&self) -> &shared_log::Receipt<L>
-        ensures { has_commit (settled result.now.front) self.now ≡ true }
+        ensures { has_commit (settled_records result.now.front) self.now ≡ true }
     {
         &self.told
     }

@@ -8,7 +8,7 @@ use Rattle.std.proofs.lemmas.List.Elements.{filter-append}
 use Rattle.tables.specs.declared.change.Change.{Change}
 use Rattle.wal.specs.declared.record.Record.{Record}
 use Rattle.wal.specs.declared.record.Body.TheVariants.{Assign, Change as Changed, AbortSub, Abort, Commit}
-use Rattle.wal.specs.Log.{is_named, is_assigned, chain, last_of, top_of, undoes, is_undone, is_dropped, ends, has_ended, Entry, entry_at, entries, is_kept, kept, IsOpen}
+use Rattle.wal.specs.Log.{is_named, is_assigned, chain, last_of, top_of, undoes, is_undone, is_dropped, ends, has_ended, Entry, entry_at, entries, is_kept, kept_changes, IsOpen}
 use Rattle.wal.proofs.Lists.{or_false, and_true, none_of, filter_all, filter_agrees, all_agree, filter_twice, list_any_agrees}
 use Rattle.wal.proofs.Laws.{entries-append, is_undone-one, has_ended-one, chain-append, chain-unassigned, top-kept, dropped-kept, KeepsChains, all_when, changes_named}
 
@@ -138,7 +138,7 @@ kept_test false false true k = refl
 kept_test false false false k = refl
 
 -- What a transaction in progress keeps are its live_changes changes.
-pub kept-live : (log : List Record) (t : ℕ) → has_ended log t ≡ false → kept log t ≡ filter (λ e. top_of log e.xid == t) (live_changes log)
+pub kept-live : (log : List Record) (t : ℕ) → has_ended log t ≡ false → kept_changes log t ≡ filter (λ e. top_of log e.xid == t) (live_changes log)
 kept-live log t running =
     filter_agrees (is_kept log t) (λ e. is_live_change log e && (top_of log e.xid == t)) (entries log) (all_agree _ _ agree (entries log))
     ∙ sym (filter_twice (λ e. top_of log e.xid == t) (is_live_change log) (entries log))

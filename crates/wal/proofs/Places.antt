@@ -9,8 +9,8 @@ use Rattle.std.proofs.Math.Seq.{take-append_seam}
 use Rattle.wal.specs.declared.record.Record.{Record}
 use Rattle.wal.specs.declared.record.Body.{Body}
 use Rattle.wal.specs.declared.record.Body.TheVariants.{Assign, Change as Changed, AbortSub, Abort, Commit, Note}
-use Rattle.wal.specs.Log.{names, is_named, assigns, chain, top_of, is_assigned, is_undone, Entry, entry_at, entries, is_kept, kept, committed_at, committed_by, committed_from, committed, IsNext, WellFormedAfter, IsWellFormedLog, chain_step}
-use Rattle.wal.specs.Places.{puts_under, is_parent, IsChain, kept_at, placed_at, placed_from, committed_by_places}
+use Rattle.wal.specs.Log.{names, is_named, assigns, chain, top_of, is_assigned, is_undone, Entry, entry_at, entries, is_kept, kept_changes, committed_at, committed_by, committed_from, committed_transactions, IsNext, WellFormedAfter, IsWellFormedLog, chain_step}
+use Rattle.wal.specs.Places.{puts_under, is_parent, IsChain, kept_changes_at, placed_at, placed_from, committed_by_places}
 use Rattle.wal.proofs.Lists.{or_false, filter_agrees, eqb_comm}
 use Rattle.wal.proofs.Laws.{is_named-one, is_assigned-one, chain-append, all_when, chain-quiet}
 
@@ -49,7 +49,7 @@ changes-named (r ∷ log) = by_body r.start r.body (all_when _ _ (λ (e : Entry)
     by_body start (Note change) all = all
     by_body start (Commit xid time) all = all
 
-pub kept-at : (before rest : List Record) (top : ℕ) → WellFormedAfter before rest → kept_at (before ++ rest) top (length before) ≡ kept before top
+pub kept-at : (before rest : List Record) (top : ℕ) → WellFormedAfter before rest → kept_changes_at (before ++ rest) top (length before) ≡ kept_changes before top
 kept-at before rest top h =
     rw (take-append_seam before rest) (filter_agrees (λ e. (top_of (before ++ rest) e.xid == top) && not (list_any (is_undone before) (chain (before ++ rest) e.xid))) (is_kept before top) (entries before)
     (all_when _ _ (λ (e : Entry) (named : is_named before e.xid ≡ true). let same = chain-stable before rest e.xid named h in rw same refl) (entries before) (changes-named before)))
@@ -63,7 +63,7 @@ placed-same s before rest start end (Abort xid) h = refl
 placed-same s before rest start end (Note change) h = refl
 placed-same s before rest start end (Commit xid time) h = by_changes (kept-at before rest xid h)
   where
-    by_changes : kept_at (before ++ rest) xid (length before) ≡ kept before xid →
+    by_changes : kept_changes_at (before ++ rest) xid (length before) ≡ kept_changes before xid →
         placed_at s (before ++ rest) (length before) start end (Commit xid time) ≡ committed_at s before start end (Commit xid time)
     by_changes e = ap (λ (es : List Entry). cond (nat_le s start) (record { is_note = false; start = start; end = end; time = time; xid = xid; changes = es } ∷ []) []) e
 
@@ -76,7 +76,7 @@ placed-from s before (r ∷ rest) h =
     ∙ ap (λ txs. committed_by s before r ++ txs)
     (ap (λ log. placed_from s log (length before + 1) rest) (sym whole) ∙ ap (λ n. placed_from s ((before ++ r ∷ []) ++ rest) n rest) (sym longer) ∙ placed-from s (before ++ r ∷ []) rest h.1)
 
-pub committed-by_places : (log : List Record) (s : ℕ) → IsWellFormedLog log → committed_by_places log s ≡ committed log s
+pub committed-by_places : (log : List Record) (s : ℕ) → IsWellFormedLog log → committed_by_places log s ≡ committed_transactions log s
 committed-by_places log s h = placed-from s [] log h.order
 
 -- CHAINS

@@ -10,7 +10,7 @@ use Rattle.std.proofs.lemmas.List.Sorted.{list_any-IsPermutation, IsPermutation-
 use Rattle.wal.specs.declared.record.Record.{Record}
 use Rattle.wal.specs.declared.record.Body.{Body}
 use Rattle.wal.specs.declared.record.Body.TheVariants.{Assign, Change as Changed, AbortSub, Abort, Commit, Note}
-use Rattle.wal.specs.Log.{names, is_named, is_note, xid_in, assigns, is_assigned, chain_step, chain_back, last_of, top_of, undoes, is_undone, is_dropped, Entry, noted, entry_at, entries, is_kept, kept, Transaction, committed_at, committed_by, committed_from, committed, IsNext, WellFormedAfter, IsWellFormedLog}
+use Rattle.wal.specs.Log.{names, is_named, is_note, xid_in, assigns, is_assigned, chain_step, chain_back, last_of, top_of, undoes, is_undone, is_dropped, Entry, note_as_transaction, entry_at, entries, is_kept, kept_changes, Transaction, committed_at, committed_by, committed_from, committed_transactions, IsNext, WellFormedAfter, IsWellFormedLog}
 use Rattle.wal.specs.Places.{committed_by_places, commits_at, commits_from, is_needed, SkipsNone}
 use Rattle.wal.proofs.Lists.{filter_agrees, filter_none, eqb_comm, all_both, each}
 use Rattle.wal.proofs.Laws.{is_named-append, is_named-one, is_assigned-append, is_undone-append, entries-append, all_when, chain_back-unassigned, chain-unassigned, chain-quiet, committed_from-append, WellFormedAfter-front, WellFormedAfter-back}
@@ -251,7 +251,7 @@ module _ (log : List Record) (s : ℕ) (skipped before : List Record) (none : Sk
           let same : top_of (skipped ++ before) e.xid ≡ top_of before e.xid = on e.xid ∙ ap (last_of (top_of before e.xid)) (chain-unassigned skipped (top_of before e.xid) is) in
           ap (λ y. (y == top) && not (is_dropped (skipped ++ before) e.xid)) same ∙ ap (λ b. b && not (is_dropped (skipped ++ before) e.xid)) refl ∙ by_top (top_of before e.xid == top) refl
 
-  kept_alike : kept (skipped ++ before) top ≡ kept before top
+  kept_alike : kept_changes (skipped ++ before) top ≡ kept_changes before top
   kept_alike =
       let away : AllByRecursion (λ (e : Entry). is_kept (skipped ++ before) top e ≡ false) (entries skipped) =
       all_when _ _ skipped_away (entries skipped)
@@ -320,8 +320,8 @@ commits_alike log s skipped before (r ∷ rest) whole none good =
     by_body (Commit xid time) is = by_test (nat_le s r.start) refl
       where
         by_test : (b : Bool) → nat_le s r.start ≡ b →
-            cond {A = List Transaction} b (record { is_note = false; start = r.start; end = r.end; time = time; xid = xid; changes = kept (skipped ++ before) xid } ∷ []) []
-            ≡ cond {A = List Transaction} b (record { is_note = false; start = r.start; end = r.end; time = time; xid = xid; changes = kept before xid } ∷ []) []
+            cond {A = List Transaction} b (record { is_note = false; start = r.start; end = r.end; time = time; xid = xid; changes = kept_changes (skipped ++ before) xid } ∷ []) []
+            ≡ cond {A = List Transaction} b (record { is_note = false; start = r.start; end = r.end; time = time; xid = xid; changes = kept_changes before xid } ∷ []) []
         by_test true late =
             let it = commit_counts log (skipped ++ before) rest r s xid time parted behind is late in
             ap (λ (es : List Entry). record { is_note = false; start = r.start; end = r.end; time = time; xid = xid; changes = es } ∷ [])
@@ -343,12 +343,12 @@ skipped_none log s before (r ∷ skipped) rest whole good none =
     by_body (Abort xid) is = refl
     by_body (Note change) is = by_test (nat_le s r.start) (ap (λ b. cond (is_note b) (nat_le s r.start) (commits_from log s (top_of log (xid_in b)))) (sym is) ∙ none.0)
       where
-        by_test : (b : Bool) → b ≡ false → cond {A = List Transaction} b (noted r.start r.end change ∷ []) [] ≡ []
+        by_test : (b : Bool) → b ≡ false → cond {A = List Transaction} b (note_as_transaction r.start r.end change ∷ []) [] ≡ []
         by_test true late = absurd cc
         by_test false early = refl
     by_body (Commit xid time) is = by_test (nat_le s r.start) refl
       where
-        by_test : (b : Bool) → nat_le s r.start ≡ b → cond {A = List Transaction} b (record { is_note = false; start = r.start; end = r.end; time = time; xid = xid; changes = kept before xid } ∷ []) [] ≡ []
+        by_test : (b : Bool) → nat_le s r.start ≡ b → cond {A = List Transaction} b (record { is_note = false; start = r.start; end = r.end; time = time; xid = xid; changes = kept_changes before xid } ∷ []) [] ≡ []
         by_test true late =
             let it = commit_counts log before (skipped ++ rest) r s xid time whole good is late in
             let never : commits_from log s (top_of log xid) ≡ false = ap (λ b. cond (is_note b) (nat_le s r.start) (commits_from log s (top_of log (xid_in b)))) (sym is) ∙ none.0 in
@@ -356,7 +356,7 @@ skipped_none log s before (r ∷ skipped) rest whole good none =
         by_test false early = refl
 
 pub section-by_places : (skipped records : List Record) (s : ℕ) → IsWellFormedLog (skipped ++ records) → SkipsNone (skipped ++ records) s skipped →
-    committed records s ≡ committed_by_places (skipped ++ records) s
+    committed_transactions records s ≡ committed_by_places (skipped ++ records) s
 section-by_places skipped records s good none =
     sym (commits_alike (skipped ++ records) s skipped [] records refl none (WellFormedAfter-back [] skipped records good.order))
     ∙ ap (λ l. committed_from s l records) (append-nil skipped)

@@ -141,8 +141,8 @@ is_kept log top e = (top_of log e.xid == top) && not (is_dropped log e.xid)
 
 -- The changes that a transaction keeps, in order, by the records so far. Of a transaction that commits they are judged by
 -- the records before its Commit.
-abbrev pub kept : List Record → ℕ → List Entry
-kept log top = filter (is_kept log top) (entries log)
+abbrev pub kept_changes : List Record → ℕ → List Entry
+kept_changes log top = filter (is_kept log top) (entries log)
 
 -- COMMITTED TRANSACTIONS
 
@@ -157,15 +157,15 @@ pub record Transaction : Type 0 where
   pub changes : List Entry
 
 -- a note: its record's message, at its own start
-abbrev pub noted : (start end : ℕ) → Change → Transaction
-noted start end change =
+abbrev pub note_as_transaction : (start end : ℕ) → Change → Transaction
+note_as_transaction start end change =
     record { is_note = true; start = start; end = end; time = pos 0; xid = 0; changes = record { position = start; xid = 0; change = change } ∷ [] }
 
 -- what a record commits, if it is a Commit, or a note, that starts at the start position s or later
 abbrev pub committed_at : ℕ → List Record → ℕ → ℕ → Body → List Transaction
 committed_at s before start end (Commit xid time) =
-    if nat_le s start then record { is_note = false; start = start; end = end; time = time; xid = xid; changes = kept before xid } ∷ [] else []
-committed_at s before start end (Note change) = if nat_le s start then noted start end change ∷ [] else []
+    if nat_le s start then record { is_note = false; start = start; end = end; time = time; xid = xid; changes = kept_changes before xid } ∷ [] else []
+committed_at s before start end (Note change) = if nat_le s start then note_as_transaction start end change ∷ [] else []
 committed_at s before start end body = []
 
 abbrev pub committed_by : ℕ → List Record → Record → List Transaction
@@ -177,8 +177,8 @@ committed_from s before [] = []
 committed_from s before (r ∷ rs) = committed_by s before r ++ committed_from s (before ++ r ∷ []) rs
 
 -- the transactions of a log that commit at the start position or later, and the notes from there on
-abbrev pub committed : List Record → ℕ → List Transaction
-committed log s = committed_from s [] log
+abbrev pub committed_transactions : List Record → ℕ → List Transaction
+committed_transactions log s = committed_from s [] log
 
 -- WELL-FORMED LOGS
 

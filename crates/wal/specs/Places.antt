@@ -6,7 +6,7 @@ use Rattle.std.specs.List.{list_any, AllByRecursion}
 use Rattle.wal.specs.declared.record.Record.{Record}
 use Rattle.wal.specs.declared.record.Body.{Body}
 use Rattle.wal.specs.declared.record.Body.TheVariants.{Assign, Commit, Note}
-use Rattle.wal.specs.Log.{Entry, Transaction, noted, entries, is_note, xid_in, is_assigned, is_undone, chain, top_of}
+use Rattle.wal.specs.Log.{Entry, Transaction, note_as_transaction, entries, is_note, xid_in, is_assigned, is_undone, chain, top_of}
 
 -- CHAINS
 
@@ -32,16 +32,16 @@ abbrev pub is_dropped_at : List Record → ℕ → ℕ → Bool
 is_dropped_at log n x = list_any (is_undone (take n log)) (chain log x)
 
 -- what a transaction has changed up to place n and not rolled back there
-abbrev pub kept_at : List Record → ℕ → ℕ → List Entry
-kept_at log top n = filter (λ e. (top_of log e.xid == top) && not (is_dropped_at log n e.xid)) (entries (take n log))
+abbrev pub kept_changes_at : List Record → ℕ → ℕ → List Entry
+kept_changes_at log top n = filter (λ e. (top_of log e.xid == top) && not (is_dropped_at log n e.xid)) (entries (take n log))
 
 -- COMMITTED TRANSACTIONS
 
 -- what the record at place n commits, if it is a Commit that starts at s or later
 abbrev pub placed_at : ℕ → List Record → ℕ → ℕ → ℕ → Body → List Transaction
 placed_at s log n start end (Commit xid time) =
-    if nat_le s start then record { is_note = false; start = start; end = end; time = time; xid = xid; changes = kept_at log xid n } ∷ [] else []
-placed_at s log n start end (Note change) = if nat_le s start then noted start end change ∷ [] else []
+    if nat_le s start then record { is_note = false; start = start; end = end; time = time; xid = xid; changes = kept_changes_at log xid n } ∷ [] else []
+placed_at s log n start end (Note change) = if nat_le s start then note_as_transaction start end change ∷ [] else []
 placed_at s log n start end body = []
 
 -- what the records from place n on commit

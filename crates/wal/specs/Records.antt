@@ -11,5 +11,5 @@ abbrev pub record_after : List Record → Body → Record
 record_after log body = record { start = end_of FIRST_POSITION log; end = end_of FIRST_POSITION log + size_of body; body = body }
 
 -- the records of a list of shares
-abbrev pub shared : {A : Type 0} → List (Arc Record A) → List Record
-shared records = map (λ r. r.value) records
+abbrev pub shared_records : {A : Type 0} → List (Arc Record A) → List Record
+shared_records records = map (λ r. r.value) records

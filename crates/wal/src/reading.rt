@@ -2,21 +2,21 @@
 
 ghost use Rattle.std.specs.Prelude.{◌≡◌, ◌++◌, ℕ, List, take};
 ghost use Rattle.wal.specs.declared.record.Record.{Record};
-ghost use Rattle.wal.specs.Log.{IsWellFormedLog, chain, committed};
+ghost use Rattle.wal.specs.Log.{IsWellFormedLog, chain, committed_transactions};
 ghost use Rattle.wal.specs.Places.{IsChain, SkipsNone, committed_by_places};
 ghost use Rattle.wal.specs.Restart.{restart_place};
 
-/// Of a well-formed log, `committed` and `chain`, which judge each record by those before it, are what `specs/Places.antt`
+/// Of a well-formed log, `committed_transactions` and `chain`, which judge each record by those before it, are what `specs/Places.antt`
 /// says of the log as a whole.
 pub fn a_log_has_one_reading()
     // What transactions commit, and what each of them keeps.
     ensures committed { (log : List Record) (s : ℕ) → IsWellFormedLog log →
-        committed log s ≡ committed_by_places log s }
+        committed_transactions log s ≡ committed_by_places log s }
     // The same of a section that is read alone: what its own records say is what the log says, where no record before it is needed,
     // which is one of a transaction that commits at the start position or later, or a note there or later.
     ensures section { (skipped records : List Record) (s : ℕ) →
         IsWellFormedLog (skipped ++ records) → SkipsNone (skipped ++ records) s skipped →
-        committed records s ≡ committed_by_places (skipped ++ records) s }
+        committed_transactions records s ≡ committed_by_places (skipped ++ records) s }
     // There is a way up from each xid,
     ensures chain { (log : List Record) (x : ℕ) → IsWellFormedLog log →
         IsChain log x (chain log x) }

@@ -4,7 +4,7 @@ use Rattle.std.specs.List.{AllByRecursion}
 use Rattle.wal.specs.declared.record.Record.{Record}
 use Rattle.wal.specs.declared.record.Body.{Body}
 use Rattle.wal.specs.declared.record.Body.TheVariants.{Assign, Change as Changed, AbortSub, Abort, Commit, Note}
-use Rattle.wal.specs.Log.{kept, noted, Transaction, committed_at, committed_by, committed_from, IsSized, follows}
+use Rattle.wal.specs.Log.{kept_changes, note_as_transaction, Transaction, committed_at, committed_by, committed_from, IsSized, follows}
 use Rattle.publication.specs.Publications.{PublicationSet}
 use Rattle.stream.specs.declared.published.Published.{Published}
 use Rattle.stream.proofs.Lists.{all_of_both}
@@ -30,12 +30,12 @@ late_at selection s at before start end (AbortSub xid) le = tt
 late_at selection s at before start end (Abort xid) le = tt
 late_at selection s at before start end (Note change) le = by_test (leb s start)
   where
-    by_test : (b : Bool) → AllByRecursion (λ (t : Transaction). at ≤ t.start) (cond b (noted start end change ∷ []) [])
+    by_test : (b : Bool) → AllByRecursion (λ (t : Transaction). at ≤ t.start) (cond b (note_as_transaction start end change ∷ []) [])
     by_test true = (le, tt)
     by_test false = tt
 late_at selection s at before start end (Commit xid time) le = by_test (leb s start)
   where
-    by_test : (b : Bool) → AllByRecursion (λ (t : Transaction). at ≤ t.start) (cond b (record { is_note = false; start = start; end = end; time = time; xid = xid; changes = kept before xid } ∷ []) [])
+    by_test : (b : Bool) → AllByRecursion (λ (t : Transaction). at ≤ t.start) (cond b (record { is_note = false; start = start; end = end; time = time; xid = xid; changes = kept_changes before xid } ∷ []) [])
     by_test true = (le, tt)
     by_test false = tt
 

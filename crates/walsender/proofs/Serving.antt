@@ -7,7 +7,7 @@ use Rattle.std.proofs.lemmas.List.{append-nil, drop_all, take-append-drop, take_
 use Rattle.std.specs.Global.{Global}
 use Rattle.std.specs.declared.sync.Arc.{Arc}
 use mathlib.Core.List.{IsPrefix}
-use Rattle.wal.specs.Records.{shared}
+use Rattle.wal.specs.Records.{shared_records}
 use Rattle.wal.specs.declared.record.TheConstants.{FIRST_POSITION}
 use Rattle.wal.specs.declared.record.Record.{Record}
 use Rattle.wal.specs.Log.{IsWellFormedLog, IsSized, follows, end_of}
@@ -19,7 +19,7 @@ use Rattle.stream.specs.Items.{keepalive_word}
 use Rattle.stream.specs.Stream.{IsStream}
 use Rattle.sender.specs.declared.fault.SendFault.{SendFault}
 use Rattle.sender.specs.declared.fault.SendFault.TheVariants as sends
-use Rattle.sender.specs.Published.{published, published_from}
+use Rattle.sender.specs.Published.{published_from, published_transactions}
 use Rattle.sender.specs.Sending.{SenderState, HasRead, published_bytes, AddsPublished, ReadAll, RanOut}
 use Rattle.sender.specs.Turning.{IsRefused}
 use Rattle.sender.proofs.Sections.{all_back, starts_below}
@@ -41,7 +41,7 @@ grown_stream log place section clock written s new part fits t selection start p
     let goes : follows s.position section ≡ true = ap (λ (p : ℕ). follows p section) t.at ∙ next.follows_on in
     let sized = all_back IsSized pre section next.sized in
     let le = (starts_below s.position section goes sized).0 in
-    let more = published_bytes s.selection clock (published s.selection pre s.start) (published_from s.selection s.start pre section) in
+    let more = published_bytes s.selection clock (published_transactions s.selection pre s.start) (published_from s.selection s.start pre section) in
     let grown : written ++ new.held ≡ (written ++ s.held) ++ more = ap (λ (l : List ℕ). written ++ l) added.adds ∙ sym (append_assoc written s.held more) in
     let stream = stream_read s.selection clock (written ++ s.held) (written ++ new.held) pre section s.start s.position (end_of s.position section) t.stream grown le
     (published_late s.selection s.start s.position pre section goes sized) added.fit fits in
@@ -155,7 +155,7 @@ feeds clock s new rs (Err sends.Memory) told = (was_running s (Err sends.Memory)
 feeds clock s new rs (Err sends.Failed) told = (told.failed.0 refl, told.unchanged (told.failed.0 refl))
 feeds clock s new rs (Err sends.Gap) told = (was_running s (Err sends.Gap) told.failed (λ other. cc), told.gap refl, told.unread refl)
 
-pub length_shared : (records : List (Arc Record Global)) → length (shared records) ≡ length records
+pub length_shared : (records : List (Arc Record Global)) → length (shared_records records) ≡ length records
 length_shared [] = refl
 length_shared (y ∷ records) = ap suc (length_shared records)
 
@@ -166,7 +166,7 @@ kept_alive : (log : List Record) (place : ℕ) (clock : ℤ) (ask : Bool) (writt
 kept_alive log place clock ask written s serving fits lt =
     let t = serving.streaming in
     let word = word_bytes (keepalive_word s.position clock ask) in
-    let all = published s.selection (take serving.count log) s.start in
+    let all = published_transactions s.selection (take serving.count log) s.start in
     record {
       from = serving.from;
       reads_from = serving.reads_from;
@@ -200,7 +200,7 @@ given log place written bytes s new parts rest serving =
       streaming = record {
         within = t.within;
         at = t.at;
-        stream = stream_moved (relation s.selection) (written ++ s.held) ((written ++ bytes) ++ new.held) (published s.selection (take serving.count log) s.start) s.position t.stream
+        stream = stream_moved (relation s.selection) (written ++ s.held) ((written ++ bytes) ++ new.held) (published_transactions s.selection (take serving.count log) s.start) s.position t.stream
             (append_assoc written bytes new.held ∙ ap (λ (l : List ℕ). written ++ l) (sym parts));
       };
       running = λ still. let r = serving.running still in (r.0, record { taken = r.1.taken; relations_sent = r.1.relations_sent });
@@ -224,7 +224,7 @@ pub started : (log : List Record) (s : SenderState) (start first from : ℕ) →
 started log s start first from begins start_is position held reads =
     let reads_from = subst (λ (n : ℕ). ReadsFrom log n from) (sym start_is) begins.reads_from in
     let within = from_within log s.start from reads_from in
-    let none : published s.selection (take from log) s.start ≡ [] = nothing_skipped s.selection log s.start from reads_from begins.good in
+    let none : published_transactions s.selection (take from log) s.start ≡ [] = nothing_skipped s.selection log s.start from reads_from begins.good in
     let empty : drop from (take from log) ≡ [] = drop_all from (take from log) (omega (arith, length-take from log, within)) in
     let S : List Published → Type 0 = λ ts. IsStream (relation s.selection) ([] ++ s.held) ts s.position in
     record {
@@ -247,7 +247,7 @@ pub grown_streaming : (log more : List Record) (count : ℕ) (written : List ℕ
 grown_streaming log more count written s t =
     let same = take_grown log more count t.within in
     let longer : length log ≤ length (log ++ more) = omega (arith, length-append log more) in
-    let P : List Record → Type 0 = λ l. IsStream (relation s.selection) (written ++ s.held) (published s.selection l s.start) s.position in
+    let P : List Record → Type 0 = λ l. IsStream (relation s.selection) (written ++ s.held) (published_transactions s.selection l s.start) s.position in
     record { within = omega (arith, t.within, longer); at = t.at ∙ ap (end_of FIRST_POSITION) (sym same); stream = subst P (sym same) t.stream }
 
 pub grown : (log more : List Record) (place : ℕ) (written : List ℕ) (s : SenderState) → IsServing log place written s → IsServing (log ++ more) place written s

@@ -13,7 +13,7 @@ use Rattle.publication.specs.Publications.{PublicationSet}
 use Rattle.publication.specs.Selection.{relation}
 use Rattle.stream.specs.declared.published.Published.{Published}
 use Rattle.stream.specs.Items.{FitsPublished}
-use Rattle.sender.specs.Published.{published, published_as, published_from, has_message}
+use Rattle.sender.specs.Published.{published_transactions, published_as, published_from, has_message}
 use Rattle.sender.specs.Sending.{SenderState, AddsPublished, MayFollow, published_bytes}
 use Rattle.sender.proofs.Sections.{section_may_follow}
 use Rattle.walsender.specs.Serving.{BeginsAt, ReadsFrom}
@@ -68,7 +68,7 @@ resumed seen limit start first place place_is first_is good =
 abbrev publishing : PublicationSet → List Transaction → List Published
 publishing selection txs = filter has_message (map (published_as selection) txs)
 
-pub nothing_skipped : (selection : PublicationSet) (log : List Record) (start from : ℕ) → ReadsFrom log start from → IsWellFormedLog log → published selection (take from log) start ≡ []
+pub nothing_skipped : (selection : PublicationSet) (log : List Record) (start from : ℕ) → ReadsFrom log start from → IsWellFormedLog log → published_transactions selection (take from log) start ≡ []
 nothing_skipped selection log start from reads good =
     let parts : log ≡ take from log ++ drop from log = sym (take-append-drop from log) in
     ap (publishing selection) (skipped_none log start [] (take from log) (drop from log) parts (subst (WellFormedAfter []) parts good.order) (from_skips log start from reads good))
@@ -78,7 +78,7 @@ nothing_skipped selection log start from reads good =
 -- The records that were read say of the next ones what all of the log before them says.
 pub record ReadsBehind (selection : PublicationSet) (start from place : ℕ) (log section : List Record) : Type 0 where
   pub may : MayFollow (drop from (take place log)) section
-  pub whole : published selection (drop from (take place log)) start ≡ published selection (take place log) start
+  pub whole : published_transactions selection (drop from (take place log)) start ≡ published_transactions selection (take place log) start
   pub next : published_from selection start (drop from (take place log)) section ≡ published_from selection start (take place log) section
 
 pub reads_behind : (selection : PublicationSet) (start from place : ℕ) (log section : List Record) → IsSection log place section → ReadsFrom log start from → from ≤ place → ReadsBehind selection start from place log section
@@ -94,7 +94,7 @@ reads_behind selection start from place log section s reads since =
     let shorter : log ≡ (skipped ++ read) ++ (section ++ s.rest) = s.whole ∙ ap (λ l. (l ++ section) ++ s.rest) parted ∙ append_assoc (skipped ++ read) section s.rest in
     record {
       may = section_may_follow log skipped read section s.rest s.good (whole ∙ append_assoc skipped (read ++ section) s.rest);
-      whole = sym (ap (λ l. published selection l start) parted
+      whole = sym (ap (λ l. published_transactions selection l start) parted
           ∙ ap (publishing selection) (section-whole skipped read (section ++ s.rest) start (subst (WellFormedAfter []) shorter s.good.order) (subst (λ l. SkipsNone l start skipped) shorter none)));
       next = sym (ap (λ l. published_from selection start l section) parted
           ∙ ap (publishing selection) (section-alike skipped read section s.rest start order (subst (λ l. SkipsNone l start skipped) whole none)));
@@ -110,7 +110,7 @@ adds_whole clock s held from place log section behind added =
     record {
       adds = added.adds
           ∙ ap (λ ts. s.held ++ published_bytes s.selection clock ts (published_from s.selection s.start (drop from (take place log)) section)) behind.whole
-          ∙ ap (λ ts. s.held ++ published_bytes s.selection clock (published s.selection (take place log) s.start) ts) behind.next;
+          ∙ ap (λ ts. s.held ++ published_bytes s.selection clock (published_transactions s.selection (take place log) s.start) ts) behind.next;
       fit = subst (AllByRecursion (FitsPublished (relation s.selection))) behind.next added.fit;
     }
 

@@ -13,10 +13,10 @@ use Rattle.publication.specs.Selection.{relation}
 use Rattle.stream.specs.declared.word.Keepalive.{Keepalive}
 use Rattle.stream.specs.declared.published.Published.{Published}
 use Rattle.stream.specs.Words.{word_bytes, frames_of}
-use Rattle.stream.specs.Items.{Item, KeepaliveItem, Block, keepalive_word, item_words, words_of, spelled, transactions_of, relations_sent_by_all, relations_sent_through, FitsPublished, FitsItem, FitItems}
+use Rattle.stream.specs.Items.{Item, KeepaliveItem, Block, keepalive_word, item_words, words_of, bytes_of_items, transactions_of, relations_sent_by_all, relations_sent_through, FitsPublished, FitsItem, FitItems}
 use Rattle.stream.specs.Stream.{IsStream, AreSafeKeepalives}
 use Rattle.stream.proofs.Lists.{all_of_both}
-use Rattle.sender.specs.Published.{published, published_from}
+use Rattle.sender.specs.Published.{published_from, published_transactions}
 use Rattle.sender.specs.Sending.{blocks, published_bytes}
 use Rattle.sender.proofs.Batches.{published_from-append}
 
@@ -31,21 +31,21 @@ sent-blocks : (clock : ℤ) (ts : List Published) → transactions_of (blocks cl
 sent-blocks clock [] = refl
 sent-blocks clock (t ∷ ts) = ap (λ l. t ∷ l) (sent-blocks clock ts)
 
-spelled-append : (rel : ℕ → Relation) (told : List ℕ) (a b : List Item) → spelled rel told (a ++ b) ≡ spelled rel told a ++ spelled rel (relations_sent_through told (transactions_of a)) b
+spelled-append : (rel : ℕ → Relation) (told : List ℕ) (a b : List Item) → bytes_of_items rel told (a ++ b) ≡ bytes_of_items rel told a ++ bytes_of_items rel (relations_sent_through told (transactions_of a)) b
 spelled-append rel told [] b = refl
 spelled-append rel told (KeepaliveItem k ∷ a) b =
     let first = item_words rel told (KeepaliveItem k) in
     flat_map-append word_bytes first (words_of rel told (a ++ b))
     ∙ ap (λ (l : List ℕ). frames_of first ++ l) (spelled-append rel told a b)
-    ∙ sym (append_assoc (frames_of first) (spelled rel told a) (spelled rel (relations_sent_through told (transactions_of a)) b))
-    ∙ ap (λ (l : List ℕ). l ++ spelled rel (relations_sent_through told (transactions_of a)) b) (sym (flat_map-append word_bytes first (words_of rel told a)))
+    ∙ sym (append_assoc (frames_of first) (bytes_of_items rel told a) (bytes_of_items rel (relations_sent_through told (transactions_of a)) b))
+    ∙ ap (λ (l : List ℕ). l ++ bytes_of_items rel (relations_sent_through told (transactions_of a)) b) (sym (flat_map-append word_bytes first (words_of rel told a)))
 spelled-append rel told (Block clock t ∷ a) b =
     let first = item_words rel told (Block clock t) in
     let then = relations_sent_by_all told t.changes in
     flat_map-append word_bytes first (words_of rel then (a ++ b))
     ∙ ap (λ (l : List ℕ). frames_of first ++ l) (spelled-append rel then a b)
-    ∙ sym (append_assoc (frames_of first) (spelled rel then a) (spelled rel (relations_sent_through then (transactions_of a)) b))
-    ∙ ap (λ (l : List ℕ). l ++ spelled rel (relations_sent_through then (transactions_of a)) b) (sym (flat_map-append word_bytes first (words_of rel then a)))
+    ∙ sym (append_assoc (frames_of first) (bytes_of_items rel then a) (bytes_of_items rel (relations_sent_through then (transactions_of a)) b))
+    ∙ ap (λ (l : List ℕ). l ++ bytes_of_items rel (relations_sent_through then (transactions_of a)) b) (sym (flat_map-append word_bytes first (words_of rel then a)))
 
 -- ---- blocks fit
 
@@ -82,19 +82,19 @@ safe-alive limit (Block clock t ∷ items) k le safe = safe-alive limit items k 
 
 -- ---- a read, a keepalive
 
-pub stream_read : (selection : PublicationSet) (clock : ℤ) (b more : List ℕ) (pre section : List Record) (s limit wider : ℕ) → IsStream (relation selection) b (published selection pre s) limit
-    → more ≡ b ++ published_bytes selection clock (published selection pre s) (published_from selection s pre section) → limit ≤ wider
+pub stream_read : (selection : PublicationSet) (clock : ℤ) (b more : List ℕ) (pre section : List Record) (s limit wider : ℕ) → IsStream (relation selection) b (published_transactions selection pre s) limit
+    → more ≡ b ++ published_bytes selection clock (published_transactions selection pre s) (published_from selection s pre section) → limit ≤ wider
     → AllByRecursion (λ (t : Published). limit ≤ t.start) (published_from selection s pre section) → AllByRecursion (FitsPublished (relation selection)) (published_from selection s pre section) → FitsSigned w64 clock
-    → IsStream (relation selection) more (published selection (pre ++ section) s) wider
+    → IsStream (relation selection) more (published_transactions selection (pre ++ section) s) wider
 stream_read selection clock b more pre section s limit wider stream grown le late fit fits =
     let ts = published_from selection s pre section in
     record {
       items = stream.items ++ blocks clock ts;
       fits = all_of_both (FitsItem (relation selection)) stream.items (blocks clock ts) stream.fits (blocks_fit selection clock ts fits fit);
-      spells = grown ∙ ap (λ (l : List ℕ). l ++ published_bytes selection clock (published selection pre s) ts) stream.spells
-          ∙ ap (λ (l : List Published). spelled (relation selection) [] stream.items ++ spelled (relation selection) (relations_sent_through [] l) (blocks clock ts)) (sym stream.sends)
+      spells = grown ∙ ap (λ (l : List ℕ). l ++ published_bytes selection clock (published_transactions selection pre s) ts) stream.spells
+          ∙ ap (λ (l : List Published). bytes_of_items (relation selection) [] stream.items ++ bytes_of_items (relation selection) (relations_sent_through [] l) (blocks clock ts)) (sym stream.sends)
           ∙ sym (spelled-append (relation selection) [] stream.items (blocks clock ts));
-      sends = sent-append stream.items (blocks clock ts) ∙ ap (λ l. l ++ transactions_of (blocks clock ts)) stream.sends ∙ ap (λ l. published selection pre s ++ l) (sent-blocks clock ts)
+      sends = sent-append stream.items (blocks clock ts) ∙ ap (λ l. l ++ transactions_of (blocks clock ts)) stream.sends ∙ ap (λ l. published_transactions selection pre s ++ l) (sent-blocks clock ts)
           ∙ sym (published_from-append selection s [] pre section);
       safe = safe-more limit wider stream.items clock ts le late stream.safe;
     }
@@ -107,7 +107,7 @@ stream_kept_alive rel clock ask b ts limit stream lt fits =
       items = stream.items ++ (KeepaliveItem k ∷ []);
       fits = all_of_both (FitsItem rel) stream.items (KeepaliveItem k ∷ []) stream.fits ((lt, fits), tt);
       spells = ap (λ (l : List ℕ). l ++ word_bytes (keepalive_word limit clock ask)) stream.spells
-          ∙ ap (λ (l : List ℕ). spelled rel [] stream.items ++ l) (sym (flat_map-cons word_bytes (keepalive_word limit clock ask) [] ∙ append-nil (word_bytes (keepalive_word limit clock ask))))
+          ∙ ap (λ (l : List ℕ). bytes_of_items rel [] stream.items ++ l) (sym (flat_map-cons word_bytes (keepalive_word limit clock ask) [] ∙ append-nil (word_bytes (keepalive_word limit clock ask))))
           ∙ sym (spelled-append rel [] stream.items (KeepaliveItem k ∷ []));
       sends = sent-append stream.items (KeepaliveItem k ∷ []) ∙ append-nil (transactions_of stream.items) ∙ stream.sends;
       safe = safe-alive limit stream.items k (omega arith) stream.safe;

@@ -14,7 +14,7 @@ use Rattle.sender.specs.declared.fault.SendFault.{SendFault}
 use Rattle.sender.specs.declared.turn_fault.TurnFault.{TurnFault}
 use Rattle.sender.specs.declared.turn_fault.TurnFault.TheVariants as turns
 use Rattle.sender.specs.Faults.{has_fetched, has_written}
-use Rattle.sender.specs.Published.{published, published_from}
+use Rattle.sender.specs.Published.{published_from, published_transactions}
 use Rattle.sender.specs.Sending.{SenderState, published_bytes}
 use Rattle.sender.specs.Turning.{IsRefused, ReadAndGave, fetched_from}
 use Rattle.sender.specs.declared.limits.TheConstants.{TURN_RECORDS}
@@ -42,7 +42,7 @@ held_first clock old new place early seen before after written bytes begins good
     let from = (grown_to early seen place written old begins serving).from in
     let behind = reads_behind old.selection old.start from place seen (fetched_from place seen) part (grown_to early seen place written old begins serving).reads_from r.since in
     let added = (read.read.after (drop from (take place seen)) r.read behind.may).1 in
-    let more = published_bytes old.selection clock (published old.selection (drop from (take place seen)) old.start) (published_from old.selection old.start (drop from (take place seen)) (fetched_from place seen)) in
+    let more = published_bytes old.selection clock (published_transactions old.selection (drop from (take place seen)) old.start) (published_from old.selection old.start (drop from (take place seen)) (fetched_from place seen)) in
     let whole : bytes ≡ old.held ++ more = sym (append-nil bytes) ∙ ap (λ (l : List ℕ). bytes ++ l) (sym empty) ∙ sym read.parts ∙ added.adds in
     let P : List ℕ → Type 0 = λ l. Appends before after l in
     (more, subst P whole appended)

@@ -10,7 +10,7 @@ use Rattle.publication.specs.Selection.{relation}
 use Rattle.stream.specs.Stream.{IsStream}
 use Rattle.shared_log.specs.Readers.{seen_of}
 use Rattle.sender.specs.declared.fault.SendFault.{SendFault}
-use Rattle.sender.specs.Published.{published}
+use Rattle.sender.specs.Published.{published_transactions}
 use Rattle.sender.specs.Sending.{SenderState, HasRead, ReadAll}
 use Rattle.sender.specs.Turning.{IsRefused, ReadAndGave}
 use Rattle.walsender.specs.declared.walsender.Walsender.{Walsender}
@@ -20,7 +20,7 @@ use Rattle.walsender.specs.declared.walsender.Walsender.{Walsender}
 pub record IsStreaming (log : List Record) (count : ℕ) (written : List ℕ) (s : SenderState) : Type 0 where
   pub within : count ≤ length log
   pub at : s.position ≡ end_of FIRST_POSITION (take count log)
-  pub stream : IsStream (relation s.selection) (written ++ s.held) (published s.selection (take count log) s.start) s.position
+  pub stream : IsStream (relation s.selection) (written ++ s.held) (published_transactions s.selection (take count log) s.start) s.position
 
 -- Records are read from this place on: the restart place of the log as it stood when the stream began.
 pub record ReadsFrom (log : List Record) (start from : ℕ) : Type 0 where

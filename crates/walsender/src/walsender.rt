@@ -8,7 +8,7 @@ ghost use Rattle.wal.specs.declared.record.Record.{Record};
 ghost use Rattle.wal.specs.Log.{IsWellFormedLog};
 ghost use Rattle.stream.specs.Words.{word_bytes};
 ghost use Rattle.stream.specs.Items.{keepalive_word};
-ghost use Rattle.shared_log.specs.Fronts.{settled};
+ghost use Rattle.shared_log.specs.Fronts.{settled_records};
 ghost use Rattle.shared_log.specs.Readers.{HasSeen, seen_of};
 ghost use Rattle.shared_log.specs.declared.fault.ReadFault.{ReadFault};
 ghost use Rattle.sender.specs.Faults.{fault_of_fetch, has_fetched, has_written};
@@ -102,7 +102,7 @@ impl<L: LogName> Walsender<L> {
         ensures grows { IsPrefix (seen_of self.old.reader) (seen_of self.new.reader) }
         ensures told { self.new.reader.told ≡ self.old.reader.told }
         ensures sees { OnOk result
-            (IsPrefix (settled self.new.reader.told) (seen_of self.new.reader)
+            (IsPrefix (settled_records self.new.reader.told) (seen_of self.new.reader)
             × IsWellFormedLog (seen_of self.new.reader)) }
         ensures moved { OnOk result
             (self.new.reader.place
@@ -135,7 +135,7 @@ impl<L: LogName> Walsender<L> {
         ensures why { (fault : ReadFault) → result ≡ Err (fault_of_fetch fault) →
             HasSeen fault self.old.reader self.new.reader }
         ensures sees { has_fetched result ≡ true →
-            IsPrefix (settled self.new.reader.told) (seen_of self.new.reader) }
+            IsPrefix (settled_records self.new.reader.told) (seen_of self.new.reader) }
         ensures count { IfOk result
             (λ n. n ≡ length (fetched_from self.old.reader.place (seen_of self.new.reader))) }
         ensures reads { OnOk result

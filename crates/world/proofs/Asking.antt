@@ -18,7 +18,7 @@ use Rattle.world.specs.State.{SubscriberState, open_start}
 use Rattle.starts.specs.Acting.{Acts}
 use Rattle.world.specs.ConnectionLines.{ActsAt, slots_after, subscribers_after}
 use Rattle.starts.specs.Starts.{start_state}
-use Rattle.world.specs.Machine.{shown, ActsIn, IsOpenAt, IsOpenStartAt, IsSubscribed, subscriber_state}
+use Rattle.world.specs.Machine.{subscriber_state, ActsIn, IsOpenAt, IsOpenStartAt, IsSubscribed, world_of}
 use Rattle.std.specs.List.{AllByRecursion}
 use Rattle.world.proofs.Inside.{same_inside}
 use Rattle.world.proofs.Subscribing.{all_subscribed_after}
@@ -46,7 +46,7 @@ kept_starts cs place c new (Ok a) value same = tt
 kept_starts cs place c new (Err e) value same = map-set_same start_state cs place new c (same ∙ ap start_state value)
 
 pub acted_at : (name : List ℕ) (place : ℕ) (action : Action) {L : Type 0} (m : Machine L) (new : List (Start L)) (a : Answer) → IsOpenStartAt name place m.starts.items
-    → ActsIn m.publisher.log place action m.starts.items a new → ActsAt name action (shown m) a (record (shown m) { slots = slots_after name action (shown m).subscribers (shown m).slots; starts = map start_state new; subscribers = subscribers_after name action (shown m).subscribers })
+    → ActsIn m.publisher.log place action m.starts.items a new → ActsAt name action (world_of m) a (record (world_of m) { slots = slots_after name action (world_of m).subscribers (world_of m).slots; starts = map start_state new; subscribers = subscribers_after name action (world_of m).subscribers })
 acted_at name place action {L} m new a at acts =
     let here : at.start ≡ acts.before = one_there m.starts.items place at.start acts.before at.there acts.there in
     record {
@@ -54,7 +54,7 @@ acted_at name place action {L} m new a at acts =
       after = acts.after;
       there = at.of ∙ ap (λ (c : Start L). Option.Some (start_state c)) here;
       acts = acts.acts;
-      is = ap (λ (l : List StartState). record (shown m) { slots = slots_after name action (shown m).subscribers (shown m).slots; starts = l; subscribers = subscribers_after name action (shown m).subscribers }) (acts.is ∙ sym (at.changed acts.after));
+      is = ap (λ (l : List StartState). record (world_of m) { slots = slots_after name action (world_of m).subscribers (world_of m).slots; starts = l; subscribers = subscribers_after name action (world_of m).subscribers }) (acts.is ∙ sym (at.changed acts.after));
     }
 
 -- what an act leaves is of the same connection

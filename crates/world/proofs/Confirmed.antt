@@ -5,7 +5,7 @@ use Rattle.std.proofs.lemmas.Slice.Eq.{bytes_eq-Decides}
 use Rattle.copyboth.specs.declared.status.Status.{Status}
 use Rattle.slots.specs.declared.fault.SlotFault.{SlotFault}
 use Rattle.slots.specs.declared.fault.SlotFault.TheVariants as slot_faults
-use Rattle.named_slots.specs.State.{NamedSlot, SlotsState, confirming, create_refusal, created, holding, if_named, refused, slot_of}
+use Rattle.named_slots.specs.State.{NamedSlot, SlotsState, create_refusal, if_named, slot_of, slot_with_confirmed, slot_with_hold, slots_after_create, slots_after_refusal}
 use Rattle.txlog.specs.Publishing.{log_end}
 use Rattle.publication_config.specs.declared.fault.PubFault.TheVariants as pubs
 use Rattle.schedule.specs.declared.start_options.StartOptions.{StartOptions}
@@ -18,11 +18,11 @@ use Rattle.schedule.specs.declared.answer.Answer.TheVariants as answers
 use Rattle.starts.specs.State.{StartState}
 use Rattle.world.specs.State.{SubscriberState, WorldState, slot_of_connection, subscriber_of}
 use Rattle.world.specs.ConnectionLines.{IsStart}
-use Rattle.named_slots.specs.Words.{slot_named, taken}
+use Rattle.named_slots.specs.Words.{slot_named, slots_after_taking}
 use Rattle.world.specs.Slots.{Acknowledges, Creates}
-use Rattle.named_slots.specs.Words.{confirmed_by, let_go}
+use Rattle.named_slots.specs.Words.{slots_after_confirming, slots_after_letting_go}
 use Rattle.world.specs.Steps.{IsRun, IsStep, IsStepAt}
-use Rattle.world.specs.Confirming.{confirmed_after, confirmed_at, confirmed_through, raised_by, told_if, told_next, told_to}
+use Rattle.world.specs.Confirming.{confirmed_after, confirmed_at, confirmed_through, next_told_position, raised_by, told_if, told_to}
 
 -- ---- Changes of one slot.
 
@@ -50,12 +50,12 @@ kept_by name other change (s ∷ ss) keeps = by_other (bytes_eq s.name other) (k
 
 -- the slot of a name that was raised
 raised_there : (name other : List ℕ) (by : ℕ) (ss : List NamedSlot)
-    → option_map (λ s. s.confirmed) (slot_of name (map (if_named other (confirming by)) ss)) ≡ option_map (raised_by (cond (bytes_eq other name) (Some by) None)) (option_map (λ s. s.confirmed) (slot_of name ss))
+    → option_map (λ s. s.confirmed) (slot_of name (map (if_named other (slot_with_confirmed by)) ss)) ≡ option_map (raised_by (cond (bytes_eq other name) (Some by) None)) (option_map (λ s. s.confirmed) (slot_of name ss))
 raised_there name other by [] = refl
 raised_there name other by (s ∷ ss) = by_name (bytes_eq s.name name) refl (bytes_eq s.name other) refl (raised_there name other by ss)
   where
     rest : List NamedSlot
-    rest = map (if_named other (confirming by)) ss
+    rest = map (if_named other (slot_with_confirmed by)) ss
 
     found : ℕ → Option ℕ
     found n = Some n
@@ -72,12 +72,12 @@ raised_there name other by (s ∷ ss) = by_name (bytes_eq s.name name) refl (byt
 
     by_name : (b : Bool) → bytes_eq s.name name ≡ b → (c : Bool) → bytes_eq s.name other ≡ c
         → option_map (λ s. s.confirmed) (slot_of name rest) ≡ option_map (raised_by (cond (bytes_eq other name) (Some by) None)) (option_map (λ s. s.confirmed) (slot_of name ss))
-        → option_map (λ s. s.confirmed) (slot_of name (cond c (confirming by s) s ∷ rest)) ≡ option_map (raised_by (cond (bytes_eq other name) (Some by) None)) (option_map (λ s. s.confirmed) (cond b (Some s) (slot_of name ss)))
-    by_name true is true same later = ap (λ (b : Bool). option_map (λ s. s.confirmed) (cond b (Some (confirming by s)) (slot_of name rest))) is
+        → option_map (λ s. s.confirmed) (slot_of name (cond c (slot_with_confirmed by s) s ∷ rest)) ≡ option_map (raised_by (cond (bytes_eq other name) (Some by) None)) (option_map (λ s. s.confirmed) (cond b (Some s) (slot_of name ss)))
+    by_name true is true same later = ap (λ (b : Bool). option_map (λ s. s.confirmed) (cond b (Some (slot_with_confirmed by s)) (slot_of name rest))) is
         ∙ ap (λ (b : Bool). found (raised_by (cond b (Some by) None) s.confirmed)) (sym (meets is same))
     by_name true is false same later = ap (λ (b : Bool). option_map (λ s. s.confirmed) (cond b (Some s) (slot_of name rest))) is
         ∙ ap (λ (b : Bool). found (raised_by (cond b (Some by) None) s.confirmed)) (sym (misses is same))
-    by_name false is true same later = ap (λ (b : Bool). option_map (λ s. s.confirmed) (cond b (Some (confirming by s)) (slot_of name rest))) is ∙ later
+    by_name false is true same later = ap (λ (b : Bool). option_map (λ s. s.confirmed) (cond b (Some (slot_with_confirmed by s)) (slot_of name rest))) is ∙ later
     by_name false is false same later = ap (λ (b : Bool). option_map (λ s. s.confirmed) (cond b (Some s) (slot_of name rest))) is ∙ later
 
 -- a slot more, of a name that no slot had
@@ -110,20 +110,20 @@ one_more name (s ∷ ss) new none = by_name (bytes_eq s.name name) refl (one_mor
 
 -- ---- Events.
 
-refused_same : (name : List ℕ) (fault : SlotFault) (s : SlotsState) → confirmed_at name (refused fault s) ≡ confirmed_at name s
+refused_same : (name : List ℕ) (fault : SlotFault) (s : SlotsState) → confirmed_at name (slots_after_refusal fault s) ≡ confirmed_at name s
 refused_same name slot_faults.Missing s = refl
 refused_same name slot_faults.InUse s = refl
 refused_same name slot_faults.Exists s = refl
 refused_same name slot_faults.NoPlace s = refl
 refused_same name slot_faults.Memory s = refl
 
-pub let_go_same : (name : List ℕ) (slot : Option (List ℕ)) (s : SlotsState) → confirmed_at name (let_go slot s) ≡ confirmed_at name s
+pub let_go_same : (name : List ℕ) (slot : Option (List ℕ)) (s : SlotsState) → confirmed_at name (slots_after_letting_go slot s) ≡ confirmed_at name s
 let_go_same name None s = refl
-let_go_same name (Some other) s = kept_by name other (holding false) s.slots (λ _. (refl, refl))
+let_go_same name (Some other) s = kept_by name other (slot_with_hold false) s.slots (λ _. (refl, refl))
 
-pub taken_same : (name : List ℕ) (slot : Option (List ℕ)) (s : SlotsState) → confirmed_at name (taken slot s) ≡ confirmed_at name s
+pub taken_same : (name : List ℕ) (slot : Option (List ℕ)) (s : SlotsState) → confirmed_at name (slots_after_taking slot s) ≡ confirmed_at name s
 taken_same name None s = refl
-taken_same name (Some other) s = kept_by name other (holding true) s.slots (λ _. (refl, refl))
+taken_same name (Some other) s = kept_by name other (slot_with_hold true) s.slots (λ _. (refl, refl))
 
 -- what a line leaves that touches no slot
 same_slots : (name : List ℕ) (old new w : WorldState) → new ≡ w → w.slots ≡ old.slots → confirmed_at name new.slots ≡ confirmed_at name old.slots
@@ -164,7 +164,7 @@ started_step name c slot position wanted old new answers.NoReader step = ap (λ 
 started_step name c slot position wanted old new (answers.Sender fault) step = ap (λ (w : WorldState). confirmed_at name w.slots) step.1
 started_step name c slot position wanted old new (answers.Subscriber fault) step = ap (λ (w : WorldState). confirmed_at name w.slots) step.1
 
-pub confirmed_once : (name : List ℕ) (slot : Option (List ℕ)) (by : ℕ) (s : SlotsState) → confirmed_at name (confirmed_by slot by s) ≡ option_map (raised_by (told_if name slot (Some by))) (confirmed_at name s)
+pub confirmed_once : (name : List ℕ) (slot : Option (List ℕ)) (by : ℕ) (s : SlotsState) → confirmed_at name (slots_after_confirming slot by s) ≡ option_map (raised_by (told_if name slot (Some by))) (confirmed_at name s)
 confirmed_once name None by s = same (confirmed_at name s)
   where
     same : (o : Option ℕ) → o ≡ option_map (raised_by None) o
@@ -176,7 +176,7 @@ acknowledged_step : (name c : List ℕ) (old new : WorldState) (a : Answer) → 
 acknowledged_step name c old new a step =
     ap (λ (w : WorldState). confirmed_at name w.slots) step.is
     ∙ confirmed_once name step.before.slot (min step.status.flushed step.start.position) old.slots
-    ∙ ap (λ (told : Option ℕ). option_map (raised_by told) (confirmed_at name old.slots)) (ap (λ (back : List Status). told_if name step.before.slot (told_next step.start.position back)) (sym step.waits)
+    ∙ ap (λ (told : Option ℕ). option_map (raised_by told) (confirmed_at name old.slots)) (ap (λ (back : List Status). told_if name step.before.slot (next_told_position step.start.position back)) (sym step.waits)
     ∙ ap (λ (o : Option SubscriberState). told_to name (Some step.start) o) (sym step.known) ∙ ap (λ (o : Option StartState). told_to name o (subscriber_of c old.subscribers)) (sym step.there))
 
 pub connection_confirms : (name c : List ℕ) (step : ConnectionStep) (old : WorldState) (a : Answer) (new : WorldState) → IsStepAt c step old a new → confirmed_at name new.slots ≡ confirmed_after name old (events.Connection c step) a (confirmed_at name old.slots)

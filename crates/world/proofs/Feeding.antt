@@ -12,9 +12,9 @@ use Rattle.publication.specs.Selection.{relation}
 use Rattle.copyboth.specs.declared.status.Status.{Status}
 use Rattle.pgoutput.specs.declared.relation.Relation.{Relation}
 use Rattle.stream.specs.declared.published.Published.{Published}
-use Rattle.stream.specs.Items.{Item, spelled}
+use Rattle.stream.specs.Items.{Item, bytes_of_items}
 use Rattle.client.specs.declared.fault.ClientFault.{ClientFault}
-use Rattle.client.specs.Subscriber.{Subscriber, resting}
+use Rattle.client.specs.Subscriber.{Subscriber, subscriber_at_rest}
 use Rattle.client.specs.Taking.{ApplierState, HasTaken, Takes, TakesFrom}
 use Rattle.client.specs.Law.{Ends, Gained}
 use Rattle.client.proofs.Reaching.{reached_none}
@@ -29,7 +29,7 @@ use Rattle.world.proofs.Settled.{IsSettled, settled_by, settled_grown}
 
 -- without a start nothing is on its way
 pub record IsAtRest (sub : SubscriberState) : Type 0 where
-  pub applier : sub.applier ≡ record { subscriber = resting sub.applier.subscriber.position sub.applier.subscriber.applied; unread = []; fault = None }
+  pub applier : sub.applier ≡ record { subscriber = subscriber_at_rest sub.applier.subscriber.position sub.applier.subscriber.applied; unread = []; fault = None }
   pub slot : sub.slot ≡ None
   pub delivered : sub.delivered ≡ 0
   pub back : sub.back ≡ []
@@ -39,7 +39,7 @@ pub record IsAtRest (sub : SubscriberState) : Type 0 where
 pub record IsFed (log : List Record) (from : ℕ) (selection : PublicationSet) (s : List ℕ) (begun : Option (ℕ × List Published)) (l : StartState) (sub : SubscriberState) : Type 0 where
   pub base : Subscriber
   pub stood : begun ≡ Some (base.position, base.applied)
-  pub rests : base ≡ resting base.position base.applied
+  pub rests : base ≡ subscriber_at_rest base.position base.applied
   pub settled : IsSettled log from selection base
   pub later : from ≤ l.start
   pub asked : l.start ≤ max from base.position
@@ -90,7 +90,7 @@ fed_produced log from selection s begun l new more sub start_is selection_is pro
 
 pub taken_at_rest : (sub : SubscriberState) → IsAtRest sub → HasTaken sub.applier.subscriber sub.applier []
 taken_at_rest sub rest =
-    let base = resting sub.applier.subscriber.position sub.applier.subscriber.applied in
+    let base = subscriber_at_rest sub.applier.subscriber.position sub.applier.subscriber.applied in
     let fresh : HasTaken base (record { subscriber = base; unread = []; fault = None }) [] = record { reached = reached_none base []; waits = refl; sound = refl } in
     subst (λ (a : ApplierState). HasTaken a.subscriber a []) (sym rest.applier) fresh
 
@@ -150,7 +150,7 @@ delivered_sound log from selection s begun l old after n taken_once r good exact
     let all = take d p ++ bytes in
     let more = drop (d + length bytes) p ++ l.held in
     let stream = exact.whole opened in
-    let text : all ++ more ≡ spelled (relation l.selection) [] stream.items =
+    let text : all ++ more ≡ bytes_of_items (relation l.selection) [] stream.items =
     ap (λ x. x ++ more) (next_taken d n p) ∙ sym (append_assoc (take (d + length bytes) p) (drop (d + length bytes) p) l.held) ∙ ap (λ x. x ++ l.held) (take-append-drop (d + length bytes) p) ∙ stream.spells in
     let ends = takes_follows old.applier after bytes r sound takes (relation l.selection) fed.base (take d p) more stream.items fed.rests (fed.taken sound) stream.fits text in
     let plain : TakesFrom None old.applier after bytes r = (let P : Option ClientFault → Type 0 = λ f. TakesFrom f old.applier after bytes r in subst P sound takes) in

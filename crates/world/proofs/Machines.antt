@@ -17,7 +17,7 @@ use Rattle.starts.specs.declared.start.Start.{Start}
 use Rattle.starts.specs.declared.start.Stage.{Stage}
 use Rattle.starts.specs.declared.start.Stage.TheVariants as stages
 use Rattle.world.specs.declared.machine.Machine.{Machine}
-use Rattle.starts.specs.State.{StartState, running}
+use Rattle.starts.specs.State.{StartState, running_count}
 use Rattle.world.specs.State.{SubscriberState, WorldState}
 use Rattle.sessions.specs.SessionLines.{IsLine}
 use Rattle.sessions.specs.Sessions.{Grows}
@@ -138,19 +138,19 @@ closed_shown connection produced (stages.Open s) is = is
 closed_shown connection produced (stages.Cut e) is = refl
 
 -- an open start has a reader, and one that was cut has none
-pub one_running : {L : Type 0} (s : Start L) → is_open s.stage ≡ true → running (start_state s ∷ []) ≡ 1
+pub one_running : {L : Type 0} (s : Start L) → is_open s.stage ≡ true → running_count (start_state s ∷ []) ≡ 1
 one_running s is = rw (open_shown s.connection s.produced.items s.stage is) refl
 
-pub none_running : {L : Type 0} (s : Start L) → is_open s.stage ≡ false → running (start_state s ∷ []) ≡ 0
+pub none_running : {L : Type 0} (s : Start L) → is_open s.stage ≡ false → running_count (start_state s ∷ []) ≡ 0
 none_running s is = rw (closed_shown s.connection s.produced.items s.stage is) refl
 
 -- what one start gives the pool, all starts give it
 pub pool_kept : {L : Type 0} (cs : List (Start L)) (place : ℕ) (c new : Start L) (old_len new_len : ℕ) → IsOpenAt place cs → c ≡ slice_index_or cs place c
-    → new_len + running (start_state new ∷ []) ≡ old_len + running (start_state c ∷ []) → new_len + running (map start_state (slice_set cs place new)) ≡ old_len + running (map start_state cs)
+    → new_len + running_count (start_state new ∷ []) ≡ old_len + running_count (start_state c ∷ []) → new_len + running_count (map start_state (slice_set cs place new)) ≡ old_len + running_count (map start_state cs)
 pool_kept cs place c new old_len new_len at value one =
     let there : slice_get (map start_state cs) place ≡ Some (start_state c) = slice_get-map start_state cs place ∙ ap (option_map start_state) (slice_get_read cs (length cs) place c refl (slice_get_within cs place at.start at.there) value) in
     let all = running_with (map start_state cs) place (start_state c) (start_state new) there in
-    let set = ap running (map-set start_state cs place new) in
+    let set = ap running_count (map-set start_state cs place new) in
     omega (arith, one, all, set)
 
 -- where a start is open, the pool lacks a reader

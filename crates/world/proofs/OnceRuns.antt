@@ -10,7 +10,7 @@ use Rattle.wal.specs.Log.{IsWellFormedLog, end_of}
 use Rattle.tables.specs.declared.table.Table.{Table}
 use Rattle.publication.specs.Publications.{PublicationSet}
 use Rattle.tables.specs.declared.kinds.Value.{Value}
-use Rattle.txlog.specs.Publishing.{PublisherState, begun, log_end, with_old}
+use Rattle.txlog.specs.Publishing.{PublisherState, after_begin, log_end, with_old}
 use Rattle.tables.specs.Tables.{table_named}
 use Rattle.schedule.specs.declared.start_options.StartOptions.{StartOptions}
 use Rattle.schedule.specs.declared.answer.Answer.{Answer}
@@ -40,9 +40,9 @@ use Rattle.world.proofs.Inside.{same_inside}
 use Rattle.world.proofs.Lookups as look
 use Rattle.world.proofs.Feeding.{IsFed, fed_grown}
 use Rattle.stream.specs.declared.published.Published.{Published}
-use Rattle.stream.specs.Items.{spelled}
+use Rattle.stream.specs.Items.{bytes_of_items}
 use Rattle.publication.specs.Selection.{relation}
-use Rattle.sender.specs.Published.{published}
+use Rattle.sender.specs.Published.{published_transactions}
 use Rattle.client.specs.Subscriber.{Subscriber}
 use Rattle.client.specs.Taking.{ApplierState}
 use Rattle.client.specs.Law.{GainedAll}
@@ -353,7 +353,7 @@ gained_since log from selection s begun l sub exact opened fed sound =
     let taken = fed.taken sound in
     let bytes = take sub.delivered l.produced in
     let fresh : ApplierState = record { subscriber = base; unread = []; fault = None } in
-    let text : bytes ++ (drop sub.delivered l.produced ++ l.held) ≡ spelled (relation l.selection) [] stream.items =
+    let text : bytes ++ (drop sub.delivered l.produced ++ l.held) ≡ bytes_of_items (relation l.selection) [] stream.items =
     sym (append_assoc bytes (drop sub.delivered l.produced) l.held) ∙ ap (λ x. x ++ l.held) (take-append-drop sub.delivered l.produced) ∙ stream.spells in
     let ends = follows_ok fresh sub.applier bytes taken.reached taken.waits taken.sound (relation l.selection) base [] (drop sub.delivered l.produced ++ l.held) stream.items fed.rests (record { reached = reached_none base []; waits = refl; sound = refl }) stream.fits text in
     let Gains : Subscriber → Type 0 = λ b. GainedAll (relation l.selection) b bytes stream.items sub.applier.subscriber in
@@ -368,7 +368,7 @@ said c s wanted from begun w good headline once = record {
   since = λ l sub started known sound. gained_since w.publisher.log from (wanted_of wanted w.publications) s begun l sub (look.open_of_all (IsExact w.publisher.log) c w.starts l headline started) (look.start_open c w.starts l started) (mine_at c s wanted from begun w (Some l) (Some sub) once started known).1 sound;
 } where
   published_there : List Published
-  published_there = published (wanted_of wanted w.publications) w.publisher.log from
+  published_there = published_transactions (wanted_of wanted w.publications) w.publisher.log from
 
   applied : applied_by c w ≡ below (position_of c w) published_there
   applied = by_known (subscriber_of c w.subscribers) (open_start c w.starts) once.mine

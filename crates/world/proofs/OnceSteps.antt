@@ -16,13 +16,13 @@ use Rattle.schedule.specs.declared.answer.Answer.TheVariants as answers
 use Rattle.schedule.specs.declared.event.ConnectionStep.{ConnectionStep}
 use Rattle.schedule.specs.declared.event.ConnectionStep.TheVariants as steps
 use Rattle.named_slots.specs.State.{SlotsState}
-use Rattle.named_slots.specs.Words.{confirmed_by, slot_named, start_from}
+use Rattle.named_slots.specs.Words.{slot_named, slots_after_confirming, start_from}
 use Rattle.starts.specs.State.{StartState}
 use Rattle.starts.specs.Acting.{Acts, new_start}
 use Rattle.starts.specs.declared.action.Action.{Action}
 use Rattle.starts.specs.declared.action.Action.TheVariants as actions
-use Rattle.world.specs.State.{SubscriberState, WorldState, again, if_known_again, if_there, new_subscriber, open_start, reconnected, slot_of_connection, subscriber_of, with_one_for, with_subscriber}
-use Rattle.world.specs.ConnectionLines.{wanted_of, ActsAt, IsStart, slots_after, start_refusal, started, subscribers_after}
+use Rattle.world.specs.State.{SubscriberState, WorldState, if_known_again, if_there, new_subscriber, open_start, slot_of_connection, subscriber_connected_again, subscriber_of, subscribers_after_reconnect, with_one_for, with_subscriber}
+use Rattle.world.specs.ConnectionLines.{wanted_of, ActsAt, IsStart, slots_after, start_refusal, world_after_start, subscribers_after}
 use Rattle.world.specs.Steps.{IsStepAt}
 use Rattle.world.specs.Confirming.{confirmed_at, raised_by, told_if}
 use Rattle.world.specs.Once.{IsFairAt, position_in, position_of}
@@ -148,7 +148,7 @@ where_done answer done other = other
 
 -- a start is refused and leaves everything, or begins
 pub started_or : {A : Type 0} (P : A → WorldState → Type 0) (done other : A) (c : List ℕ) (slot : Option (List ℕ)) (position : ℕ) (wanted : StartOptions) (old : WorldState) (a : Answer) (new : WorldState) → P other old
-    → (start_refusal slot wanted.publications old ≡ None → P done (started c slot position wanted old)) → IsStart c slot position wanted old a new → P (where_done a done other) new
+    → (start_refusal slot wanted.publications old ≡ None → P done (world_after_start c slot position wanted old)) → IsStart c slot position wanted old a new → P (where_done a done other) new
 started_or P done other c slot position wanted old answers.Done new same begins step = subst (P done) (sym step.1) (begins step.0)
 started_or P done other c slot position wanted old (answers.Publication pubs.Memory) new same begins step = subst (P other) (sym step.1) same
 started_or P done other c slot position wanted old (answers.Publication pubs.Unknown) new same begins step = subst (P other) (sym step.1) same
@@ -178,7 +178,7 @@ joined_other c s d slot ss other apart all = by_known (subscriber_of d ss) refl
         let of : t.connection ≡ d = look.known_by_name d ss t is in
         (look.all_with (IsNotOn c s) d ss (record t { slot = slot }) all (λ else on. apart on), look.with_other c d ss (record t { slot = slot }) other of)
 
-other_started : (c s d : List ℕ) (slot : Option (List ℕ)) (position : ℕ) (wanted : StartOptions) (old : WorldState) → bytes_eq d c ≡ false → (slot ≡ Some s → ⊥) → AllByRecursion (IsNotOn c s) old.subscribers → LeavesAlone c s old (started d slot position wanted old)
+other_started : (c s d : List ℕ) (slot : Option (List ℕ)) (position : ℕ) (wanted : StartOptions) (old : WorldState) → bytes_eq d c ≡ false → (slot ≡ Some s → ⊥) → AllByRecursion (IsNotOn c s) old.subscribers → LeavesAlone c s old (world_after_start d slot position wanted old)
 other_started c s d slot position wanted old other apart all =
     let joined = joined_other c s d slot old.subscribers other apart all in
     let start = new_start d (wanted_of wanted old.publications) (start_from slot position old.slots) (restart (start_from slot position old.slots) old.publisher.log) in
@@ -195,12 +195,12 @@ other_started c s d slot position wanted old other apart all =
 
 -- ---- What another connection asks of its sender.
 
-other_cut : (c s d : List ℕ) (ss : List SubscriberState) → bytes_eq d c ≡ false → AllByRecursion (IsNotOn c s) ss → AllByRecursion (IsNotOn c s) (reconnected d ss) × (subscriber_of c (reconnected d ss) ≡ subscriber_of c ss)
+other_cut : (c s d : List ℕ) (ss : List SubscriberState) → bytes_eq d c ≡ false → AllByRecursion (IsNotOn c s) ss → AllByRecursion (IsNotOn c s) (subscribers_after_reconnect d ss) × (subscriber_of c (subscribers_after_reconnect d ss) ≡ subscriber_of c ss)
 other_cut c s d ss other all = by_known (subscriber_of d ss) refl
   where
     by_known : (o : Option SubscriberState) → subscriber_of d ss ≡ o → AllByRecursion (IsNotOn c s) (if_known_again o d ss) × (subscriber_of c (if_known_again o d ss) ≡ subscriber_of c ss)
     by_known None is = (all, refl)
-    by_known (Some t) is = other_subscriber c s d ss t (again t) other all is refl (λ on. let never : Option.None ≡ Option.Some s = on in absurd cc)
+    by_known (Some t) is = other_subscriber c s d ss t (subscriber_connected_again t) other all is refl (λ on. let never : Option.None ≡ Option.Some s = on in absurd cc)
 
 other_after : (c s d : List ℕ) (action : Action) (ss : List SubscriberState) → bytes_eq d c ≡ false → AllByRecursion (IsNotOn c s) ss
     → AllByRecursion (IsNotOn c s) (subscribers_after d action ss) × (subscriber_of c (subscribers_after d action ss) ≡ subscriber_of c ss)
@@ -238,7 +238,7 @@ other_changes c s d slots old before after other all known named slot confirmed 
     record { publications = refl; publisher = refl; confirmed = confirmed; others = changed.0; alone = λ alone. alone; started = refl; known = changed.1 }
 
 -- a slot that isn't this one is confirmed
-not_confirmed : (s : List ℕ) (slot : Option (List ℕ)) (by : ℕ) (slots : SlotsState) → (slot ≡ Some s → ⊥) → confirmed_at s (confirmed_by slot by slots) ≡ confirmed_at s slots
+not_confirmed : (s : List ℕ) (slot : Option (List ℕ)) (by : ℕ) (slots : SlotsState) → (slot ≡ Some s → ⊥) → confirmed_at s (slots_after_confirming slot by slots) ≡ confirmed_at s slots
 not_confirmed s slot by slots apart = confirmed_once s slot by slots ∙ ap (λ (t : Option ℕ). option_map (raised_by t) (confirmed_at s slots)) (untold slot apart) ∙ same (confirmed_at s slots)
   where
     untold : (slot : Option (List ℕ)) → (slot ≡ Some s → ⊥) → told_if s slot (Some by) ≡ None

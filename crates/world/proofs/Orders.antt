@@ -8,7 +8,7 @@ use Rattle.std.proofs.lemmas.List.Elements.{filter-append}
 use Rattle.wal.specs.declared.record.Record.{Record}
 use Rattle.wal.specs.declared.record.Body.{Body}
 use Rattle.wal.specs.declared.record.Body.TheVariants.{Assign, Change as Changed, AbortSub, Abort, Commit, Note}
-use Rattle.wal.specs.Log.{IsSized, Transaction, noted, committed_at, end_of, follows, kept}
+use Rattle.wal.specs.Log.{IsSized, Transaction, note_as_transaction, committed_at, end_of, follows, kept_changes}
 use Rattle.publication.specs.Publications.{PublicationSet}
 use Rattle.stream.specs.declared.published.Published.{Published}
 use Rattle.sender.specs.Published.{has_message, published_as, published_from}
@@ -100,8 +100,8 @@ one_in_order selection s before r lt = by_body r.body
     by_body (Changed xid change) = omega (arith, lt)
     by_body (AbortSub xid) = omega (arith, lt)
     by_body (Abort xid) = omega (arith, lt)
-    by_body (Note change) = by_start (noted r.start r.end change) refl refl (nat_le s r.start)
-    by_body (Commit xid time) = by_start (record { is_note = false; start = r.start; end = r.end; time = time; xid = xid; changes = kept before xid }) refl refl (nat_le s r.start)
+    by_body (Note change) = by_start (note_as_transaction r.start r.end change) refl refl (nat_le s r.start)
+    by_body (Commit xid time) = by_start (record { is_note = false; start = r.start; end = r.end; time = time; xid = xid; changes = kept_changes before xid }) refl refl (nat_le s r.start)
 
 pub in_order : (selection : PublicationSet) (s at : ℕ) (before rs : List Record) → follows at rs ≡ true → AllByRecursion IsSized rs → InOrder at (end_of at rs) (published_from selection s before rs)
 in_order selection s at before [] goes sized = omega arith
@@ -140,8 +140,8 @@ one_late selection q s before r le = by_body r.body
     by_body (Changed xid change) = refl
     by_body (AbortSub xid) = refl
     by_body (Abort xid) = refl
-    by_body (Note change) = by_start (noted r.start r.end change) refl (nat_le q r.start) (nat_le s r.start) refl refl
-    by_body (Commit xid time) = by_start (record { is_note = false; start = r.start; end = r.end; time = time; xid = xid; changes = kept before xid }) refl (nat_le q r.start) (nat_le s r.start) refl refl
+    by_body (Note change) = by_start (note_as_transaction r.start r.end change) refl (nat_le q r.start) (nat_le s r.start) refl refl
+    by_body (Commit xid time) = by_start (record { is_note = false; start = r.start; end = r.end; time = time; xid = xid; changes = kept_changes before xid }) refl (nat_le q r.start) (nat_le s r.start) refl refl
 
 pub late_part : (selection : PublicationSet) (q s : ℕ) (before rs : List Record) → q ≤ s → late s (published_from selection q before rs) ≡ published_from selection s before rs
 late_part selection q s before [] le = refl

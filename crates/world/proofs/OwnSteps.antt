@@ -14,14 +14,14 @@ use Rattle.schedule.specs.declared.answer.Answer.{Answer}
 use Rattle.schedule.specs.declared.event.ConnectionStep.{ConnectionStep}
 use Rattle.schedule.specs.declared.event.ConnectionStep.TheVariants as steps
 use Rattle.named_slots.specs.State.{NamedSlot, SlotsState, confirmed_of, slot_of}
-use Rattle.named_slots.specs.Words.{confirmed_by, let_go, slot_named, start_from, taken}
+use Rattle.named_slots.specs.Words.{slot_named, slots_after_confirming, slots_after_letting_go, slots_after_taking, start_from}
 use Rattle.starts.specs.State.{StartState}
 use Rattle.starts.specs.Acting.{new_start}
 use Rattle.starts.specs.declared.action.Action.{Action}
 use Rattle.starts.specs.declared.action.Action.TheVariants as actions
-use Rattle.world.specs.State.{SubscriberState, WorldState, again, if_known_again, if_there, new_subscriber, open_start, slot_of_connection, subscriber_of, with_open_start, with_subscriber}
+use Rattle.world.specs.State.{SubscriberState, WorldState, if_known_again, if_there, new_subscriber, open_start, slot_of_connection, subscriber_connected_again, subscriber_of, with_open_start, with_subscriber}
 use Rattle.world.specs.Law.{Headline, IsExact}
-use Rattle.world.specs.ConnectionLines.{wanted_of, ActsAt, start_refusal, started, subscribers_after}
+use Rattle.world.specs.ConnectionLines.{wanted_of, ActsAt, start_refusal, world_after_start, subscribers_after}
 use Rattle.world.specs.Delivering.{Delivers}
 use Rattle.world.specs.Slots.{Acknowledges, PutsBack, status_with}
 use Rattle.world.specs.Steps.{IsStepAt}
@@ -88,7 +88,7 @@ own_cut c s wanted from begun old a new once step =
     subst P (sym step.is) (by_known (subscriber_of c old.subscribers) refl)
   where
     by_known : (p : Option SubscriberState) → subscriber_of c old.subscribers ≡ p → IsOnce c s wanted from begun (record old {
-      slots = let_go (slot_of_connection c old.subscribers) old.slots;
+      slots = slots_after_letting_go (slot_of_connection c old.subscribers) old.slots;
       starts = with_open_start c step.after old.starts;
       subscribers = if_known_again p c old.subscribers;
     })
@@ -96,20 +96,20 @@ own_cut c s wanted from begun old a new once step =
     by_known (Some sub) known =
         let mine = mine_at c s wanted from begun old (Some step.before) (Some sub) once step.there known in
         let named = look.known_by_name c old.subscribers sub known in
-        let found = look.with_found c old.subscribers sub (again sub) known named in
+        let found = look.with_found c old.subscribers sub (subscriber_connected_again sub) known named in
         let closed = look.not_open_shut c step.after (is_closed old.publisher.log step.before step.after a step.acts) in
         let none = look.alone_closed c old.starts step.after once.alone closed in
-        let new : WorldState = record old { slots = let_go (slot_of_connection c old.subscribers) old.slots; starts = with_open_start c step.after old.starts; subscribers = with_subscriber c (again sub) old.subscribers } in
-        let rested : IsAtRest (again sub) = record { applier = refl; slot = refl; delivered = refl; back = refl } in
-        let settled : IsSettled old.publisher.log from (wanted_of wanted old.publications) (again sub).applier.subscriber = record { within = mine.0.within; applied = mine.0.applied } in
+        let new : WorldState = record old { slots = slots_after_letting_go (slot_of_connection c old.subscribers) old.slots; starts = with_open_start c step.after old.starts; subscribers = with_subscriber c (subscriber_connected_again sub) old.subscribers } in
+        let rested : IsAtRest (subscriber_connected_again sub) = record { applier = refl; slot = refl; delivered = refl; back = refl } in
+        let settled : IsSettled old.publisher.log from (wanted_of wanted old.publications) (subscriber_connected_again sub).applier.subscriber = record { within = mine.0.within; applied = mine.0.applied } in
         record {
           confirmed = once.confirmed;
           slot = let_go_same s (slot_of_connection c old.subscribers) old.slots ∙ once.slot;
           reaches = once.reaches;
           within = omega (arith, once.within, ap position_in known, ap position_in found);
-          others = own_subscriber c s old.subscribers (again sub) once.others named;
+          others = own_subscriber c s old.subscribers (subscriber_connected_again sub) once.others named;
           alone = look.alone_with c old.starts step.after once.alone;
-          mine = mine_so c s wanted from begun new None (Some (again sub)) (settled, rested) none found;
+          mine = mine_so c s wanted from begun new None (Some (subscriber_connected_again sub)) (settled, rested) none found;
         }
 
 -- ---- What it is sent, and sends.
@@ -178,11 +178,11 @@ own_acknowledged c s wanted from begun old a new once step =
     subst (AllByRecursion (λ (t : Status). t.flushed ≤ step.before.applier.subscriber.position)) step.waits fed.back in
     let here : told_if s step.before.slot (Some by) ≡ Some by =
     ap (λ (o : Option (List ℕ)). told_if s o (Some by)) fed.streams ∙ ap (λ (b : Bool). cond b (Some by) None) (named_so s s refl) in
-    let slot : confirmed_at s (confirmed_by step.before.slot by old.slots) ≡ Some (max once.confirmed by) =
+    let slot : confirmed_at s (slots_after_confirming step.before.slot by old.slots) ≡ Some (max once.confirmed by) =
     confirmed_once s step.before.slot by old.slots ∙ ap (λ (t : Option ℕ). option_map (raised_by t) (confirmed_at s old.slots)) here ∙ ap (option_map (raised_by (Some by))) once.slot in
     let P : WorldState → Type 0 = λ w. IsOnce c s wanted from begun w in
     subst P (sym step.is)
-    (own_changes c s wanted from (max once.confirmed by) begun (confirmed_by step.before.slot by old.slots) old step.start step.before (record step.before { back = step.rest }) once step.there step.known refl slot (omega (arith, once.reaches))
+    (own_changes c s wanted from (max once.confirmed by) begun (slots_after_confirming step.before.slot by old.slots) old step.start step.before (record step.before { back = step.rest }) once step.there step.known refl slot (omega (arith, once.reaches))
     (omega (arith, once.within, ap position_in step.known, told.0)) mine.0 (record {
       base = fed.base;
       stood = fed.stood;
@@ -211,7 +211,7 @@ confirmed_is s slots n is = by_slot (slot_of s slots.slots) is
     by_slot (Some t) is = same_inside t.confirmed n is
 
 own_started : (c s : List ℕ) (wanted : StartOptions) (from position : ℕ) (begun : Option (ℕ × List Published)) (old : WorldState) → IsOnce c s wanted from begun old → open_start c old.starts ≡ None → position ≤ position_of c old
-    → IsOnce c s wanted from (Some (position_of c old, applied_by c old)) (started c (Some s) position wanted old)
+    → IsOnce c s wanted from (Some (position_of c old, applied_by c old)) (world_after_start c (Some s) position wanted old)
 own_started c s wanted from position begun old once none asked = by_known (subscriber_of c old.subscribers) refl
   where
     here : Option (ℕ × List Published)
@@ -239,14 +239,14 @@ own_started c s wanted from position begun old once none asked = by_known (subsc
     begins = look.start_behind c old.starts start none (look.open_for c start refl refl)
 
     by_known : (p : Option SubscriberState) → subscriber_of c old.subscribers ≡ p
-        → IsOnce c s wanted from here (record old { slots = taken (Some s) old.slots; starts = starts; subscribers = if_there p c (Some s) old.subscribers })
+        → IsOnce c s wanted from here (record old { slots = slots_after_taking (Some s) old.slots; starts = starts; subscribers = if_there p c (Some s) old.subscribers })
     by_known None known =
         let fresh = new_subscriber c None in
         let rested : IsAtRest fresh = record { applier = refl; slot = refl; delivered = refl; back = refl } in
         let settled = settled_new old.publisher.log from (wanted_of wanted old.publications) fresh.applier.subscriber refl refl in
         let fed = fed_begun old.publisher.log from (wanted_of wanted old.publications) s here start fresh (stands known) refl refl later (omega (arith, within, ap position_in known)) settled rested in
         let found = look.one_behind c old.subscribers (new_subscriber c (Some s)) known refl in
-        let new : WorldState = record old { slots = taken (Some s) old.slots; starts = starts; subscribers = old.subscribers ++ new_subscriber c (Some s) ∷ [] } in
+        let new : WorldState = record old { slots = slots_after_taking (Some s) old.slots; starts = starts; subscribers = old.subscribers ++ new_subscriber c (Some s) ∷ [] } in
         record {
           confirmed = once.confirmed;
           slot = taken_same s (Some s) old.slots ∙ once.slot;
@@ -261,7 +261,7 @@ own_started c s wanted from position begun old once none asked = by_known (subsc
         let named = look.known_by_name c old.subscribers sub known in
         let fed = fed_begun old.publisher.log from (wanted_of wanted old.publications) s here start sub (stands known) refl refl later (omega (arith, within, ap position_in known)) mine.0 mine.1 in
         let found = look.with_found c old.subscribers sub (record sub { slot = Some s }) known named in
-        let new : WorldState = record old { slots = taken (Some s) old.slots; starts = starts; subscribers = with_subscriber c (record sub { slot = Some s }) old.subscribers } in
+        let new : WorldState = record old { slots = slots_after_taking (Some s) old.slots; starts = starts; subscribers = with_subscriber c (record sub { slot = Some s }) old.subscribers } in
         record {
           confirmed = once.confirmed;
           slot = taken_same s (Some s) old.slots ∙ once.slot;
@@ -287,8 +287,8 @@ own_step c s wanted from begun (steps.Start slot position options) old a new goo
     let P : Option (ℕ × List Published) → WorldState → Type 0 = λ b w. IsOnce c s wanted from b w in
     let here : Option (ℕ × List Published) = Some (position_of c old, applied_by c old) in
     let begins = own_started c s wanted from position begun old once none asks.2 in
-    let Slot : Option (List ℕ) → Type 0 = λ o. P here (started c o position wanted old) in
-    let Options : StartOptions → Type 0 = λ o. P here (started c (slot_named slot) position o old) in
+    let Slot : Option (List ℕ) → Type 0 = λ o. P here (world_after_start c o position wanted old) in
+    let Options : StartOptions → Type 0 = λ o. P here (world_after_start c (slot_named slot) position o old) in
     started_or P here begun c (slot_named slot) position options old a new once (λ _. subst Options (sym asks.1) (subst Slot (sym asks.0) begins)) step.1
 own_step c s wanted from begun (steps.Read max clock) old a new good headline once fair step = own_acts c s wanted from begun (actions.Read max clock) old a new refl once step
 own_step c s wanted from begun (steps.Keepalive clock) old a new good headline once fair step = own_acts c s wanted from begun (actions.Keepalive clock) old a new refl once step

@@ -11,8 +11,8 @@ use Rattle.starts.specs.declared.start.Start.{Start}
 use Rattle.world.specs.declared.subscriber.Subscriber.{Subscriber}
 use Rattle.world.specs.State.{SubscriberState, subscriber_of, with_subscriber}
 use Rattle.world.specs.Slots.{Acknowledges, PutsBack, has_status, is_waiting, status_with}
-use Rattle.named_slots.specs.Words.{confirmed_by}
-use Rattle.world.specs.Machine.{IsOpenStartAt, IsSubscriberAt, shown, subscriber_state}
+use Rattle.named_slots.specs.Words.{slots_after_confirming}
+use Rattle.world.specs.Machine.{IsOpenStartAt, IsSubscriberAt, subscriber_state, world_of}
 use Rattle.starts.specs.Starts.{start_state}
 use Rattle.world.proofs.Inside.{same_inside}
 use Rattle.world.proofs.Subscribing.{no_subscriber, placed, subscriber_at, the_one}
@@ -40,21 +40,21 @@ start_there name place cs start at value =
 pub puts_back : (name : List ℕ) (flushed : Option ℕ) (clock : ℤ) (at_start place : ℕ) {L : Type 0} (m : Machine L) (old new : Subscriber) → IsOpenStartAt name at_start m.starts.items
     → IsSubscriberAt name place m.subscribers.items → old ≡ slice_index_or m.subscribers.items place old
     → subscriber_state new ≡ record (subscriber_state old) { back = (subscriber_state old).back ++ status_with flushed clock (subscriber_state old).applier.subscriber.position ∷ [] }
-    → PutsBack name (status_with flushed clock) (shown m) answers.Done (record (shown m) { subscribers = map subscriber_state (slice_set m.subscribers.items place new) })
+    → PutsBack name (status_with flushed clock) (world_of m) answers.Done (record (world_of m) { subscribers = map subscriber_state (slice_set m.subscribers.items place new) })
 puts_back name flushed clock at_start place m old new opened at value is = record {
   start = start_state opened.start;
   there = opened.of;
   before = subscriber_state old;
   known = known_there name place m.subscribers.items old at value;
   done = refl;
-  is = ap (λ (l : List SubscriberState). record (shown m) { subscribers = l }) (placed name place m.subscribers.items new at ∙ ap (λ (s : SubscriberState). with_subscriber name s (map subscriber_state m.subscribers.items)) is);
+  is = ap (λ (l : List SubscriberState). record (world_of m) { subscribers = l }) (placed name place m.subscribers.items new at ∙ ap (λ (s : SubscriberState). with_subscriber name s (map subscriber_state m.subscribers.items)) is);
 }
 
 pub acknowledges : (name : List ℕ) (at_start place : ℕ) {L : Type 0} (m : Machine L) (start : Start L) (old new : Subscriber) (status : Status) (slots : SlotsState) → IsOpenStartAt name at_start m.starts.items
     → start ≡ slice_index_or m.starts.items at_start start → IsSubscriberAt name place m.subscribers.items → old ≡ slice_index_or m.subscribers.items place old
     → (subscriber_state old).back ≡ status ∷ (subscriber_state new).back → subscriber_state new ≡ record (subscriber_state old) { back = (subscriber_state new).back }
-    → slots ≡ confirmed_by new.slot (min status.flushed (start_state start).position) m.slots
-    → Acknowledges name (shown m) answers.Done (record (shown m) { slots = slots; subscribers = map subscriber_state (slice_set m.subscribers.items place new) })
+    → slots ≡ slots_after_confirming new.slot (min status.flushed (start_state start).position) m.slots
+    → Acknowledges name (world_of m) answers.Done (record (world_of m) { slots = slots; subscribers = map subscriber_state (slice_set m.subscribers.items place new) })
 acknowledges name at_start place {L} m start old new status slots opened start_value at value waits is confirmed =
     record {
       start = start_state start;
@@ -65,9 +65,9 @@ acknowledges name at_start place {L} m start old new status slots opened start_v
       rest = (subscriber_state new).back;
       waits = waits;
       done = refl;
-      is = ap (λ (s : SlotsState). record (shown m) { slots = s; subscribers = map subscriber_state (slice_set m.subscribers.items place new) })
-          (confirmed ∙ ap (λ (s : SubscriberState). confirmed_by s.slot (min status.flushed (start_state start).position) m.slots) is)
-          ∙ ap (λ (l : List SubscriberState). record (shown m) { slots = confirmed_by old.slot (min status.flushed (start_state start).position) m.slots; subscribers = l })
+      is = ap (λ (s : SlotsState). record (world_of m) { slots = s; subscribers = map subscriber_state (slice_set m.subscribers.items place new) })
+          (confirmed ∙ ap (λ (s : SubscriberState). slots_after_confirming s.slot (min status.flushed (start_state start).position) m.slots) is)
+          ∙ ap (λ (l : List SubscriberState). record (world_of m) { slots = slots_after_confirming old.slot (min status.flushed (start_state start).position) m.slots; subscribers = l })
           (placed name place m.subscribers.items new at ∙ ap (λ (s : SubscriberState). with_subscriber name s (map subscriber_state m.subscribers.items)) is);
     }
 

@@ -14,7 +14,7 @@ use Rattle.stream.specs.declared.word.Word.TheVariants as words
 use Rattle.stream.specs.declared.word.Keepalive.{Keepalive}
 use Rattle.client.specs.declared.fault.ClientFault.{ClientFault}
 use Rattle.client.specs.declared.fault.ClientFault.TheVariants.{Order}
-use Rattle.client.specs.Subscriber.{HalfTransaction, Subscriber, after_message, after_word, after_words, begun, changed, committed, finished, heard, judged, kept_alive, note_of, noted, tell, told, with_change}
+use Rattle.client.specs.Subscriber.{HalfTransaction, Subscriber, after_begin, after_change, after_commit, after_keepalive, after_logical_message, after_message, after_note, after_relation, after_transaction, after_word, after_words, judgement_of_change, note_of, tables_with_relation, with_change}
 use Rattle.client.specs.Taking.{ApplierState, Reached, Takes, TakesFrom}
 use Rattle.client.specs.Law.{Follows}
 use Rattle.client.proofs.Laws.{follows_err, follows_ok}
@@ -26,39 +26,39 @@ went s = Ok s
 higher : (s made t : Subscriber) → s.position ≤ made.position → went made ≡ went t → s.position ≤ t.position
 higher s made t le is = let same = ok_is ClientFault made t is in omega (arith, le, ap (λ (x : Subscriber). x.position) same)
 
-kept_alive_on : (half : Option HalfTransaction) (s t : Subscriber) (k : Keepalive) → went (kept_alive half s k) ≡ went t → s.position ≤ t.position
+kept_alive_on : (half : Option HalfTransaction) (s t : Subscriber) (k : Keepalive) → went (after_keepalive half s k) ≡ went t → s.position ≤ t.position
 kept_alive_on None s t k is = higher s (record s { position = max s.position k.position }) t (omega arith) is
 kept_alive_on (Some half) s t k is = higher s s t (omega arith) is
 
-begun_on : (half : Option HalfTransaction) (s t : Subscriber) (m : Begin) → begun half s m ≡ Ok t → s.position ≤ t.position
+begun_on : (half : Option HalfTransaction) (s t : Subscriber) (m : Begin) → after_begin half s m ≡ Ok t → s.position ≤ t.position
 begun_on None s t m is = higher s (record s { half = Some (record { begin = m; changes = [] }) }) t (omega arith) is
 begun_on (Some half) s t m is = absurd cc
 
-told_on : (half : Option HalfTransaction) (s t : Subscriber) (m : Relation) → told half s m ≡ Ok t → s.position ≤ t.position
+told_on : (half : Option HalfTransaction) (s t : Subscriber) (m : Relation) → after_relation half s m ≡ Ok t → s.position ≤ t.position
 told_on None s t m is = absurd cc
-told_on (Some half) s t m is = higher s (record s { tables = tell s.tables m }) t (omega arith) is
+told_on (Some half) s t m is = higher s (record s { tables = tables_with_relation s.tables m }) t (omega arith) is
 
-committed_on : (half : Option HalfTransaction) (s t : Subscriber) (m : Commit) → committed half s m ≡ Ok t → s.position ≤ t.position
+committed_on : (half : Option HalfTransaction) (s t : Subscriber) (m : Commit) → after_commit half s m ≡ Ok t → s.position ≤ t.position
 committed_on None s t m is = absurd cc
 committed_on (Some half) s t m is = by_test (eqb m.position half.begin.position) is
   where
-    by_test : (b : Bool) → cond b (Ok (finished s half m)) (Err Order) ≡ Ok t → s.position ≤ t.position
-    by_test true e = higher s (finished s half m) t (omega arith) e
+    by_test : (b : Bool) → cond b (Ok (after_transaction s half m)) (Err Order) ≡ Ok t → s.position ≤ t.position
+    by_test true e = higher s (after_transaction s half m) t (omega arith) e
     by_test false e = absurd cc
 
-changed_on : (half : Option HalfTransaction) (s t : Subscriber) (position : ℕ) (m : Logical) → changed half s position m ≡ Ok t → s.position ≤ t.position
+changed_on : (half : Option HalfTransaction) (s t : Subscriber) (position : ℕ) (m : Logical) → after_change half s position m ≡ Ok t → s.position ≤ t.position
 changed_on None s t position m is = absurd cc
-changed_on (Some half) s t position m is = by_judged (judged s.tables m) is
+changed_on (Some half) s t position m is = by_judged (judgement_of_change s.tables m) is
   where
     by_judged : (r : Result (Unit {0}) ClientFault) → (r >>= λ _. Ok (record s { half = Some (with_change half position m) })) ≡ Ok t → s.position ≤ t.position
     by_judged (Ok u) e = higher s (record s { half = Some (with_change half position m) }) t (omega arith) e
     by_judged (Err fault) e = absurd cc
 
-noted_on : (half : Option HalfTransaction) (s t : Subscriber) (end : ℕ) (m : Message) → noted half s end m ≡ Ok t → s.position ≤ t.position
+noted_on : (half : Option HalfTransaction) (s t : Subscriber) (end : ℕ) (m : Message) → after_note half s end m ≡ Ok t → s.position ≤ t.position
 noted_on None s t end m is = higher s (record s { position = max s.position end; applied = s.applied ++ cond (nat_le s.position m.position) (note_of end m ∷ []) [] }) t (omega arith) is
 noted_on (Some half) s t end m is = absurd cc
 
-heard_on : (is_transactional : Bool) (s t : Subscriber) (start end : ℕ) (m : Message) → heard is_transactional s start end m ≡ Ok t → s.position ≤ t.position
+heard_on : (is_transactional : Bool) (s t : Subscriber) (start end : ℕ) (m : Message) → after_logical_message is_transactional s start end m ≡ Ok t → s.position ≤ t.position
 heard_on true s t start end m is = changed_on s.half s t start (logical.Message m) is
 heard_on false s t start end m is = noted_on s.half s t end m is
 

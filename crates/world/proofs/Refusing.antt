@@ -4,7 +4,7 @@ use Rattle.std.specs.Prelude.{◌==◌, Result, Ok, Err, not}
 use Rattle.std.proofs.lemmas.Bool.{cases_eq}
 use Rattle.publication_config.specs.declared.fault.PubFault.{PubFault}
 use Rattle.publication_config.specs.declared.fault.PubFault.TheVariants as pubs
-use Rattle.publication.specs.Publications.{PublicationSet, conflicts, is_unknown, judged, selected}
+use Rattle.publication.specs.Publications.{PublicationSet, conflicts, is_unknown, judgement_of_names, selected_publications}
 use Rattle.slots.specs.declared.fault.SlotFault.TheVariants as slot_faults
 use Rattle.schedule.specs.declared.answer.Answer.{Answer}
 use Rattle.schedule.specs.declared.answer.Answer.TheVariants as answers
@@ -13,7 +13,7 @@ use Rattle.walsender.specs.declared.beginning.StartFault.TheVariants as faults
 use Rattle.walsender.specs.Beginning.{AreAsked, fault_of, questions}
 use Rattle.named_slots.specs.State.{SlotsState}
 use Rattle.named_slots.specs.Words.{is_held, is_missing, slot_named}
-use Rattle.starts.specs.State.{running}
+use Rattle.starts.specs.State.{running_count}
 use Rattle.world.specs.declared.limits.TheConstants.{MAX_SENDERS}
 use Rattle.world.specs.declared.starting.StartFacts.{StartFacts}
 use Rattle.world.specs.State.{WorldState}
@@ -80,7 +80,7 @@ module _ {L : Type 0} (f new : StartFacts L) where
   missing g = is_missing (slot_named g.slot.now) g.slots.now
 
   abbrev pub agree : StartFacts L → Result (Unit {0}) PubFault
-  agree g = judged g.publications.now g.names.now
+  agree g = judgement_of_names g.publications.now g.names.now
 
   abbrev pub held : StartFacts L → Bool
   held g = is_held (slot_named g.slot.now) g.slots.now
@@ -108,8 +108,8 @@ module _ {L : Type 0} (f new : StartFacts L) where
 -- ---- The same in the words of the world.
 
 pub as_judged : (slot : Option (List ℕ)) (names : List (List ℕ)) (w : WorldState)
-    → refusal_by (is_missing slot w.slots) (judged w.publications names) (not (running w.starts == MAX_SENDERS)) (is_held slot w.slots) ≡ start_refusal slot names w
-as_judged slot names w = by_tests (is_missing slot w.slots) (is_unknown w.publications names) (conflicts (selected w.publications names).publications) (running w.starts == MAX_SENDERS) (is_held slot w.slots)
+    → refusal_by (is_missing slot w.slots) (judgement_of_names w.publications names) (not (running_count w.starts == MAX_SENDERS)) (is_held slot w.slots) ≡ start_refusal slot names w
+as_judged slot names w = by_tests (is_missing slot w.slots) (is_unknown w.publications names) (conflicts (selected_publications w.publications names).publications) (running_count w.starts == MAX_SENDERS) (is_held slot w.slots)
   where
     by_tests : (m u c n h : Bool) → refusal_by m (cond u (Err pubs.Unknown) (cond c (Err pubs.ListConflict) (Ok tt))) (not n) h
         ≡ cond m (Some (answers.Slot slot_faults.Missing)) (cond u (Some (answers.Publication pubs.Unknown)) (cond c (Some (answers.Publication pubs.ListConflict)) (cond n (Some answers.NoReader) (cond h (Some (answers.Slot slot_faults.InUse)) None))))
@@ -128,15 +128,15 @@ none_left a b n all = ⊎_elim
     (cases_eq a 0)
 
 pub told_refusal : {L : Type 0} (f new : StartFacts L) (w : WorldState) (readers : ℕ) (r : Result (Unit {0}) StartFault) → AreAsked Told f (questions r) new
-    → f.publications.now ≡ w.publications → f.slots.now ≡ w.slots → f.has_reader ≡ not (readers == 0) → readers + running w.starts ≡ MAX_SENDERS
+    → f.publications.now ≡ w.publications → f.slots.now ≡ w.slots → f.has_reader ≡ not (readers == 0) → readers + running_count w.starts ≡ MAX_SENDERS
     → answer_by r ≡ start_refusal (slot_named f.slot.now) f.names.now w
 told_refusal f new w readers r asked publications_is slots_is has all =
     let slot = slot_named f.slot.now in
-    let has_is : f.has_reader ≡ not (running w.starts == MAX_SENDERS) = has ∙ ap not (none_left readers (running w.starts) MAX_SENDERS all) in
+    let has_is : f.has_reader ≡ not (running_count w.starts == MAX_SENDERS) = has ∙ ap not (none_left readers (running_count w.starts) MAX_SENDERS all) in
     first_refusal f new r asked
-    ∙ ap (λ (s : SlotsState). refusal_by (is_missing slot s) (judged f.publications.now f.names.now) f.has_reader (is_held slot s)) slots_is
-    ∙ ap (λ (p : PublicationSet). refusal_by (is_missing slot w.slots) (judged p f.names.now) f.has_reader (is_held slot w.slots)) publications_is
-    ∙ ap (λ (has : Bool). refusal_by (is_missing slot w.slots) (judged w.publications f.names.now) has (is_held slot w.slots)) has_is
+    ∙ ap (λ (s : SlotsState). refusal_by (is_missing slot s) (judgement_of_names f.publications.now f.names.now) f.has_reader (is_held slot s)) slots_is
+    ∙ ap (λ (p : PublicationSet). refusal_by (is_missing slot w.slots) (judgement_of_names p f.names.now) f.has_reader (is_held slot w.slots)) publications_is
+    ∙ ap (λ (has : Bool). refusal_by (is_missing slot w.slots) (judgement_of_names w.publications f.names.now) has (is_held slot w.slots)) has_is
     ∙ as_judged slot f.names.now w
 
 -- ---- What a start isn't refused by.
@@ -148,15 +148,15 @@ passed false x rest e = (refl, e)
 pub record MayStart (slot : Option (List ℕ)) (names : List (List ℕ)) (w : WorldState) : Type 0 where
   pub there : is_missing slot w.slots ≡ false
   pub known : is_unknown w.publications names ≡ false
-  pub agree : conflicts (selected w.publications names).publications ≡ false
-  pub reader : (running w.starts == MAX_SENDERS) ≡ false
+  pub agree : conflicts (selected_publications w.publications names).publications ≡ false
+  pub reader : (running_count w.starts == MAX_SENDERS) ≡ false
   pub free : is_held slot w.slots ≡ false
 
 pub may_start : (slot : Option (List ℕ)) (names : List (List ℕ)) (w : WorldState) → start_refusal slot names w ≡ None → MayStart slot names w
 may_start slot names w none =
     let one = passed (is_missing slot w.slots) (answers.Slot slot_faults.Missing) _ none in
     let two = passed (is_unknown w.publications names) (answers.Publication pubs.Unknown) _ one.1 in
-    let three = passed (conflicts (selected w.publications names).publications) (answers.Publication pubs.ListConflict) _ two.1 in
-    let four = passed (running w.starts == MAX_SENDERS) answers.NoReader _ three.1 in
+    let three = passed (conflicts (selected_publications w.publications names).publications) (answers.Publication pubs.ListConflict) _ two.1 in
+    let four = passed (running_count w.starts == MAX_SENDERS) answers.NoReader _ three.1 in
     let five = passed (is_held slot w.slots) (answers.Slot slot_faults.InUse) None four.1 in
     record { there = one.0; known = two.0; agree = three.0; reader = four.0; free = five.0 }

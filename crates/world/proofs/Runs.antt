@@ -10,7 +10,7 @@ use Rattle.wal.specs.Log.{IsWellFormedLog, end_of}
 use Rattle.publication.specs.Publications.{PublicationSet}
 use Rattle.publication.specs.Selection.{relation}
 use Rattle.stream.specs.Stream.{IsStream}
-use Rattle.sender.specs.Published.{published}
+use Rattle.sender.specs.Published.{published_transactions}
 use Rattle.sender.specs.Sending.{SenderState}
 use Rattle.schedule.specs.declared.answer.Answer.{Answer}
 use Rattle.schedule.specs.declared.event.Event.{Event}
@@ -26,7 +26,7 @@ use Rattle.world.specs.Law.{IsExact, Headline}
 use Rattle.world.specs.Steps.{IsStep, is_bad, is_read, takes_memory, IsRun, StopsAt}
 use Rattle.walsender.specs.Serving.{IsStreaming}
 use Rattle.starts.specs.Starts.{IsServed, IsServedBy, state_with, start_state}
-use Rattle.world.specs.Machine.{IsMachine, shown}
+use Rattle.world.specs.Machine.{IsMachine, world_of}
 use Rattle.starts.proofs.Positions.{read_by_place}
 
 -- what was read up to a place is what was read by a position
@@ -38,7 +38,7 @@ exact_by log connection produced (stages.Open w) good served =
     let s = w.sender in
     let t = served.streaming in
     let read_is = read_so_far log served.count produced s good t in
-    let P : List Record → Type 0 = λ l. IsStream (relation s.selection) (produced ++ s.held) (published s.selection l s.start) s.position in
+    let P : List Record → Type 0 = λ l. IsStream (relation s.selection) (produced ++ s.held) (published_transactions s.selection l s.start) s.position in
     let stream = subst P read_is t.stream in
     record {
       reads = t.at ∙ ap (end_of FIRST_POSITION) read_is;
@@ -49,9 +49,9 @@ exact_by log connection produced (stages.Cut e) good was =
     let s = was.before in
     let t = was.streaming in
     let read_is = read_so_far log was.count produced s good t in
-    let P : List Record → Type 0 = λ l. IsStream (relation s.selection) (produced ++ s.held) (published s.selection l s.start) s.position in
+    let P : List Record → Type 0 = λ l. IsStream (relation s.selection) (produced ++ s.held) (published_transactions s.selection l s.start) s.position in
     let stream = subst P read_is t.stream in
-    let Q : PublicationSet → ℕ → ℕ → Type 0 = λ selection start position. IsStream (relation selection) (produced ++ s.held) (published selection (read_by position log) start) position in
+    let Q : PublicationSet → ℕ → ℕ → Type 0 = λ selection start position. IsStream (relation selection) (produced ++ s.held) (published_transactions selection (read_by position log) start) position in
     record {
       reads = was.position_is ∙ t.at ∙ ap (end_of FIRST_POSITION) (read_is ∙ ap (λ (p : ℕ). read_by p log) (sym was.position_is));
       begins = record { rest = s.held; whole = rw (was.selection_is, was.start_is, was.position_is) stream };
@@ -62,7 +62,7 @@ all_exact : {L : Type 0} (log : List Record) (cs : List (Start L)) → IsWellFor
 all_exact log [] good all = tt
 all_exact log (c ∷ cs) good all = (exact_by log c.connection c.produced.items c.stage good all.0, all_exact log cs good all.1)
 
-pub headline : {L : Type 0} (m : Machine L) → IsMachine m → Headline (shown m)
+pub headline : {L : Type 0} (m : Machine L) → IsMachine m → Headline (world_of m)
 headline m is = all_exact m.publisher.log m.starts.items is.good is.served
 
 abbrev pub joined : (start mid new : WorldState) (es : List Event) (answers : List Answer) (e : Event) (a : Answer) → IsRun start es answers mid → IsStep mid e a new → IsRun start (es ++ e ∷ []) (answers ++ a ∷ []) new

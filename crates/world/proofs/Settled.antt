@@ -15,11 +15,11 @@ use Rattle.stream.specs.declared.published.Published.{Published}
 use Rattle.stream.specs.Items.{Block, Item, KeepaliveItem, transactions_of}
 use Rattle.stream.specs.Stream.{AreSafeKeepalives}
 use Rattle.stream.proofs.Lists.{all_of_both}
-use Rattle.sender.specs.Published.{published, published_from}
+use Rattle.sender.specs.Published.{published_from, published_transactions}
 use Rattle.sender.proofs.Batches.{published_from-append}
 use Rattle.sender.proofs.Sections.{all_back, all_front, follows_parts, starts_below}
 use Rattle.client.specs.Subscriber.{Subscriber}
-use Rattle.client.specs.Law.{Gained, gained, position_after}
+use Rattle.client.specs.Law.{Gained, gained_transactions, position_after}
 use Rattle.starts.specs.Acting.{read_by}
 use Rattle.world.proofs.Orders.{InOrder, all_below, all_from, below, below-append, in_order, in_order_behind, in_order_within, late_all, late_part, none_below, parted}
 
@@ -57,7 +57,7 @@ block_kept p early t behind all lt later =
 
 pub followed : (limit from to p : ℕ) (early : List Published) (done others : List Item) (later : List Published) → AllByRecursion (λ (t : Published). t.start < p) early
     → InOrder from to (transactions_of (done ++ others) ++ later) → AllByRecursion (λ (t : Published). limit ≤ t.start) later → AreSafeKeepalives limit (done ++ others)
-    → below (position_after p done) (early ++ (transactions_of (done ++ others) ++ later)) ≡ below p (early ++ (transactions_of (done ++ others) ++ later)) ++ gained p done
+    → below (position_after p done) (early ++ (transactions_of (done ++ others) ++ later)) ≡ below p (early ++ (transactions_of (done ++ others) ++ later)) ++ gained_transactions p done
 followed limit from to p early [] others later all order behind safe = sym (append-nil (below p (early ++ (transactions_of others ++ later))))
 followed limit from to p early (KeepaliveItem k ∷ done) others later all order behind safe =
     let rest = transactions_of (done ++ others) ++ later in
@@ -68,7 +68,7 @@ followed limit from to p early (KeepaliveItem k ∷ done) others later all order
     let same : below (max p k.position) (early ++ rest) ≡ below p (early ++ rest) =
     below-append (max p k.position) early rest ∙ ap (λ l. l ++ below (max p k.position) rest) (all_below (max p k.position) early higher ∙ sym (all_below p early all))
     ∙ ap (λ l. below p early ++ l) (raised_same p k.position rest lates) ∙ sym (below-append p early rest) in
-    followed limit from to (max p k.position) early done others later higher order behind safe.2 ∙ ap (λ l. l ++ gained (max p k.position) done) same
+    followed limit from to (max p k.position) early done others later higher order behind safe.2 ∙ ap (λ l. l ++ gained_transactions (max p k.position) done) same
 followed limit from to p early (Block clock t ∷ done) others later all order behind safe =
     let rest = transactions_of (done ++ others) ++ later in
     let q = max p t.end in
@@ -77,9 +77,9 @@ followed limit from to p early (Block clock t ∷ done) others later all order b
     let higher : AllByRecursion (λ (u : Published). u.start < q) more = all_of_both (λ (u : Published). u.start < q) early (t ∷ []) (raised_all p q early (omega arith) all) (omega (arith, order.1), tt) in
     ap (below (position_after q done)) (sym assoc)
     ∙ followed limit t.end to q more done others later higher order.2 behind safe
-    ∙ ap (λ l. below q l ++ gained q done) assoc
-    ∙ ap (λ l. l ++ gained q done) (block_kept p early t rest all order.1 (all_from t.end to rest order.2))
-    ∙ append_assoc (below p (early ++ t ∷ rest)) (cond (nat_le p t.start) (t ∷ []) []) (gained q done)
+    ∙ ap (λ l. below q l ++ gained_transactions q done) assoc
+    ∙ ap (λ l. l ++ gained_transactions q done) (block_kept p early t rest all order.1 (all_from t.end to rest order.2))
+    ∙ append_assoc (below p (early ++ t ∷ rest)) (cond (nat_le p t.start) (t ∷ []) []) (gained_transactions q done)
 
 -- the position stays within what was read
 position_within : (limit from to p : ℕ) (done others : List Item) → p ≤ to → limit ≤ to → AreSafeKeepalives limit (done ++ others) → InOrder from to (transactions_of (done ++ others)) → position_after p done ≤ to
@@ -93,7 +93,7 @@ position_within limit from to p (Block clock t ∷ done) others le within safe o
 -- of what is published from a position on it has applied what commits below its own, and it stands no further than the log
 pub record IsSettled (log : List Record) (from : ℕ) (selection : PublicationSet) (s : Subscriber) : Type 0 where
   pub within : s.position ≤ end_of FIRST_POSITION log
-  pub applied : s.applied ≡ below s.position (published selection log from)
+  pub applied : s.applied ≡ below s.position (published_transactions selection log from)
 
 end_later : (log more : List Record) → IsWellFormedLog (log ++ more) → end_of FIRST_POSITION log ≤ end_of FIRST_POSITION (log ++ more)
 end_later log more good =
@@ -116,8 +116,8 @@ settled_grown log more from selection s good settled =
     none_below s.position later (all_when (λ (t : Published). end_of FIRST_POSITION log ≤ t.start) (λ (t : Published). s.position ≤ t.start) (λ t le. omega (arith, le, settled.within)) later lates) in
     record {
       within = omega (arith, settled.within, end_later log more good);
-      applied = settled.applied ∙ sym (ap (below s.position) (published_from-append selection from [] log more) ∙ below-append s.position (published selection log from) later
-          ∙ ap (λ l. below s.position (published selection log from) ++ l) none ∙ append-nil (below s.position (published selection log from)));
+      applied = settled.applied ∙ sym (ap (below s.position) (published_from-append selection from [] log more) ∙ below-append s.position (published_transactions selection log from) later
+          ∙ ap (λ l. below s.position (published_transactions selection log from) ++ l) none ∙ append-nil (below s.position (published_transactions selection log from)));
     }
 
 -- a subscriber at 0 that has applied nothing
@@ -128,7 +128,7 @@ all_from_zero (t ∷ ts) = (omega arith, all_from_zero ts)
 pub settled_new : (log : List Record) (from : ℕ) (selection : PublicationSet) (s : Subscriber) → s.position ≡ 0 → s.applied ≡ [] → IsSettled log from selection s
 settled_new log from selection s at none = record {
   within = omega (arith, at);
-  applied = none ∙ sym (ap (λ (p : ℕ). below p (published selection log from)) at ∙ none_below 0 (published selection log from) (all_from_zero (published selection log from)));
+  applied = none ∙ sym (ap (λ (p : ℕ). below p (published_transactions selection log from)) at ∙ none_below 0 (published_transactions selection log from) (all_from_zero (published_transactions selection log from)));
 }
 
 -- what was read is the front of the log
@@ -149,13 +149,13 @@ early_below from start p (t ∷ ts) le all = by_test (nat_le start t.start) refl
     by_test true is rest = rest
     by_test false is rest = let less : t.start < start = grind (arith, nat_tests, is) in (omega (arith, less, le, all.0), rest)
 
-published_after : (selection : PublicationSet) (from : ℕ) (log : List Record) → AllByRecursion (λ (t : Published). from ≤ t.start) (published selection log from)
-published_after selection from log = let All : List Published → Type 0 = λ ts. AllByRecursion (λ (t : Published). from ≤ t.start) ts in subst All (late_part selection from from [] log (omega arith)) (late_all from (published selection log from))
+published_after : (selection : PublicationSet) (from : ℕ) (log : List Record) → AllByRecursion (λ (t : Published). from ≤ t.start) (published_transactions selection log from)
+published_after selection from log = let All : List Published → Type 0 = λ ts. AllByRecursion (λ (t : Published). from ≤ t.start) ts in subst All (late_part selection from from [] log (omega arith)) (late_all from (published_transactions selection log from))
 
 -- What a stream's items are, of a part of the log that ends at the position.
 pub record IsReadTo (log : List Record) (selection : PublicationSet) (start position : ℕ) (items : List Item) : Type 0 where
   pub at : position ≡ end_of FIRST_POSITION (read_by position log)
-  pub sends : transactions_of items ≡ published selection (read_by position log) start
+  pub sends : transactions_of items ≡ published_transactions selection (read_by position log) start
   pub safe : AreSafeKeepalives position items
 
 -- A subscriber that was settled where the stream begins, or further, is settled by what it gains of the stream.
@@ -167,12 +167,12 @@ settled_by selection log from start position base new bytes items good settled l
     let parts : log ≡ front ++ rest = (read_front position log).1 in
     let whole : IsWellFormedLog (front ++ rest) = subst IsWellFormedLog parts good in
     let goes = follows_parts FIRST_POSITION front rest whole.follows in
-    let early = below start (published selection front from) in
+    let early = below start (published_transactions selection front from) in
     let behind = published_from selection from front rest in
-    let sent : transactions_of (gains.done ++ gains.others) ≡ published selection front start = ap transactions_of (sym gains.is) ∙ read.sends in
-    let all : published selection log from ≡ early ++ (transactions_of (gains.done ++ gains.others) ++ behind) =
-    ap (λ l. published selection l from) parts ∙ published_from-append selection from [] front rest
-    ∙ ap (λ l. l ++ behind) (parted start FIRST_POSITION (end_of FIRST_POSITION front) (published selection front from) (in_order selection from FIRST_POSITION [] front goes.0 (all_front IsSized front rest whole.sizes))
+    let sent : transactions_of (gains.done ++ gains.others) ≡ published_transactions selection front start = ap transactions_of (sym gains.is) ∙ read.sends in
+    let all : published_transactions selection log from ≡ early ++ (transactions_of (gains.done ++ gains.others) ++ behind) =
+    ap (λ l. published_transactions selection l from) parts ∙ published_from-append selection from [] front rest
+    ∙ ap (λ l. l ++ behind) (parted start FIRST_POSITION (end_of FIRST_POSITION front) (published_transactions selection front from) (in_order selection from FIRST_POSITION [] front goes.0 (all_front IsSized front rest whole.sizes))
     ∙ ap (λ l. early ++ l) (late_part selection from start [] front later ∙ sym sent))
     ∙ append_assoc early (transactions_of (gains.done ++ gains.others)) behind in
     let order_front : InOrder FIRST_POSITION (end_of FIRST_POSITION front) (transactions_of (gains.done ++ gains.others)) =
@@ -183,15 +183,15 @@ settled_by selection log from start position base new bytes items good settled l
     (let Late : ℕ → Type 0 = λ n. AllByRecursion (λ (t : Published). n ≤ t.start) behind in subst Late (sym read.at) (all_from (end_of FIRST_POSITION front) (end_of FIRST_POSITION (front ++ rest)) behind order_behind)) in
     let safe : AreSafeKeepalives position (gains.done ++ gains.others) = subst (AreSafeKeepalives position) gains.is read.safe in
     let grows = followed position FIRST_POSITION (end_of FIRST_POSITION (front ++ rest)) base.position early gains.done gains.others behind
-    (early_below from start base.position (published selection front from) asked (published_after selection from front)) order lates safe in
+    (early_below from start base.position (published_transactions selection front from) asked (published_after selection from front)) order lates safe in
     let end = end_later front rest whole in
     let last : end_of FIRST_POSITION (front ++ rest) ≡ end_of FIRST_POSITION log = ap (end_of FIRST_POSITION) (sym parts) in
     let within = position_within position FIRST_POSITION (end_of FIRST_POSITION log) base.position gains.done gains.others settled.within (omega (arith, read.at, end, last)) safe
     (let Wide : ℕ → Type 0 = λ n. InOrder FIRST_POSITION n (transactions_of (gains.done ++ gains.others)) in wider FIRST_POSITION (end_of FIRST_POSITION front) (end_of FIRST_POSITION log) (transactions_of (gains.done ++ gains.others)) (omega (arith, end, last)) order_front) in
     record {
       within = omega (arith, gains.position, within);
-      applied = gains.applied ∙ ap (λ l. l ++ gained base.position gains.done) (settled.applied ∙ ap (below base.position) all) ∙ sym grows ∙ ap (below (position_after base.position gains.done)) (sym all)
-          ∙ ap (λ (p : ℕ). below p (published selection log from)) (sym gains.position);
+      applied = gains.applied ∙ ap (λ l. l ++ gained_transactions base.position gains.done) (settled.applied ∙ ap (below base.position) all) ∙ sym grows ∙ ap (below (position_after base.position gains.done)) (sym all)
+          ∙ ap (λ (p : ℕ). below p (published_transactions selection log from)) (sym gains.position);
     }
   where
     wider : (at to further : ℕ) (ts : List Published) → to ≤ further → InOrder at to ts → InOrder at further ts

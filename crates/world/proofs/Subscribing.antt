@@ -11,8 +11,8 @@ use Rattle.starts.specs.declared.start.Start.{Start}
 use Rattle.world.specs.declared.subscriber.Subscriber.{Subscriber}
 use Rattle.world.specs.Delivering.{Gets, Delivers}
 use Rattle.starts.specs.State.{StartState, is_open_for}
-use Rattle.world.specs.State.{SubscriberState, new_subscriber, subscriber_of, with_subscriber, if_there, with_one_for, again, if_known_again, reconnected, slot_in, slot_of_connection, open_start, with_open_start}
-use Rattle.world.specs.Machine.{shown, subscriber_state, subscriber_place, IsOpenStartAt, IsSubscriberAt, IsSubscribed}
+use Rattle.world.specs.State.{SubscriberState, new_subscriber, subscriber_of, with_subscriber, if_there, with_one_for, subscriber_connected_again, if_known_again, subscribers_after_reconnect, slot_in, slot_of_connection, open_start, with_open_start}
+use Rattle.world.specs.Machine.{world_of, subscriber_state, subscriber_place, IsOpenStartAt, IsSubscriberAt, IsSubscribed}
 use Rattle.starts.specs.Starts.{start_state}
 use Rattle.std.proofs.lemmas.List.{append-nil}
 use Rattle.tables.proofs.Names.{bytes_eq-after}
@@ -119,12 +119,12 @@ all_subscribed_behind ss s [] all = tt
 all_subscribed_behind ss s (t ∷ starts) all = (has_one_behind t.connection t.connection ss s all.0, all_subscribed_behind ss s starts all.1)
 
 -- the connection is cut, and its subscriber reconnects
-pub all_reconnected : (name : List ℕ) (ss : List SubscriberState) (starts : List StartState) → AllByRecursion (IsSubscribed ss) starts → AllByRecursion (IsSubscribed (reconnected name ss)) starts
+pub all_reconnected : (name : List ℕ) (ss : List SubscriberState) (starts : List StartState) → AllByRecursion (IsSubscribed ss) starts → AllByRecursion (IsSubscribed (subscribers_after_reconnect name ss)) starts
 all_reconnected name ss starts all = by_found (subscriber_of name ss) refl
   where
     by_found : (o : Option SubscriberState) → subscriber_of name ss ≡ o → AllByRecursion (IsSubscribed (if_known_again o name ss)) starts
     by_found None is = all
-    by_found (Some s) is = all_subscribed_with name ss (again s) starts (λ t found. ap (λ (x : SubscriberState). x.connection) (same_inside s t (sym is ∙ found))) all
+    by_found (Some s) is = all_subscribed_with name ss (subscriber_connected_again s) starts (λ t found. ap (λ (x : SubscriberState). x.connection) (same_inside s t (sym is ∙ found))) all
 
 -- a connection starts
 last_found : (ss : List SubscriberState) (s : SubscriberState) → bytes_eq s.connection s.connection ≡ true → is_some (subscriber_of s.connection (ss ++ s ∷ [])) ≡ true
@@ -185,15 +185,15 @@ the_one name place ss s at value = same_inside at.subscriber s (sym at.there ∙
 pub placed : (name : List ℕ) (place : ℕ) (ss : List Subscriber) (new : Subscriber) → IsSubscriberAt name place ss → map subscriber_state (slice_set ss place new) ≡ with_subscriber name (subscriber_state new) (map subscriber_state ss)
 placed name place ss new at = map-set subscriber_state ss place new ∙ sym (at.changed (subscriber_state new))
 
-pub placed_again : (name : List ℕ) (place : ℕ) (ss : List Subscriber) (old new : Subscriber) → IsSubscriberAt name place ss → old ≡ slice_index_or ss place old → subscriber_state new ≡ again (subscriber_state old)
-    → map subscriber_state (slice_set ss place new) ≡ reconnected name (map subscriber_state ss)
+pub placed_again : (name : List ℕ) (place : ℕ) (ss : List Subscriber) (old new : Subscriber) → IsSubscriberAt name place ss → old ≡ slice_index_or ss place old → subscriber_state new ≡ subscriber_connected_again (subscriber_state old)
+    → map subscriber_state (slice_set ss place new) ≡ subscribers_after_reconnect name (map subscriber_state ss)
 placed_again name place ss old new at value is =
     let here : at.subscriber ≡ old = the_one name place ss old at value in
     placed name place ss new at
-    ∙ ap (λ (s : SubscriberState). with_subscriber name s (map subscriber_state ss)) (is ∙ ap (λ (s : Subscriber). again (subscriber_state s)) (sym here))
+    ∙ ap (λ (s : SubscriberState). with_subscriber name s (map subscriber_state ss)) (is ∙ ap (λ (s : Subscriber). subscriber_connected_again (subscriber_state s)) (sym here))
     ∙ ap (λ (o : Option SubscriberState). if_known_again o name (map subscriber_state ss)) (sym at.of)
 
-pub none_again : (name : List ℕ) (ss : List SubscriberState) → subscriber_place 0 name ss ≡ None → ss ≡ reconnected name ss
+pub none_again : (name : List ℕ) (ss : List SubscriberState) → subscriber_place 0 name ss ≡ None → ss ≡ subscribers_after_reconnect name ss
 none_again name ss none = ap (λ (o : Option SubscriberState). if_known_again o name ss) (sym (no_subscriber name ss none))
 
 pub joined_new : (name : List ℕ) (slot : Option (List ℕ)) (ss : List SubscriberState) → subscriber_place 0 name ss ≡ None → ss ++ new_subscriber name slot ∷ [] ≡ with_one_for name slot ss
@@ -218,7 +218,7 @@ no_slot_there name ss none = ap slot_in (sym (no_subscriber name ss none))
 pub delivered : (name : List ℕ) (n at_start place : ℕ) {L : Type 0} (m : Machine L) (start : Start L) (old new : Subscriber) (produced : List ℕ) (a : Answer) → IsOpenStartAt name at_start m.starts.items → start ≡ slice_index_or m.starts.items at_start start
     → produced ≡ (start_state start).produced → IsSubscriberAt name place m.subscribers.items → old ≡ slice_index_or m.subscribers.items place old
     → Gets (take n (drop old.delivered produced)) (subscriber_state old) a (subscriber_state new)
-    → Delivers name n (shown m) a (record (shown m) { subscribers = map subscriber_state (slice_set m.subscribers.items place new) })
+    → Delivers name n (world_of m) a (record (world_of m) { subscribers = map subscriber_state (slice_set m.subscribers.items place new) })
 delivered name n at_start place {L} m start old new produced a opened start_value is at value gets =
     let within : at_start < length m.starts.items = slice_get_within m.starts.items at_start opened.start opened.there in
     let found_start : opened.start ≡ start = same_inside opened.start start (sym opened.there ∙ slice_get_read m.starts.items (length m.starts.items) at_start start refl within start_value) in
@@ -230,7 +230,7 @@ delivered name n at_start place {L} m start old new produced a opened start_valu
       known = at.of ∙ ap (λ (s : Subscriber). Option.Some (subscriber_state s)) here;
       after = subscriber_state new;
       gets = subst (λ (l : List ℕ). Gets (take n (drop old.delivered l)) (subscriber_state old) a (subscriber_state new)) is gets;
-      is = ap (λ (l : List SubscriberState). record (shown m) { subscribers = l }) (placed name place m.subscribers.items new at);
+      is = ap (λ (l : List SubscriberState). record (world_of m) { subscribers = l }) (placed name place m.subscribers.items new at);
     }
 
 -- the subscriber in its place has become another of the same connection

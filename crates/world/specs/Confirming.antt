@@ -19,9 +19,9 @@ abbrev pub confirmed_at : List ℕ → SlotsState → Option ℕ
 confirmed_at name slots = option_map (λ s. s.confirmed) (slot_of name slots.slots)
 
 -- the flushed position of the next status, cut to what the sender has read
-abbrev pub told_next : ℕ → List Status → Option ℕ
-told_next read [] = None
-told_next read (status ∷ rest) = Some (min status.flushed read)
+abbrev pub next_told_position : ℕ → List Status → Option ℕ
+next_told_position read [] = None
+next_told_position read (status ∷ rest) = Some (min status.flushed read)
 
 -- what a connection's next status tells the slot of this name, if the connection streams from it
 abbrev pub told_if : List ℕ → Option (List ℕ) → Option ℕ → Option ℕ
@@ -29,7 +29,7 @@ told_if name None told = None
 told_if name (Some slot) told = if bytes_eq slot name then told else None
 
 abbrev pub told_to : List ℕ → Option StartState → Option SubscriberState → Option ℕ
-told_to name (Some start) (Some s) = told_if name s.slot (told_next start.position s.back)
+told_to name (Some start) (Some s) = told_if name s.slot (next_told_position start.position s.back)
 told_to name start s = None
 
 abbrev pub raised_by : Option ℕ → ℕ → ℕ

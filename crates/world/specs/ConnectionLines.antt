@@ -1,7 +1,7 @@
 -- What a connection's line does to its sender.
 use Rattle.std.specs.Prelude.{◌≡◌, ◌==◌, ℕ, List, [], ◌∷◌, ◌++◌, Option, Some, None, if◌then◌else◌}
 use Rattle.publication_config.specs.declared.fault.PubFault.TheVariants as pubs
-use Rattle.publication.specs.Publications.{PublicationSet, conflicts, selected, is_unknown}
+use Rattle.publication.specs.Publications.{PublicationSet, conflicts, selected_publications, is_unknown}
 use Rattle.schedule.specs.declared.answer.Answer.{Answer}
 use Rattle.schedule.specs.declared.start_options.StartOptions.{StartOptions}
 use Rattle.schedule.specs.declared.answer.Answer.TheVariants as answers
@@ -9,21 +9,21 @@ use Rattle.starts.specs.declared.action.Action.{Action}
 use Rattle.starts.specs.declared.action.Action.TheVariants as actions
 use Rattle.named_slots.specs.State.{SlotsState}
 use Rattle.slots.specs.declared.fault.SlotFault.TheVariants as slot_faults
-use Rattle.starts.specs.State.{StartState, running}
-use Rattle.world.specs.State.{SubscriberState, WorldState, open_start, with_open_start, with_one_for, reconnected, slot_of_connection}
-use Rattle.named_slots.specs.Words.{is_held, is_missing, let_go, start_from, taken}
+use Rattle.starts.specs.State.{StartState, running_count}
+use Rattle.world.specs.State.{SubscriberState, WorldState, open_start, with_open_start, with_one_for, subscribers_after_reconnect, slot_of_connection}
+use Rattle.named_slots.specs.Words.{is_held, is_missing, slots_after_letting_go, slots_after_taking, start_from}
 use Rattle.wal.specs.Restart.{restart}
 use Rattle.starts.specs.Acting.{Acts, new_start}
 use Rattle.world.specs.declared.limits.TheConstants.{MAX_SENDERS}
 
 -- where the connection is cut, its subscriber reconnects
 abbrev pub subscribers_after : List ℕ → Action → List SubscriberState → List SubscriberState
-subscribers_after connection actions.Cut subscribers = reconnected connection subscribers
+subscribers_after connection actions.Cut subscribers = subscribers_after_reconnect connection subscribers
 subscribers_after connection action subscribers = subscribers
 
 -- and its slot is free again
 abbrev pub slots_after : List ℕ → Action → List SubscriberState → SlotsState → SlotsState
-slots_after connection actions.Cut subscribers slots = let_go (slot_of_connection connection subscribers) slots
+slots_after connection actions.Cut subscribers slots = slots_after_letting_go (slot_of_connection connection subscribers) slots
 slots_after connection action subscribers slots = slots
 
 -- what is asked of the connection's sender, and of nothing else
@@ -45,25 +45,25 @@ abbrev pub start_refusal : Option (List ℕ) → List (List ℕ) → WorldState 
 start_refusal slot names w =
     if is_missing slot w.slots then Some (answers.Slot slot_faults.Missing)
     else if is_unknown w.publications names then Some (answers.Publication pubs.Unknown)
-    else if conflicts (selected w.publications names).publications then Some (answers.Publication pubs.ListConflict)
-    else if running w.starts == MAX_SENDERS then Some answers.NoReader
+    else if conflicts (selected_publications w.publications names).publications then Some (answers.Publication pubs.ListConflict)
+    else if running_count w.starts == MAX_SENDERS then Some answers.NoReader
     else if is_held slot w.slots then Some (answers.Slot slot_faults.InUse)
     else None
 
 -- what is selected for a start with these options
 abbrev pub wanted_of : StartOptions → PublicationSet → PublicationSet
-wanted_of options publications = record (selected publications options.publications) { messages = options.messages }
+wanted_of options publications = record (selected_publications publications options.publications) { messages = options.messages }
 
 -- what a start leaves that isn't refused: its sender reads the log from its restart position on
-abbrev pub started : List ℕ → Option (List ℕ) → ℕ → StartOptions → WorldState → WorldState
-started connection slot position options w = record w {
-  slots = taken slot w.slots;
+abbrev pub world_after_start : List ℕ → Option (List ℕ) → ℕ → StartOptions → WorldState → WorldState
+world_after_start connection slot position options w = record w {
+  slots = slots_after_taking slot w.slots;
   starts = w.starts ++ new_start connection (wanted_of options w.publications) (start_from slot position w.slots) (restart (start_from slot position w.slots) w.publisher.log) ∷ [];
   subscribers = with_one_for connection slot w.subscribers;
 }
 
 -- P7 where memory was refused for what the publications select, and nothing else refuses the start
 abbrev pub IsStart : List ℕ → Option (List ℕ) → ℕ → StartOptions → WorldState → Answer → WorldState → Type 0
-IsStart connection slot position options old answers.Done new = (start_refusal slot options.publications old ≡ None) × (new ≡ started connection slot position options old)
+IsStart connection slot position options old answers.Done new = (start_refusal slot options.publications old ≡ None) × (new ≡ world_after_start connection slot position options old)
 IsStart connection slot position options old (answers.Publication pubs.Memory) new = (start_refusal slot options.publications old ≡ None) × (new ≡ old)
 IsStart connection slot position options old answer new = (start_refusal slot options.publications old ≡ Some answer) × (new ≡ old)

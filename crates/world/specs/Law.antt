@@ -8,14 +8,14 @@ use Rattle.wal.specs.declared.record.Record.{Record}
 use Rattle.wal.specs.Log.{end_of}
 use Rattle.publication.specs.Selection.{relation}
 use Rattle.stream.specs.Stream.{IsStream}
-use Rattle.sender.specs.Published.{published}
+use Rattle.sender.specs.Published.{published_transactions}
 use Rattle.starts.specs.State.{StartState}
 use Rattle.starts.specs.Acting.{read_by}
 use Rattle.world.specs.State.{WorldState}
 
 -- The bytes are a stream encoding of what the start publishes of the records that it has read.
 abbrev pub Streams : List Record → StartState → List ℕ → Type 0
-Streams log s bytes = IsStream (relation s.selection) bytes (published s.selection (read_by s.position log) s.start) s.position
+Streams log s bytes = IsStream (relation s.selection) bytes (published_transactions s.selection (read_by s.position log) s.start) s.position
 
 -- they are a beginning of one
 pub record BeginsStream (log : List Record) (s : StartState) (bytes : List ℕ) : Type 0 where

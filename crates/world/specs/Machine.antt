@@ -1,5 +1,5 @@
 -- What a world shows of its parts, and what is true of them between events. No promise is told here but by `start_state`
--- and `shown`, which say how the parts are seen.
+-- and `world_of`, which say how the parts are seen.
 use Rattle.std.specs.Prelude.{◌≡◌, ◌<◌, ◌≤◌, ℕ, ◌+◌, ◌==◌, Bool, true, false, List, [], ◌∷◌, ◌++◌, map, filter, not, Option, Some, None, is_some, vec_len, vec_capacity, slice_get, slice_set, String, string_bytes, if◌then◌else◌}
 use Rattle.std.specs.Str.{bytes_eq}
 use Rattle.indexmap.specs.IndexSet.{IndexSet, spare}
@@ -12,7 +12,7 @@ use Rattle.starts.specs.declared.start.Start.{Start}
 use Rattle.world.specs.declared.subscriber.Subscriber.{Subscriber}
 use Rattle.world.specs.declared.machine.Machine.{Machine}
 use Rattle.world.specs.declared.limits.TheConstants.{MAX_SENDERS}
-use Rattle.starts.specs.State.{StartState, is_open_for, running}
+use Rattle.starts.specs.State.{StartState, is_open_for, running_count}
 use Rattle.world.specs.State.{SubscriberState, WorldState, open_start, with_open_start, subscriber_of, with_subscriber}
 use Rattle.shared_log.specs.declared.reader.LogReader.{LogReader}
 use Rattle.walsender.specs.Serving.{BeginsAt}
@@ -92,8 +92,8 @@ IsSubscribed subscribers s = is_some (subscriber_of s.connection subscribers) �
 
 -- ---- The machine.
 
-abbrev pub shown : {L : Type 0} → Machine L → WorldState
-shown m = record { publications = m.publications; publisher = m.publisher; transactions = m.sessions; slots = m.slots; starts = map start_state m.starts.items; subscribers = map subscriber_state m.subscribers.items }
+abbrev pub world_of : {L : Type 0} → Machine L → WorldState
+world_of m = record { publications = m.publications; publisher = m.publisher; transactions = m.sessions; slots = m.slots; starts = map start_state m.starts.items; subscribers = map subscriber_state m.subscribers.items }
 
 -- there is room for one more start
 pub record HasRoom {L : Type 0} (m : Machine L) : Type 0 where
@@ -114,5 +114,5 @@ pub record IsMachine {L : Type 0} (m : Machine L) : Type 0 where
   pub found : m.opened.items ≡ open_places 0 (map start_state m.starts.items)
   pub subscribed : AllByRecursion (IsSubscribed (map subscriber_state m.subscribers.items)) (map start_state m.starts.items)
   pub named : AreNames m.names m.subscribers.items
-  pub readers : vec_len m.readers + running (map start_state m.starts.items) ≡ MAX_SENDERS
+  pub readers : vec_len m.readers + running_count (map start_state m.starts.items) ≡ MAX_SENDERS
   pub room : MAX_SENDERS ≤ vec_capacity m.readers

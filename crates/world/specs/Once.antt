@@ -6,9 +6,9 @@ use Rattle.std.specs.List.{AllByRecursion}
 use Rattle.std.specs.Str.{bytes_eq}
 use Rattle.publication.specs.Selection.{relation}
 use Rattle.stream.specs.declared.published.Published.{Published}
-use Rattle.stream.specs.Items.{Item, spelled}
-use Rattle.sender.specs.Published.{published}
-use Rattle.client.specs.Subscriber.{resting}
+use Rattle.stream.specs.Items.{Item, bytes_of_items}
+use Rattle.sender.specs.Published.{published_transactions}
+use Rattle.client.specs.Subscriber.{subscriber_at_rest}
 use Rattle.client.specs.Law.{GainedAll}
 use Rattle.txlog.specs.Publishing.{log_end}
 use Rattle.schedule.specs.declared.start_options.StartOptions.{StartOptions}
@@ -88,14 +88,14 @@ begun_through c old (e ∷ es) [] new run known = known
 -- Since its start a subscriber has gained exactly the whole blocks of what was delivered, of the stream that the start encodes.
 pub record GainsSince (begun : ℕ × List Published) (l : StartState) (sub : SubscriberState) : Type 0 where
   pub items : List Item
-  pub encodes : l.produced ++ l.held ≡ spelled (relation l.selection) [] items
-  pub gains : GainedAll (relation l.selection) (resting begun.0 begun.1) (take sub.delivered l.produced) items sub.applier.subscriber
+  pub encodes : l.produced ++ l.held ≡ bytes_of_items (relation l.selection) [] items
+  pub gains : GainedAll (relation l.selection) (subscriber_at_rest begun.0 begun.1) (take sub.delivered l.produced) items sub.applier.subscriber
 
 -- What was published from a position on is what c has applied, and then transactions that commit at its own position or later. While c
 -- has a start and met no fault since, it has gained what was delivered.
 pub record AppliesOnce (c s : List ℕ) (wanted : StartOptions) (from : ℕ) (begun : Option (ℕ × List Published)) (w : WorldState) : Type 0 where
   pub later : List Published
-  pub begins : published (wanted_of wanted w.publications) w.publisher.log from ≡ applied_by c w ++ later
+  pub begins : published_transactions (wanted_of wanted w.publications) w.publisher.log from ≡ applied_by c w ++ later
   pub all : AllByRecursion (λ (t : Published). position_of c w ≤ t.start) later
   pub confirmed : (n : ℕ) → confirmed_at s w.slots ≡ Some n → n ≤ max from (position_of c w)
   pub since : (l : StartState) (sub : SubscriberState) → open_start c w.starts ≡ Some l → subscriber_of c w.subscribers ≡ Some sub → sub.applier.fault ≡ None → (stood : ℕ × List Published) × (begun ≡ Some stood) × GainsSince stood l sub

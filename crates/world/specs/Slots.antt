@@ -1,7 +1,7 @@
 -- Slots in a world: creating one, the statuses that subscribers send back, and what acknowledging one does.
 use Rattle.std.specs.Prelude.{◌≡◌, ◌∷◌, ◌++◌, ℕ, ℤ, [], true, false, min, Bool, List, Option, Some, None}
-use Rattle.named_slots.specs.State.{IsRefusalOrMemory, create_refusal, created, refused}
-use Rattle.named_slots.specs.Words.{confirmed_by}
+use Rattle.named_slots.specs.State.{IsRefusalOrMemory, create_refusal, slots_after_create, slots_after_refusal}
+use Rattle.named_slots.specs.Words.{slots_after_confirming}
 use Rattle.txlog.specs.Publishing.{log_end}
 use Rattle.copyboth.specs.declared.status.Status.{Status}
 use Rattle.schedule.specs.declared.answer.Answer.{Answer}
@@ -11,8 +11,8 @@ use Rattle.world.specs.State.{SubscriberState, WorldState, open_start, subscribe
 
 -- a slot is created at the end of the log
 abbrev pub Creates : List ℕ → WorldState → Answer → WorldState → Type 0
-Creates name old answers.Done new = (create_refusal name old.slots ≡ None) × (new ≡ record old { slots = created name (log_end old.publisher) old.slots })
-Creates name old (answers.Slot fault) new = IsRefusalOrMemory (create_refusal name old.slots) fault × (new ≡ record old { slots = refused fault old.slots })
+Creates name old answers.Done new = (create_refusal name old.slots ≡ None) × (new ≡ record old { slots = slots_after_create name (log_end old.publisher) old.slots })
+Creates name old (answers.Slot fault) new = IsRefusalOrMemory (create_refusal name old.slots) fault × (new ≡ record old { slots = slots_after_refusal fault old.slots })
 Creates name old answer new = ⊥
 
 -- ---- Statuses.
@@ -44,7 +44,7 @@ pub record Acknowledges (connection : List ℕ) (old : WorldState) (answer : Ans
   pub rest : List Status
   pub waits : before.back ≡ status ∷ rest
   pub done : answer ≡ answers.Done
-  pub is : new ≡ record old { slots = confirmed_by before.slot (min status.flushed start.position) old.slots; subscribers = with_subscriber connection (record before { back = rest }) old.subscribers }
+  pub is : new ≡ record old { slots = slots_after_confirming before.slot (min status.flushed start.position) old.slots; subscribers = with_subscriber connection (record before { back = rest }) old.subscribers }
 
 -- whether a status waits
 abbrev pub is_waiting : List Status → Bool

@@ -7,7 +7,7 @@ use Rattle.sessions.specs.Transactions.{NamedTx}
 use Rattle.publication.specs.Publications.{PublicationSet}
 use Rattle.named_slots.specs.State.{SlotsState, no_slots}
 use Rattle.copyboth.specs.declared.status.Status.{Status}
-use Rattle.client.specs.Subscriber.{resting}
+use Rattle.client.specs.Subscriber.{subscriber_at_rest}
 use Rattle.client.specs.Taking.{ApplierState}
 use Rattle.schedule.specs.declared.answer.Answer.{Answer}
 use Rattle.configuration.specs.Setting.{Setting}
@@ -68,7 +68,7 @@ with_subscriber connection new (s ∷ subscribers) = if bytes_eq s.connection co
 
 -- a subscriber has applied nothing, at position 0
 abbrev pub new_subscriber : List ℕ → Option (List ℕ) → SubscriberState
-new_subscriber connection slot = record { connection = connection; slot = slot; applier = record { subscriber = resting 0 []; unread = []; fault = None }; delivered = 0; has_taken = false; back = [] }
+new_subscriber connection slot = record { connection = connection; slot = slot; applier = record { subscriber = subscriber_at_rest 0 []; unread = []; fault = None }; delivered = 0; has_taken = false; back = [] }
 
 -- a connection that starts has a subscriber, for good, and this slot, if any
 abbrev pub if_there : Option SubscriberState → List ℕ → Option (List ℕ) → List SubscriberState → List SubscriberState
@@ -80,16 +80,16 @@ with_one_for connection slot subscribers = if_there (subscriber_of connection su
 
 -- Both pipes are empty, and there is no slot. The subscriber keeps its position and what it has applied, and forgets what it
 -- hasn't read, its tables, a half transaction and its fault.
-abbrev pub again : SubscriberState → SubscriberState
-again s = record s { slot = None; applier = record { subscriber = resting s.applier.subscriber.position s.applier.subscriber.applied; unread = []; fault = None }; delivered = 0; back = [] }
+abbrev pub subscriber_connected_again : SubscriberState → SubscriberState
+subscriber_connected_again s = record s { slot = None; applier = record { subscriber = subscriber_at_rest s.applier.subscriber.position s.applier.subscriber.applied; unread = []; fault = None }; delivered = 0; back = [] }
 
 abbrev pub if_known_again : Option SubscriberState → List ℕ → List SubscriberState → List SubscriberState
 if_known_again None connection subscribers = subscribers
-if_known_again (Some s) connection subscribers = with_subscriber connection (again s) subscribers
+if_known_again (Some s) connection subscribers = with_subscriber connection (subscriber_connected_again s) subscribers
 
 -- the connection's subscriber reconnects
-abbrev pub reconnected : List ℕ → List SubscriberState → List SubscriberState
-reconnected connection subscribers = if_known_again (subscriber_of connection subscribers) connection subscribers
+abbrev pub subscribers_after_reconnect : List ℕ → List SubscriberState → List SubscriberState
+subscribers_after_reconnect connection subscribers = if_known_again (subscriber_of connection subscribers) connection subscribers
 
 -- the slot that the connection streams from
 abbrev pub slot_in : Option SubscriberState → Option (List ℕ)

@@ -4,13 +4,13 @@ ghost use Rattle.std.specs.Prelude.{◌≡◌, ◌≢◌, ◌≤◌, ◌<◌, �
 ghost use Rattle.std.specs.List.{AllByRecursion};
 ghost use Rattle.txlog.specs.Publishing.{new_publisher};
 ghost use Rattle.world.specs.State.{new_world, open_start};
-ghost use Rattle.starts.specs.State.{running};
+ghost use Rattle.starts.specs.State.{running_count};
 ghost use Rattle.world.specs.ConnectionLines.{ActsAt};
 ghost use Rattle.starts.specs.Acting.{is_read as reads_log, takes_memory as takes_memory_of};
 ghost use Rattle.world.specs.Delivering.{Delivers};
 ghost use Rattle.sessions.specs.SessionLines.{IsLine, ask_of, line_takes_memory};
 ghost use Rattle.world.specs.Steps.{IsStep, IsStepAt, is_bad, is_bad_at, is_read, is_read_at, session_state, takes_memory, takes_memory_at};
-ghost use Rattle.world.specs.Machine.{ActsIn, IsMachine, IsOpenAt, IsOpenStartAt, shown, subscriber_place};
+ghost use Rattle.world.specs.Machine.{ActsIn, IsMachine, IsOpenAt, IsOpenStartAt, subscriber_place, world_of};
 ghost use Rattle.starts.specs.Starts.{IsServed, start_state};
 
 use crate::limits::MAX_SENDERS;
@@ -59,7 +59,7 @@ impl<L: LogName + SlotName> Machine<L> {
     ) -> Result<Self, WorldFault>
         requires log { history.seen.book ≡ L.book }
         requires slots { table.first.table_id ≡ L.table }
-        ensures start { IfOk result (λ m. shown m ≡ new_world config) }
+        ensures start { IfOk result (λ m. world_of m ≡ new_world config) }
         ensures err { IfErr result (λ e. e ≡ WorldFault.Memory) }
         ensures machine { IfOk result IsMachine }
     {
@@ -111,7 +111,7 @@ impl<L: LogName + SlotName> Machine<L> {
     /// Whether the event can't happen now, since its name is unknown or wrongly repeated.
     pub(crate) fn is_bad(&self, event: &Event) -> bool
         requires machine { IsMachine self.now }
-        ensures { result ≡ is_bad event.now (shown self.now) }
+        ensures { result ≡ is_bad event.now (world_of self.now) }
     {
         match event {
             Event::Session(name, step) => self.sessions.refuses(name, step),
@@ -123,7 +123,7 @@ impl<L: LogName + SlotName> Machine<L> {
 
     fn is_bad_at(&self, name: &Text, step: &ConnectionStep) -> bool
         requires machine { IsMachine self.now }
-        ensures { result ≡ is_bad_at name.now step.now (shown self.now) }
+        ensures { result ≡ is_bad_at name.now step.now (world_of self.now) }
     {
         match step {
             ConnectionStep::Start(_, _, _) => self.is_connected(name),
@@ -141,12 +141,14 @@ impl<L: LogName + SlotName> Machine<L> {
     /// Does one line. A fault is that of a line that doesn't happen at all, and changes nothing.
     pub(crate) fn step<R: Wait>(&mut self, rt: &R, event: &Event) -> Result<Answer, WorldFault>
         requires machine { IsMachine self.old }
-        ensures step { IfOk result (λ a. IsStep (shown self.old) event.now a (shown self.new)) }
-        ensures bad { result ≡ Err WorldFault.BadEvent → is_bad event.now (shown self.old) ≡ true }
+        ensures step { IfOk result
+            (λ a. IsStep (world_of self.old) event.now a (world_of self.new)) }
+        ensures bad { result ≡ Err WorldFault.BadEvent
+            → is_bad event.now (world_of self.old) ≡ true }
         ensures entry { result ≡ Err WorldFault.NoEntry → is_read event.now ≡ true }
         ensures memory { result ≡ Err WorldFault.Memory →
-            takes_memory event.now (shown self.old) ≡ true }
-        ensures err { OnErr result (shown self.new ≡ shown self.old) }
+            takes_memory event.now (world_of self.old) ≡ true }
+        ensures err { OnErr result (world_of self.new ≡ world_of self.old) }
         ensures machine { IsMachine self.new }
     {
         match event {
@@ -160,13 +162,13 @@ impl<L: LogName + SlotName> Machine<L> {
     fn step_at(&mut self, name: &Text, step: &ConnectionStep) -> Result<Answer, WorldFault>
         requires machine { IsMachine self.old }
         ensures step { IfOk result
-            (λ a. IsStepAt name.now step.now (shown self.old) a (shown self.new)) }
+            (λ a. IsStepAt name.now step.now (world_of self.old) a (world_of self.new)) }
         ensures bad { result ≡ Err WorldFault.BadEvent →
-            is_bad_at name.now step.now (shown self.old) ≡ true }
+            is_bad_at name.now step.now (world_of self.old) ≡ true }
         ensures entry { result ≡ Err WorldFault.NoEntry → is_read_at step.now ≡ true }
         ensures memory { result ≡ Err WorldFault.Memory →
-            takes_memory_at step.now (shown self.old) ≡ true }
-        ensures err { OnErr result (shown self.new ≡ shown self.old) }
+            takes_memory_at step.now (world_of self.old) ≡ true }
+        ensures err { OnErr result (world_of self.new ≡ world_of self.old) }
         ensures machine { IsMachine self.new }
     {
         let alloc = *self.starts.allocator();
@@ -189,19 +191,20 @@ impl<L: LogName + SlotName> Machine<L> {
     fn call<R: Wait>(&mut self, rt: &R, event: &Event) -> Result<Answer, WorldFault>
         requires machine { IsMachine self.old }
         ensures done { IfOk result
-            (λ a. IsLine event.now (session_state (shown self.old)) a
-            (session_state (shown self.new))) }
-        ensures rest { shown self.new
-            ≡ record (shown self.old) {
-              publisher = (shown self.new).publisher;
-              transactions = (shown self.new).transactions;
+            (λ a. IsLine event.now (session_state (world_of self.old)) a
+            (session_state (world_of self.new))) }
+        ensures rest { world_of self.new
+            ≡ record (world_of self.old) {
+              publisher = (world_of self.new).publisher;
+              transactions = (world_of self.new).transactions;
             } }
         ensures bad { result ≡ Err WorldFault.BadEvent →
-            IsNone (ask_of event.now (shown self.old).publisher (shown self.old).transactions) }
+            IsNone
+            (ask_of event.now (world_of self.old).publisher (world_of self.old).transactions) }
         ensures entered { result ≢ Err WorldFault.NoEntry }
         ensures memory { result ≡ Err WorldFault.Memory →
-            line_takes_memory event.now (shown self.old).publisher ≡ true }
-        ensures err { OnErr result (shown self.new ≡ shown self.old) }
+            line_takes_memory event.now (world_of self.old).publisher ≡ true }
+        ensures err { OnErr result (world_of self.new ≡ world_of self.old) }
         ensures machine { IsMachine self.new }
     {
         let (answer, _) = self.sessions.line(rt, &mut self.publisher, event)?;
@@ -212,12 +215,12 @@ impl<L: LogName + SlotName> Machine<L> {
     fn act(&mut self, alloc: Global, name: &Text, action: Action) -> Result<Answer, WorldFault>
         requires machine { IsMachine self.old }
         ensures acts { IfOk result
-            (λ a. ActsAt name.now action (shown self.old) a (shown self.new)) }
+            (λ a. ActsAt name.now action (world_of self.old) a (world_of self.new)) }
         ensures bad { result ≡ Err WorldFault.BadEvent →
-            IsNone (open_start name.now (shown self.old).starts) }
+            IsNone (open_start name.now (world_of self.old).starts) }
         ensures entry { result ≡ Err WorldFault.NoEntry → reads_log action ≡ true }
         ensures memory { result ≡ Err WorldFault.Memory → takes_memory_of action ≡ true }
-        ensures err { OnErr result (shown self.new ≡ shown self.old) }
+        ensures err { OnErr result (world_of self.new ≡ world_of self.old) }
         ensures machine { IsMachine self.new }
     {
         let found = place_among(self.starts.as_slice(), self.opened.as_slice(), name);
@@ -247,12 +250,12 @@ impl<L: LogName + SlotName> Machine<L> {
     fn deliver(&mut self, name: &Text, max: u32) -> Result<Answer, WorldFault>
         requires machine { IsMachine self.old }
         ensures delivers { IfOk result
-            (λ a. Delivers name.now max (shown self.old) a (shown self.new)) }
+            (λ a. Delivers name.now max (world_of self.old) a (world_of self.new)) }
         ensures bad { result ≡ Err WorldFault.BadEvent →
-            IsNone (open_start name.now (shown self.old).starts) }
+            IsNone (open_start name.now (world_of self.old).starts) }
         ensures entered { result ≢ Err WorldFault.NoEntry }
         ensures memory { result ≢ Err WorldFault.Memory }
-        ensures err { OnErr result (shown self.new ≡ shown self.old) }
+        ensures err { OnErr result (world_of self.new ≡ world_of self.old) }
         ensures machine { IsMachine self.new }
     {
         let Some((place, at)) = self.places_of(name) else {
@@ -265,10 +268,10 @@ impl<L: LogName + SlotName> Machine<L> {
     /// The places of the connection's open start and of its subscriber, where it has a sender.
     pub(crate) fn places_of(&self, name: &Text) -> Option<(usize, usize)>
         requires machine { IsMachine self.now }
-        ensures none { result ≡ None → IsNone (open_start name.now (shown self.now).starts) }
+        ensures none { result ≡ None → IsNone (open_start name.now (world_of self.now).starts) }
         ensures start { IfSome result (λ p. IsOpenStartAt name.now p.0 self.now.starts.items) }
         ensures subscriber { IfSome result
-            (λ p. subscriber_place 0 name.now (shown self.now).subscribers ≡ Some p.1) }
+            (λ p. subscriber_place 0 name.now (world_of self.now).subscribers ≡ Some p.1) }
     {
         let found = place_among(self.starts.as_slice(), self.opened.as_slice(), name);
         let Some(place) = found else {
@@ -282,7 +285,7 @@ impl<L: LogName + SlotName> Machine<L> {
 
     pub(crate) fn is_connected(&self, name: &Text) -> bool
         requires machine { IsMachine self.now }
-        ensures { result ≡ is_some (open_start name.now (shown self.now).starts) }
+        ensures { result ≡ is_some (open_start name.now (world_of self.now).starts) }
     {
         place_among(self.starts.as_slice(), self.opened.as_slice(), name).is_some()
     }
@@ -326,8 +329,8 @@ fn act_at<L: LogName>(
     ensures happens { result ≢ Err WorldFault.BadEvent }
     ensures all { AllByRecursion (IsServed publisher.old.log) starts.new.items }
     ensures same { publisher.new ≡ publisher.old }
-    ensures readers { vec_len readers.new + running (map start_state starts.new.items)
-        ≡ vec_len readers.old + running (map start_state starts.old.items) }
+    ensures readers { vec_len readers.new + running_count (map start_state starts.new.items)
+        ≡ vec_len readers.old + running_count (map start_state starts.old.items) }
     ensures capacity { vec_capacity readers.new ≡ vec_capacity readers.old }
 {
     starts[place].act(alloc, publisher, readers, action)

@@ -6,8 +6,8 @@ ghost use Rattle.named_slots.specs.Words.{is_held, is_missing, slot_named, start
 ghost use Rattle.starts.specs.Acting.{new_start};
 ghost use Rattle.world.specs.State.{new_subscriber, open_start, with_one_for};
 ghost use Rattle.world.specs.ConnectionLines.{IsStart, start_refusal};
-ghost use Rattle.world.specs.Starting.{Told, started_with};
-ghost use Rattle.world.specs.Machine.{HasRoom, IsMachine, IsResumed, shown, subscriber_state};
+ghost use Rattle.world.specs.Starting.{Told, world_after_start_with};
+ghost use Rattle.world.specs.Machine.{HasRoom, IsMachine, IsResumed, subscriber_state, world_of};
 
 use crate::machine::Machine;
 use crate::subscriber::{Subscriber, subscribe};
@@ -35,14 +35,15 @@ impl<L: LogName + SlotName> Machine<L> {
     ) -> Result<Answer, WorldFault>
         requires machine { IsMachine self.old }
         ensures start { IfOk result
-            (λ a. IsNone (open_start name.now (shown self.old).starts)
-            × IsStart name.now (slot_named slot.now) position options.now (shown self.old) a
-            (shown self.new)) }
+            (λ a. IsNone (open_start name.now (world_of self.old).starts)
+            × IsStart name.now (slot_named slot.now) position options.now (world_of self.old) a
+            (world_of self.new)) }
         ensures bad { result ≡ Err WorldFault.BadEvent →
-            IsSome (open_start name.now (shown self.old).starts) }
+            IsSome (open_start name.now (world_of self.old).starts) }
         ensures memory { result ≡ Err WorldFault.Memory →
-            start_refusal (slot_named slot.now) options.now.publications (shown self.old) ≡ None }
-        ensures err { OnErr result (shown self.new ≡ shown self.old) }
+            start_refusal (slot_named slot.now) options.now.publications (world_of self.old)
+            ≡ None }
+        ensures err { OnErr result (world_of self.new ≡ world_of self.old) }
         ensures machine { IsMachine self.new }
     {
         if self.is_connected(name) {
@@ -64,7 +65,7 @@ impl<L: LogName + SlotName> Machine<L> {
     /// Why a start is refused, if it is. It takes no memory.
     fn start_refusal(&self, slot: &Text, names: &[Text]) -> Option<Answer>
         requires machine { IsMachine self.now }
-        ensures { result ≡ start_refusal (slot_named slot.now) names.now (shown self.now) }
+        ensures { result ≡ start_refusal (slot_named slot.now) names.now (world_of self.now) }
     {
         let mut facts = StartFacts {
             publications: &self.publications,
@@ -92,16 +93,16 @@ impl<L: LogName + SlotName> Machine<L> {
         selection: Selection,
     ) -> Result<Answer, WorldFault>
         requires machine { IsMachine self.old }
-        requires slot { is_missing (slot_named slot.now) (shown self.old).slots ≡ false }
-        requires free { is_held (slot_named slot.now) (shown self.old).slots ≡ false }
+        requires slot { is_missing (slot_named slot.now) (world_of self.old).slots ≡ false }
+        requires free { is_held (slot_named slot.now) (world_of self.old).slots ≡ false }
         requires reader { 0 < vec_len self.old.readers }
         ensures done { IfOk result
             (λ a. (a ≡ Answer.Done)
-            × (shown self.new
-            ≡ started_with name.now (slot_named slot.now) position selection
-            (shown self.old))) }
+            × (world_of self.new
+            ≡ world_after_start_with name.now (slot_named slot.now) position selection
+            (world_of self.old))) }
         ensures happens { result ≢ Err WorldFault.BadEvent }
-        ensures err { OnErr result (shown self.new ≡ shown self.old) }
+        ensures err { OnErr result (world_of self.new ≡ world_of self.old) }
         ensures machine { IsMachine self.new }
     {
         let Ok(means) = self.reserve(alloc, name, slot) else {
@@ -136,7 +137,7 @@ impl<L: LogName + SlotName> Machine<L> {
 
     /// Where a stream starts that asked for this position.
     fn start_from(&self, slot: &Text, position: u64) -> u64
-        ensures { result ≡ start_from (slot_named slot.now) position (shown self.now).slots }
+        ensures { result ≡ start_from (slot_named slot.now) position (world_of self.now).slots }
     {
         start_from(&self.slots, slot, position)
     }
@@ -144,9 +145,9 @@ impl<L: LogName + SlotName> Machine<L> {
     /// Puts the reader that the next start takes where it begins to read for this start position, and answers the position there.
     fn resume(&mut self, start: u64) -> Result<u64, WorldFault>
         requires reader { 0 < vec_len self.old.readers }
-        ensures same { shown self.new ≡ shown self.old }
+        ensures same { world_of self.new ≡ world_of self.old }
         ensures first { IfOk result
-            (λ first. first ≡ restart start (shown self.old).publisher.log) }
+            (λ first. first ≡ restart start (world_of self.old).publisher.log) }
         ensures resumed { IfOk result (λ first. IsResumed start first self.new) }
         ensures room { HasRoom self.old → HasRoom self.new }
         ensures readers { vec_len self.new.readers ≡ vec_len self.old.readers }
@@ -167,7 +168,7 @@ impl<L: LogName + SlotName> Machine<L> {
 
     /// Room for one more start, its arena, the connection's subscriber where it has none yet, and its name.
     fn reserve(&mut self, alloc: Global, name: &Text, slot: &Text) -> Result<StartMeans, AllocError>
-        ensures same { shown self.new ≡ shown self.old }
+        ensures same { world_of self.new ≡ world_of self.old }
         ensures room { OnOk result (HasRoom self.new) }
         ensures readers { vec_len self.new.readers ≡ vec_len self.old.readers }
         ensures machine { IsMachine self.old → IsMachine self.new }
@@ -198,7 +199,7 @@ impl<L: LogName + SlotName> Machine<L> {
 
     /// Room for one more start.
     fn make_room(&mut self) -> Result<(), AllocError>
-        ensures same { shown self.new ≡ shown self.old }
+        ensures same { world_of self.new ≡ world_of self.old }
         ensures room { OnOk result (HasRoom self.new) }
         ensures readers { vec_len self.new.readers ≡ vec_len self.old.readers }
         ensures machine { IsMachine self.old → IsMachine self.new }
@@ -228,9 +229,9 @@ impl<L: LogName + SlotName> Machine<L> {
         requires subscriber { subscriber_state subscriber
             ≡ new_subscriber connection subscriber.slot }
         requires key { key ≡ connection }
-        ensures added { shown self.new ≡ record (shown self.old) {
-          starts = (shown self.old).starts ++ new_start connection selection position first ∷ [];
-          subscribers = with_one_for connection subscriber.slot (shown self.old).subscribers;
+        ensures added { world_of self.new ≡ record (world_of self.old) {
+          starts = (world_of self.old).starts ++ new_start connection selection position first ∷ [];
+          subscribers = with_one_for connection subscriber.slot (world_of self.old).subscribers;
         } }
         ensures machine { IsMachine self.new }
     {

@@ -3,7 +3,7 @@
 ghost use Rattle.std.specs.Prelude.{◌≡◌, ◌≢◌, ◌&&◌, Err, IfOk, IsNone, OnErr, false, is_some};
 ghost use Rattle.world.specs.State.{open_start, subscriber_of};
 ghost use Rattle.world.specs.Slots.{Acknowledges, Creates, PutsBack, has_status, status_with};
-ghost use Rattle.world.specs.Machine.{IsMachine, shown};
+ghost use Rattle.world.specs.Machine.{IsMachine, world_of};
 
 use crate::machine::Machine;
 use crate::subscriber::has_status;
@@ -17,7 +17,7 @@ impl<L: LogName + SlotName> Machine<L> {
     /// Creates a slot at the end of the log.
     pub(crate) fn create(&mut self, name: &Text) -> Answer
         requires machine { IsMachine self.old }
-        ensures creates { Creates name.now (shown self.old) result (shown self.new) }
+        ensures creates { Creates name.now (world_of self.old) result (world_of self.new) }
         ensures machine { IsMachine self.new }
     {
         let end = self.publisher.end();
@@ -31,8 +31,8 @@ impl<L: LogName + SlotName> Machine<L> {
     pub(crate) fn has_status(&self, name: &Text) -> bool
         requires machine { IsMachine self.now }
         ensures { result
-            ≡ (is_some (open_start name.now (shown self.now).starts)
-            && has_status (subscriber_of name.now (shown self.now).subscribers)) }
+            ≡ (is_some (open_start name.now (world_of self.now).starts)
+            && has_status (subscriber_of name.now (world_of self.now).subscribers)) }
     {
         self.is_connected(name) && has_status(&self.names, self.subscribers.as_slice(), name)
     }
@@ -46,12 +46,12 @@ impl<L: LogName + SlotName> Machine<L> {
     ) -> Result<Answer, WorldFault>
         requires machine { IsMachine self.old }
         ensures puts { IfOk result
-            (λ a. PutsBack name.now (status_with flushed clock) (shown self.old) a
-            (shown self.new)) }
+            (λ a. PutsBack name.now (status_with flushed clock) (world_of self.old) a
+            (world_of self.new)) }
         ensures bad { result ≡ Err WorldFault.BadEvent →
-            IsNone (open_start name.now (shown self.old).starts) }
+            IsNone (open_start name.now (world_of self.old).starts) }
         ensures entered { result ≢ Err WorldFault.NoEntry }
-        ensures err { OnErr result (shown self.new ≡ shown self.old) }
+        ensures err { OnErr result (world_of self.new ≡ world_of self.old) }
         ensures machine { IsMachine self.new }
     {
         let Some((_, at)) = self.places_of(name) else {
@@ -66,14 +66,14 @@ impl<L: LogName + SlotName> Machine<L> {
     pub(crate) fn acknowledge(&mut self, name: &Text) -> Result<Answer, WorldFault>
         requires machine { IsMachine self.old }
         ensures acknowledges { IfOk result
-            (λ a. Acknowledges name.now (shown self.old) a (shown self.new)) }
+            (λ a. Acknowledges name.now (world_of self.old) a (world_of self.new)) }
         ensures bad { result ≡ Err WorldFault.BadEvent →
-            (is_some (open_start name.now (shown self.old).starts)
-            && has_status (subscriber_of name.now (shown self.old).subscribers))
+            (is_some (open_start name.now (world_of self.old).starts)
+            && has_status (subscriber_of name.now (world_of self.old).subscribers))
             ≡ false }
         ensures entered { result ≢ Err WorldFault.NoEntry }
         ensures memory { result ≢ Err WorldFault.Memory }
-        ensures err { OnErr result (shown self.new ≡ shown self.old) }
+        ensures err { OnErr result (world_of self.new ≡ world_of self.old) }
         ensures machine { IsMachine self.new }
     {
         let Some((place, at)) = self.places_of(name) else {

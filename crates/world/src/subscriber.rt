@@ -5,7 +5,7 @@ ghost use Rattle.std.specs.List.{list_any};
 ghost use Rattle.std.specs.Str.{bytes_eq};
 ghost use Rattle.indexmap.specs.IndexSet.{spare};
 ghost use Rattle.world.specs.declared.subscriber.Subscriber.{Subscriber};
-ghost use Rattle.world.specs.State.{again, new_subscriber, reconnected, slot_of_connection, subscriber_of, with_one_for};
+ghost use Rattle.world.specs.State.{new_subscriber, slot_of_connection, subscriber_connected_again, subscriber_of, subscribers_after_reconnect, with_one_for};
 ghost use Rattle.world.specs.Slots.{has_status, is_waiting, status_with};
 ghost use Rattle.world.specs.Delivering.{Gets};
 ghost use Rattle.world.specs.Machine.{AreNames, subscriber_place, subscriber_state};
@@ -148,7 +148,8 @@ impl Subscriber {
 
     /// Its connection was cut: what was on its way is lost, both ways. It answers the slot that it streamed from.
     pub(crate) fn reconnect(&mut self) -> Option<Text>
-        ensures again { subscriber_state self.new ≡ again (subscriber_state self.old) }
+        ensures again { subscriber_state self.new
+            ≡ subscriber_connected_again (subscriber_state self.old) }
         ensures slot { result ≡ (subscriber_state self.old).slot }
     {
         self.applier.reconnect();
@@ -227,7 +228,7 @@ pub(crate) fn reconnect(
 ) -> Option<Text>
     requires { AreNames names.now subscribers.old.items }
     ensures again { map subscriber_state subscribers.new.items
-        ≡ reconnected connection.now (map subscriber_state subscribers.old.items) }
+        ≡ subscribers_after_reconnect connection.now (map subscriber_state subscribers.old.items) }
     ensures named { AreNames names.now subscribers.new.items }
     ensures slot { result
         ≡ slot_of_connection connection.now (map subscriber_state subscribers.old.items) }

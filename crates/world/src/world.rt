@@ -9,7 +9,7 @@ ghost use Rattle.world.specs.Once.{RunsOnce};
 ghost use Rattle.world.specs.Steps.{IsRun, IsStep, is_bad, is_read, takes_memory};
 ghost use Rattle.world.specs.Ending.{HasStopped};
 ghost use Rattle.starts.specs.Starts.{start_state};
-ghost use Rattle.world.specs.Machine.{IsMachine, shown, subscriber_state};
+ghost use Rattle.world.specs.Machine.{IsMachine, subscriber_state, world_of};
 ghost use Rattle.wal.specs.Log.{IsWellFormedLog};
 
 use crate::machine::Machine;
@@ -45,13 +45,13 @@ impl<L: LogName + SlotName> Model for World<L> {
     ghost use Rattle.std.specs.Coded.{codes};
     ghost use Rattle.publication.specs.Publications.{condition_code};
     ghost use Rattle.world.specs.State.{WorldView};
-    ghost use Rattle.world.specs.Machine.{IsMachine, shown};
+    ghost use Rattle.world.specs.Machine.{IsMachine, world_of};
 
     ghost Value = { WorldView };
 
     ghost coded = { Prim.hlevel (codes, condition_code (Prim.hlevel codes)) };
 
-    ghost view = { λ w. record { state = shown w.machine; answers = w.answers.items } };
+    ghost view = { λ w. record { state = world_of w.machine; answers = w.answers.items } };
 
     ghost invariant = { λ w. IsMachine w.machine };
 }
@@ -182,15 +182,16 @@ fn step_in<L: LogName + SlotName, R: Wait>(
 ) -> Result<Answer, WorldFault>
     requires machine { IsMachine machine.old }
     requires room { vec_len answers.old < vec_capacity answers.old }
-    ensures step { IfOk result (λ a. IsStep (shown machine.old) event.now a (shown machine.new)) }
+    ensures step { IfOk result
+        (λ a. IsStep (world_of machine.old) event.now a (world_of machine.new)) }
     ensures kept { IfOk result (λ a. answers.new.items ≡ answers.old.items ++ a ∷ []) }
     ensures bad { (result ≡ Err WorldFault.BadEvent)
-        ↔ (is_bad event.now (shown machine.old) ≡ true) }
+        ↔ (is_bad event.now (world_of machine.old) ≡ true) }
     ensures entry { result ≡ Err WorldFault.NoEntry → is_read event.now ≡ true }
     ensures memory { result ≡ Err WorldFault.Memory →
-        takes_memory event.now (shown machine.old) ≡ true }
+        takes_memory event.now (world_of machine.old) ≡ true }
     ensures err { OnErr result
-        ((shown machine.new ≡ shown machine.old) × (answers.new ≡ answers.old)) }
+        ((world_of machine.new ≡ world_of machine.old) × (answers.new ≡ answers.old)) }
     ensures capacity { OnOk result (vec_capacity answers.new ≡ vec_capacity answers.old) }
     ensures machine { IsMachine machine.new }
 {

@@ -1,5 +1,5 @@
 use Rattle.std.proofs.Common.{◌≡◌, ℕ, false, sym, ap, subst, ◌∙◌}
-use Rattle.named_slots.specs.State.{IsHeldAs, holds_at, released}
+use Rattle.named_slots.specs.State.{IsHeldAs, holds_at, slots_after_release}
 use Rattle.named_slots.proofs.Claims.{around_free, claim_place, claims_free, held_confirmed}
 use Rattle.named_slots.proofs.held.confirm_free.Goals as goal
 
@@ -18,4 +18,4 @@ returns g c =
     let here : p ≡ c.args.place = claim_place c.args.name.now c.args.place p c.args.slots.now c.claim.new.self c.in-Ok.ensures.ok c.in-Ok.ensures.lease.0 c.requires.found in
     around_free c.args.name.now p c.args.position c.args.slots.now c.claim.new.self c.confirm-confirmed.new.self c.release.new.self c.in-Ok.ensures.only
     (subst (λ (q : ℕ). IsHeldAs false q c.args.slots.now.slots) (sym here) c.requires.free) c.in-Ok.ensures.ok c.confirm-confirmed.ensures.raised
-    (c.release.ensures.released ∙ ap (λ l. released l.place c.confirm-confirmed.new.self) c.confirm-confirmed.ensures.lease)
+    (c.release.ensures.released ∙ ap (λ l. slots_after_release l.place c.confirm-confirmed.new.self) c.confirm-confirmed.ensures.lease)

@@ -1,13 +1,13 @@
 use Rattle.std.proofs.Common.{◌<◌, length, sym, ap, subst, ◌∙◌}
 use Rattle.named_slots.specs.declared.slot.Slot.{Slot}
-use Rattle.named_slots.specs.Keeping.{noted}
+use Rattle.named_slots.specs.Keeping.{slot_with_noted_position}
 use Rattle.named_slots.proofs.Listing.{note_else, note_here, set_on}
 use Rattle.named_slots.proofs.naming.note.Goals.{then-slot-place, else-slot-place}
 use Rattle.named_slots.proofs.naming.note.Goals as goal
 
 pub loop-slot-preserved : goal.loop-slot-preserved
 loop-slot-preserved c =
-    let f = noted c.args.place c.args.confirmed in
+    let f = slot_with_noted_position c.args.place c.args.confirmed in
     let xs = c.args.slots.now.items in
     let i = c.loop-slot.slot-index in
     let x = c.slot-item.result in

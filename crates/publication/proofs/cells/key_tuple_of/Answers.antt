@@ -2,7 +2,7 @@ use Rattle.std.proofs.Common.{sym, ap, map, ◌∷◌, ◌++◌, [], ◌∙◌}
 use Rattle.std.specs.List.{zip}
 use Rattle.tables.specs.declared.column.Column.{Column}
 use Rattle.tables.specs.declared.kinds.Value.{Value}
-use Rattle.publication.specs.Selection.{chosen}
+use Rattle.publication.specs.Selection.{listed_items}
 use Rattle.publication.proofs.Choosing.{all_taken, beside, key_cell_of, paired, passed, taken, unpaired, zip_chosen}
 use Rattle.publication.proofs.cells.key_tuple_of.Goals.{then-is_listed+in_ok-key_cell+in_ok-push, else-is_listed}
 use Rattle.publication.proofs.cells.key_tuple_of.Goals as goal
@@ -11,7 +11,7 @@ pub loop-i-preserved : goal.loop-i-preserved
 loop-i-preserved c =
     let flags = c.args.listed.now in
     let pairs = zip c.args.columns.now c.args.row.now in
-    let whole = map key_cell_of (chosen flags pairs) in
+    let whole = map key_cell_of (listed_items flags pairs) in
     let lt = paired c.args.columns.now c.args.row.now c.loop-i.i c.loop-i-test.true c.requires in
     let pair : Column × Value = (c.index-columns-i.result, c.index-row-i.result) in
     let is = beside c.args.columns.now c.args.row.now c.loop-i.i c.index-columns-i.result c.index-row-i.result c.loop-i-test.true c.requires c.index-columns-i.is c.index-row-i.is in
@@ -26,5 +26,5 @@ pub returns : goal.returns
 returns c =
     let pairs = zip c.args.columns.now c.args.row.now in
     c.new.ensures
-    ∙ all_taken key_cell_of c.loop-i.cells.items (map key_cell_of (chosen c.args.listed.now pairs)) c.args.listed.now pairs c.loop-i.i (unpaired c.args.columns.now c.args.row.now c.loop-i.i c.loop-i-test.false) c.loop-i.invariant
+    ∙ all_taken key_cell_of c.loop-i.cells.items (map key_cell_of (listed_items c.args.listed.now pairs)) c.args.listed.now pairs c.loop-i.i (unpaired c.args.columns.now c.args.row.now c.loop-i.i c.loop-i-test.false) c.loop-i.invariant
     ∙ ap (map key_cell_of) (sym (zip_chosen c.args.listed.now c.args.columns.now c.args.row.now))

@@ -1,7 +1,7 @@
 use Rattle.std.proofs.Common.{sym, ap, map, ◌∷◌, ◌++◌, [], ◌∙◌}
 use Rattle.std.specs.List.{zip}
 use Rattle.tables.specs.declared.kinds.Value.{Value}
-use Rattle.publication.specs.Selection.{chosen}
+use Rattle.publication.specs.Selection.{listed_items}
 use Rattle.publication.proofs.Choosing.{all_taken, beside, behind_cell, paired, passed, taken, unpaired, zip_chosen}
 use Rattle.publication.proofs.cells.tuple_behind.Goals.{then-is_listed+in_ok-cell_behind+in_ok-push, else-is_listed}
 use Rattle.publication.proofs.cells.tuple_behind.Goals as goal
@@ -10,7 +10,7 @@ pub loop-i-preserved : goal.loop-i-preserved
 loop-i-preserved c =
     let flags = c.args.listed.now in
     let pairs = zip c.args.old.now c.args.new.now in
-    let whole = map behind_cell (chosen flags pairs) in
+    let whole = map behind_cell (listed_items flags pairs) in
     let lt = paired c.args.old.now c.args.new.now c.loop-i.i c.loop-i-test.true c.requires in
     let pair : Value × Value = (c.index-old-i.result, c.index-new-i.result) in
     let is = beside c.args.old.now c.args.new.now c.loop-i.i c.index-old-i.result c.index-new-i.result c.loop-i-test.true c.requires c.index-old-i.is c.index-new-i.is in
@@ -25,5 +25,5 @@ pub returns : goal.returns
 returns c =
     let pairs = zip c.args.old.now c.args.new.now in
     c.new.ensures
-    ∙ all_taken behind_cell c.loop-i.cells.items (map behind_cell (chosen c.args.listed.now pairs)) c.args.listed.now pairs c.loop-i.i (unpaired c.args.old.now c.args.new.now c.loop-i.i c.loop-i-test.false) c.loop-i.invariant
+    ∙ all_taken behind_cell c.loop-i.cells.items (map behind_cell (listed_items c.args.listed.now pairs)) c.args.listed.now pairs c.loop-i.i (unpaired c.args.old.now c.args.new.now c.loop-i.i c.loop-i-test.false) c.loop-i.invariant
     ∙ ap (map behind_cell) (sym (zip_chosen c.args.listed.now c.args.old.now c.args.new.now))

@@ -1,7 +1,7 @@
 use Rattle.std.proofs.Common.{sym, ap, ◌∷◌, ◌++◌, [], ◌∙◌}
 use Rattle.publication.specs.Kinds.{cell_of}
 use Rattle.publication.specs.Tuples.{tuple_of}
-use Rattle.publication.specs.Selection.{chosen}
+use Rattle.publication.specs.Selection.{listed_items}
 use Rattle.publication.proofs.Choosing.{all_taken, passed, taken}
 use Rattle.publication.proofs.cells.tuple_of.Goals.{then-is_listed+in_ok-cell+in_ok-push, else-is_listed}
 use Rattle.publication.proofs.cells.tuple_of.Goals as goal
@@ -10,7 +10,7 @@ pub loop-i-preserved : goal.loop-i-preserved
 loop-i-preserved c =
     let flags = c.args.listed.now in
     let row = c.args.row.now in
-    let whole = tuple_of (chosen flags row) in
+    let whole = tuple_of (listed_items flags row) in
     elim c.if-is_listed.branch [
       | then-is_listed+in_ok-cell+in_ok-push w ↦ taken cell_of c.loop-i.cells.items c.if-is_listed.cells.items whole flags row c.loop-i.i c.index-row-i.result c.loop-i-test.true c.index-row-i.is
           (sym c.is_listed.ensures ∙ w.if-is_listed.true) (ap (λ v. v.items) w.cells-is ∙ w.in_ok-push.ensures.items ∙ ap (λ x. c.loop-i.cells.items ++ x ∷ []) w.in_ok-cell.ensures) c.loop-i.invariant
@@ -19,4 +19,4 @@ loop-i-preserved c =
     ]
 
 pub returns : goal.returns
-returns c = c.new.ensures ∙ all_taken cell_of c.loop-i.cells.items (tuple_of (chosen c.args.listed.now c.args.row.now)) c.args.listed.now c.args.row.now c.loop-i.i c.loop-i-test.false c.loop-i.invariant
+returns c = c.new.ensures ∙ all_taken cell_of c.loop-i.cells.items (tuple_of (listed_items c.args.listed.now c.args.row.now)) c.args.listed.now c.args.row.now c.loop-i.i c.loop-i-test.false c.loop-i.invariant

@@ -1,7 +1,7 @@
 use Rattle.std.proofs.Common.{◌≡◌, List, Some, ap, subst, sym}
 use Rattle.tables.specs.declared.column.Column.{Column}
 use Rattle.pqformat.specs.Writing.{FitsRoom}
-use Rattle.publication.specs.Selection.{chosen, narrowed}
+use Rattle.publication.specs.Selection.{listed_items, table_as_published}
 use Rattle.publication.specs.Tuples.{key_tuple_of, old_by, tuple_of}
 use Rattle.pgoutput.specs.Tuple.{tuple}
 use Rattle.pgoutput.specs.declared.old_tuple.OldTuple.TheVariants.{Key, Full}
@@ -12,29 +12,29 @@ use Rattle.publication.proofs.put_messages.put_deletion.Goals as goal
 
 pub put_head-letter-requires : goal.put_head-letter-requires
 put_head-letter-requires c =
-    let t = narrowed c.args.listed.now c.args.table.now in
-    let row = chosen c.args.listed.now c.args.old.now in
+    let t = table_as_published c.args.listed.now c.args.table.now in
+    let row = listed_items c.args.listed.now c.args.old.now in
     let is : old_by t.identity t row ≡ Some (Key (key_tuple_of t.columns row)) = ap (λ i. old_by i t row) c.in-Default.is in
     head_room c.args.out.now DELETE t.oid KEY (tuple (key_tuple_of t.columns row)) (deletion_room t row c.args.out.now (Key (key_tuple_of t.columns row)) is c.requires.room)
 
 pub put_key_tuple-requires-clause-room : goal.put_key_tuple-requires-clause-room
 put_key_tuple-requires-clause-room c =
-    let t = narrowed c.args.listed.now c.args.table.now in
-    let row = chosen c.args.listed.now c.args.old.now in
+    let t = table_as_published c.args.listed.now c.args.table.now in
+    let row = listed_items c.args.listed.now c.args.old.now in
     let is : old_by t.identity t row ≡ Some (Key (key_tuple_of t.columns row)) = ap (λ i. old_by i t row) c.in-Default.is in
     let there = behind_head c.args.out.now c.put_head-letter.new.out c.put_head-letter.result DELETE t.oid KEY (tuple (key_tuple_of t.columns row)) c.put_head-letter.ensures (deletion_room t row c.args.out.now (Key (key_tuple_of t.columns row)) is c.requires.room) in
-    subst (λ (columns : List Column). FitsRoom c.put_head-letter.result c.put_head-letter.new.out (tuple (key_tuple_of (chosen c.args.listed.now columns) row))) (sym c.as_slice-columns.ensures) there
+    subst (λ (columns : List Column). FitsRoom c.put_head-letter.result c.put_head-letter.new.out (tuple (key_tuple_of (listed_items c.args.listed.now columns) row))) (sym c.as_slice-columns.ensures) there
 
 pub put_head-letter-requires-in-Full : goal.put_head-letter-requires-in-Full
 put_head-letter-requires-in-Full c =
-    let t = narrowed c.args.listed.now c.args.table.now in
-    let row = chosen c.args.listed.now c.args.old.now in
+    let t = table_as_published c.args.listed.now c.args.table.now in
+    let row = listed_items c.args.listed.now c.args.old.now in
     let is : old_by t.identity t row ≡ Some (Full (tuple_of row)) = ap (λ i. old_by i t row) c.in-Full.is in
     head_room c.args.out.now DELETE t.oid OLD (tuple (tuple_of row)) (deletion_room t row c.args.out.now (Full (tuple_of row)) is c.requires.room)
 
 pub put_tuple-requires-clause-room : goal.put_tuple-requires-clause-room
 put_tuple-requires-clause-room c =
-    let t = narrowed c.args.listed.now c.args.table.now in
-    let row = chosen c.args.listed.now c.args.old.now in
+    let t = table_as_published c.args.listed.now c.args.table.now in
+    let row = listed_items c.args.listed.now c.args.old.now in
     let is : old_by t.identity t row ≡ Some (Full (tuple_of row)) = ap (λ i. old_by i t row) c.in-Full.is in
     behind_head c.args.out.now c.put_head-letter-in-Full.new.out c.put_head-letter-in-Full.result DELETE t.oid OLD (tuple (tuple_of row)) c.put_head-letter-in-Full.ensures (deletion_room t row c.args.out.now (Full (tuple_of row)) is c.requires.room)

@@ -1,7 +1,7 @@
 use Rattle.std.proofs.Common.{[], ◌∷◌, ◌++◌}
 use Rattle.pgoutput.specs.declared.insert.TheConstants.{INSERT, NEW}
 use Rattle.pgoutput.specs.Tuple.{tuple}
-use Rattle.publication.specs.Selection.{chosen}
+use Rattle.publication.specs.Selection.{listed_items}
 use Rattle.publication.specs.Tuples.{tuple_of}
 use Rattle.pqformat.proofs.Writing.{left, then}
 use Rattle.publication.proofs.Written.{then_int32}
@@ -9,7 +9,7 @@ use Rattle.publication.proofs.put_messages.put_insertion.Goals as goal
 
 pub write_int32-oid-requires : goal.write_int32-oid-requires
 write_int32-oid-requires c =
-    then_int32 0 c.write_byte-kind.result INSERT c.args.out.now c.write_byte-kind.new.out c.args.table.now.oid ((NEW ∷ []) ++ tuple (tuple_of (chosen c.args.listed.now c.args.row.now))) c.write_byte-kind.ensures c.requires.room
+    then_int32 0 c.write_byte-kind.result INSERT c.args.out.now c.write_byte-kind.new.out c.args.table.now.oid ((NEW ∷ []) ++ tuple (tuple_of (listed_items c.args.listed.now c.args.row.now))) c.write_byte-kind.ensures c.requires.room
 
 pub put_tuple-requires-clause-room : goal.put_tuple-requires-clause-room
 put_tuple-requires-clause-room c =

@@ -3,17 +3,17 @@ use Rattle.pgoutput.specs.declared.insert.TheConstants.{NEW}
 use Rattle.pgoutput.specs.declared.update.TheConstants.{UPDATE}
 use Rattle.pgoutput.specs.Tuple.{tuple}
 use Rattle.pgoutput.specs.Update.{old_if_any}
-use Rattle.publication.specs.Selection.{chosen, narrowed}
-use Rattle.publication.specs.Tuples.{replaced_by, tuple_behind}
+use Rattle.publication.specs.Selection.{listed_items, table_as_published}
+use Rattle.publication.specs.Tuples.{old_row_of_update, tuple_behind}
 use Rattle.pqformat.proofs.Writing.{first, left, then}
 use Rattle.publication.proofs.Written.{then_int32}
 use Rattle.publication.proofs.put_messages.put_replacement.Goals as goal
 
 pub write_int32-oid-requires : goal.write_int32-oid-requires
 write_int32-oid-requires c =
-    let old = chosen c.args.listed.now c.args.old.now in
-    let new = chosen c.args.listed.now c.args.new.now in
-    let told = old_if_any (replaced_by c.args.table.now.identity (narrowed c.args.listed.now c.args.table.now) old new) in
+    let old = listed_items c.args.listed.now c.args.old.now in
+    let new = listed_items c.args.listed.now c.args.new.now in
+    let told = old_if_any (old_row_of_update c.args.table.now.identity (table_as_published c.args.listed.now c.args.table.now) old new) in
     then_int32 0 c.write_byte-kind.result UPDATE c.args.out.now c.write_byte-kind.new.out c.args.table.now.oid (told ++ ((NEW ∷ []) ++ tuple (tuple_behind old new))) c.write_byte-kind.ensures c.requires.room
 
 pub put_replaced-replaced-requires-clause-room : goal.put_replaced-replaced-requires-clause-room

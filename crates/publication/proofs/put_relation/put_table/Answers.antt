@@ -6,7 +6,7 @@ use Rattle.pqformat.specs.Fields.{string}
 use Rattle.pqformat.proofs.Numbers.{length-int16, length-int32}
 use Rattle.pgoutput.specs.Relation.{column}
 use Rattle.tables.specs.declared.column.Column.{Column}
-use Rattle.publication.specs.Selection.{chosen, relation_column}
+use Rattle.publication.specs.Selection.{listed_items, relation_column}
 use Rattle.pqformat.specs.Writing.{Writes}
 use Rattle.publication.proofs.RelationParts.{names_short, relation_written}
 use Rattle.publication.proofs.put_relation.put_table.Goals as goal
@@ -119,8 +119,8 @@ returns c =
     let schema = subst (λ (l : List ℕ). Writes c.write_int32-oid.result c.put_name-placed.result c.write_int32-oid.new.out c.put_name-placed.new.out (string l)) c.as_str-schema.ensures.value c.put_name-placed.ensures in
     let name = subst (λ (l : List ℕ). Writes c.put_name-placed.result c.put_name-named.result c.put_name-placed.new.out c.put_name-named.new.out (string l)) c.as_str-name.ensures.value c.put_name-named.ensures in
     let letter = subst (λ (b : ℕ). Writes c.put_name-named.result c.write_byte-identity.result c.put_name-named.new.out c.write_byte-identity.new.out (b ∷ [])) c.letter_of.ensures c.write_byte-identity.ensures in
-    let columns = subst (λ (cs : List Column). Writes c.write_int16-counted.result c.put_columns.result c.write_int16-counted.new.out c.put_columns.new.out (flat_map column (map (relation_column t.identity) (chosen flags cs)))) c.as_slice-columns.ensures c.put_columns.ensures in
-    let count = c.count_listed-count.ensures.value ∙ ap (λ (cs : List Column). length (chosen flags cs)) c.as_slice-columns.ensures in
+    let columns = subst (λ (cs : List Column). Writes c.write_int16-counted.result c.put_columns.result c.write_int16-counted.new.out c.put_columns.new.out (flat_map column (map (relation_column t.identity) (listed_items flags cs)))) c.as_slice-columns.ensures c.put_columns.ensures in
+    let count = c.count_listed-count.ensures.value ∙ ap (λ (cs : List Column). length (listed_items flags cs)) c.as_slice-columns.ensures in
     relation_written t flags c.write_byte-kind.result c.write_int32-oid.result c.put_name-placed.result c.put_name-named.result c.write_byte-identity.result c.write_int16-counted.result c.put_columns.result c.count_listed-count.result
     c.args.out.now c.write_byte-kind.new.out c.write_int32-oid.new.out c.put_name-placed.new.out c.put_name-named.new.out c.write_byte-identity.new.out c.write_int16-counted.new.out c.put_columns.new.out
     c.write_byte-kind.ensures c.write_int32-oid.ensures schema name letter count c.write_int16-counted.ensures columns

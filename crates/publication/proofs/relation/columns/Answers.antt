@@ -1,5 +1,5 @@
 use Rattle.std.proofs.Common.{sym, ap, map, ◌∷◌, ◌++◌, [], ◌∙◌}
-use Rattle.publication.specs.Selection.{chosen, relation_column}
+use Rattle.publication.specs.Selection.{listed_items, relation_column}
 use Rattle.publication.proofs.Choosing.{all_taken, passed, taken}
 use Rattle.publication.proofs.relation.columns.Goals.{then-is_listed+in_ok-column_of+in_ok-push, else-is_listed}
 use Rattle.publication.proofs.relation.columns.Goals as goal
@@ -10,14 +10,14 @@ loop-i-preserved c =
     let columns = c.args.columns.now in
     let f = relation_column c.args.identity in
     elim c.if-is_listed.branch [
-      | then-is_listed+in_ok-column_of+in_ok-push w ↦ taken f c.loop-i.told.items c.if-is_listed.told.items (map f (chosen flags columns)) flags columns c.loop-i.i c.index-columns-i.result
+      | then-is_listed+in_ok-column_of+in_ok-push w ↦ taken f c.loop-i.told.items c.if-is_listed.told.items (map f (listed_items flags columns)) flags columns c.loop-i.i c.index-columns-i.result
           c.loop-i-test.true c.index-columns-i.is (sym c.is_listed.ensures ∙ w.if-is_listed.true)
           (ap (λ v. v.items) w.told-is ∙ w.in_ok-push.ensures.items ∙ ap (λ x. c.loop-i.told.items ++ x ∷ []) w.in_ok-column_of.ensures) c.loop-i.invariant
-      | else-is_listed w ↦ passed f c.loop-i.told.items c.if-is_listed.told.items (map f (chosen flags columns)) flags columns c.loop-i.i c.index-columns-i.result c.loop-i-test.true
+      | else-is_listed w ↦ passed f c.loop-i.told.items c.if-is_listed.told.items (map f (listed_items flags columns)) flags columns c.loop-i.i c.index-columns-i.result c.loop-i-test.true
           c.index-columns-i.is (sym c.is_listed.ensures ∙ w.if-is_listed.false) (ap (λ v. v.items) w.told-is) c.loop-i.invariant
     ]
 
 pub returns : goal.returns
 returns c =
     let f = relation_column c.args.identity in
-    c.new.ensures ∙ all_taken f c.loop-i.told.items (map f (chosen c.args.listed.now c.args.columns.now)) c.args.listed.now c.args.columns.now c.loop-i.i c.loop-i-test.false c.loop-i.invariant
+    c.new.ensures ∙ all_taken f c.loop-i.told.items (map f (listed_items c.args.listed.now c.args.columns.now)) c.args.listed.now c.args.columns.now c.loop-i.i c.loop-i-test.false c.loop-i.invariant

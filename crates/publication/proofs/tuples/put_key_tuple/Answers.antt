@@ -5,7 +5,7 @@ use Rattle.tables.specs.declared.column.Column.{Column}
 use Rattle.tables.specs.declared.kinds.Value.{Value}
 use Rattle.tables.specs.declared.kinds.Value.TheVariants as values
 use Rattle.pgoutput.specs.Tuple.{cell, tuple}
-use Rattle.publication.specs.Selection.{chosen}
+use Rattle.publication.specs.Selection.{listed_items}
 use Rattle.pqformat.specs.Writing.{FitsRoom, Writes}
 use Rattle.publication.proofs.Choosing.{key_cell_of, beside, paired, unpaired, zip_chosen}
 use Rattle.publication.proofs.Written.{begun, chosen_second, fits, skipped, told, tuple_room, written}
@@ -13,7 +13,7 @@ use Rattle.publication.proofs.tuples.put_key_tuple.Goals.{then-is_listed, else-i
 use Rattle.publication.proofs.tuples.put_key_tuple.Goals as goal
 
 pub write_int16-end-requires : goal.write_int16-end-requires
-write_int16-end-requires c = tuple_room c.args.at c.args.out.now (map key_cell_of (chosen c.args.listed.now (zip c.args.columns.now c.args.row.now))) (subst (λ cs. FitsRoom c.args.at c.args.out.now (tuple cs)) (ap (map key_cell_of) (zip_chosen c.args.listed.now c.args.columns.now c.args.row.now)) c.requires.room)
+write_int16-end-requires c = tuple_room c.args.at c.args.out.now (map key_cell_of (listed_items c.args.listed.now (zip c.args.columns.now c.args.row.now))) (subst (λ cs. FitsRoom c.args.at c.args.out.now (tuple cs)) (ap (map key_cell_of) (zip_chosen c.args.listed.now c.args.columns.now c.args.row.now)) c.requires.room)
 
 pub loop-i-init : goal.loop-i-init
 loop-i-init c = record {
@@ -30,13 +30,13 @@ put_key_cell-end-requires c =
     let x : Column × Value = (col, b) in
     let is_b : b ≡ get_or c.args.row.now c.loop-i.i b = get_or_default c.args.row.now c.loop-i.i values.Null b (omega (arith, test, c.requires.same)) in
     let is = beside c.args.columns.now c.args.row.now c.loop-i.i col b test c.requires.same c.index-columns-i.is is_b in
-    let whole = take c.write_int16-end.result c.write_int16-end.new.out ++ flat_map cell (map key_cell_of (chosen c.args.listed.now (zip c.args.columns.now c.args.row.now))) in
+    let whole = take c.write_int16-end.result c.write_int16-end.new.out ++ flat_map cell (map key_cell_of (listed_items c.args.listed.now (zip c.args.columns.now c.args.row.now))) in
     let there = fits key_cell_of c.args.listed.now (zip c.args.columns.now c.args.row.now) whole c.loop-i.i c.loop-i.end c.loop-i.out x low is c.loop-i.invariant.part (sym c.is_listed.ensures ∙ c.if-is_listed.true) in
     subst (λ v. FitsRoom c.loop-i.end c.loop-i.out (cell (key_cell_of (col, v)))) (sym c.value_in-value.ensures) there
 
 pub loop-i-preserved : goal.loop-i-preserved
 loop-i-preserved c =
-    let whole = take c.write_int16-end.result c.write_int16-end.new.out ++ flat_map cell (map key_cell_of (chosen c.args.listed.now (zip c.args.columns.now c.args.row.now))) in
+    let whole = take c.write_int16-end.result c.write_int16-end.new.out ++ flat_map cell (map key_cell_of (listed_items c.args.listed.now (zip c.args.columns.now c.args.row.now))) in
     elim c.if-is_listed.branch [
       | then-is_listed w ↦
           let test : c.loop-i.i < length c.args.columns.now = omega (arith, c.loop-i-test.true) in

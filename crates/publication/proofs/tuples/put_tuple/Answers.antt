@@ -4,7 +4,7 @@ use Rattle.std.proofs.lemmas.List.{get_or_default}
 use Rattle.tables.specs.declared.kinds.Value.{Value}
 use Rattle.tables.specs.declared.kinds.Value.TheVariants as values
 use Rattle.pgoutput.specs.Tuple.{cell}
-use Rattle.publication.specs.Selection.{chosen}
+use Rattle.publication.specs.Selection.{listed_items}
 use Rattle.pqformat.specs.Writing.{FitsRoom, Writes}
 use Rattle.publication.specs.Kinds.{cell_of}
 use Rattle.publication.specs.Tuples.{tuple_of}
@@ -13,7 +13,7 @@ use Rattle.publication.proofs.tuples.put_tuple.Goals.{then-is_listed, else-is_li
 use Rattle.publication.proofs.tuples.put_tuple.Goals as goal
 
 pub write_int16-end-requires : goal.write_int16-end-requires
-write_int16-end-requires c = tuple_room c.args.at c.args.out.now (tuple_of (chosen c.args.listed.now c.args.row.now)) c.requires.room
+write_int16-end-requires c = tuple_room c.args.at c.args.out.now (tuple_of (listed_items c.args.listed.now c.args.row.now)) c.requires.room
 
 pub loop-i-init : goal.loop-i-init
 loop-i-init c = record {
@@ -26,7 +26,7 @@ put_cell-end-requires c =
     let low : c.loop-i.i < length c.args.row.now = omega (arith, c.loop-i-test.true, c.len-i-end.ensures) in
     let x = get_or c.args.row.now c.loop-i.i values.Null in
     let is : x ≡ get_or c.args.row.now c.loop-i.i x = get_or_default c.args.row.now c.loop-i.i values.Null x low in
-    let whole = take c.write_int16-end.result c.write_int16-end.new.out ++ flat_map cell (tuple_of (chosen c.args.listed.now c.args.row.now)) in
+    let whole = take c.write_int16-end.result c.write_int16-end.new.out ++ flat_map cell (tuple_of (listed_items c.args.listed.now c.args.row.now)) in
     let P : Value → Type 0 = λ v. FitsRoom c.loop-i.end c.loop-i.out (cell (cell_of v)) in
     subst P (sym c.value_in.ensures) (fits cell_of c.args.listed.now c.args.row.now whole c.loop-i.i c.loop-i.end c.loop-i.out x low is c.loop-i.invariant.part (sym c.is_listed.ensures ∙ c.if-is_listed.true))
 
@@ -35,7 +35,7 @@ loop-i-preserved c =
     let low : c.loop-i.i < length c.args.row.now = omega (arith, c.loop-i-test.true, c.len-i-end.ensures) in
     let x = get_or c.args.row.now c.loop-i.i values.Null in
     let is : x ≡ get_or c.args.row.now c.loop-i.i x = get_or_default c.args.row.now c.loop-i.i values.Null x low in
-    let whole = take c.write_int16-end.result c.write_int16-end.new.out ++ flat_map cell (tuple_of (chosen c.args.listed.now c.args.row.now)) in
+    let whole = take c.write_int16-end.result c.write_int16-end.new.out ++ flat_map cell (tuple_of (listed_items c.args.listed.now c.args.row.now)) in
     elim c.if-is_listed.branch [
       | then-is_listed w ↦
           let P : Value → Type 0 = λ v. Writes c.loop-i.end w.put_cell-end.result c.loop-i.out w.put_cell-end.new.out (cell (cell_of v)) in

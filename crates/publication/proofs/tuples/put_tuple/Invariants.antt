@@ -1,7 +1,7 @@
 use Rattle.std.proofs.Common.{◌≡◌, ◌++◌, length, take}
 use Rattle.std.specs.List.{flat_map}
 use Rattle.pgoutput.specs.Tuple.{cell}
-use Rattle.publication.specs.Selection.{chosen}
+use Rattle.publication.specs.Selection.{listed_items}
 use Rattle.publication.specs.Kinds.{cell_of}
 use Rattle.publication.specs.Tuples.{tuple_of}
 use Rattle.publication.proofs.Written.{IsPartOf}
@@ -9,6 +9,6 @@ use Rattle.publication.proofs.tuples.put_tuple.Given as goal
 
 abbrev pub invariant-loop-i : goal.invariant-loop-i
 invariant-loop-i l = record {
-  part : IsPartOf cell_of l.listed l.row l.i l.end l.out (take l.initial.end l.initial.out ++ flat_map cell (tuple_of (chosen l.listed l.row)));
+  part : IsPartOf cell_of l.listed l.row l.i l.end l.out (take l.initial.end l.initial.out ++ flat_map cell (tuple_of (listed_items l.listed l.row)));
   same : length l.out ≡ length l.initial.out;
 }

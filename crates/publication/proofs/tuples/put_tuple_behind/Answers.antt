@@ -5,7 +5,7 @@ use Rattle.tables.specs.declared.kinds.Value.{Value}
 use Rattle.tables.specs.declared.kinds.Value.TheVariants as values
 use Rattle.tables.specs.Kinds.{value_of}
 use Rattle.pgoutput.specs.Tuple.{cell, tuple}
-use Rattle.publication.specs.Selection.{chosen}
+use Rattle.publication.specs.Selection.{listed_items}
 use Rattle.pqformat.specs.Writing.{FitsRoom, Writes}
 use Rattle.publication.proofs.Choosing.{behind_cell, beside, paired, unpaired, zip_chosen}
 use Rattle.publication.proofs.Written.{begun, chosen_alike, fits, pair_is, skipped, told, tuple_room, written}
@@ -13,7 +13,7 @@ use Rattle.publication.proofs.tuples.put_tuple_behind.Goals.{then-is_listed, els
 use Rattle.publication.proofs.tuples.put_tuple_behind.Goals as goal
 
 pub write_int16-end-requires : goal.write_int16-end-requires
-write_int16-end-requires c = tuple_room c.args.at c.args.out.now (map behind_cell (chosen c.args.listed.now (zip c.args.old.now c.args.new.now))) (subst (λ cs. FitsRoom c.args.at c.args.out.now (tuple cs)) (ap (map behind_cell) (zip_chosen c.args.listed.now c.args.old.now c.args.new.now)) c.requires.room)
+write_int16-end-requires c = tuple_room c.args.at c.args.out.now (map behind_cell (listed_items c.args.listed.now (zip c.args.old.now c.args.new.now))) (subst (λ cs. FitsRoom c.args.at c.args.out.now (tuple cs)) (ap (map behind_cell) (zip_chosen c.args.listed.now c.args.old.now c.args.new.now)) c.requires.room)
 
 pub loop-i-init : goal.loop-i-init
 loop-i-init c = record {
@@ -30,13 +30,13 @@ put_cell_behind-end-requires c =
     let x : Value × Value = (a, b) in
     let is_b : b ≡ get_or c.args.new.now c.loop-i.i b = get_or_default c.args.new.now c.loop-i.i values.Null b (omega (arith, test, c.requires.same)) in
     let is = beside c.args.old.now c.args.new.now c.loop-i.i a b test c.requires.same (get_or_default c.args.old.now c.loop-i.i values.Null a test) is_b in
-    let whole = take c.write_int16-end.result c.write_int16-end.new.out ++ flat_map cell (map behind_cell (chosen c.args.listed.now (zip c.args.old.now c.args.new.now))) in
+    let whole = take c.write_int16-end.result c.write_int16-end.new.out ++ flat_map cell (map behind_cell (listed_items c.args.listed.now (zip c.args.old.now c.args.new.now))) in
     let there = fits behind_cell c.args.listed.now (zip c.args.old.now c.args.new.now) whole c.loop-i.i c.loop-i.end c.loop-i.out x low is c.loop-i.invariant.part (sym c.is_listed.ensures ∙ c.if-is_listed.true) in
     subst (λ (v : Value × Value). FitsRoom c.loop-i.end c.loop-i.out (cell (behind_cell v))) (pair_is a (value_of c.value_in-before.result) b (value_of c.value_in-value.result) (sym c.value_in-before.ensures) (sym c.value_in-value.ensures)) there
 
 pub loop-i-preserved : goal.loop-i-preserved
 loop-i-preserved c =
-    let whole = take c.write_int16-end.result c.write_int16-end.new.out ++ flat_map cell (map behind_cell (chosen c.args.listed.now (zip c.args.old.now c.args.new.now))) in
+    let whole = take c.write_int16-end.result c.write_int16-end.new.out ++ flat_map cell (map behind_cell (listed_items c.args.listed.now (zip c.args.old.now c.args.new.now))) in
     elim c.if-is_listed.branch [
       | then-is_listed w ↦
           let test : c.loop-i.i < length c.args.old.now = omega (arith, c.loop-i-test.true, c.len-i-end.ensures) in

@@ -1,7 +1,7 @@
 use Rattle.std.proofs.Common.{[], ◌∷◌, false, refl}
 use Rattle.server.specs.Calls.{CreateSlot}
 use Rattle.server.specs.Conversation.{Runs}
-use Rattle.server.specs.Said.{created}
+use Rattle.server.specs.Said.{answer_to_create}
 use Rattle.replcmd.specs.declared.command.Command.TheVariants.{Create}
 use Rattle.server.proofs.Steps.{gave}
 use Rattle.server.proofs.query.create.Goals as goal
@@ -10,5 +10,5 @@ pub returns : goal.returns
 returns g c =
     let told = rw c.as_str.ensures.value at c.create-answer.ensures in
     let says = rw c.as_str-2.ensures.value at c.say_created.ensures in
-    gave g.D.Desk.told (Runs c.args.database.now (Create c.args.slot.now) false) (CreateSlot c.args.slot.now c.create-answer.result ∷ []) (created c.args.slot.now c.create-answer.result) c.say_created.result
+    gave g.D.Desk.told (Runs c.args.database.now (Create c.args.slot.now) false) (CreateSlot c.args.slot.now c.create-answer.result ∷ []) (answer_to_create c.args.slot.now c.create-answer.result) c.say_created.result
     c.args.desk.now c.args.out.now.items c.create-answer.new.self c.say_created.new.out.items (c.create-answer.new.self, told, refl) (c.create-answer.result, refl, refl, refl) says

@@ -1,7 +1,7 @@
 use Rattle.std.proofs.Common.{[], refl, inl, inr}
 use Rattle.server.specs.declared.refusal.Refusal.TheVariants.{Command}
 use Rattle.server.specs.Conversation.{Runs, Replies}
-use Rattle.server.specs.Said.{refused_ready}
+use Rattle.server.specs.Said.{error_and_ready}
 use Rattle.server.proofs.Names.{short_slot}
 use Rattle.server.proofs.Steps.{not_read, answered_as}
 use Rattle.server.proofs.query.reply.Goals as goal
@@ -17,7 +17,7 @@ returns-in-Ok g c =
 pub returns-in_ok-say_refused_ready-in-Err : goal.returns-in_ok-say_refused_ready-in-Err
 returns-in_ok-say_refused_ready-in-Err g c = record {
   asked = [];
-  text = refused_ready (Command c.in-Err.fault);
+  text = error_and_ready (Command c.in-Err.fault);
   fact = inr (
     record {
       fault = c.in-Err.fault;

@@ -1,7 +1,7 @@
 use Rattle.std.proofs.Common.{[], ◌∷◌, refl, inr}
 use Rattle.std.proofs.lemmas.Result.{err_from_is_err_and}
 use Rattle.server.specs.Calls.{StartStream}
-use Rattle.server.specs.Said.{started}
+use Rattle.server.specs.Said.{answer_to_start}
 use Rattle.server.proofs.query.start.Goals as goal
 
 pub returns : goal.returns
@@ -9,7 +9,7 @@ returns g c =
     let told = rw c.as_str.ensures.value at c.start-answer.ensures in
     record {
       asked = StartStream c.args.slot.now c.args.position c.args.options.now c.start-answer.result ∷ [];
-      text = started c.start-answer.result;
+      text = answer_to_start c.start-answer.result;
       fact = (c.start-answer.result, refl, refl, c.has_begun-begun.ensures);
       asks = (c.start-answer.new.self, told, refl);
       says = c.in_ok-say_started.ensures;
@@ -22,7 +22,7 @@ returns-in_err-say_started g c =
     rw p.1 (
       record {
         asked = StartStream c.args.slot.now c.args.position c.args.options.now c.start-answer.result ∷ [];
-        fact = inr (c.has_begun-begun.result, started c.start-answer.result, (c.start-answer.result, refl, refl, c.has_begun-begun.ensures));
+        fact = inr (c.has_begun-begun.result, answer_to_start c.start-answer.result, (c.start-answer.result, refl, refl, c.has_begun-begun.ensures));
         asks = (c.start-answer.new.self, told, refl);
       },
       c.in_err-say_started.ensures,

@@ -3,7 +3,7 @@ use Rattle.questions.specs.declared.question.Question.TheVariants.{SearchPath, D
 use Rattle.server.specs.declared.refusal.Refusal.TheVariants as refusals
 use Rattle.server.specs.Answers.{path_set, mode_shown}
 use Rattle.server.specs.Conversation.{AnswersQuestion}
-use Rattle.server.specs.Said.{refused_ready}
+use Rattle.server.specs.Said.{error_and_ready}
 use Rattle.server.proofs.Steps.{gave}
 use Rattle.server.proofs.replying.answer_question.Goals as goal
 
@@ -17,4 +17,4 @@ returns-in-DirectoryMode g c =
 
 pub returns-in-InitialCopy : goal.returns-in-InitialCopy
 returns-in-InitialCopy g c =
-    rw c.in-InitialCopy.is (gave g.D.Desk.told (AnswersQuestion InitialCopy) [] (refused_ready refusals.InitialCopy) c.say_refused_ready.result c.args.desk.now c.args.out.now.items c.args.desk.now c.say_refused_ready.new.out.items refl (refl, refl) c.say_refused_ready.ensures)
+    rw c.in-InitialCopy.is (gave g.D.Desk.told (AnswersQuestion InitialCopy) [] (error_and_ready refusals.InitialCopy) c.say_refused_ready.result c.args.desk.now c.args.out.now.items c.args.desk.now c.say_refused_ready.new.out.items refl (refl, refl) c.say_refused_ready.ensures)

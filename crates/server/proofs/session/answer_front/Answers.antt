@@ -3,7 +3,7 @@ use Rattle.std.proofs.lemmas.List.{append-nil}
 use Rattle.frames.specs.declared.front.Front.{Front}
 use Rattle.server.specs.declared.refusal.Refusal.TheVariants.{Violation}
 use Rattle.server.specs.declared.stage.Stage.TheVariants.{Closed}
-use Rattle.server.specs.Said.{refused}
+use Rattle.server.specs.Said.{error_of_refusal}
 use Rattle.server.specs.Turns.{Hears}
 use Rattle.server.proofs.Turning.{out_of_place}
 use Rattle.server.proofs.session.answer_front.Goals as goal
@@ -23,7 +23,7 @@ returns-in-Terminate g c = record {
 pub returns-in_ok-say_refused-in-CopyData : goal.returns-in_ok-say_refused-in-CopyData
 returns-in_ok-say_refused-in-CopyData g c = record {
   asked = [];
-  text = refused Violation;
+  text = error_of_refusal Violation;
   fact = out_of_place c.args.dialect c.args.database c.args.front.now c.in-CopyData.is;
   asks = refl;
   says = c.in_ok-say_refused-in-CopyData.ensures;

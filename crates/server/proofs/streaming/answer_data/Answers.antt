@@ -2,7 +2,7 @@ use Rattle.std.proofs.Common.{[], ◌∷◌, refl, sym, inl, inr}
 use Rattle.std.proofs.lemmas.List.{append-nil}
 use Rattle.server.specs.declared.refusal.Refusal.TheVariants.{Violation}
 use Rattle.server.specs.Calls.{Flushed}
-use Rattle.server.specs.Said.{refused}
+use Rattle.server.specs.Said.{error_of_refusal}
 use Rattle.server.proofs.streaming.answer_data.Goals as goal
 
 pub returns-in-Ok : goal.returns-in-Ok
@@ -17,7 +17,7 @@ returns-in-Ok g c = record {
 pub returns-in_ok-say_refused-in-Err : goal.returns-in_ok-say_refused-in-Err
 returns-in_ok-say_refused-in-Err g c = record {
   asked = [];
-  text = refused Violation;
+  text = error_of_refusal Violation;
   fact = inr (c.in-Err.field-0, c.in-Err.ensures.fault, (refl, refl, refl));
   asks = refl;
   says = c.in_ok-say_refused-in-Err.ensures;

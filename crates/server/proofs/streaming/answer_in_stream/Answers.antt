@@ -3,7 +3,7 @@ use Rattle.std.proofs.lemmas.List.{append-nil}
 use Rattle.frames.specs.declared.front.Front.{Front}
 use Rattle.server.specs.declared.refusal.Refusal.TheVariants.{Violation}
 use Rattle.server.specs.declared.stage.Stage.TheVariants.{Stopping, Closed}
-use Rattle.server.specs.Said.{refused}
+use Rattle.server.specs.Said.{error_of_refusal}
 use Rattle.server.specs.Turns.{Streams}
 use Rattle.server.proofs.Turning.{out_of_stream}
 use Rattle.server.proofs.streaming.answer_in_stream.Goals as goal
@@ -32,7 +32,7 @@ returns-in-Terminate g c = record {
 pub returns-in_ok-say_refused-in-Query : goal.returns-in_ok-say_refused-in-Query
 returns-in_ok-say_refused-in-Query g c = record {
   asked = [];
-  text = refused Violation;
+  text = error_of_refusal Violation;
   fact = out_of_stream c.args.database c.args.front.now c.in-Query.is;
   asks = refl;
   says = c.in_ok-say_refused-in-Query.ensures;

@@ -7,13 +7,13 @@ use Rattle.tables.specs.declared.config_fault.Member.{Member}
 use Rattle.tables.specs.declared.config_fault.Member.TheVariants as members
 use Rattle.tables.specs.declared.config_table.Unread.{Unread}
 use Rattle.tables.specs.declared.config_table.Unread.TheVariants.{Wrong}
-use Rattle.tables.specs.Config.{Reads, told, columns_in}
+use Rattle.tables.specs.Config.{Reads, told_member, columns_in}
 use Rattle.tables.specs.Tables.{AreColumns}
 use Rattle.tables.proofs.config_table.columns_beside.Goals as goal
 
 -- what is found in a member is told by that member, where it is none
 found : {X : Type 0} (which : Member) (key : List ℕ) (read : Data → Option X) (d value : Data) (there : Option X) (result : Result X Unread) →
-    Some value ≡ get key d → there ≡ read value → result ≡ ok_or there (Wrong which) → Reads result (told which key read d)
+    Some value ≡ get key d → there ≡ read value → result ≡ ok_or there (Wrong which) → Reads result (told_member which key read d)
 found {X = X} which key read d value there result got is given = rw (given, ← got, ← is) (by_there there)
   where
     by_there : (there : Option X) → Reads (ok_or there (Wrong which)) (ok_or there which)

@@ -5,12 +5,12 @@ use Rattle.toml.specs.View.{view}
 use Rattle.tables.specs.declared.column.Column.{Column}
 use Rattle.tables.specs.declared.identity.Identity.{Identity}
 use Rattle.tables.specs.declared.config_fault.Member.TheVariants as members
-use Rattle.tables.specs.Config.{told, oid_in, name_in, identity_in, columns_at, has_others, table_in}
+use Rattle.tables.specs.Config.{told_member, oid_in, name_in, identity_in, columns_at, has_others, table_in}
 use Rattle.tables.proofs.config_table.table_in.Goals as goal
 
 read : (d : Data) (oid : ℕ) (schema name : List ℕ) (identity : Identity) (columns : List Column) →
-    told members.Oid (codes "oid") oid_in d ≡ Ok oid → told members.Schema (codes "schema") name_in d ≡ Ok schema →
-    told members.Name (codes "name") name_in d ≡ Ok name → ok_or (identity_in (get (codes "identity") d)) members.Identity ≡ Ok identity →
+    told_member members.Oid (codes "oid") oid_in d ≡ Ok oid → told_member members.Schema (codes "schema") name_in d ≡ Ok schema →
+    told_member members.Name (codes "name") name_in d ≡ Ok name → ok_or (identity_in (get (codes "identity") d)) members.Identity ≡ Ok identity →
     columns_at d ≡ Ok columns → has_others d ≡ false →
     table_in d ≡ Ok (record { oid = oid; schema = schema; name = name; identity = identity; columns = columns })
 unfolding table_in

@@ -1,7 +1,7 @@
 use Rattle.std.proofs.Common.{◌≡◌, ℕ, ◌+◌, ◌<◌, ◌≤◌, None, Some, List, [], ◌++◌, ◌∷◌, length, get_or, set, ap, ◌∙◌, arith}
 use Rattle.std.proofs.lemmas.List.{get_or_default}
 use Rattle.chgarena.specs.Books.{at}
-use Rattle.chgarena.specs.Pages.{taken}
+use Rattle.chgarena.specs.Pages.{bytes_taken}
 use Rattle.chgarena.proofs.Seeing.{added_arena, added_says, behind_arena, behind_says, few_before, of_seen, same_arena}
 use Rattle.chgarena.proofs.arena.Arena.add.Goals as goal
 
@@ -22,11 +22,11 @@ pub push_behind-requires-clause-strand : goal.push_behind-requires-clause-strand
 push_behind-requires-clause-strand c = of_seen c.self.inside.links c.self.inside.pages c.self.inside.before.items c.self.invariant c.args.self.now c.self.view_is c.args.head c.requires.of
 
 -- what is left of the last chunk
-used : (ps : List (List (List ℕ))) (last l left size : ℕ) → last ≡ l → left + taken (get_or ps last []) ≡ 16384 → size ≤ left → taken (get_or ps l []) + size ≤ 16384
-used ps last l left size e sum fits = let same : taken (get_or ps last []) ≡ taken (get_or ps l []) = ap (λ k. taken (get_or ps k [])) e in omega arith
+used : (ps : List (List (List ℕ))) (last l left size : ℕ) → last ≡ l → left + bytes_taken (get_or ps last []) ≡ 16384 → size ≤ left → bytes_taken (get_or ps l []) + size ≤ 16384
+used ps last l left size e sum fits = let same : bytes_taken (get_or ps last []) ≡ bytes_taken (get_or ps l []) = ap (λ k. bytes_taken (get_or ps k [])) e in omega arith
 
-over : (ps : List (List (List ℕ))) (last l left size : ℕ) → last ≡ l → left + taken (get_or ps last []) ≡ 16384 → left < size → 16384 < taken (get_or ps l []) + size
-over ps last l left size e sum more = let same : taken (get_or ps last []) ≡ taken (get_or ps l []) = ap (λ k. taken (get_or ps k [])) e in omega arith
+over : (ps : List (List (List ℕ))) (last l left size : ℕ) → last ≡ l → left + bytes_taken (get_or ps last []) ≡ 16384 → left < size → 16384 < bytes_taken (get_or ps l []) + size
+over ps last l left size e sum more = let same : bytes_taken (get_or ps last []) ≡ bytes_taken (get_or ps l []) = ap (λ k. bytes_taken (get_or ps k [])) e in omega arith
 
 pub invariant_of-self : goal.invariant_of-self
 invariant_of-self c =

@@ -1,5 +1,5 @@
 use Rattle.std.proofs.Common.{ℕ, ◌+◌, ◌-◌, ◌*◌, ◌≤◌, List, [], ◌∷◌, ◌++◌, Option, length, get_or, set, sym, ap, ◌∙◌, subst, arith}
-use Rattle.chgarena.specs.Pages.{IsPages, pages, taken, with_entry}
+use Rattle.chgarena.specs.Pages.{IsPages, bytes_taken, pages, with_entry}
 use Rattle.chgarena.proofs.Appending.{appended, appended_good, has_room, low_seen}
 use Rattle.chgarena.proofs.pages.Pages.append.Goals as goal
 
@@ -78,7 +78,7 @@ invariant_of-self c =
     let entry = c.args.entry.now in
     let u = get_or i.used.items chunk 0 in
     let n = get_or i.counts.items chunk 0 in
-    let Room : List (List (List ℕ)) → Type 0 = λ ps. taken (get_or ps chunk []) + (length entry + 4) ≤ 16384 in
+    let Room : List (List (List ℕ)) → Type 0 = λ ps. bytes_taken (get_or ps chunk []) + (length entry + 4) ≤ 16384 in
     let room : Room (pages i.region i.counts.items) = subst Room (sym c.self.view_is) c.requires.room in
     let P : List (Option ℕ) → ℕ → ℕ → Type 0 = λ ps v m. IsPages ps (set i.used.items chunk (v + (4 + length entry))) (set i.counts.items chunk (m + 1)) in
     let Q : ℕ → ℕ → Type 0 = λ v m. P (with_entry i.region chunk m (v - m * 4) entry) v m in
@@ -96,7 +96,7 @@ returns c =
     let entry = c.args.entry.now in
     let u = get_or i.used.items chunk 0 in
     let n = get_or i.counts.items chunk 0 in
-    let Room : List (List (List ℕ)) → Type 0 = λ ps. taken (get_or ps chunk []) + (length entry + 4) ≤ 16384 in
+    let Room : List (List (List ℕ)) → Type 0 = λ ps. bytes_taken (get_or ps chunk []) + (length entry + 4) ≤ 16384 in
     let room : Room (pages i.region i.counts.items) = subst Room (sym c.self.view_is) c.requires.room in
     let F : List (Option ℕ) → ℕ → List (List (List ℕ)) = λ ps m. pages ps (set i.counts.items chunk (m + 1)) in
     ap (λ ps. F ps c.index-count.result.now) c.write_entry.ensures ∙

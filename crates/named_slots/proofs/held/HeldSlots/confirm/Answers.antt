@@ -1,5 +1,5 @@
 use Rattle.std.proofs.Common.{◌≡◌, ℕ, Bool, Option, Some, option_map, sym, ap, subst, ◌∙◌, refl}
-use Rattle.named_slots.specs.State.{IsHeldAs, holds_at, raised_for}
+use Rattle.named_slots.specs.State.{IsHeldAs, holds_at, slots_after_raise_by_name}
 use Rattle.named_slots.specs.Leasing.{IsLeasedAs}
 use Rattle.named_slots.proofs.Leases.{is_low, lease_there, no_lease, with_lease}
 use Rattle.named_slots.proofs.Claims.{held_confirmed, none_raised, raised_at}
@@ -55,4 +55,4 @@ returns-in-Some-index_mut g c =
     let p = c.in-Some.place in
     let low = is_low (λ l. l.place) s.leases.len p s.leases.items c.self.invariant.0 s.leases.ok.0 c.in-Some.ensures.within in
     let there = lease_there (λ l. l.place) s.slots s.leases.items p c.index_mut.result.now c.in-Some-index_mut.lease c.self.invariant.1 low c.index_mut.ensures.value c.in-Some-index_mut.is in
-    c.confirm-confirmed.ensures.named c.args.name.now (c.in-Some.ensures.found ∙ ap (λ (q : ℕ). Option.Some q) (sym there.0)) ∙ ap (raised_for c.args.name.now c.args.position) c.self.view_is
+    c.confirm-confirmed.ensures.named c.args.name.now (c.in-Some.ensures.found ∙ ap (λ (q : ℕ). Option.Some q) (sym there.0)) ∙ ap (slots_after_raise_by_name c.args.name.now c.args.position) c.self.view_is

@@ -1,5 +1,5 @@
 use Rattle.std.proofs.Common.{◌≡◌, ℕ, Bool, Option, option_map, sym, ap, subst, ◌∙◌, refl}
-use Rattle.named_slots.specs.State.{IsHeldAs, holds_at, released, released_for}
+use Rattle.named_slots.specs.State.{IsHeldAs, holds_at, slots_after_release, slots_after_release_by_name}
 use Rattle.named_slots.specs.Leasing.{IsLeasedAs}
 use Rattle.named_slots.proofs.Leases.{is_low, lease_there, no_lease, with_lease}
 use Rattle.named_slots.proofs.Claims.{free_already, none_released, released_else, released_here}
@@ -23,7 +23,7 @@ invariant_of-self g c =
     let t = c.release.new.self in
     let low = is_low (λ l. l.place) s.leases.len p s.leases.items c.self.invariant.0 s.leases.ok.0 c.in-Some.ensures.within in
     let there = lease_there (λ l. l.place) s.slots s.leases.items p c.index_mut.result.now c.in-Some-replace.lease c.self.invariant.1 low c.index_mut.ensures.value (sym c.replace.ensures.value ∙ c.in-Some-replace.is) in
-    let is : t ≡ released p s.slots = c.release.ensures.released ∙ ap (λ (q : ℕ). released q s.slots) there.0 in (
+    let is : t ≡ slots_after_release p s.slots = c.release.ensures.released ∙ ap (λ (q : ℕ). slots_after_release q s.slots) there.0 in (
       c.self.invariant.0,
       with_lease (λ l. l.place) s.slots t s.leases.items p c.replace.new.dest c.self.invariant.1
           (subst (λ o. IsLeasedAs t p (option_map (λ l. l.place) o)) (sym c.replace.ensures.after) (released_here p s.slots t is)) (released_else p s.slots t is),
@@ -35,7 +35,7 @@ returns-in-Some-replace g c =
     let p = c.in-Some.place in
     let low = is_low (λ l. l.place) s.leases.len p s.leases.items c.self.invariant.0 s.leases.ok.0 c.in-Some.ensures.within in
     let there = lease_there (λ l. l.place) s.slots s.leases.items p c.index_mut.result.now c.in-Some-replace.lease c.self.invariant.1 low c.index_mut.ensures.value (sym c.replace.ensures.value ∙ c.in-Some-replace.is) in
-    c.release.ensures.named c.args.name.now (c.in-Some.ensures.found ∙ ap (λ (q : ℕ). Option.Some q) (sym there.0)) ∙ ap (released_for c.args.name.now) c.self.view_is
+    c.release.ensures.named c.args.name.now (c.in-Some.ensures.found ∙ ap (λ (q : ℕ). Option.Some q) (sym there.0)) ∙ ap (slots_after_release_by_name c.args.name.now) c.self.view_is
 
 pub returns-in_default-replace : goal.returns-in_default-replace
 returns-in_default-replace g c =
@@ -43,4 +43,4 @@ returns-in_default-replace g c =
     let p = c.in-Some.place in
     let low = is_low (λ l. l.place) s.leases.len p s.leases.items c.self.invariant.0 s.leases.ok.0 c.in-Some.ensures.within in
     let free = no_lease (λ l. l.place) s.slots s.leases.items p c.index_mut.result.now c.self.invariant.1 low c.index_mut.ensures.value (sym c.replace.ensures.value ∙ c.in_default-replace.is) in
-    free_already c.args.name.now p s.slots c.in-Some.ensures.only (subst (λ (b : Bool). IsHeldAs b p s.slots.slots) free c.in-Some.ensures.alike) ∙ ap (released_for c.args.name.now) c.self.view_is
+    free_already c.args.name.now p s.slots c.in-Some.ensures.only (subst (λ (b : Bool). IsHeldAs b p s.slots.slots) free c.in-Some.ensures.alike) ∙ ap (slots_after_release_by_name c.args.name.now) c.self.view_is

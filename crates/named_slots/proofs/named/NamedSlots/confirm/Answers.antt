@@ -1,7 +1,7 @@
 use Rattle.std.proofs.Common.{◌≡◌, List, map, sym, subst, ap, ◌∙◌}
 use Rattle.named_slots.specs.declared.slot.Slot.{Slot}
-use Rattle.named_slots.specs.State.{confirming, confirmed_of, holds_at, raised, slot_at}
-use Rattle.named_slots.specs.Keeping.{IsNamed, StandsIn, noted, shown_slot}
+use Rattle.named_slots.specs.State.{slot_with_confirmed, confirmed_of, holds_at, slots_after_raise, slot_at}
+use Rattle.named_slots.specs.Keeping.{IsNamed, StandsIn, shown_slot, slot_with_noted_position}
 use Rattle.named_slots.proofs.Claiming.{done_by_name}
 use Rattle.named_slots.proofs.Confirming.{raised_shown, raised_stands, raised_value}
 use Rattle.named_slots.proofs.Listing.{still_named}
@@ -17,7 +17,7 @@ invariant_of-self g c =
     let p = c.args.lease.now.place in
     let to = c.confirm-confirmed.result in
     let is = held_at s.seat p s.slots.items c.self.invariant.1.each (ap (holds_at p) c.self.view_is ∙ c.requires) in
-    let noted_is : c.note.new.slots.items ≡ map (noted p to) s.slots.items = c.note.ensures ∙ ap (λ l. map (noted l.place to) s.slots.items) c.confirm-confirmed.ensures.lease.0 in (
+    let noted_is : c.note.new.slots.items ≡ map (slot_with_noted_position p to) s.slots.items = c.note.ensures ∙ ap (λ l. map (slot_with_noted_position l.place to) s.slots.items) c.confirm-confirmed.ensures.lease.0 in (
       subst (λ (l : List Slot). IsNamed s.directory l s.places) (sym noted_is) (still_named s.directory s.slots.items s.places p to c.self.invariant.0),
       subst (λ (l : List Slot). StandsIn c.confirm-confirmed.new.seat l s.places) (sym noted_is)
           (raised_stands s.seat c.confirm-confirmed.new.seat p c.args.position to s.slots.items s.places c.self.invariant.1 is c.confirm-confirmed.ensures.raised),
@@ -29,7 +29,7 @@ returns-clause-value g c =
     let p = c.args.lease.now.place in
     let to = c.confirm-confirmed.result in
     let is = held_at s.seat p s.slots.items c.self.invariant.1.each (ap (holds_at p) c.self.view_is ∙ c.requires) in
-    let noted_is : c.note.new.slots.items ≡ map (noted p to) s.slots.items = c.note.ensures ∙ ap (λ l. map (noted l.place to) s.slots.items) c.confirm-confirmed.ensures.lease.0 in
+    let noted_is : c.note.new.slots.items ≡ map (slot_with_noted_position p to) s.slots.items = c.note.ensures ∙ ap (λ l. map (slot_with_noted_position l.place to) s.slots.items) c.confirm-confirmed.ensures.lease.0 in
     raised_value s.seat c.confirm-confirmed.new.seat p c.args.position to s.slots.items s.places c.self.invariant.1 is c.confirm-confirmed.ensures.raised
     ∙ ap (λ (l : List Slot). confirmed_of (slot_at p (map (shown_slot c.confirm-confirmed.new.seat) l))) (sym noted_is)
 
@@ -39,13 +39,13 @@ returns-clause-raised g c =
     let p = c.args.lease.now.place in
     let to = c.confirm-confirmed.result in
     let is = held_at s.seat p s.slots.items c.self.invariant.1.each (ap (holds_at p) c.self.view_is ∙ c.requires) in
-    let noted_is : c.note.new.slots.items ≡ map (noted p to) s.slots.items = c.note.ensures ∙ ap (λ l. map (noted l.place to) s.slots.items) c.confirm-confirmed.ensures.lease.0 in
+    let noted_is : c.note.new.slots.items ≡ map (slot_with_noted_position p to) s.slots.items = c.note.ensures ∙ ap (λ l. map (slot_with_noted_position l.place to) s.slots.items) c.confirm-confirmed.ensures.lease.0 in
     ap (λ ts. record { slots = ts; places = s.places }) (ap (map (shown_slot c.confirm-confirmed.new.seat)) noted_is
     ∙ raised_shown s.seat c.confirm-confirmed.new.seat p c.args.position to s.slots.items s.places c.self.invariant.1 is c.confirm-confirmed.ensures.raised)
-    ∙ ap (raised p c.args.position) c.self.view_is
+    ∙ ap (slots_after_raise p c.args.position) c.self.view_is
 
 pub returns-clause-named : goal.returns-clause-named
 returns-clause-named g c = λ name found.
     returns-clause-raised g c
     ∙ ap (λ ts. record { slots = ts; places = c.args.self.now.places })
-    (done_by_name c.self.inside.seat c.self.inside.directory c.self.inside.slots.items c.self.inside.places c.args.self.now c.args.lease.now.place (confirming c.args.position) c.self.invariant.0 c.self.invariant.1 c.self.view_is name found)
+    (done_by_name c.self.inside.seat c.self.inside.directory c.self.inside.slots.items c.self.inside.places c.args.self.now c.args.lease.now.place (slot_with_confirmed c.args.position) c.self.invariant.0 c.self.invariant.1 c.self.view_is name found)

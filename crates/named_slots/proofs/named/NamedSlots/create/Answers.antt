@@ -3,7 +3,7 @@ use Rattle.slots.specs.declared.fault.SlotFault.{SlotFault}
 use Rattle.slots.specs.declared.fault.SlotFault.TheVariants as faults
 use Rattle.slots.specs.Directories as names
 use Rattle.named_slots.specs.declared.slot.Slot.{Slot}
-use Rattle.named_slots.specs.State.{IsRefusalOrMemory, create_refusal, created, refused}
+use Rattle.named_slots.specs.State.{IsRefusalOrMemory, create_refusal, slots_after_create, slots_after_refusal}
 use Rattle.named_slots.specs.Keeping.{IsNamed, StandsIn, shown_slot}
 use Rattle.named_slots.proofs.Creating.{is_next, none_left, none_same}
 use Rattle.named_slots.proofs.Listing.{more_names, same_names}
@@ -28,7 +28,7 @@ returns-in_err-place-clause-err g c =
     let none = c.in_err-place.ensures.1 in
     if_err _ c.from_residual.result c.in_err-place.field-0.0 c.from_residual.ensures.1
     (ap (λ ts. record { slots = ts; places = s.places }) (shown_same s.seat c.create.new.seat (ap (λ z. z.number) none.steps) (ap (λ z. z.seats) none.steps) (none_same s.seat c.create.new.seat s.slots.items s.places c.self.invariant.1 none) s.slots.items)
-    ∙ c.self.view_is ∙ ap (λ f. refused f c.args.self.now) (sym c.in_err-place.ensures.0))
+    ∙ c.self.view_is ∙ ap (λ f. slots_after_refusal f c.args.self.now) (sym c.in_err-place.ensures.0))
 
 pub returns-in_err-place-clause-refused : goal.returns-in_err-place-clause-refused
 returns-in_err-place-clause-refused g c =
@@ -71,7 +71,7 @@ returns-in-Ok-clause-ok g c =
     let new : Slot = record { name = c.args.name.now; place = p; confirmed = c.args.position } in
     ap (λ ts. record { slots = ts; places = s.places + 1 }) (ap (map (shown_slot c.create.new.seat)) c.in-Ok.ensures.ok
     ∙ named_shown s.seat c.create.new.seat c.args.position p s.directory s.slots.items s.places c.self.invariant.0 c.self.invariant.1 c.in_ok-place.ensures.0 c.in_ok-place.ensures.1 new refl)
-    ∙ ap (created c.args.name.now c.args.position) c.self.view_is
+    ∙ ap (slots_after_create c.args.name.now c.args.position) c.self.view_is
 
 pub returns-in-Ok-clause-refused : goal.returns-in-Ok-clause-refused
 returns-in-Ok-clause-refused g c =
@@ -87,8 +87,8 @@ returns-in-Err-clause-err g c =
     ap (λ ts. record { slots = ts; places = s.places + 1 }) (ap (map (shown_slot c.drop_slot-dropped.new.seat)) c.in-Err.ensures.err
     ∙ dropped_shown s.seat c.create.new.seat c.args.position c.in_ok-place.place s.directory s.slots.items s.places c.self.invariant.0 c.self.invariant.1 c.in_ok-place.ensures.0 c.in_ok-place.ensures.1
     c.drop_slot-dropped.new.seat c.drop_slot-dropped.result c.drop_slot-dropped.ensures)
-    ∙ ap (refused faults.Memory) c.self.view_is
-    ∙ ap (λ f. refused f c.args.self.now) (sym c.in-Err.ensures.fault)
+    ∙ ap (slots_after_refusal faults.Memory) c.self.view_is
+    ∙ ap (λ f. slots_after_refusal f c.args.self.now) (sym c.in-Err.ensures.fault)
 
 pub returns-in-Err-clause-refused : goal.returns-in-Err-clause-refused
 returns-in-Err-clause-refused g c =

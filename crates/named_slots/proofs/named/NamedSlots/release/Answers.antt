@@ -1,5 +1,5 @@
 use Rattle.std.proofs.Common.{false, refl, ap, ◌∙◌, arith}
-use Rattle.named_slots.specs.State.{holding, holds_at, released}
+use Rattle.named_slots.specs.State.{holds_at, slot_with_hold, slots_after_release}
 use Rattle.named_slots.proofs.Claiming.{done_by_name}
 use Rattle.named_slots.proofs.Standing.{held_at, each_held, all_shown_held, still_stands, held_word, is_made}
 use Rattle.named_slots.proofs.Facts.{one_step}
@@ -26,10 +26,10 @@ returns-clause-released g c =
     let v = c.self.inside.seat in
     let changes = one_step v c.release.new.seat _ c.release.ensures in
     ap (λ ts. record { slots = ts; places = c.self.inside.places }) (all_shown_held v c.release.new.seat c.args.lease.place _ changes false refl refl refl c.self.inside.slots.items)
-    ∙ ap (released c.args.lease.place) c.self.view_is
+    ∙ ap (slots_after_release c.args.lease.place) c.self.view_is
 
 pub returns-clause-named : goal.returns-clause-named
 returns-clause-named g c = λ name found.
     returns-clause-released g c
     ∙ ap (λ ts. record { slots = ts; places = c.args.self.now.places })
-    (done_by_name c.self.inside.seat c.self.inside.directory c.self.inside.slots.items c.self.inside.places c.args.self.now c.args.lease.place (holding false) c.self.invariant.0 c.self.invariant.1 c.self.view_is name found)
+    (done_by_name c.self.inside.seat c.self.inside.directory c.self.inside.slots.items c.self.inside.places c.args.self.now c.args.lease.place (slot_with_hold false) c.self.invariant.0 c.self.invariant.1 c.self.view_is name found)

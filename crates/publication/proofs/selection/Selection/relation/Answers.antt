@@ -1,7 +1,7 @@
-use Rattle.publication.specs.Selection.{narrowed}
+use Rattle.publication.specs.Selection.{table_as_published}
 use Rattle.publication.proofs.Choosing.{narrowed_fits}
 use Rattle.publication.proofs.Relations.{relation_answer_fits}
 use Rattle.publication.proofs.selection.Selection.relation.Goals as goal
 
 pub returns-clause-fits : goal.returns-clause-fits
-returns-clause-fits c = rw c.in_ok-relation.ensures (relation_answer_fits (narrowed c.listed.result.now c.in-Some.table.now) (narrowed_fits c.listed.result.now c.in-Some.table.now c.in-Some.ensures.fits))
+returns-clause-fits c = rw c.in_ok-relation.ensures (relation_answer_fits (table_as_published c.listed.result.now c.in-Some.table.now) (narrowed_fits c.listed.result.now c.in-Some.table.now c.in-Some.ensures.fits))

@@ -3,7 +3,7 @@ use Rattle.chgarena.specs.Strands.{fills}
 use Rattle.reorder.specs.Taking.{ReorderState}
 use Rattle.reorder.specs.Pool.{HoldEntries, IsPool}
 use Rattle.reorder.specs.Chunks.{live_chunks}
-use Rattle.reorder.specs.Settled.{lent_chunks, settled}
+use Rattle.reorder.specs.Settled.{after_giving_all_back, lent_chunks}
 use Rattle.reorder.proofs.Counting.{chunks_taken}
 use Rattle.reorder.proofs.Filling.{chunks_beside, settled_length}
 use Rattle.reorder.proofs.reorder.Reorder.free_chunks.Goals as goal
@@ -22,8 +22,8 @@ returns-clause-exact_beside c = λ rs ws count taken are tidy.
     let shared : live_chunks rs + lent_chunks c.args.self.now ws ≡ fills c.args.self.now.strands.pool.arena = chunks_beside c.args.self.now rs ws count
     (subst (λ (s : ReorderState). IsPool s.strands.pool.arena s.strands.pool.strands) c.self.view_is c.free.ensures.pool)
     (subst (λ (s : ReorderState). HoldEntries s.strands.pool.arena s.strands.pool.strands) c.self.view_is c.free.ensures.hold) taken.ready.strands are tidy in
-    let size : length (settled c.args.self.now ws).strands.pool.arena ≡ count = tidy.chunks in
-    let same : length (settled c.args.self.now ws).strands.pool.arena ≡ length c.args.self.now.strands.pool.arena = settled_length c.args.self.now ws in
+    let size : length (after_giving_all_back c.args.self.now ws).strands.pool.arena ≡ count = tidy.chunks in
+    let same : length (after_giving_all_back c.args.self.now ws).strands.pool.arena ≡ length c.args.self.now.strands.pool.arena = settled_length c.args.self.now ws in
     sums c.free.result (live_chunks rs) (lent_chunks c.args.self.now ws) _ _ count free shared (sym same ∙ size)
   where
     sums : (free live lent full all count : ℕ) → free + full ≡ all → live + lent ≡ full → all ≡ count → (free + live) + lent ≡ count

@@ -4,11 +4,11 @@ use Rattle.wal.specs.declared.record.Body.{Body}
 use Rattle.wal.specs.Log.{Entry, IsOpen}
 use Rattle.reorder.specs.Entries.{entry_in}
 use Rattle.reorder.specs.Ready.{ready_entries}
-use Rattle.reorder.specs.Strands.{IsSame, by_xid, pushed}
+use Rattle.reorder.specs.Strands.{IsSame, by_xid, with_change_of}
 use Rattle.reorder.specs.Taking.{MayCome, ReorderState, Takes}
 use Rattle.reorder.specs.Bookkeeping.{IsBookkeeping}
 use Rattle.reorder.specs.Chunks.{IsTidy}
-use Rattle.reorder.specs.Settled.{AreLentIn, LeavesNoRoomBeside, lent_chunks, settled}
+use Rattle.reorder.specs.Settled.{AreLentIn, LeavesNoRoomBeside, after_giving_all_back, lent_chunks}
 use Rattle.reorder.specs.Pool.{IsLent, StaysLent}
 use Rattle.reorder.proofs.Lending.{stays_itself, stays_lent}
 use Rattle.reorder.proofs.Coding.{entry_length, kept_again}
@@ -35,7 +35,7 @@ returns-clause-takes c =
           carried (state c.self.inside.strands c.self.inside.failed) c.args.self.now (state w.push.new.self c.self.inside.failed) c.match-next.self c.args.next.now None c.self.view_is w.self-is
           (taken_change c.self.inside.strands w.open-in-Change.new.self w.push.new.self c.self.inside.failed c.self.inside.failed c.args.next.now w.in-Change.xid w.in-Change.change
           w.in-Change.is w.in_ok-open-in-Change.ensures.known w.in_ok-open-in-Change.ensures.fresh
-          (subst (λ (e : Entry). IsSame (by_xid w.push.new.self) (pushed w.in-Change.xid e (by_xid w.open-in-Change.new.self)))
+          (subst (λ (e : Entry). IsSame (by_xid w.push.new.self) (with_change_of w.in-Change.xid e (by_xid w.open-in-Change.new.self)))
           (ap (entry_in w.in-Change.xid) (w.as_slice.ensures ∙ w.in_ok-write_entry-in-Change.ensures.text)
           ∙ kept_again c.args.next.now w.in-Change.xid w.in-Change.change w.in-Change.is w.write_entry.ensures.in_range w.write_entry.ensures.coded) w.in_ok-push-in-Change.ensures.ok))
       | in-AbortSub w ↦
@@ -76,7 +76,7 @@ returns-in_err-push-in-Change-clause-full_beside c = λ is rs ws count taken nex
     let mid : ReorderState = state c.open-in-Change.new.self c.self.inside.failed in
     let lent : AreLentIn old ws = subst (λ (s : ReorderState). AreLentIn s ws) (sym c.self.view_is) are in
     let whole : IsTidy count ws c.open-in-Change.new.self =
-    c.in_ok-open-in-Change.ensures.tidy count ws (tidy_settled old ws count lent (subst (λ (s : ReorderState). IsTidy count [] (settled s ws).strands) (sym c.self.view_is) tidy)) in
+    c.in_ok-open-in-Change.ensures.tidy count ws (tidy_settled old ws count lent (subst (λ (s : ReorderState). IsTidy count [] (after_giving_all_back s ws).strands) (sym c.self.view_is) tidy)) in
     let same : lent_chunks mid ws ≡ lent_chunks c.args.self.now ws = chunks_lent old mid ws lent c.open-in-Change.ensures.lent ∙ ap (λ (s : ReorderState). lent_chunks s ws) c.self.view_is in
     subst (λ (n : ℕ). LeavesNoRoomBeside n count rs c.args.next.now) same
     (no_room_beside mid rs ws count (length c.as_slice.result.now) c.args.next.now c.in-Change.xid c.in-Change.change o.kept (entries_lent old mid ws lent c.open-in-Change.ensures.lent).0 whole c.in-Change.is

@@ -1,6 +1,6 @@
 use Rattle.std.proofs.Common.{rules, [], true, sym, subst}
 use Rattle.reorder.specs.Chunks.{IsTidy, held_with}
-use Rattle.reorder.specs.Settled.{AreLentIn, LeavesNoRoomBeside, lent_chunks, settled}
+use Rattle.reorder.specs.Settled.{AreLentIn, LeavesNoRoomBeside, after_giving_all_back, lent_chunks}
 use Rattle.reorder.specs.Strands.{StrandsState}
 use Rattle.reorder.specs.Taking.{HasTaken, ReorderState}
 use Rattle.reorder.proofs.Settling.{lent_as, settled_as}
@@ -19,4 +19,4 @@ returns-in_err-step-clause-full_beside c = λ is rs ws count taken next are tidy
     subst (λ (s : ReorderState). LeavesNoRoomBeside (lent_chunks s ws) count rs c.args.next.now) c.self.view_is
     (c.in_err-step.ensures.full_beside (search rules) rs ws count (has_taken strands true rs before.ready) next
     (lent_as strands c.self.inside.failed true ws (subst (λ (s : ReorderState). AreLentIn s ws) (sym c.self.view_is) are))
-    (subst (λ (s : StrandsState). IsTidy count [] s) (settled_as strands c.self.inside.failed true ws) (subst (λ (s : ReorderState). IsTidy count [] (settled s ws).strands) (sym c.self.view_is) tidy)))
+    (subst (λ (s : StrandsState). IsTidy count [] s) (settled_as strands c.self.inside.failed true ws) (subst (λ (s : ReorderState). IsTidy count [] (after_giving_all_back s ws).strands) (sym c.self.view_is) tidy)))

@@ -1,10 +1,10 @@
 use Rattle.std.proofs.Common.{List, sym, subst}
 use Rattle.std.specs.Int.{w64}
 use Rattle.std.proofs.lemmas.Int.{to_z-of_z}
-use Rattle.reorder.specs.Settled.{settled}
+use Rattle.reorder.specs.Settled.{after_giving_all_back}
 use Rattle.reorder.specs.Taking.{HasTaken}
 use Rattle.reorder.proofs.Settling.{taken_settled}
-use Rattle.sender.specs.Waiting.{readies}
+use Rattle.sender.specs.Waiting.{ready_states}
 use Rattle.sender.specs.declared.waiting.Waiting.{Waiting}
 use Rattle.sender.proofs.outgoing.Outgoing.add_record.Goals as goal
 
@@ -15,8 +15,8 @@ returns-in-Quiet-clause-grows c =
 
 pub returns-in-Quiet-clause-taken : goal.returns-in-Quiet-clause-taken
 returns-in-Quiet-clause-taken c = λ rs taken.
-    subst (λ (ws : List Waiting). HasTaken (settled c.args.reorder.now (readies ws)) rs) (sym c.add_note.ensures.waiting)
-    (taken_settled c.args.reorder.now (readies c.args.self.now.waiting.items) rs c.requires.good.lent taken)
+    subst (λ (ws : List Waiting). HasTaken (after_giving_all_back c.args.reorder.now (ready_states ws)) rs) (sym c.add_note.ensures.waiting)
+    (taken_settled c.args.reorder.now (ready_states c.args.self.now.waiting.items) rs c.requires.good.lent taken)
 
 pub returns-in-Ready-clause-tidy : goal.returns-in-Ready-clause-tidy
 returns-in-Ready-clause-tidy c = rw c.in-Ready.is c.publish.ensures.tidy

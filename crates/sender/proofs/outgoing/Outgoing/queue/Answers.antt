@@ -2,8 +2,8 @@ use Rattle.std.proofs.Common.{◌≡◌, ap, length, subst, sym, ◌∙◌, arit
 use Rattle.std.specs.Int.{w64}
 use Rattle.std.proofs.lemmas.Int.{to_z-of_z}
 use Rattle.reorder.specs.Ready.{IsReadyIn, ReadyState}
-use Rattle.reorder.specs.Settled.{given_back}
-use Rattle.sender.specs.Waiting.{readies}
+use Rattle.reorder.specs.Settled.{after_giving_back}
+use Rattle.sender.specs.Waiting.{ready_states}
 use Rattle.sender.proofs.Committing.{queue_grows, queue_taken, refused_grows, refused_taken, refused_tidy}
 use Rattle.sender.proofs.Lent.{lent_first}
 use Rattle.sender.proofs.Queueing.{places_low}
@@ -17,7 +17,7 @@ commit-requires c =
 pub finish-requires : goal.finish-requires
 finish-requires c =
     subst (λ (r : ReadyState). IsReadyIn c.args.reorder.now.strands.pool r) (sym c.in-Err.ensures.err.0)
-    (lent_first c.args.reorder.now (readies c.args.self.now.waiting.items) c.args.ready c.requires.lent).0
+    (lent_first c.args.reorder.now (ready_states c.args.self.now.waiting.items) c.args.ready c.requires.lent).0
 
 pub returns-in-Ok-clause-grows : goal.returns-in-Ok-clause-grows
 returns-in-Ok-clause-grows c =
@@ -31,15 +31,15 @@ returns-in-Ok-clause-taken c = λ rs taken.
 
 pub returns-in-Err-clause-grows : goal.returns-in-Err-clause-grows
 returns-in-Err-clause-grows c =
-    let back : c.finish.new.self ≡ given_back c.args.reorder.now c.args.ready = c.finish.ensures.exact ∙ ap (given_back c.args.reorder.now) c.in-Err.ensures.err.0 in
+    let back : c.finish.new.self ≡ after_giving_back c.args.reorder.now c.args.ready = c.finish.ensures.exact ∙ ap (after_giving_back c.args.reorder.now) c.in-Err.ensures.err.0 in
     refused_grows c.args.selection.now c.args.reorder.now c.finish.new.self c.args.self.now c.args.ready c.args.clock c.requires.good c.requires.lent back c.commit.new.self c.in-Err.ensures.err.1 _ _
 
 pub returns-in-Err-clause-taken : goal.returns-in-Err-clause-taken
 returns-in-Err-clause-taken c =
-    let back : c.finish.new.self ≡ given_back c.args.reorder.now c.args.ready = c.finish.ensures.exact ∙ ap (given_back c.args.reorder.now) c.in-Err.ensures.err.0 in
+    let back : c.finish.new.self ≡ after_giving_back c.args.reorder.now c.args.ready = c.finish.ensures.exact ∙ ap (after_giving_back c.args.reorder.now) c.in-Err.ensures.err.0 in
     refused_taken c.args.selection.now c.args.reorder.now c.finish.new.self c.args.self.now c.args.ready c.args.clock c.requires.good c.requires.lent back c.commit.new.self c.in-Err.ensures.err.1
 
 pub returns-in-Err-clause-tidy : goal.returns-in-Err-clause-tidy
 returns-in-Err-clause-tidy c =
-    let back : c.finish.new.self ≡ given_back c.args.reorder.now c.args.ready = c.finish.ensures.exact ∙ ap (given_back c.args.reorder.now) c.in-Err.ensures.err.0 in
+    let back : c.finish.new.self ≡ after_giving_back c.args.reorder.now c.args.ready = c.finish.ensures.exact ∙ ap (after_giving_back c.args.reorder.now) c.in-Err.ensures.err.0 in
     refused_tidy c.args.selection.now c.args.reorder.now c.finish.new.self c.args.self.now c.args.ready c.args.clock c.requires.good c.requires.lent back c.commit.new.self c.in-Err.ensures.err.1

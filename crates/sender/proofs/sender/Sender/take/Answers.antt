@@ -3,9 +3,9 @@ use Rattle.std.specs.Int.{w64}
 use Rattle.std.proofs.lemmas.Int.{to_z-of_z}
 use Rattle.wal.specs.declared.record.Record.{Record}
 use Rattle.reorder.specs.Settled.{LeavesNoRoomBeside, lent_chunks}
-use Rattle.reorder.specs.Taking.{MayCome, Takes, readied}
+use Rattle.reorder.specs.Taking.{MayCome, Takes, readied_changes}
 use Rattle.reorder.specs.declared.fault.ReorderFault.{ReorderFault}
-use Rattle.sender.specs.Waiting.{readies}
+use Rattle.sender.specs.Waiting.{ready_states}
 use Rattle.sender.proofs.GivingWay.{lacks_room_alone, read_behind, tidy_then}
 use Rattle.sender.proofs.Lent.{keeps_lent}
 use Rattle.sender.proofs.Noting.{on_err}
@@ -30,7 +30,7 @@ add_record-requires-clause-good c = (keeps_lent c.self.inside.selection c.give_w
 
 pub add_record-requires-clause-lent : goal.add_record-requires-clause-lent
 add_record-requires-clause-lent c =
-    lent_step c.give_way.new.reorder c.take.new.self (readies c.give_way.new.self.waiting.items) c.in-Ok.step c.give_way.ensures.same.good.lent c.take.ensures.lent c.in-Ok.ensures.held c.in-Ok.ensures.apart
+    lent_step c.give_way.new.reorder c.take.new.self (ready_states c.give_way.new.self.waiting.items) c.in-Ok.step c.give_way.ensures.same.good.lent c.take.ensures.lent c.in-Ok.ensures.held c.in-Ok.ensures.apart
 
 -- refused
 
@@ -56,7 +56,7 @@ pub returns-in-Err-Full-clause-room : goal.returns-in-Err-Full-clause-room
 returns-in-Err-Full-clause-room c = λ is.
     let i = c.self.inside in
     let g = c.give_way.new in
-    let ws = readies g.self.waiting.items in
+    let ws = ready_states g.self.waiting.items in
     let full : c.take.result ≡ Err ReorderFault.Full = c.in-Err-Full.is ∙ ap Err c.in-Err-Full.field-0-is in
     rw (← c.self.view_is) (λ rs count taken may tidy.
     lacks_room_alone i.selection i.reorder g.reorder i.outgoing g.self c.give_way.ensures.same rs count c.args.next.now.value c.in_ok-give_way.ensures.free taken tidy
@@ -71,7 +71,7 @@ returns-clause-ok c =
     let g = c.give_way.new in
     let m = c.take.new.self in
     let told = c.in_ok-add_record-in-Ok.ensures in
-    let ready = readied m c.in-Ok.step in
+    let ready = readied_changes m c.in-Ok.step in
     let grows = rw (to_z-of_z w64 c.args.clock c.ranges.clock, c.deref-in-Ok.ensures) at told.grows in
     let fit = rw c.deref-in-Ok.ensures at told.fit in
     let takes = subst (λ (r : Record). Takes g.reorder m r ready) c.deref.ensures c.in-Ok.ensures.ok in
@@ -84,7 +84,7 @@ pub returns-clause-chunks : goal.returns-clause-chunks
 returns-clause-chunks c =
     let i = c.self.inside in
     let g = c.give_way.new in
-    let ws = readies g.self.waiting.items in
+    let ws = ready_states g.self.waiting.items in
     rw (← c.self.view_is) (λ count tidy.
     c.in_ok-add_record-in-Ok.ensures.tidy count
     (tidy_step g.reorder c.take.new.self ws c.in-Ok.step count c.give_way.ensures.same.good.lent

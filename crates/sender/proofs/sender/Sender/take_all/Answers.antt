@@ -1,7 +1,7 @@
 use Rattle.std.proofs.Common.{◌∷◌, [], true, take, ap, refl, sym, ◌∙◌, arith}
 use Rattle.std.specs.Int.{w64}
 use Rattle.std.proofs.lemmas.Int.{to_z-of_z}
-use Rattle.wal.specs.Records.{shared}
+use Rattle.wal.specs.Records.{shared_records}
 use Rattle.sender.specs.Outgoing.{held_of, sent_of, settled_of}
 use Rattle.sender.specs.Sending.{SenderState}
 use Rattle.sender.proofs.Batches.{ReadOne-ReadAll, ReadAll-append, lacks_room, shared_at, shared_more, stopped_at}
@@ -19,7 +19,7 @@ pub loop-record-preserved : goal.loop-record-preserved
 loop-record-preserved c =
     let item = shared_more c.args.records.now c.loop-record.record-index c.record-item.result (omega arith) (sym c.record-item.is) in
     record {
-      read = rw item (ReadAll-append _ c.args.self.now c.loop-record.self c.take.new.self (shared (take c.loop-record.record-index c.args.records.now)) (c.record-item.result.value ∷ [])
+      read = rw item (ReadAll-append _ c.args.self.now c.loop-record.self c.take.new.self (shared_records (take c.loop-record.record-index c.args.records.now)) (c.record-item.result.value ∷ [])
           c.loop-record.invariant.read (ReadOne-ReadAll _ c.loop-record.self c.take.new.self c.record-item.result.value c.in-Ok.ensures.ok));
       running = c.in-Ok.ensures.failed ∙ c.loop-record.invariant.running;
       chunks = λ count before. c.in-Ok.ensures.chunks count (c.loop-record.invariant.chunks count before);

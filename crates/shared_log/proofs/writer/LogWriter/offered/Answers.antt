@@ -3,7 +3,7 @@ use Rattle.std.specs.Arc.{arc_value}
 use Rattle.std.proofs.lemmas.List.{append-nil}
 use Rattle.wal.specs.Log.{IsWellFormedLog}
 use Rattle.shared_log.specs.declared.entry.Entry.TheVariants.{Offered, Confirmed}
-use Rattle.shared_log.specs.Fronts.{settled, shown}
+use Rattle.shared_log.specs.Fronts.{settled_records, shown_records}
 use Rattle.shared_log.specs.Kept.{kept_in, records_in, with_restarts}
 use Rattle.shared_log.proofs.Kept.{records_of}
 use Rattle.shared_log.proofs.Fronts.{settled_offer, settled_confirm, shown_offer}
@@ -23,7 +23,7 @@ returns-in-Err-clause-err g c =
     let front = c.self.inside.front in
     let r = arc_value c.args.entry in
     let next : c.offer.new.self ≡ front ++ Offered r ∷ [] = rw (c.again-next.ensures, c.deref.ensures) at c.if-not-offer.ensures in
-    ap settled next ∙ settled_offer front r ∙ c.self.view_is
+    ap settled_records next ∙ settled_offer front r ∙ c.self.view_is
 
 pub invariant_of-same-in-Err-published : goal.invariant_of-same-in-Err-published
 invariant_of-same-in-Err-published g c =
@@ -38,7 +38,7 @@ returns-in-Err-published-clause-err g c =
     let front = c.self.inside.front in
     let r = arc_value c.args.entry in
     let next : c.offer.new.self ≡ front ++ Offered r ∷ [] = rw (c.again-next.ensures, c.deref.ensures) at c.if-not-offer.ensures in
-    ap settled next ∙ settled_offer front r ∙ c.self.view_is
+    ap settled_records next ∙ settled_offer front r ∙ c.self.view_is
 
 pub publish_as-writer-requires : goal.publish_as-writer-requires
 publish_as-writer-requires g c new is views keeps at =
@@ -46,7 +46,7 @@ publish_as-writer-requires g c new is views keeps at =
     let r = arc_value c.args.entry in
     let next : c.offer.new.self ≡ front ++ Offered r ∷ [] = rw (c.again-next.ensures, c.deref.ensures) at c.if-not-offer.ensures in
     let stands = c.self.invariant.0 in
-    let log = settled front in
+    let log = settled_records front in
     let of : IsOf log r c.args.about.0 c.args.about.1 = of_self c.args.self front r c.args.about.0 c.args.about.1 c.self.view_is c.requires.good c.requires.top c.requires.ends in
     let old = c.append.new.self.desk.shown.value.records.items in
     let before : kept_in old ≡ with_restarts log = rw c.append.ensures.desk stands.shown in
@@ -58,7 +58,7 @@ publish_as-writer-requires g c new is views keeps at =
     let longer : records_in old ++ r ∷ [] ≡ records_in new.records.items = ap (λ l. l ++ r ∷ []) (records_of old log before) ∙ sym records in
     let named : new.mark.seen.book ≡ g.L.LogName.book = ap (λ s. s.book) seen ∙ c.mark.ensures.1 in
     let entries : new.mark.seen.log ≡ front ++ Offered r ∷ [] = ap (λ s. s.log) seen ∙ c.mark.ensures.0 ∙ next in
-    let says : records_in new.records.items ≡ shown new.mark.seen.log = records ∙ sym (ap shown entries ∙ shown_offer front r) in
+    let says : records_in new.records.items ≡ shown_records new.mark.seen.log = records ∙ sym (ap shown_records entries ∙ shown_offer front r) in
     goes_on g.L.LogName.book _ _ _ _ _ _ _ _ _ _ views keeps at (r ∷ [], longer) (subst IsWellFormedLog (sym records) of.good) named says (kept ∙ ap with_restarts (sym records))
 
 pub invariant_of-grown : goal.invariant_of-grown
@@ -67,7 +67,7 @@ invariant_of-grown g c =
     let r = arc_value c.args.entry in
     let next : c.offer.new.self ≡ front ++ Offered r ∷ [] = rw (c.again-next.ensures, c.deref.ensures) at c.if-not-offer.ensures in
     let stands = c.self.invariant.0 in
-    let log = settled front in
+    let log = settled_records front in
     let of : IsOf log r c.args.about.0 c.args.about.1 = of_self c.args.self front r c.args.about.0 c.args.about.1 c.self.view_is c.requires.good c.requires.top c.requires.ends in
     let made = on_ok _ _ c.publish_as-writer.result.1 c.in-Ok-published.field-0 c.in-Ok-published.is c.publish_as-writer.ensures.values in
     let before : kept_in c.append.new.self.desk.shown.value.records.items ≡ with_restarts log = rw c.append.ensures.desk stands.shown in
@@ -92,10 +92,10 @@ returns-clause-ok g c =
     let r = arc_value c.args.entry in
     let next : c.offer.new.self ≡ front ++ Offered r ∷ [] = rw (c.again-next.ensures, c.deref.ensures) at c.if-not-offer.ensures in
     let sure : c.confirmed-sure.result ≡ c.offer.new.self ++ Confirmed ∷ [] = c.confirmed-sure.ensures.value in
-    let now : settled c.confirmed-sure.result ≡ c.args.self ++ r ∷ [] =
-    ap settled sure ∙ settled_confirm c.offer.new.self ∙ ap shown next ∙ shown_offer front r ∙ ap (λ l. l ++ r ∷ []) c.self.view_is in (
-      ap settled c.again-2.ensures ∙ now,
+    let now : settled_records c.confirmed-sure.result ≡ c.args.self ++ r ∷ [] =
+    ap settled_records sure ∙ settled_confirm c.offer.new.self ∙ ap shown_records next ∙ shown_offer front r ∙ ap (λ l. l ++ r ∷ []) c.self.view_is in (
+      ap settled_records c.again-2.ensures ∙ now,
       c.requires.tells,
       c.self.invariant.0.counted ∙ ap length c.self.view_is,
-      ap settled (c.again.ensures ∙ sym c.again-2.ensures),
+      ap settled_records (c.again.ensures ∙ sym c.again-2.ensures),
     )

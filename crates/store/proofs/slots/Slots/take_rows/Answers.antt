@@ -1,7 +1,7 @@
 use Rattle.std.proofs.Common.{◌≡◌, ℕ, List, [], ◌∷◌, ◌++◌, None, drop, ◌+◌, sym, ap, ◌∙◌}
 use Rattle.std.proofs.lemmas.List.{drop_more}
 use Rattle.store.specs.declared.slot.Slot.{Slot}
-use Rattle.store.specs.Slots.{put, slot_at}
+use Rattle.store.specs.Slots.{slot_at, slots_with}
 use Rattle.store.specs.Emptying.{IsOf, taken_at}
 use Rattle.store.proofs.Truncating.{taken_next, noted_next, noted_same, all_at}
 use Rattle.store.proofs.slots.Slots.take_rows.Goals as goal
@@ -16,7 +16,7 @@ loop-row-preserved c =
     let p : List ℕ = c.row-item.result in
     let taken : Slot = record { row = None; owner = c.owner-owner.result } in
     let at : c.as_slice-place.result.now ≡ p = c.as_slice-place.ensures in
-    let made : c.note.new.self ≡ put p taken c.loop-row.self = c.in_ok-note.ensures.ok ∙ ap (λ (k : List ℕ). put k taken c.loop-row.self) at in
+    let made : c.note.new.self ≡ slots_with p taken c.loop-row.self = c.in_ok-note.ensures.ok ∙ ap (λ (k : List ℕ). slots_with k taken c.loop-row.self) at in
     let left : drop i c.args.rows.now ≡ p ∷ drop (i + 1) c.args.rows.now =
     drop_more c.args.rows.now i p c.loop-row-test.true ∙ ap (λ (k : List ℕ). k ∷ drop (i + 1) c.args.rows.now) (sym c.row-item.is) in (
       λ place. taken_next c.args.rows.now i p c.owner-owner.result c.loop-row.self c.note.new.self place (taken_at c.args.rows.now place (slot_at c.args.self.now place)) left

@@ -3,7 +3,7 @@ use Rattle.std.specs.Prelude.{IsTrue, is_some}
 use Rattle.store.specs.Rows.{Key}
 use Rattle.store.specs.Slots.{slot_at}
 use Rattle.tables.specs.Tables.{FitsChange}
-use Rattle.store.specs.History.{Made, made, Deletes, delete_fault, delete_refusal}
+use Rattle.store.specs.History.{Made, change_made, Deletes, delete_fault, delete_refusal}
 use Rattle.store.specs.Keeping.{Keeps, Makes, IsSame, DeletesAt, key_held, row_at}
 use Rattle.tables.specs.Spelling.{IsShort}
 use Rattle.tables.proofs.Lengths.{short_of_fits}
@@ -35,7 +35,7 @@ pub returns-in-Ok-clause-ok : goal.returns-in-Ok-clause-ok
 returns-in-Ok-clause-ok c =
     let key : Key = record { oid = c.args.oid; values = c.args.key.now } in
     if_ok_both c.delete_at.result (DeletesAt c.args.self.now c.args.oid c.in-Ok.place)
-    (λ change. (h : List Made) → Keeps c.args.self.now h → Keeps c.delete_at.new.self (h ++ made c.args.top change ∷ []))
+    (λ change. (h : List Made) → Keeps c.args.self.now h → Keeps c.delete_at.new.self (h ++ change_made c.args.top change ∷ []))
     (Makes c.args.top ((c.in-Ok.place, None) ∷ []) c.args.self.now c.delete_at.new.self)
     (λ change deletes makes h keeps. delete_made c.args.self.now c.delete_at.new.self h c.args.top key c.in-Ok.place change c.ranges.oid.fits c.in-Ok.ensures.place (c.in-Ok.ensures.refused keeps.short) deletes makes keeps)
     c.delete_at.ensures.change c.delete_at.ensures.ok

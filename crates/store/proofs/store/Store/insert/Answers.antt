@@ -2,7 +2,7 @@ use Rattle.std.proofs.Common.{◌≡◌, subst, List, [], ◌∷◌, ◌++◌, S
 use Rattle.tables.specs.declared.change.Change.TheVariants as changes
 use Rattle.store.specs.Rows.{key_of}
 use Rattle.std.specs.Prelude.{is_some}
-use Rattle.store.specs.History.{Made, made, insert_fault, insert_refusal}
+use Rattle.store.specs.History.{Made, change_made, insert_fault, insert_refusal}
 use Rattle.store.specs.Keeping.{Keeps, Makes, IsSame, key_held, row_at}
 use Rattle.tables.specs.Spelling.{IsShort}
 use Rattle.store.proofs.Outcomes.{on_ok, on_err, if_ok, refused_by, refused_memory}
@@ -17,7 +17,7 @@ returns-in-Ok-clause-short c =
 pub returns-in-Ok-clause-ok : goal.returns-in-Ok-clause-ok
 returns-in-Ok-clause-ok c =
     on_ok c.insert_at.result (Makes c.args.top ((c.in-Ok.place, Some c.args.row) ∷ []) c.args.self.now c.insert_at.new.self)
-    ((h : List Made) → Keeps c.args.self.now h → Keeps c.insert_at.new.self (h ++ made c.args.top (changes.Insert c.args.oid c.args.row) ∷ []))
+    ((h : List Made) → Keeps c.args.self.now h → Keeps c.insert_at.new.self (h ++ change_made c.args.top (changes.Insert c.args.oid c.args.row) ∷ []))
     (λ makes h keeps. insert_made c.args.self.now c.insert_at.new.self h c.args.top c.args.oid c.args.row c.in-Ok.place c.in-Ok.ensures.place c.in-Ok.ensures.fits c.in-Ok.ensures.refused makes keeps)
     c.insert_at.ensures.ok
 

@@ -1,6 +1,6 @@
 use Rattle.std.proofs.Common.{◌≡◌, subst, sym, List, [], ◌∷◌, ◌++◌}
 use Rattle.tables.specs.declared.change.Change.TheVariants as changes
-use Rattle.store.specs.History.{Made, made}
+use Rattle.store.specs.History.{Made, change_made}
 use Rattle.store.specs.Keeping.{Keeps, IsSame}
 use Rattle.store.specs.Emptying.{Does}
 use Rattle.tables.specs.Spelling.{IsShort}
@@ -16,7 +16,7 @@ returns-in-Ok-clause-short c =
 pub returns-in-Ok-clause-ok : goal.returns-in-Ok-clause-ok
 returns-in-Ok-clause-ok c =
     on_ok c.empty.result (Does c.args.top (changes.Truncate c.args.oids.now) c.args.self.now c.empty.new.self)
-    ((h : List Made) → Keeps c.args.self.now h → Keeps c.empty.new.self (h ++ made c.args.top (changes.Truncate c.args.oids.now) ∷ []))
+    ((h : List Made) → Keeps c.args.self.now h → Keeps c.empty.new.self (h ++ change_made c.args.top (changes.Truncate c.args.oids.now) ∷ []))
     (λ does h keeps. truncate_made c.args.self.now c.empty.new.self h c.args.top c.args.oids.now c.in-Ok.ensures.fits (c.in-Ok.ensures.refused h keeps) does keeps) c.empty.ensures.ok
 
 pub returns-in-Ok-clause-err : goal.returns-in-Ok-clause-err

@@ -3,7 +3,7 @@ use Rattle.std.specs.Prelude.{IsTrue, is_some}
 use Rattle.store.specs.Rows.{Key, key_text, key_of}
 use Rattle.store.specs.Slots.{same_key, slot_at}
 use Rattle.tables.specs.Tables.{FitsChange}
-use Rattle.store.specs.History.{Made, made, row_place, Updates, update_fault, update_refusal}
+use Rattle.store.specs.History.{Made, change_made, row_place, Updates, update_fault, update_refusal}
 use Rattle.store.specs.Keeping.{Keeps, Makes, IsSame, UpdatesAt, key_held, row_at}
 use Rattle.tables.specs.Spelling.{IsShort}
 use Rattle.tables.proofs.Lengths.{short_of_fits}
@@ -35,7 +35,7 @@ pub returns-in-Ok-clause-ok : goal.returns-in-Ok-clause-ok
 returns-in-Ok-clause-ok c =
     let key : Key = record { oid = c.args.oid; values = c.args.key.now } in
     if_ok_both c.update_at.result (UpdatesAt c.args.self.now c.args.oid c.in-Ok.from c.args.row)
-    (λ change. (h : List Made) → Keeps c.args.self.now h → Keeps c.update_at.new.self (h ++ made c.args.top change ∷ []))
+    (λ change. (h : List Made) → Keeps c.args.self.now h → Keeps c.update_at.new.self (h ++ change_made c.args.top change ∷ []))
     (Makes c.args.top ((c.in-Ok.from, None) ∷ (c.in-Ok.to, Some c.args.row) ∷ []) c.args.self.now c.update_at.new.self)
     (λ change updates makes h keeps. update_made c.args.self.now c.update_at.new.self h c.args.top key c.args.row c.in-Ok.from c.in-Ok.to change c.ranges.oid.fits c.in-Ok.ensures.places.0 c.in-Ok.ensures.places.1
     c.in-Ok.ensures.fits (c.in-Ok.ensures.refused keeps.short) updates makes keeps)

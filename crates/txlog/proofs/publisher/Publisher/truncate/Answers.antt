@@ -1,7 +1,7 @@
 use Rattle.std.proofs.Common.{arith, ◌^◌, ◌∷◌, [], ◌++◌, sym, subst}
 use Rattle.tables.specs.declared.change.Change.{Change}
 use Rattle.store.specs.Keeping.{Keeps}
-use Rattle.store.specs.History.{made}
+use Rattle.store.specs.History.{change_made}
 use Rattle.tables.proofs.Lengths.{coded_of_fits}
 use Rattle.store.specs.History as history
 use Rattle.txlog.specs.Publishing.{PublisherState}
@@ -31,7 +31,7 @@ invariant_of-self g c =
     let w = c.write.ensures in
     change_written c.self.inside.store c.truncate.new.self c.write.new.store s c.args.self.now c.args.tx.now c.in_ok-at.at c.in-Ok.change c.write.new.log c.write.result c.self.view_is c.self.invariant
     at.live at.innermost at.mark at.room c.in-Ok.ensures.fits c.in-Ok.ensures.short
-    (subst (λ (d : Change). Keeps c.truncate.new.self (history_of s.log ++ made c.in_ok-at.at.xid d ∷ [])) (sym c.in-Ok.ensures.change) (c.in-Ok.ensures.ok (history_of s.log) c.self.invariant.rows)) c.in-Ok.ensures.tables w.ok w.room w.err w.undone w.tables
+    (subst (λ (d : Change). Keeps c.truncate.new.self (history_of s.log ++ change_made c.in_ok-at.at.xid d ∷ [])) (sym c.in-Ok.ensures.change) (c.in-Ok.ensures.ok (history_of s.log) c.self.invariant.rows)) c.in-Ok.ensures.tables w.ok w.room w.err w.undone w.tables
 
 pub returns-in-Ok-clause-publisher : goal.returns-in-Ok-clause-publisher
 returns-in-Ok-clause-publisher g c = (invariant_of-self g c).publisher

@@ -1,7 +1,7 @@
 use Rattle.std.proofs.Common.{◌≡◌, ◌+◌, ℕ, length, sym, ap, ◌∙◌}
 use Rattle.std.specs.Int.{w64}
 use Rattle.std.proofs.lemmas.Int.{to_z-of_z}
-use Rattle.wal.specs.Records.{shared}
+use Rattle.wal.specs.Records.{shared_records}
 use Rattle.walsender.specs.Serving.{next_records}
 use Rattle.walsender.proofs.Serving.{feeds, length_shared, read_on}
 use Rattle.walsender.proofs.walsender.Walsender.read.Goals as goal
@@ -10,7 +10,7 @@ pub returns-clause-serves : goal.returns-clause-serves
 returns-clause-serves g c = λ log written max good same serving.
     let place = c.args.self.now.reader.place in
     let s = c.args.self.now.sender in
-    let section_is : shared c.as_slice.result.now ≡ next_records max place log = ap shared c.as_slice.ensures.value ∙ c.in_ok-records.ensures.gives.0 ∙ same in
+    let section_is : shared_records c.as_slice.result.now ≡ next_records max place log = ap shared_records c.as_slice.ensures.value ∙ c.in_ok-records.ensures.gives.0 ∙ same in
     let len = ap length (sym section_is) ∙ length_shared c.as_slice.result.now ∙ c.as_slice.ensures.len in
     let moved : c.fetch.new.self.place ≡ place + length (next_records max place log) = c.in_ok-records.ensures.gives.1 ∙ sym (ap (λ (n : ℕ). place + n) len) in
     let told = c.feed.ensures in

@@ -3,9 +3,9 @@ use Rattle.std.specs.Prelude.{◌&&◌, is_some}
 use Rattle.std.specs.List.{AllByRecursion}
 use Rattle.std.proofs.lemmas.Option.{slice_get_within}
 use Rattle.world.specs.State.{SubscriberState, open_start, subscriber_of}
-use Rattle.named_slots.specs.Words.{confirmed_by}
+use Rattle.named_slots.specs.Words.{slots_after_confirming}
 use Rattle.world.specs.Slots.{has_status, is_waiting}
-use Rattle.world.specs.Machine.{IsSubscribed, shown, subscriber_state}
+use Rattle.world.specs.Machine.{IsSubscribed, subscriber_state, world_of}
 use Rattle.starts.specs.Starts.{start_state}
 use Rattle.world.proofs.Naming.{place_within, still_named}
 use Rattle.world.proofs.Openings.{none_open, open_at}
@@ -25,7 +25,7 @@ returns-in_default-next_status-clause-bad g c = λ same.
 
 pub returns-in_default-next_status-clause-err : goal.returns-in_default-next_status-clause-err
 returns-in_default-next_status-clause-err g c =
-    ap (λ (l : List SubscriberState). record (shown c.args.self.now) { subscribers = l })
+    ap (λ (l : List SubscriberState). record (world_of c.args.self.now) { subscribers = l })
     (same_states c.in-Some.at c.args.self.now.subscribers.items c.index_mut-subscriber.result.now c.next_status.new.self c.index_mut-subscriber.ensures.value c.in_default-next_status.ensures.1)
 
 pub returns-in_default-next_status-clause-machine : goal.returns-in_default-next_status-clause-machine
@@ -53,7 +53,7 @@ returns-clause-acknowledges g c =
     let new = c.next_status.new.self in
     acknowledges c.args.name.now c.in-Some.place c.in-Some.at c.args.self.now c.index.result.now c.index_mut-subscriber.result.now new status c.confirm.new.slots at c.index.ensures one c.index_mut-subscriber.ensures.value
     c.in-Some-next_status.ensures.0 c.in-Some-next_status.ensures.1
-    (c.confirm.ensures ∙ ap (λ (n : ℕ). confirmed_by new.slot n c.args.self.now.slots) (c.min.ensures ∙ ap (λ (n : ℕ). min status.flushed n) c.position-read.ensures))
+    (c.confirm.ensures ∙ ap (λ (n : ℕ). slots_after_confirming new.slot n c.args.self.now.slots) (c.min.ensures ∙ ap (λ (n : ℕ). min status.flushed n) c.position-read.ensures))
 
 pub returns-clause-machine : goal.returns-clause-machine
 returns-clause-machine g c =

@@ -3,9 +3,9 @@ use Rattle.std.specs.List.{AllByRecursion}
 use Rattle.starts.specs.declared.action.Action.{Action}
 use Rattle.named_slots.specs.State.{SlotsState}
 use Rattle.world.specs.State.{SubscriberState, WorldState}
-use Rattle.named_slots.specs.Words.{let_go}
+use Rattle.named_slots.specs.Words.{slots_after_letting_go}
 use Rattle.world.specs.ConnectionLines.{ActsAt, slots_after, subscribers_after}
-use Rattle.world.specs.Machine.{ActsIn, IsSubscribed, shown, subscriber_state}
+use Rattle.world.specs.Machine.{ActsIn, IsSubscribed, subscriber_state, world_of}
 use Rattle.starts.specs.Starts.{start_state}
 use Rattle.world.proofs.Openings.{open_at, none_open}
 use Rattle.world.proofs.Asking.{acted_at, subscribed_on}
@@ -38,10 +38,10 @@ returns-in-Cut-clause-acts g c =
     let subscribers : subscribers_after c.args.name.now c.args.action before ≡ map subscriber_state c.reconnect-slot.new.subscribers.items =
     ap (λ (action : Action). subscribers_after c.args.name.now action before) c.in-Cut.is ∙ sym c.reconnect-slot.ensures.again in
     let slots : slots_after c.args.name.now c.args.action before c.args.self.now.slots ≡ c.let_go.new.slots =
-    ap (λ (action : Action). slots_after c.args.name.now action before c.args.self.now.slots) c.in-Cut.is ∙ ap (λ (slot : Option (List ℕ)). let_go slot c.args.self.now.slots) (sym c.reconnect-slot.ensures.slot) ∙ sym c.let_go.ensures in
-    let after : SlotsState → List SubscriberState → WorldState = λ s l. record (shown c.args.self.now) { slots = s; starts = map start_state c.act_at.new.starts.items; subscribers = l } in
-    rw c.act_at.ensures.same (subst (λ (l : List SubscriberState). ActsAt c.args.name.now c.args.action (shown c.args.self.now) c.in_ok-answer.answer (after c.let_go.new.slots l)) subscribers
-    (subst (λ (s : SlotsState). ActsAt c.args.name.now c.args.action (shown c.args.self.now) c.in_ok-answer.answer (after s (subscribers_after c.args.name.now c.args.action before))) slots did))
+    ap (λ (action : Action). slots_after c.args.name.now action before c.args.self.now.slots) c.in-Cut.is ∙ ap (λ (slot : Option (List ℕ)). slots_after_letting_go slot c.args.self.now.slots) (sym c.reconnect-slot.ensures.slot) ∙ sym c.let_go.ensures in
+    let after : SlotsState → List SubscriberState → WorldState = λ s l. record (world_of c.args.self.now) { slots = s; starts = map start_state c.act_at.new.starts.items; subscribers = l } in
+    rw c.act_at.ensures.same (subst (λ (l : List SubscriberState). ActsAt c.args.name.now c.args.action (world_of c.args.self.now) c.in_ok-answer.answer (after c.let_go.new.slots l)) subscribers
+    (subst (λ (s : SlotsState). ActsAt c.args.name.now c.args.action (world_of c.args.self.now) c.in_ok-answer.answer (after s (subscribers_after c.args.name.now c.args.action before))) slots did))
 
 pub returns-in-Cut-clause-machine : goal.returns-in-Cut-clause-machine
 returns-in-Cut-clause-machine g c =
@@ -67,13 +67,13 @@ pub returns-in_default-action : goal.returns-in_default-action
 returns-in_default-action g c =
     let log = c.args.self.now.publisher.log in
     let before = map subscriber_state c.args.self.now.subscribers.items in
-    let after : SlotsState → List SubscriberState → WorldState = λ s l. record (shown c.args.self.now) { slots = s; starts = map start_state c.act_at.new.starts.items; subscribers = l } in
+    let after : SlotsState → List SubscriberState → WorldState = λ s l. record (world_of c.args.self.now) { slots = s; starts = map start_state c.act_at.new.starts.items; subscribers = l } in
     let at = open_at c.args.name.now c.args.self.now.starts.items c.args.self.now.opened.items c.in-Some.place c.requires.machine.found
     (rw (c.as_slice.ensures.value, c.as_slice-2.ensures.value) at (sym c.place_among-found.ensures ∙ c.in-Some.is)) in
     record {
-      acts = rw c.act_at.ensures.same (subst (λ (l : List SubscriberState). ActsAt c.args.name.now c.args.action (shown c.args.self.now) c.in_ok-answer.answer (after c.args.self.now.slots l))
+      acts = rw c.act_at.ensures.same (subst (λ (l : List SubscriberState). ActsAt c.args.name.now c.args.action (world_of c.args.self.now) c.in_ok-answer.answer (after c.args.self.now.slots l))
           (kept_subscribers c.args.name.now c.args.action before (no_cut c.args.action c.in_default-action.not-Cut))
-          (subst (λ (s : SlotsState). ActsAt c.args.name.now c.args.action (shown c.args.self.now) c.in_ok-answer.answer (after s (subscribers_after c.args.name.now c.args.action before)))
+          (subst (λ (s : SlotsState). ActsAt c.args.name.now c.args.action (world_of c.args.self.now) c.in_ok-answer.answer (after s (subscribers_after c.args.name.now c.args.action before)))
           (kept_slots c.args.name.now c.args.action before c.args.self.now.slots (no_cut c.args.action c.in_default-action.not-Cut))
           (acted_at c.args.name.now c.in-Some.place c.args.action c.args.self.now c.act_at.new.starts.items c.in_ok-answer.answer at c.in_ok-answer.ensures.acts)));
       bad = λ never. cc;

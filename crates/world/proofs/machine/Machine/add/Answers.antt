@@ -2,7 +2,7 @@ use Rattle.std.proofs.Common.{◌≡◌, ◌++◌, ◌∷◌, [], List, length, 
 use Rattle.std.proofs.lemmas.List.{map-append}
 use Rattle.std.specs.List.{AllByRecursion}
 use Rattle.starts.specs.declared.start.Start.{Start}
-use Rattle.starts.specs.State.{StartState, running}
+use Rattle.starts.specs.State.{StartState, running_count}
 use Rattle.world.specs.State.{SubscriberState, with_one_for}
 use Rattle.starts.specs.Starts.{IsServed, start_state}
 use Rattle.world.specs.Machine.{IsSubscribed, subscriber_state}
@@ -22,7 +22,7 @@ returns-clause-machine g c =
     let states_is = ap (map start_state) starts_is ∙ map-append start_state cs (start ∷ []) in
     let opened : (start_state start).is_open ≡ true = ap (λ (s : StartState). s.is_open) c.new-start.ensures.fresh in
     let named = ap (λ (s : SubscriberState). with_one_for s.connection c.args.subscriber.slot ss) c.requires.subscriber ∙ sym (ap (λ (s : StartState). with_one_for s.connection c.args.subscriber.slot ss) c.new-start.ensures.fresh) in
-    let one_more = ap running states_is ∙ running_more (map start_state cs) (start_state start) opened in
+    let one_more = ap running_count states_is ∙ running_more (map start_state cs) (start_state start) opened in
     record {
       good = c.requires.machine.good;
       served = subst (λ (l : List (Start _)). AllByRecursion (IsServed log) l) (sym starts_is) (all_of_both (IsServed log) cs (start ∷ []) c.requires.machine.served (c.new-start.ensures.served log (c.requires.resumed _ _ c.in-Some.ensures.items), tt));

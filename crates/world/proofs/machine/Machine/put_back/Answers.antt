@@ -3,7 +3,7 @@ use Rattle.std.specs.List.{AllByRecursion}
 use Rattle.std.specs.Int.{w64}
 use Rattle.std.proofs.lemmas.Int.{to_z-of_z}
 use Rattle.world.specs.State.{SubscriberState}
-use Rattle.world.specs.Machine.{IsSubscribed, shown, subscriber_state}
+use Rattle.world.specs.Machine.{IsSubscribed, subscriber_state, world_of}
 use Rattle.starts.specs.Starts.{start_state}
 use Rattle.world.proofs.Naming.{place_within, still_named}
 use Rattle.world.proofs.Openings.{none_open, open_at}
@@ -17,7 +17,7 @@ returns-in_default-clause-bad g c = λ same. c.places_of.ensures.none c.in_defau
 pub returns-in_err-put_back-clause-err : goal.returns-in_err-put_back-clause-err
 returns-in_err-put_back-clause-err g c =
     on_err c.from_residual.result _
-    (ap (λ (l : List SubscriberState). record (shown c.args.self.now) { subscribers = l }) (same_states c.in-Some.at c.args.self.now.subscribers.items c.index_mut.result.now c.put_back.new.self c.index_mut.ensures.value c.in_err-put_back.ensures.err))
+    (ap (λ (l : List SubscriberState). record (world_of c.args.self.now) { subscribers = l }) (same_states c.in-Some.at c.args.self.now.subscribers.items c.index_mut.result.now c.put_back.new.self c.index_mut.ensures.value c.in_err-put_back.ensures.err))
 
 pub returns-in_err-put_back-clause-machine : goal.returns-in_err-put_back-clause-machine
 returns-in_err-put_back-clause-machine g c = record {

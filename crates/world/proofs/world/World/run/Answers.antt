@@ -5,7 +5,7 @@ use Rattle.std.proofs.lemmas.List.{take_all}
 use Rattle.schedule.specs.declared.answer.Answer.{Answer}
 use Rattle.schedule.specs.declared.event.Event.{Event}
 use Rattle.world.specs.State.{WorldState, new_world}
-use Rattle.world.specs.Machine.{shown}
+use Rattle.world.specs.Machine.{world_of}
 use Rattle.world.specs.Steps.{IsRun, StopsAt}
 use Rattle.world.proofs.Confirmed.{run_confirms}
 use Rattle.world.proofs.OnceRuns.{StandsOnce, runs_once, stands_once_on}
@@ -17,15 +17,15 @@ loop-event-preserved g c =
     let start = new_world c.args.config in
     let here = c.loop-event in
     let answer : Answer = c.in_default-step_in.field-0 in
-    let Stood : List Answer → Type 0 = λ l. StandsOnce start (take (here.event-index + 1) c.args.events.now) l (shown c.step_in.new.machine) in
-    let Runs : List Answer → Type 0 = λ l. IsRun start (take (here.event-index + 1) c.args.events.now) l (shown c.step_in.new.machine) in
+    let Stood : List Answer → Type 0 = λ l. StandsOnce start (take (here.event-index + 1) c.args.events.now) l (world_of c.step_in.new.machine) in
+    let Runs : List Answer → Type 0 = λ l. IsRun start (take (here.event-index + 1) c.args.events.now) l (world_of c.step_in.new.machine) in
     record {
       machine = c.step_in.ensures.machine;
-      run = subst Runs (sym c.in_default-step_in.ensures.kept) (run_on start (shown here.machine) (shown c.step_in.new.machine) c.args.events.now here.event-index here.answers.items c.event-item.result answer c.loop-event-test.true c.event-item.is
+      run = subst Runs (sym c.in_default-step_in.ensures.kept) (run_on start (world_of here.machine) (world_of c.step_in.new.machine) c.args.events.now here.event-index here.answers.items c.event-item.result answer c.loop-event-test.true c.event-item.is
           here.invariant.run c.in_default-step_in.ensures.step);
       count = let longer = ap (λ (l : List Answer). length l) c.in_default-step_in.ensures.kept in omega (arith, longer, length-append here.answers.items (answer ∷ []), here.invariant.count);
       room = rw c.in_default-step_in.ensures.capacity here.invariant.room;
-      once = subst Stood (sym c.in_default-step_in.ensures.kept) (stands_once_on start (shown here.machine) (shown c.step_in.new.machine) c.args.events.now here.event-index here.answers.items c.event-item.result answer c.loop-event-test.true c.event-item.is
+      once = subst Stood (sym c.in_default-step_in.ensures.kept) (stands_once_on start (world_of here.machine) (world_of c.step_in.new.machine) c.args.events.now here.event-index here.answers.items c.event-item.result answer c.loop-event-test.true c.event-item.is
           here.invariant.machine.good (headline here.machine here.invariant.machine) c.step_in.ensures.machine.good here.invariant.once c.in_default-step_in.ensures.step);
     }
 
@@ -35,7 +35,7 @@ returns-in-Err-clause-stops g c =
     let here = c.loop-event in
     let fault : Fault = c.in-Err.fault in
     let told = c.in-Err.ensures in
-    let stopped : StopsAt start c.args.events.now here.answers.items (shown here.machine) fault = stops start (shown here.machine) c.args.events.now here.event-index here.answers.items c.event-item.result fault c.loop-event-test.true c.event-item.is
+    let stopped : StopsAt start c.args.events.now here.answers.items (world_of here.machine) fault = stops start (world_of here.machine) c.args.events.now here.event-index here.answers.items c.event-item.result fault c.loop-event-test.true c.event-item.is
     here.invariant.count here.invariant.run (λ e. told.bad.0 (ap (λ (f : Fault). Result.Err f) e), λ t. let never = told.bad.1 t in cc) (λ e. told.entry (ap (λ (f : Fault). Result.Err f) e)) (λ e. told.memory (ap (λ (f : Fault). Result.Err f) e)) in
     let Shows : WorldState → Type 0 = λ w. StopsAt start c.args.events.now here.answers.items w fault in
     (rw told.err.1 (subst Shows (sym told.err.0) stopped), headline c.step_in.new.machine c.step_in.ensures.machine)
@@ -44,11 +44,11 @@ pub returns-clause-headline : goal.returns-clause-headline
 returns-clause-headline g c = headline c.loop-event.machine c.loop-event.invariant.machine
 
 pub returns-clause-confirmed : goal.returns-clause-confirmed
-returns-clause-confirmed g c = λ name run. run_confirms name (new_world c.args.config) c.args.events.now c.loop-event.answers.items (shown c.loop-event.machine) run
+returns-clause-confirmed g c = λ name run. run_confirms name (new_world c.args.config) c.args.events.now c.loop-event.answers.items (world_of c.loop-event.machine) run
 
 pub returns-clause-once : goal.returns-clause-once
 returns-clause-once g c =
     let here = c.loop-event in
     let start = new_world c.args.config in
-    let Stood : List Event → Type 0 = λ es. StandsOnce start es here.answers.items (shown here.machine) in
-    runs_once start c.args.events.now here.answers.items (shown here.machine) here.invariant.machine.good (headline here.machine here.invariant.machine) (subst Stood (take_all here.event-index c.args.events.now c.loop-event-test.false) here.invariant.once)
+    let Stood : List Event → Type 0 = λ es. StandsOnce start es here.answers.items (world_of here.machine) in
+    runs_once start c.args.events.now here.answers.items (world_of here.machine) here.invariant.machine.good (headline here.machine here.invariant.machine) (subst Stood (take_all here.event-index c.args.events.now c.loop-event-test.false) here.invariant.once)
