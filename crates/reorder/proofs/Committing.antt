@@ -34,7 +34,7 @@ none_in [] = refl
 none_in (e ∷ es) = none_in es
 
 -- of one xid
-kept_xid : (l : ByXid) (rs : List Record) (x : ℕ) → AreStrandsOf l rs → IsSome (l.strand x) →
+pub kept_xid : (l : ByXid) (rs : List Record) (x : ℕ) → AreStrandsOf l rs → IsSome (l.strand x) →
     changes_in (l.strand x) ≡ filter (λ e. e.xid == x) (filter (λ e. not (is_dropped rs e.xid)) (entries rs))
 kept_xid l rs x h some =
     ap changes_in m.strand_is ∙ by_test (is_dropped rs x) refl ∙ sym (filter_twice (λ e. e.xid == x) (λ e. not (is_dropped rs e.xid)) (entries rs))
@@ -66,7 +66,7 @@ kept_xids : (l : ByXid) (rs : List Record) → AreStrandsOf l rs → (ys : List 
 kept_xids l rs h [] all = refl
 kept_xids l rs h (y ∷ ys) all = rw (kept_xid l rs y h all.0, kept_xids l rs h ys all.1) refl
 
-each_in : (P : ℕ → Type 0) (xs : List ℕ) → ((x : ℕ) → is_in x xs ≡ true → P x) → AllByRecursion P xs
+pub each_in : (P : ℕ → Type 0) (xs : List ℕ) → ((x : ℕ) → is_in x xs ≡ true → P x) → AllByRecursion P xs
 each_in P [] all = tt
 each_in P (x ∷ xs) all = (all x (rw (eq-eqb x x refl) refl), each_in P xs (λ y inn. all y (or_last (y == x) (is_in y xs) inn)))
   where
@@ -106,7 +106,7 @@ member_is l rs t x h running named live = by_tests (top_of rs x == t) (is_in x (
     by_tests false false other out = refl
 
 -- the undropped changes of a transaction's xids are what it keeps
-kept_members : (l : ByXid) (rs : List Record) (t : ℕ) → AreStrandsOf l rs → has_ended rs t ≡ false →
+pub kept_members : (l : ByXid) (rs : List Record) (t : ℕ) → AreStrandsOf l rs → has_ended rs t ≡ false →
     filter (λ e. is_in e.xid (all_in (l.members t))) (filter (λ e. not (is_dropped rs e.xid)) (entries rs)) ≡ kept_changes rs t
 kept_members l rs t h running =
     filter_twice (λ e. is_in e.xid (all_in (l.members t))) (λ e. not (is_dropped rs e.xid)) (entries rs)

@@ -86,7 +86,7 @@ all_left heads arena head all low = record {
     elsewhere q entries at same =
         let never : None ≡ Some entries = sym (get_or-set_same arena head None None low) ∙ ap (λ n. get_or (set arena head None) n None) (sym same) ∙ at in cc
 
-others : (x : ℕ) (xs : List ℕ) → is_in x xs ≡ false → AllByRecursion (λ y. (y == x) ≡ false) xs
+pub others : (x : ℕ) (xs : List ℕ) → is_in x xs ≡ false → AllByRecursion (λ y. (y == x) ≡ false) xs
 others x [] out = tt
 others x (y ∷ xs) out = (eqb_comm y x ∙ or_left (x == y) (is_in x xs) out, others x xs (or_right (x == y) (is_in x xs) out))
 
@@ -132,7 +132,7 @@ sum_of_strands heads apart (x ∷ xs) distinct arena all covers =
 -- THE XIDS OF CHANGES
 
 -- none twice
-once : (es : List Entry) → AreDistinct (xids_of es)
+pub once : (es : List Entry) → AreDistinct (xids_of es)
 once [] = tt
 once (e ∷ es) = by_test (is_in e.xid (xids_of es)) refl (once es)
   where
@@ -141,7 +141,7 @@ once (e ∷ es) = by_test (is_in e.xid (xids_of es)) refl (once es)
     by_test false out distinct = (out, distinct)
 
 -- an xid that isn't among them has no changes
-none_else : (x : ℕ) (es : List Entry) → is_in x (xids_of es) ≡ false → filter (λ e. e.xid == x) es ≡ []
+pub none_else : (x : ℕ) (es : List Entry) → is_in x (xids_of es) ≡ false → filter (λ e. e.xid == x) es ≡ []
 none_else x [] out = refl
 none_else x (e ∷ es) out = by_test (is_in e.xid (xids_of es)) refl out (none_else x es)
   where
@@ -158,7 +158,7 @@ none_else x (e ∷ es) out = by_test (is_in e.xid (xids_of es)) refl out (none_e
 
 -- THE CHANGES OF AN XID
 
-sizes_are : (x : ℕ) (bytes : List (List ℕ)) → AllByRecursion IsEntry bytes → sizes bytes ≡ map entry_length (map (entry_in x) bytes)
+pub sizes_are : (x : ℕ) (bytes : List (List ℕ)) → AllByRecursion IsEntry bytes → sizes bytes ≡ map entry_length (map (entry_in x) bytes)
 sizes_are x [] all = refl
 sizes_are x (b ∷ bytes) all = rw (here b all.0, sizes_are x bytes all.1) refl
   where

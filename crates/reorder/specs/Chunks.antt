@@ -1,5 +1,5 @@
 -- How many chunks of its arena a regrouping has taken, by the records alone.
-use Rattle.std.specs.Prelude.{◌≡◌, ◌⊎◌, ℕ, ◌+◌, ◌<◌, ◌==◌, Bool, false, ◌&&◌, not, List, [], ◌∷◌, get_or, length, map, nat_le, Option, Some, None, if◌then◌else◌, sum_by}
+use Rattle.std.specs.Prelude.{◌≡◌, ◌⊎◌, ℕ, ◌+◌, ◌<◌, ◌==◌, Bool, false, ◌&&◌, not, List, [], ◌∷◌, filter, get_or, length, map, nat_le, Option, Some, None, if◌then◌else◌, sum_by}
 use Rattle.std.specs.Map.{lookup}
 use Rattle.chgarena.specs.Fill.{fill, filled}
 use Rattle.chgarena.specs.Strands.{fills, has_room}
@@ -36,6 +36,10 @@ xids_of (e ∷ es) = if is_in e.xid (xids_of es) then xids_of es else e.xid ∷ 
 -- the chunks of all live xids, of each those that its changes fill
 abbrev pub live_chunks : List Record → ℕ
 live_chunks rs = sum_by (λ x. if is_live rs x then chunks_for (changes_of rs x) else 0) (xids_of (entries rs))
+
+-- the chunks that a transaction's changes fill, xid by xid
+abbrev pub transaction_chunks : List Entry → ℕ
+transaction_chunks changes = sum_by (λ x. chunks_for (filter (λ e. e.xid == x) changes)) (xids_of changes)
 
 -- THOSE THAT ARE TAKEN
 

@@ -5,10 +5,12 @@ use Rattle.chgarena.specs.Fill.{fill, sizes}
 use Rattle.chgarena.specs.Strands.{Strands as Arena, arena_without, entries_of}
 use Rattle.wal.specs.declared.record.Record.{Record}
 use Rattle.reorder.specs.Pool.{AreApart, PoolState, map_with, strand_of}
-use Rattle.reorder.specs.Ready.{IsReadyIn, ReadyState}
+use Rattle.reorder.specs.Ready.{IsReadyIn, ReadyState, ready_entries}
 use Rattle.reorder.specs.Strands.{StrandsState}
-use Rattle.reorder.specs.Chunks.{LeavesNoRoom}
+use Rattle.reorder.specs.Chunks.{LeavesNoRoom, transaction_chunks}
 use Rattle.reorder.specs.Taking.{ReorderState}
+use Rattle.reorder.specs.declared.ready.Step.{Step}
+use Rattle.reorder.specs.declared.ready.Step.TheVariants as steps
 
 -- the first chunk of a strand that has one
 abbrev pub head_in : Option (Option ℕ) → List ℕ
@@ -59,6 +61,11 @@ ready_chunks arena ready = sum_by (λ head. fill (sizes (entries_of arena (Some 
 -- those of all that is ready
 abbrev pub lent_chunks : ReorderState → List ReadyState → ℕ
 lent_chunks s ws = sum_by (λ ready. ready_chunks s.strands.pool.arena ready) ws
+
+-- what a record makes ready takes the chunks that its changes fill
+abbrev pub FillsReady : ReorderState → Step → Type 0
+FillsReady s steps.Quiet = Unit {0}
+FillsReady s (steps.Ready ready) = ready_chunks s.strands.pool.arena ready ≡ transaction_chunks (ready_entries s.strands.pool ready)
 
 -- By these records all of so many chunks are taken but for those of what is ready, and the last one of the change's xid has too little
 -- left for it.

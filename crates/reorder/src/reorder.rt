@@ -6,7 +6,7 @@ ghost use Rattle.wal.specs.declared.record.Record.{Record as Logged};
 ghost use Rattle.reorder.specs.Chunks.{IsTidy, LeavesNoRoom, held_with, live_chunks};
 ghost use Rattle.reorder.specs.Pool.{AreApart, IsLent, Lasts, StaysLent};
 ghost use Rattle.reorder.specs.Ready.{IsEntryAt, IsReadyIn, ReadyState, ready_entries};
-ghost use Rattle.reorder.specs.Settled.{AreLentIn, LeavesNoRoomBeside, after_giving_all_back, after_giving_back, lent_chunks};
+ghost use Rattle.reorder.specs.Settled.{AreLentIn, FillsReady, LeavesNoRoomBeside, after_giving_all_back, after_giving_back, lent_chunks};
 ghost use Rattle.reorder.specs.Taking.{HasTaken, IsHeld, IsStepApart, IsStepHeld, IsSameTaken, MayCome, Takes, readied_changes};
 
 use crate::entry::{body_of, position_of, write_entry};
@@ -97,6 +97,9 @@ impl Reorder {
         ensures tidy { IfOk result
             (λ step. (count : ℕ) (held : List ReadyState) → IsTidy count held self.old.strands →
             IsTidy count (held_with held step) self.new.strands) }
+        ensures chunks { IfOk result
+            (λ step. (rs : List Logged) → HasTaken self.old rs → MayCome rs next.now.body →
+            FillsReady self.new step) }
         ensures memory { result ≡ Err ReorderFault.Memory → self.old.failed ≡ false }
         ensures lent { StaysLent self.old.strands.pool self.new.strands.pool }
         ensures apart { IfOk result
@@ -129,6 +132,9 @@ impl Reorder {
         ensures tidy { IfOk result
             (λ step. (count : ℕ) (held : List ReadyState) → IsTidy count held self.old.strands →
             IsTidy count (held_with held step) self.new.strands) }
+        ensures chunks { IfOk result
+            (λ step. (rs : List Logged) → HasTaken self.old rs → MayCome rs next.now.body →
+            FillsReady self.new step) }
         ensures running { result ≢ Err ReorderFault.Failed }
         ensures lent { StaysLent self.old.strands.pool self.new.strands.pool }
         ensures apart { IfOk result

@@ -3,18 +3,18 @@
 //! A record costs a look-up or two, whatever the length of the log. Only the end of a transaction goes over its xids,
 //! and then nothing of them is left but the changes that are ready.
 
-ghost use Rattle.std.specs.Prelude.{◌≡◌, ◌≢◌, ◌==◌, Err, Option, true, ℕ, ◌+◌, ◌<◌, ◌≤◌, slice_get, [], ◌∷◌, List, Some, None, false, IsSome, IfOk, OnOk, length, nat_eq, reverse, if◌then◌else◌, ◌&&◌};
+ghost use Rattle.std.specs.Prelude.{◌≡◌, ◌≢◌, ◌==◌, Err, Option, true, ℕ, ◌+◌, ◌<◌, ◌≤◌, slice_get, sum_by, [], ◌∷◌, List, Some, None, false, IsSome, IfOk, OnOk, length, nat_eq, reverse, if◌then◌else◌, ◌&&◌};
 ghost use Rattle.std.specs.Map.{lookup};
 ghost use Rattle.std.specs.HashMap.{get};
 ghost use Rattle.std.specs.Option.{option_map};
 ghost use Rattle.wal.specs.Log.{last_of};
 ghost use Rattle.reorder.specs.Entries.{IsEntry, entry_in};
 ghost use Rattle.chgarena.specs.Strands.{fills};
-ghost use Rattle.reorder.specs.Chunks.{HasNoRoom, IsTidy, IsWhole, StaysTidy, StaysWhole, strands_alone};
+ghost use Rattle.reorder.specs.Chunks.{HasNoRoom, IsTidy, IsWhole, StaysTidy, StaysWhole, chunks_for, strands_alone};
 ghost use Rattle.reorder.specs.Pool.{AreApart, HoldEntries, IsLent, IsPool, Lasts, StaysLent, entries_at, map_with, strand_of};
 ghost use Rattle.reorder.specs.Ready.{IsReadyIn, PlaceState, ReadyState, bytes_at, lent_from, ready_entries};
-ghost use Rattle.reorder.specs.Settled.{heads_of, ready_heads, without_all};
-ghost use Rattle.reorder.specs.Strands.{AreMerged, IsSame, above_of, above_standing, all_in, with_subtransaction, back_in, behind, without_transaction, is_in, by_xid, with_change_of, with_transaction, after_rollback_of, with_member};
+ghost use Rattle.reorder.specs.Settled.{heads_of, ready_chunks, ready_heads, without_all};
+ghost use Rattle.reorder.specs.Strands.{AreDistinct, AreMerged, IsSame, above_of, above_standing, all_in, with_subtransaction, back_in, behind, without_transaction, is_in, by_xid, with_change_of, with_transaction, after_rollback_of, changes_at, with_member};
 
 use crate::fault::ReorderFault;
 use crate::members::Members;
@@ -210,6 +210,11 @@ impl Strands {
         ensures tidy { IfOk result
             (λ r. (count : ℕ) (held : List ReadyState) → IsTidy count held self.old →
             IsTidy count (r ∷ held) self.new) }
+        ensures chunks { IfOk result
+            (λ r. AreDistinct (all_in ((by_xid self.old).members top)) →
+            ready_chunks self.new.pool.arena r
+            ≡ sum_by (λ x. chunks_for (changes_at self.old.pool x))
+            (all_in ((by_xid self.old).members top))) }
         ensures lent { StaysLent self.old.pool self.new.pool }
     {
         let order = self.order(top)?;

@@ -1,20 +1,21 @@
-use Rattle.std.proofs.Common.{rules, ◌≡◌, ℕ, [], length, List, Option, ◌∙◌, sym, ap, subst, Some, None}
+use Rattle.std.proofs.Common.{rules, ◌≡◌, ℕ, [], false, length, List, Option, ◌∙◌, sym, ap, subst, Some, None}
 use Rattle.wal.specs.declared.record.Record.{Record}
 use Rattle.wal.specs.declared.record.Body.{Body}
-use Rattle.wal.specs.Log.{Entry, IsOpen}
+use Rattle.wal.specs.Log.{Entry, IsOpen, is_assigned}
 use Rattle.reorder.specs.Entries.{entry_in}
 use Rattle.reorder.specs.Ready.{ready_entries}
 use Rattle.reorder.specs.Strands.{IsSame, by_xid, with_change_of}
 use Rattle.reorder.specs.Taking.{MayCome, ReorderState, Takes}
 use Rattle.reorder.specs.Bookkeeping.{IsBookkeeping}
 use Rattle.reorder.specs.Chunks.{IsTidy}
-use Rattle.reorder.specs.Settled.{AreLentIn, LeavesNoRoomBeside, after_giving_all_back, lent_chunks}
+use Rattle.reorder.specs.Settled.{AreLentIn, LeavesNoRoomBeside, after_giving_all_back, lent_chunks, ready_chunks}
 use Rattle.reorder.specs.Pool.{IsLent, StaysLent}
 use Rattle.reorder.proofs.Lending.{stays_itself, stays_lent}
 use Rattle.reorder.proofs.Coding.{entry_length, kept_again}
 use Rattle.reorder.proofs.Counting.{no_room_left}
 use Rattle.reorder.proofs.Filling.{chunks_lent, no_room_beside, tidy_settled}
 use Rattle.reorder.proofs.Opening.{Opened, opened}
+use Rattle.reorder.proofs.ReadyChunks.{commit_filled}
 use Rattle.reorder.proofs.Settling.{entries_lent}
 use Rattle.reorder.proofs.Steps.{state, taken_assign, taken_change, taken_rollback, taken_abort, taken_commit, taken_note}
 use Rattle.reorder.proofs.reorder.Reorder.regroup.Goals as goal
@@ -98,6 +99,13 @@ returns-clause-tidy c = λ count held tidy.
       | in-Abort w ↦ subst (λ (s : ReorderState). IsTidy count held s.strands) (sym w.self-is) (w.end.ensures.tidy count held before)
       | in-Note w ↦ subst (λ (s : ReorderState). IsTidy count held s.strands) (sym w.self-is) tidy
     ]
+
+pub returns-in-Commit-clause-chunks : goal.returns-in-Commit-clause-chunks
+returns-in-Commit-clause-chunks c = λ rs taken next.
+    let before : IsBookkeeping (by_xid c.self.inside.strands) rs = subst (λ (s : ReorderState). IsBookkeeping (by_xid s.strands) rs) (sym c.self.view_is) taken.ready in
+    let may : (is_assigned rs c.in-Commit.top ≡ false) × IsOpen rs c.in-Commit.top = subst (λ (b : Body). MayCome rs b) c.in-Commit.is next in
+    commit_filled c.self.inside.strands rs c.in-Commit.top (ready_entries c.make_ready.new.self.pool c.in_ok-make_ready-in-Commit.field-0)
+    (ready_chunks c.make_ready.new.self.pool.arena c.in_ok-make_ready-in-Commit.field-0) before.strands may.0 may.1 c.in_ok-make_ready-in-Commit.ensures.merged c.in_ok-make_ready-in-Commit.ensures.chunks
 
 pub returns-in-Commit-clause-apart : goal.returns-in-Commit-clause-apart
 returns-in-Commit-clause-apart c = λ lent is. c.in_ok-make_ready-in-Commit.ensures.apart lent (subst (λ (s : ReorderState). IsLent s.strands.pool lent) (sym c.self.view_is) is)

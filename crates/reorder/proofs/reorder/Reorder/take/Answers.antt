@@ -1,6 +1,6 @@
 use Rattle.std.proofs.Common.{rules, [], true, sym, subst}
 use Rattle.reorder.specs.Chunks.{IsTidy, held_with}
-use Rattle.reorder.specs.Settled.{AreLentIn, LeavesNoRoomBeside, after_giving_all_back, lent_chunks}
+use Rattle.reorder.specs.Settled.{AreLentIn, FillsReady, LeavesNoRoomBeside, after_giving_all_back, lent_chunks}
 use Rattle.reorder.specs.Strands.{StrandsState}
 use Rattle.reorder.specs.Taking.{HasTaken, ReorderState}
 use Rattle.reorder.proofs.Settling.{lent_as, settled_as}
@@ -11,6 +11,12 @@ pub returns-clause-tidy : goal.returns-clause-tidy
 returns-clause-tidy c = λ count held tidy.
     subst (λ (s : ReorderState). IsTidy count (held_with held c.in_ok-step.step) s.strands) (sym c.self-2.view_is)
     (c.in_ok-step.ensures.tidy count held (subst (λ (s : ReorderState). IsTidy count held s.strands) (sym c.self.view_is) tidy))
+
+pub returns-clause-chunks : goal.returns-clause-chunks
+returns-clause-chunks c = λ rs taken next.
+    let strands : StrandsState = c.self.inside.strands in
+    let before : HasTaken (record { strands = strands; failed = c.self.inside.failed }) rs = subst (λ (s : ReorderState). HasTaken s rs) (sym c.self.view_is) taken in
+    subst (λ (s : ReorderState). FillsReady s c.in_ok-step.step) (sym c.self-2.view_is) (c.in_ok-step.ensures.chunks rs (has_taken strands true rs before.ready) next)
 
 pub returns-in_err-step-clause-full_beside : goal.returns-in_err-step-clause-full_beside
 returns-in_err-step-clause-full_beside c = λ is rs ws count taken next are tidy.

@@ -1,5 +1,5 @@
 use Rattle.std.proofs.Common.{◌≡◌, ◌==◌, ℕ, List, None, true, cond, map, arith, refl, sym, ap, subst, ◌∙◌}
-use Rattle.std.specs.List.{All}
+use Rattle.std.specs.List.{All, sum_by}
 use Rattle.std.specs.Map.{lookup}
 use Rattle.std.proofs.lemmas.Grind.{common_steps}
 use Rattle.wal.specs.Log.{Entry}
@@ -7,11 +7,14 @@ use Rattle.chgarena.specs.Strands.{Strands as Arena}
 use Rattle.reorder.specs.Pool.{IsLent, PoolState, entries_by, strand_of}
 use Rattle.reorder.specs.Orders.{places_in}
 use Rattle.reorder.specs.Ready.{IsPlace, PlaceState, entry_at}
-use Rattle.reorder.specs.Strands.{AreMerged, StrandsState, all_in, by_xid, is_in}
+use Rattle.reorder.specs.Strands.{AreDistinct, AreMerged, StrandsState, all_in, by_xid, changes_at, is_in}
+use Rattle.reorder.specs.Chunks.{chunks_for}
+use Rattle.reorder.specs.Settled.{ready_chunks}
 use Rattle.reorder.proofs.Owning.{of}
 use Rattle.reorder.proofs.Tidying.{tidy_ready}
 use Rattle.reorder.proofs.Lending.{ready_apart, ready_known, ready_lent}
 use Rattle.reorder.proofs.Lookups.{ended_lent}
+use Rattle.reorder.proofs.ReadyChunks.{chunks_of_lent}
 use Rattle.reorder.proofs.Spotting.{shown_alike, there_alike}
 use Rattle.reorder.proofs.strands.Strands.make_ready.Goals as goal
 
@@ -82,6 +85,21 @@ returns-clause-tidy c =
     rw (c.new.ensures, ← c.self.view_is)
     (tidy_ready (record { strands = c.self.inside.strands.entries; members = c.self.inside.members.entries; pool = old }) (record { strands = c.remove_all.new.strands.entries; members = c.remove_members-xids.new.members.entries; pool = new })
     (record { xids = xids; strands = lent; places = places_in c.in_ok-order.order }) xids c.lend_all.ensures.arena stay go (λ x. grind (arith, common_steps, c.remove_all.ensures x)))
+
+pub returns-clause-chunks : goal.returns-clause-chunks
+returns-clause-chunks c =
+    let old = c.self.inside.pool in
+    let lent = c.in_ok-strands.strands.entries in
+    let xids = c.remove_members-xids.result.items in
+    let places = places_in c.in_ok-order.order in
+    let go : (x : ℕ) → strand_of lent x ≡ cond (is_in x xids) (strand_of old.strands x) None = λ x. grind (arith, common_steps, c.in_ok-strands.ensures.strands x) in
+    let of_these : AreDistinct xids → ready_chunks c.lend_all.new.self.arena (record { xids = xids; strands = lent; places = places }) ≡ sum_by (λ x. chunks_for (changes_at old x)) xids =
+    λ distinct. ap (λ (a : Arena). ready_chunks a (record { xids = xids; strands = lent; places = places })) c.lend_all.ensures.arena ∙ chunks_of_lent old.arena old.strands lent xids places c.lend_all.ensures.hold go distinct in
+    rw c.new.ensures
+    (subst (λ (s : StrandsState). AreDistinct (all_in (lookup (λ k. c.args.top == k) s.members)) →
+    ready_chunks c.lend_all.new.self.arena (record { xids = xids; strands = lent; places = places }) ≡ sum_by (λ x. chunks_for (changes_at s.pool x)) (all_in (lookup (λ k. c.args.top == k) s.members)))
+    c.self.view_is
+    (subst (λ (xs : List ℕ). AreDistinct xs → ready_chunks c.lend_all.new.self.arena (record { xids = xids; strands = lent; places = places }) ≡ sum_by (λ x. chunks_for (changes_at old x)) xs) c.remove_members-xids.ensures.xids of_these))
 
 pub returns-clause-lent : goal.returns-clause-lent
 returns-clause-lent c = rw (← c.self.view_is) c.lend_all.ensures.lent
