@@ -225,6 +225,9 @@ lone_shown s x count is = by_option (lookup (λ k. x == k) s.strands) is
     by_option None none = ap (λ n. map (entry_at s.pool) (map (place_at x) (range_with_len 0 n))) none
     by_option (Some strand) all = whole_shown s.pool x count (all ∙ length-map (entries_at s.pool x) (entry_in x))
 
+pub one_there : (o : Option (List ℕ)) (x : ℕ) (xs : List ℕ) → o ≡ Some xs → o ≡ Some (x ∷ []) → xs ≡ x ∷ []
+one_there o x xs is lone = cc
+
 pub lone_own : (x : ℕ) (o : Option (List ℕ)) → o ≡ Some (x ∷ []) → is_in x (all_in o) ≡ true
 lone_own x o is = rw (is, eq-eqb x x refl) refl
 

@@ -9,7 +9,7 @@ use crate::place::{Place, Spot};
 #[derive(Drop)]
 pub(crate) enum Order {
     /// So many changes of one xid, in the order in which they were made. It takes no memory, and costs no time, however many they are.
-    Whole(u32, usize),
+    Whole { xid: u32, count: usize },
     /// Changes of several xids.
     Listed(Vec<Spot>),
 }
@@ -20,7 +20,7 @@ impl Order {
         ensures { result ≡ length (places_in self.now) }
     {
         match self {
-            Order::Whole(_, count) => *count,
+            Order::Whole { count, .. } => *count,
             Order::Listed(spots) => spots.len(),
         }
     }
@@ -31,7 +31,7 @@ impl Order {
         ensures { slice_get (places_in self.now) k ≡ Some result }
     {
         match self {
-            Order::Whole(xid, _) => Place {
+            Order::Whole { xid, .. } => Place {
                 xid: *xid,
                 place: k,
                 near,

@@ -1,6 +1,6 @@
 //! Where the changes lie that a transaction keeps.
 
-ghost use Rattle.std.specs.Prelude.{◌≡◌, ◌==◌, ◌+◌, ◌++◌, ◌∷◌, [], true, Some, None, IfOk, IfSome, OnOk, length, map, nat_eq};
+ghost use Rattle.std.specs.Prelude.{◌≡◌, ℕ, ◌==◌, ◌+◌, ◌++◌, ◌∷◌, [], true, Ok, Some, None, IfOk, IfSome, OnOk, length, map, nat_eq};
 ghost use Rattle.std.specs.HashMap.{get};
 ghost use Rattle.std.specs.List.{All, AllByRecursion, flat_map};
 ghost use Rattle.std.specs.List.Sorted.{IsNonDecreasingBy, IsStableByKey};
@@ -33,17 +33,26 @@ impl Strands {
             (λ o. All
             (λ at. is_in at.xid (all_in (lookup (λ k. top == k) self.now.members)) ≡ true)
             (places_in o)) }
+        ensures lone { (xid : ℕ) → lookup (λ k. top == k) self.now.members ≡ Some (xid ∷ []) →
+            (count : ℕ) × (result ≡ Ok (Order.Whole xid count)) }
+        ensures only { (xid count : ℕ) → result ≡ Ok (Order.Whole xid count) →
+            lookup (λ k. top == k) self.now.members ≡ Some (xid ∷ []) }
     {
         match self.lone_member(top) {
-            Some(xid) => Ok(Order::Whole(xid, self.count(xid))),
+            Some(xid) => Ok(Order::Whole {
+                xid,
+                count: self.count(xid),
+            }),
             None => Ok(Order::Listed(self.spots(top)?)),
         }
     }
 
     /// The xid of a transaction that has no other.
     fn lone_member(&self, top: u32) -> Option<u32>
-        ensures { IfSome result
+        ensures some { IfSome result
             (λ xid. lookup (λ k. top == k) self.now.members ≡ Some (xid ∷ [])) }
+        ensures lone { (xid : ℕ) → lookup (λ k. top == k) self.now.members ≡ Some (xid ∷ []) →
+            result ≡ Some xid }
     {
         match self.members.get(&top)?.as_slice() {
             [xid] => Some(*xid),

@@ -3,4 +3,4 @@ use Rattle.reorder.proofs.Spotting.{count_places}
 use Rattle.reorder.proofs.order.Order.count.Goals as goal
 
 pub returns-in-Whole : goal.returns-in-Whole
-returns-in-Whole c = rw c.in-Whole.is (sym (count_places c.in-Whole.field-0 c.in-Whole.count))
+returns-in-Whole c = rw c.in-Whole.is (sym (count_places c.in-Whole.xid c.in-Whole.count))

@@ -10,7 +10,7 @@ use Rattle.reorder.proofs.order.Order.place.Goals as goal
 pub returns-in-Whole : goal.returns-in-Whole
 returns-in-Whole c =
     let lt = subst (λ o. c.args.k < length (places_in o)) c.in-Whole.is c.requires in
-    rw c.in-Whole.is (whole_place c.in-Whole.xid c.in-Whole.field-1 c.args.k lt)
+    rw c.in-Whole.is (whole_place c.in-Whole.xid c.in-Whole.count c.args.k lt)
 
 pub returns-in-Listed : goal.returns-in-Listed
 returns-in-Listed c =
