@@ -3,6 +3,7 @@ pub mod Catalogued
 pub mod Choosing
 pub mod Fields
 pub mod Fitting
+pub mod Judgements
 pub mod LoggedMessages
 pub mod Oids
 pub mod Relations

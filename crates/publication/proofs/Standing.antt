@@ -65,7 +65,7 @@ columns_are : (t : Table) (row : List Value) → fits_table t row ≡ true → l
 columns_are t row e = eqb-true (length t.columns) (length row) (both_true (eqb (length t.columns) (length row)) _ e).0
 
 -- no table has it
-large : (t : Table) (row : List Value) → FitsTable t → IsLarge row → stands_in t row ≡ false
+pub large : (t : Table) (row : List Value) → FitsTable t → IsLarge row → stands_in t row ≡ false
 large t row fits (inl wide) = not_both (fits_table t row) (leb (row_length row) MAX_ROW_LENGTH) (λ is _. omega (arith, columns_are t row is, fits.count, wide))
 large t row fits (inr long) = not_both (fits_table t row) (leb (row_length row) MAX_ROW_LENGTH) (λ _ short. omega (arith, leb-true (row_length row) MAX_ROW_LENGTH short, long))
 

@@ -2,6 +2,7 @@
 #![tactic(auto)]
 
 mod cells;
+mod judging;
 mod kinds;
 mod logged;
 mod messages;

@@ -109,7 +109,7 @@ impl Selection {
 }
 
 /// Whether it may stand in the log.
-fn fits_log(message: MessageRef<'_>) -> bool
+pub(crate) fn fits_log(message: MessageRef<'_>) -> bool
     ensures { result ≡ fits_log (message_of message.entry) }
 {
     is_prefix(message.prefix) && message.content.len() <= MAX_CONTENT_LENGTH

@@ -1,7 +1,7 @@
 //! The rows of a change, read where they lie.
 
 ghost use Rattle.std.specs.Prelude.{◌≡◌, ◌⊎◌, [], ℕ, List, IfNone, IfSome, OnSome, Ok};
-ghost use Rattle.tables.specs.Reading.{insert_at, update_at};
+ghost use Rattle.tables.specs.Reading.{insert_at, row_at, update_at};
 ghost use Rattle.tables.specs.Refs.{IsLarge};
 ghost use Rattle.tables.specs.declared.kinds.Value.{Value as Datum};
 ghost use Rattle.publication.specs.Spelling.{IsShortRow};
@@ -39,16 +39,13 @@ pub(crate) fn two_rows<'a>(
         IsLarge m.0.1 ⊎ IsLarge m.1) }
 {
     let (oid, behind) = oid_and_row(fields, old)?;
-    let rest = new.read(behind)?;
-    if !rest.is_empty() {
-        return None;
-    }
+    last_row(behind, new)?;
     Some(oid)
 }
 
 /// The OID and the row at the front, and what stands behind them.
 #[tactic(auto, unfolding(tables::specs::Reading::insert_at))]
-fn oid_and_row<'a>(fields: &'a [u8], row: &mut RowRef<'a>) -> Option<(u32, &'a [u8])>
+pub(crate) fn oid_and_row<'a>(fields: &'a [u8], row: &mut RowRef<'a>) -> Option<(u32, &'a [u8])>
     ensures found { IfSome result
         (λ read. insert_at fields.now ≡ Ok ((read.0, row.new), read.1.now)) }
     ensures short { OnSome result (IsShortRow row.new) }
@@ -59,4 +56,18 @@ fn oid_and_row<'a>(fields: &'a [u8], row: &mut RowRef<'a>) -> Option<(u32, &'a [
     let oid = cursor.u32()?;
     let rest = row.read(cursor.rest())?;
     Some((oid, rest))
+}
+
+/// A row of which nothing follows, under the same conditions.
+pub(crate) fn last_row<'a>(bytes: &'a [u8], row: &mut RowRef<'a>) -> Option<()>
+    ensures found { OnSome result (row_at bytes.now ≡ Ok (row.new, [])) }
+    ensures short { OnSome result (IsShortRow row.new) }
+    ensures none { IfNone result
+        ((values : List Datum) → row_at bytes.now ≡ Ok (values, []) → IsLarge values) }
+{
+    let rest = row.read(bytes)?;
+    if !rest.is_empty() {
+        return None;
+    }
+    Some(())
 }
