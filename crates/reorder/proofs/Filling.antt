@@ -1,5 +1,5 @@
 -- Each chunk is free, one of a live xid, or one of what is ready.
-use Rattle.std.proofs.Common.{◌≡◌, ◌⊎◌, inl, inr, ℕ, ◌+◌, ◌<◌, ◌==◌, Bool, true, false, cond, ◌||◌, List, [], ◌∷◌, ◌++◌, Option, Some, None, get_or, length, set, refl, sym, ap, subst, ◌∙◌, arith, length-set}
+use Rattle.std.proofs.Common.{◌≡◌, ◌⊎◌, inl, inr, ℕ, ◌+◌, ◌<◌, ◌==◌, Bool, true, false, cond, ◌||◌, List, [], ◌∷◌, ◌++◌, Option, Some, None, get_or, length, map, set, refl, sym, ap, subst, ◌∙◌, arith, length-set}
 use Rattle.std.specs.Prelude.{IsSome}
 use Rattle.std.specs.List.{AllByRecursion, sum_by}
 use Rattle.std.proofs.lemmas.Bool.{eqb-true, eqb-false}
@@ -208,25 +208,40 @@ chunks_last pool pool' ready lasts =
     each : (x head : ℕ) → strand_of ready.strands x ≡ Some (Some head) → fill_at pool'.arena head ≡ fill_at pool.arena head
     each x head is = ap (λ es. fill (sizes es)) (subst (λ (o : Option (Option ℕ)). entries_by pool'.arena o ≡ entries_by pool.arena o) is (lasts.same x))
 
--- whatever leaves all that is lent leaves their chunks
-pub chunks_lent : (old new : ReorderState) (ws : List ReadyState) → AreLentIn old ws → StaysLent old.strands.pool new.strands.pool → lent_chunks new ws ≡ lent_chunks old ws
-chunks_lent old new [] are stays = refl
-chunks_lent old new (w ∷ ws) are stays =
-    let here : ready_chunks new.strands.pool.arena w ≡ ready_chunks old.strands.pool.arena w = chunks_last old.strands.pool new.strands.pool w (stays.each w.strands are.0.lent) in
-    let later : lent_chunks new ws ≡ lent_chunks old ws = chunks_lent old new ws are.2 stays in
-    omega (arith, sum_by-cons (ready_chunks new.strands.pool.arena) w ws, sum_by-cons (ready_chunks old.strands.pool.arena) w ws)
+-- one list of sums, whichever of two functions it is told by
+sums_same : (f g : ReadyState → ℕ) (ws : List ReadyState) → map f ws ≡ map g ws → sum_by f ws ≡ sum_by g ws
+sums_same f g [] same = refl
+sums_same f g (w ∷ ws) same =
+    let here : f w ≡ g w = cc in
+    let later : sum_by f ws ≡ sum_by g ws = sums_same f g ws cc in
+    omega (arith, here, later, sum_by-cons f w ws, sum_by-cons g w ws)
 
--- those of the others stay where one is given back
-pub chunks_given_back : (old new : ReorderState) (ready : ReadyState) (ws : List ReadyState) → AreLentIn old (ready ∷ ws) → new ≡ after_giving_back old ready → lent_chunks new ws ≡ lent_chunks old ws
-chunks_given_back old new ready ws are is = ap (λ (s : ReorderState). lent_chunks s ws) is ∙ later ws are.1 are.2
+-- whatever leaves all that is lent leaves the chunks of each
+pub chunks_each_lent : (old new : ReorderState) (ws : List ReadyState) → AreLentIn old ws → StaysLent old.strands.pool new.strands.pool
+    → map (ready_chunks new.strands.pool.arena) ws ≡ map (ready_chunks old.strands.pool.arena) ws
+chunks_each_lent old new [] are stays = refl
+chunks_each_lent old new (w ∷ ws) are stays =
+    ap (λ (n : ℕ). n ∷ map (ready_chunks new.strands.pool.arena) ws) (chunks_last old.strands.pool new.strands.pool w (stays.each w.strands are.0.lent))
+    ∙ ap (λ (ns : List ℕ). ready_chunks old.strands.pool.arena w ∷ ns) (chunks_each_lent old new ws are.2 stays)
+
+pub chunks_lent : (old new : ReorderState) (ws : List ReadyState) → AreLentIn old ws → StaysLent old.strands.pool new.strands.pool → lent_chunks new ws ≡ lent_chunks old ws
+chunks_lent old new ws are stays = sums_same (ready_chunks new.strands.pool.arena) (ready_chunks old.strands.pool.arena) ws (chunks_each_lent old new ws are stays)
+
+-- those of each of the others stay where one is given back
+pub chunks_each_given_back : (old new : ReorderState) (ready : ReadyState) (ws : List ReadyState) → AreLentIn old (ready ∷ ws) → new ≡ after_giving_back old ready
+    → map (ready_chunks new.strands.pool.arena) ws ≡ map (ready_chunks old.strands.pool.arena) ws
+chunks_each_given_back old new ready ws are is = ap (λ (s : ReorderState). map (ready_chunks s.strands.pool.arena) ws) is ∙ later ws are.1 are.2
   where
-    later : (ws : List ReadyState) → AllByRecursion (λ (other : ReadyState). AreApart ready.strands other.strands) ws → AreLentIn old ws → lent_chunks (after_giving_back old ready) ws ≡ lent_chunks old ws
+    later : (ws : List ReadyState) → AllByRecursion (λ (other : ReadyState). AreApart ready.strands other.strands) ws → AreLentIn old ws
+        → map (ready_chunks (after_giving_back old ready).strands.pool.arena) ws ≡ map (ready_chunks old.strands.pool.arena) ws
     later [] apart are = refl
     later (w ∷ ws) apart are =
-        let here : ready_chunks (after_giving_back old ready).strands.pool.arena w ≡ ready_chunks old.strands.pool.arena w =
-        chunks_last old.strands.pool (after_giving_back old ready).strands.pool w (lasts_without old.strands.pool ready w.strands apart.0 are.0.lent) in
-        let others : lent_chunks (after_giving_back old ready) ws ≡ lent_chunks old ws = later ws apart.1 are.2 in
-        omega (arith, sum_by-cons (ready_chunks (after_giving_back old ready).strands.pool.arena) w ws, sum_by-cons (ready_chunks old.strands.pool.arena) w ws)
+        ap (λ (n : ℕ). n ∷ map (ready_chunks (after_giving_back old ready).strands.pool.arena) ws)
+        (chunks_last old.strands.pool (after_giving_back old ready).strands.pool w (lasts_without old.strands.pool ready w.strands apart.0 are.0.lent))
+        ∙ ap (λ (ns : List ℕ). ready_chunks old.strands.pool.arena w ∷ ns) (later ws apart.1 are.2)
+
+chunks_given_back : (old new : ReorderState) (ready : ReadyState) (ws : List ReadyState) → AreLentIn old (ready ∷ ws) → new ≡ after_giving_back old ready → lent_chunks new ws ≡ lent_chunks old ws
+chunks_given_back old new ready ws are is = sums_same (ready_chunks new.strands.pool.arena) (ready_chunks old.strands.pool.arena) ws (chunks_each_given_back old new ready ws are is)
 
 -- giving them back frees their chunks
 pub settled_fills : (s : ReorderState) (ws : List ReadyState) → AreLentIn s ws → fills (after_giving_all_back s ws).strands.pool.arena + lent_chunks s ws ≡ fills s.strands.pool.arena
