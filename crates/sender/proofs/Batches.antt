@@ -25,7 +25,9 @@ use Rattle.stream.specs.declared.published.Published.{Published}
 use Rattle.stream.specs.Words.{word_bytes, frames_of}
 use Rattle.stream.specs.Items.{Block, FitsPublished, words_of, item_words, bytes_of_items, relations_sent_by_all, relations_sent_through}
 use Rattle.sender.specs.Published.{published_transactions, published_as, published_from, published_note, has_message}
-use Rattle.sender.specs.Sending.{SenderState, MayFollow, HasChunks, HasRead, LacksRoom, blocks, published_bytes, published_by_record, ReadOne, ReadAll, RanOut, OutputUnchanged, AddsPublished}
+use Rattle.sender.specs.Lent.{AreLastOf, LentTransaction, sent_transactions}
+use Rattle.sender.specs.Sending.{SenderState, MayFollow, HasChunks, HasRead, LacksRoom, blocks, published_bytes, published_by_record, sent_by_record, ReadOne, ReadAll, RanOut, OutputUnchanged, AddsPublished}
+use Rattle.sender.proofs.Lasting.{last_more, last_then, sent_by_record_is, sent_from-append}
 
 -- ---- items behind items
 
@@ -103,7 +105,7 @@ ReadOne-ReadAll clock old new r one = record {
   after = λ before has may.
       let taken = one.takes.after before has.taken may.0 may.1 in
       let is : commits ≡ published_from old.selection old.start before (r ∷ []) = ap (published_by_record old.selection old.start r) taken.1 ∙ published_by_record_is old.selection old.start before r in
-      (record { taken = taken.0; relations_sent = sent before has is }, adds before has is);
+      (record { taken = taken.0; relations_sent = sent before has is; lent = lent before has may taken.1 }, adds before has is);
 } where
   commits : List Published
   commits = published_by_record old.selection old.start r one.ready
@@ -114,6 +116,17 @@ ReadOne-ReadAll clock old new r one = record {
       ∙ sym (relations_sent_through-append [] (published_transactions old.selection before old.start) (published_from old.selection old.start before (r ∷ [])))
       ∙ ap (relations_sent_through []) (sym (published_from-append old.selection old.start [] before (r ∷ [])))
       ∙ ap (λ sel. relations_sent_through [] (published_transactions sel (before ++ r ∷ []) old.start)) (sym one.selection) ∙ ap (λ s. relations_sent_through [] (published_transactions new.selection (before ++ r ∷ []) s)) (sym one.start)
+
+  lent : (before : List Record) → HasRead old before → MayFollow before (r ∷ []) → one.ready ≡ promised_changes before r.body → AreLastOf new.lent (sent_transactions new.selection (before ++ r ∷ []) new.start)
+  lent before has may ready =
+      let here = sent_by_record old.selection old.start r one.ready in
+      let earlier = sent_transactions old.selection before old.start in
+      let is : earlier ++ here ≡ sent_transactions new.selection (before ++ r ∷ []) new.start =
+      ap (λ (l : List LentTransaction). earlier ++ l) (ap (sent_by_record old.selection old.start r) ready ∙ sent_by_record_is old.selection old.start before r)
+      ∙ sym (sent_from-append old.selection old.start [] before (r ∷ []))
+      ∙ ap (λ sel. sent_transactions sel (before ++ r ∷ []) old.start) (sym one.selection) ∙ ap (λ s. sent_transactions new.selection (before ++ r ∷ []) s) (sym one.start) in
+      let P : List LentTransaction → Type 0 = λ l. AreLastOf new.lent l in
+      subst P is (last_then (earlier ++ here) (old.lent ++ here) new.lent (last_more earlier old.lent here has.lent) (one.lent before has.taken may.0))
 
   adds : (before : List Record) → HasRead old before → commits ≡ published_from old.selection old.start before (r ∷ []) → AddsPublished clock old new.held before (r ∷ [])
   adds before has is = record {

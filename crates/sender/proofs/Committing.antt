@@ -1,5 +1,5 @@
 -- A transaction that waits behind all others, and one that doesn't come to wait.
-use Rattle.std.proofs.Common.{◌≡◌, ◌<◌, ℕ, ℤ, ◌+◌, List, [], ◌∷◌, ◌++◌, Ok, Err, length, inl, sym, ap, subst, ◌∙◌, append_assoc, append-nil, arith}
+use Rattle.std.proofs.Common.{◌≡◌, ℕ, ℤ, ◌+◌, List, [], ◌∷◌, ◌++◌, Ok, Err, length, map, inl, sym, ap, subst, ◌∙◌, append_assoc, append-nil, arith}
 use Rattle.std.specs.Prelude.{reverse}
 use Rattle.std.specs.declared.alloc.AllocError.{AllocError}
 use Rattle.std.proofs.lemmas.List.{length-append, map-append}
@@ -8,31 +8,32 @@ use Rattle.publication.specs.Selection.{relation}
 use Rattle.wal.specs.declared.record.Record.{Record}
 use Rattle.reorder.specs.Chunks.{IsTidy}
 use Rattle.reorder.specs.Ready.{ReadyState, ready_entries}
-use Rattle.reorder.specs.Settled.{AreLentIn, after_giving_all_back, after_giving_back}
+use Rattle.reorder.specs.Settled.{AreLentIn, after_giving_all_back, after_giving_back, ready_chunks}
 use Rattle.reorder.specs.Taking.{HasTaken, ReorderState}
 use Rattle.reorder.proofs.Settling.{taken_settled}
 use Rattle.stream.specs.declared.published.Published.{Published}
 use Rattle.stream.specs.Words.{frames_of}
 use Rattle.stream.specs.Items.{Block, bytes_of_items, relations_sent_through, transaction_words}
 use Rattle.sender.specs.Published.{published_with}
-use Rattle.sender.specs.Waiting.{AreSelected, AreWithin, bytes_behind, changes_bytes, places, ready_states, sent_behind}
-use Rattle.sender.specs.Outgoing.{Grows, IsOutgoing, Queues, StaysQueued, begin_bytes, commit_bytes, frames_left, held_behind, held_of, sent_of, settled_of}
+use Rattle.sender.specs.Waiting.{AreSelected, AreWithin, begin_bytes, bytes_behind, changes_bytes, commit_bytes, places, ready_states, sent_behind}
+use Rattle.sender.specs.Outgoing.{Grows, IsOutgoing, Queues, StaysQueued, frames_left, held_behind, held_of, lent_in, lent_of, sent_of, settled_of}
+use Rattle.sender.specs.Lent.{LentTransaction, lent_with}
 use Rattle.sender.specs.declared.header.Header.{Header}
 use Rattle.sender.specs.declared.outgoing.Outgoing.{Outgoing}
 use Rattle.sender.specs.declared.waiting.Waiting.{Waiting}
 use Rattle.sender.proofs.Framing.{block_is}
 use Rattle.sender.proofs.Growing.{frames_same, room_made, settled_kept, size_kept, stays}
 use Rattle.sender.proofs.Lent.{Keeps, keeps_given_back, taken_back, tidy_back}
-use Rattle.sender.proofs.Queueing.{bytes_behind_more, bytes_last, bytes_more, places_last, sent_last, up_to_last, within_last, within_more}
+use Rattle.sender.proofs.Queueing.{bytes_last, bytes_more, places_last, sent_last, within_last, within_more}
 
-regroup : (front frames behind begin changes commit : List ℕ) → front ++ (frames ++ (((behind ++ begin) ++ changes) ++ commit)) ≡ (front ++ (frames ++ behind)) ++ ((begin ++ changes) ++ commit)
+regroup : (front frames behind begin changes commit : List ℕ) → front ++ (frames ++ ((behind ++ begin) ++ (changes ++ commit))) ≡ (front ++ (frames ++ behind)) ++ ((begin ++ changes) ++ commit)
 regroup front frames behind begin changes commit = simp append_assoc
 
 -- ---- a transaction that waits
 
-module _ (selection : PublicationSet) (s : ReorderState) (o o' : Outgoing) (ready : ReadyState) (clock : ℤ) (h : Header) (good : IsOutgoing selection s o) (q : Queues selection ready clock (begin_bytes clock h) (commit_bytes clock h) o o') where
+module _ (selection : PublicationSet) (s : ReorderState) (o o' : Outgoing) (ready : ReadyState) (clock : ℤ) (h : Header) (good : IsOutgoing selection s o) (q : Queues selection ready clock h o o') where
   abbrev last : Waiting
-  last = record { ready = ready; next = 0; clock = clock; before = q.before }
+  last = record { ready = ready; next = 0; header = h; clock = clock; before = q.before }
 
   abbrev begin : List ℕ
   begin = begin_bytes clock h
@@ -49,9 +50,6 @@ module _ (selection : PublicationSet) (s : ReorderState) (o o' : Outgoing) (read
   begun_length : length (o.made.items ++ begin) ≡ length o.made.items + length begin
   begun_length = length-append o.made.items begin
 
-  all_length : length o'.made.items ≡ length (o.made.items ++ begin) + length commit
-  all_length = ap (length {A = ℕ}) q.made ∙ length-append (o.made.items ++ begin) commit
-
   within_begun : AreWithin (length (o.made.items ++ begin)) o.waiting.items
   within_begun = subst (λ (n : ℕ). AreWithin n o.waiting.items) (sym begun_length) (within_more (length o.made.items) (length begin) o.waiting.items good.within)
 
@@ -61,13 +59,10 @@ module _ (selection : PublicationSet) (s : ReorderState) (o o' : Outgoing) (read
   waiting_readies : ready_states o'.waiting.items ≡ ready_states o.waiting.items ++ ready ∷ []
   waiting_readies = ap ready_states q.waiting ∙ map-append (λ (w : Waiting). w.ready) o.waiting.items (last ∷ [])
 
-  some : 0 < length commit
-  some = omega arith
-
   within_all : AreWithin (length o'.made.items) (o.waiting.items ++ last ∷ [])
   within_all =
-      subst (λ (n : ℕ). AreWithin n (o.waiting.items ++ last ∷ [])) (sym all_length)
-      (within_last (length (o.made.items ++ begin) + length commit) o.waiting.items last (within_more (length (o.made.items ++ begin)) (length commit) o.waiting.items within_begun) (omega (arith, in_place, some)))
+      subst (λ (l : List ℕ). AreWithin (length l) (o.waiting.items ++ last ∷ [])) (sym q.made)
+      (within_last (length (o.made.items ++ begin)) o.waiting.items last within_begun (omega (arith, in_place)))
 
   queued_good : AreLentIn s (ready_states o.waiting.items ++ ready ∷ []) → IsOutgoing selection s o'
   queued_good lent = record {
@@ -81,12 +76,11 @@ module _ (selection : PublicationSet) (s : ReorderState) (o o' : Outgoing) (read
     capacity = λ any. q.capacity;
   }
 
-  bytes_queued : bytes_behind selection s.strands.pool sent ((o.made.items ++ begin) ++ commit) (o.waiting.items ++ last ∷ [])
-      ≡ ((held_behind selection s o ++ begin) ++ changes_bytes selection (sent_of selection s o) clock published.changes) ++ commit
+  bytes_queued : bytes_behind selection s.strands.pool sent (o.made.items ++ begin) (o.waiting.items ++ last ∷ [])
+      ≡ (held_behind selection s o ++ begin) ++ (changes_bytes selection (sent_of selection s o) clock published.changes ++ commit)
   bytes_queued =
-      bytes_behind_more selection s.strands.pool sent (o.made.items ++ begin) commit (o.waiting.items ++ last ∷ []) (up_to_last (length (o.made.items ++ begin)) o.waiting.items last within_begun (omega (arith, in_place)))
-      ∙ ap (λ (l : List ℕ). l ++ commit) (bytes_last selection s.strands.pool sent (o.made.items ++ begin) o.waiting.items last within_begun in_place)
-      ∙ ap (λ (l : List ℕ). (l ++ changes_bytes selection (sent_of selection s o) clock published.changes) ++ commit) (bytes_more selection s.strands.pool sent o.made.items begin o.waiting.items good.within)
+      bytes_last selection s.strands.pool sent (o.made.items ++ begin) o.waiting.items last within_begun in_place
+      ∙ ap (λ (l : List ℕ). l ++ (changes_bytes selection (sent_of selection s o) clock published.changes ++ commit)) (bytes_more selection s.strands.pool sent o.made.items begin o.waiting.items good.within)
 
   block_spelled : bytes_of_items (relation selection) (sent_of selection s o) (Block clock published ∷ []) ≡ (begin ++ changes_bytes selection (sent_of selection s o) clock published.changes) ++ commit
   block_spelled = ap frames_of (append-nil (transaction_words (relation selection) (sent_of selection s o) clock published)) ∙ block_is (relation selection) (sent_of selection s o) clock published
@@ -97,7 +91,7 @@ module _ (selection : PublicationSet) (s : ReorderState) (o o' : Outgoing) (read
       ∙ ap (λ (l : List ℕ). o.front.items ++ (l ++ held_behind selection s o')) (frames_same o o' good.from good.to q.frames q.from q.to)
       ∙ ap (λ (l : List ℕ). o.front.items ++ (frames_left o ++ bytes_behind selection s.strands.pool (reverse l) o'.made.items o'.waiting.items)) q.sent
       ∙ ap (λ (l : List ℕ). o.front.items ++ (frames_left o ++ bytes_behind selection s.strands.pool sent l o'.waiting.items)) q.made
-      ∙ ap (λ (ws : List Waiting). o.front.items ++ (frames_left o ++ bytes_behind selection s.strands.pool sent ((o.made.items ++ begin) ++ commit) ws)) q.waiting
+      ∙ ap (λ (ws : List Waiting). o.front.items ++ (frames_left o ++ bytes_behind selection s.strands.pool sent (o.made.items ++ begin) ws)) q.waiting
       ∙ ap (λ (l : List ℕ). o.front.items ++ (frames_left o ++ l)) bytes_queued
       ∙ regroup o.front.items (frames_left o) (held_behind selection s o) begin (changes_bytes selection (sent_of selection s o) clock published.changes) commit
       ∙ ap (λ (l : List ℕ). held_of selection s o ++ l) (sym block_spelled)
@@ -107,6 +101,9 @@ module _ (selection : PublicationSet) (s : ReorderState) (o o' : Outgoing) (read
       ap (λ (l : List ℕ). sent_behind selection s.strands.pool (reverse l) o'.waiting.items) q.sent
       ∙ ap (λ (ws : List Waiting). sent_behind selection s.strands.pool sent ws) q.waiting
       ∙ sent_last selection s.strands.pool sent o.waiting.items last
+
+  pub lent_queued : lent_of s o' ≡ lent_of s o ++ lent_with (ready_chunks s.strands.pool.arena ready) published ∷ []
+  lent_queued = ap (map (lent_in s.strands.pool.arena)) q.waiting ∙ map-append (lent_in s.strands.pool.arena) o.waiting.items (last ∷ [])
 
   pub queue_grows : AreLentIn s (ready_states o.waiting.items ++ ready ∷ []) → Grows selection clock (published ∷ []) (Ok tt) s s o o'
   queue_grows lent = record { good = queued_good lent; held = held_queued; sent = sent_queued; err = tt }
@@ -119,6 +116,9 @@ module _ (selection : PublicationSet) (s : ReorderState) (o o' : Outgoing) (read
 module _ (selection : PublicationSet) (s s' : ReorderState) (o : Outgoing) (ready : ReadyState) (clock : ℤ) (good : IsOutgoing selection s o) (lent : AreLentIn s (ready_states o.waiting.items ++ ready ∷ [])) (is : s' ≡ after_giving_back s ready) where
   abbrev kept : Keeps selection s s' o
   kept = keeps_given_back selection s s' o ready good lent is
+
+  pub none_lent : lent_of s' o ≡ lent_of s o ++ []
+  none_lent = (kept).lent ∙ sym (append-nil (lent_of s o))
 
   -- no change of it has a message
   pub none_grows : Grows selection clock [] (Ok tt) s s' o o

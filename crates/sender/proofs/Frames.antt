@@ -1,5 +1,5 @@
 -- Bytes that are held, from where they are made to the frames, and out of them.
-use Rattle.std.proofs.Common.{◌≡◌, ◌<◌, ◌≤◌, ℕ, ◌+◌, ◌-◌, List, [], ◌∷◌, ◌++◌, drop, get_or, length, take, refl, sym, ap, subst, ◌∙◌, append_assoc, arith}
+use Rattle.std.proofs.Common.{◌≡◌, ◌<◌, ◌≤◌, ℕ, ◌+◌, ◌-◌, List, [], ◌∷◌, ◌++◌, drop, get_or, length, map, take, refl, sym, ap, subst, ◌∙◌, append_assoc, arith}
 use Rattle.std.specs.Prelude.{reverse, slice_set, vec_capacity}
 use Rattle.std.proofs.Common.{⊎_elim, inl}
 use Rattle.std.proofs.Math.Seq.{take-add, take-append-add}
@@ -12,15 +12,18 @@ use Rattle.reorder.specs.Pool.{PoolState}
 use Rattle.reorder.specs.Ready.{ready_entries}
 use Rattle.reorder.specs.Settled.{AreLentIn, after_giving_all_back, after_giving_back}
 use Rattle.reorder.specs.Taking.{ReorderState}
+use Rattle.reorder.proofs.Filling.{chunks_each_given_back}
 use Rattle.reorder.proofs.Settling.{entries_given_back}
 use Rattle.stream.specs.declared.published.PublishedChange.{PublishedChange}
 use Rattle.stream.specs.Items.{relations_sent_by_all}
 use Rattle.sender.specs.Published.{published_changes}
-use Rattle.sender.specs.Waiting.{AreSelected, AreWithin, Makes, bytes_behind, changes_bytes, left_of, places, ready_states, sent_behind}
-use Rattle.sender.specs.Outgoing.{HoldsSame, IsFilled, IsOutgoing, frames_left, held_behind, held_of, sent_of}
+use Rattle.sender.specs.Waiting.{AreSelected, AreWithin, Makes, bytes_behind, bytes_left, changes_bytes, commit_bytes, left_of, places, ready_states, sent_behind}
+use Rattle.sender.specs.Lent.{LentTransaction}
+use Rattle.sender.specs.Outgoing.{HoldsSame, IsFilled, IsOutgoing, frames_left, held_behind, held_of, lent_in, lent_of, sent_of}
 use Rattle.sender.specs.declared.outgoing.Outgoing.{Outgoing}
 use Rattle.sender.specs.declared.outgoing.TheConstants.{FRAMES_LENGTH}
 use Rattle.sender.specs.declared.waiting.Waiting.{Waiting}
+use Rattle.sender.proofs.Lasting.{last_same, last_then, lents_same}
 use Rattle.sender.proofs.Queueing.{bytes_same, sent_same}
 
 -- ---- lists
@@ -75,7 +78,7 @@ module _ (selection : PublicationSet) (pool : PoolState) where
   pub made_moved : (sent made : List ℕ) (w : Waiting) (ws : List Waiting) (count : ℕ) → count ≤ w.before
       → bytes_behind selection pool sent made (w ∷ ws) ≡ take count made ++ bytes_behind selection pool sent (drop count made) (less w count ∷ ws)
   made_moved sent made w ws count low =
-      let changes = changes_bytes selection sent w.clock (left_of selection pool w) in
+      let changes = bytes_left selection pool sent w in
       let next = relations_sent_by_all sent (left_of selection pool w) in
       ap (λ (l : List ℕ). l ++ (changes ++ bytes_behind selection pool next (drop w.before made) ws)) (take_split count w.before made low)
       ∙ append_assoc (take count made) (take (w.before - count) (drop count made)) (changes ++ bytes_behind selection pool next (drop w.before made) ws)
@@ -83,19 +86,22 @@ module _ (selection : PublicationSet) (pool : PoolState) where
 
   -- where nothing stands before its changes
   pub bytes_first : (sent made : List ℕ) (w : Waiting) (ws : List Waiting) → w.before ≡ 0
-      → bytes_behind selection pool sent made (w ∷ ws) ≡ changes_bytes selection sent w.clock (left_of selection pool w) ++ bytes_behind selection pool (relations_sent_by_all sent (left_of selection pool w)) made ws
+      → bytes_behind selection pool sent made (w ∷ ws) ≡ bytes_left selection pool sent w ++ bytes_behind selection pool (relations_sent_by_all sent (left_of selection pool w)) made ws
   bytes_first sent made w ws none =
-      ap (λ (n : ℕ). take n made ++ (changes_bytes selection sent w.clock (left_of selection pool w) ++ bytes_behind selection pool (relations_sent_by_all sent (left_of selection pool w)) (drop n made) ws)) none
+      ap (λ (n : ℕ). take n made ++ (bytes_left selection pool sent w ++ bytes_behind selection pool (relations_sent_by_all sent (left_of selection pool w)) (drop n made) ws)) none
 
   pub frame_moved : (sent sent' made bytes : List ℕ) (w : Waiting) (ws : List Waiting) (next : ℕ) → w.before ≡ 0
       → Makes selection w.clock (left_of selection pool w) (left_of selection pool (moved_to w next)) sent sent' bytes
       → bytes_behind selection pool sent made (w ∷ ws) ≡ bytes ++ bytes_behind selection pool sent' made (moved_to w next ∷ ws)
   frame_moved sent sent' made bytes w ws next none makes =
-      let here = changes_bytes selection sent' w.clock (left_of selection pool (moved_to w next)) in
+      let changes = changes_bytes selection sent' w.clock (left_of selection pool (moved_to w next)) in
+      let commit = commit_bytes w.clock w.header in
+      let here = changes ++ commit in
       let behind = bytes_behind selection pool (relations_sent_by_all sent' (left_of selection pool (moved_to w next))) made ws in
       bytes_first sent made w ws none
-      ∙ ap (λ (l : List ℕ). l ++ bytes_behind selection pool (relations_sent_by_all sent (left_of selection pool w)) made ws) makes.bytes
-      ∙ ap (λ (l : List ℕ). (bytes ++ here) ++ bytes_behind selection pool l made ws) makes.names
+      ∙ ap (λ (l : List ℕ). (l ++ commit) ++ bytes_behind selection pool (relations_sent_by_all sent (left_of selection pool w)) made ws) makes.bytes
+      ∙ ap (λ (l : List ℕ). ((bytes ++ changes) ++ commit) ++ bytes_behind selection pool l made ws) makes.names
+      ∙ ap (λ (l : List ℕ). l ++ behind) (append_assoc bytes changes commit)
       ∙ append_assoc bytes here behind
       ∙ ap (λ (l : List ℕ). bytes ++ l) (sym (bytes_first sent' made (moved_to w next) ws none))
 
@@ -107,7 +113,13 @@ module _ (selection : PublicationSet) (pool : PoolState) where
 -- ---- the same is held
 
 pub same_then : (selection : PublicationSet) (s s' s'' : ReorderState) (o o' o'' : Outgoing) → HoldsSame selection s s' o o' → HoldsSame selection s' s'' o' o'' → HoldsSame selection s s'' o o''
-same_then selection s s' s'' o o' o'' first then = record { good = then.good; held = then.held ∙ first.held; sent = then.sent ∙ first.sent; settled = then.settled ∙ first.settled }
+same_then selection s s' s'' o o' o'' first then = record {
+  good = then.good;
+  held = then.held ∙ first.held;
+  sent = then.sent ∙ first.sent;
+  settled = then.settled ∙ first.settled;
+  lent = last_then (lent_of s o) (lent_of s' o') (lent_of s'' o'') first.lent then.lent;
+}
 
 pub before_same : (selection : PublicationSet) (s s' s'' : ReorderState) (o o' o'' : Outgoing) → HoldsSame selection s' s'' o' o'' → HoldsSame selection s s' o o' → HoldsSame selection s s'' o o''
 before_same selection s s' s'' o o' o'' then first = same_then selection s s' s'' o o' o'' first then
@@ -118,7 +130,7 @@ filled_both o o' o'' first then = record { front = then.front ∙ first.front; f
 -- where there is room for some, there is all room
 pub room_there : (selection : PublicationSet) (s : ReorderState) (o : Outgoing) (count : ℕ) → IsOutgoing selection s o → 0 < count → o.to + count ≤ length o.frames.items → length o.frames.items ≡ FRAMES_LENGTH
 room_there selection s o count good some room =
-    ⊎_elim (λ (e : length o.frames.items ≡ FRAMES_LENGTH). e) (λ (p : (length o.frames.items ≡ 0) × (o.made.items ≡ [])). absurd (omega (arith, some, room, p.0))) good.room
+    ⊎_elim (λ (e : length o.frames.items ≡ FRAMES_LENGTH). e) (λ (p : (length o.frames.items ≡ 0) × (o.made.items ≡ []) × (o.waiting.items ≡ [])). absurd (omega (arith, some, room, p.0))) good.room
 
 -- where bytes came to the frames
 pub record ComesToFrames (o o' : Outgoing) (more : List ℕ) : Type 0 where
@@ -139,10 +151,10 @@ module _ (selection : PublicationSet) (s : ReorderState) (o o' : Outgoing) (more
       ∙ ap (λ (l : List ℕ). o.front.items ++ l) (append_assoc (frames_left o) more (held_behind selection s o'))
       ∙ ap (λ (l : List ℕ). o.front.items ++ (frames_left o ++ l)) (sym behind)
 
-  pub same_before : held_behind selection s o ≡ more ++ held_behind selection s o' → sent_of selection s o' ≡ sent_of selection s o → ready_states o'.waiting.items ≡ ready_states o.waiting.items
+  pub same_before : held_behind selection s o ≡ more ++ held_behind selection s o' → sent_of selection s o' ≡ sent_of selection s o → ready_states o'.waiting.items ≡ ready_states o.waiting.items → lent_of s o' ≡ lent_of s o
       → AreWithin (length o'.made.items) o'.waiting.items → places o'.waiting.items ≡ o'.placed → length o'.frames.items ≡ FRAMES_LENGTH
       → AreSelected selection (reverse o'.relations_sent.items) → (0 < length o'.waiting.items → length (selected_oids selection) ≤ vec_capacity o'.relations_sent) → HoldsSame selection s s o o'
-  same_before behind sent ready within placed room selected capacity = record {
+  same_before behind sent ready lents within placed room selected capacity = record {
     good = record {
       lent = subst (AreLentIn s) (sym ready) good.lent;
       within = within;
@@ -156,6 +168,7 @@ module _ (selection : PublicationSet) (s : ReorderState) (o o' : Outgoing) (more
     held = held_as_before behind;
     sent = sent;
     settled = ap (after_giving_all_back s) ready;
+    lent = last_same (lent_of s o) (lent_of s o') lents;
   }
 
 -- bytes that were made before the changes of the first that waits
@@ -179,6 +192,7 @@ first_moved selection s o o' w ws count good some low room comes is is' made pla
     (ap (bytes_behind selection pool sent o.made.items) is ∙ made_moved selection pool sent o.made.items w ws count low ∙ ap (λ (l : List ℕ). take count o.made.items ++ l) (sym behind_is))
     (ap (λ (l : List ℕ). sent_behind selection pool l o'.waiting.items) sent_is ∙ ap (sent_behind selection pool sent) is' ∙ sym (ap (sent_behind selection pool sent) is))
     (ap ready_states is' ∙ sym (ap ready_states is))
+    (ap (map (lent_in pool.arena)) is' ∙ sym (ap (map (lent_in pool.arena)) is))
     (subst (AreWithin (length o'.made.items)) (sym is') (omega arith, subst (λ (n : ℕ). AreWithin n ws) less_left within.1))
     (ap places is' ∙ omega (arith, placed_is, placed, low))
     full
@@ -199,6 +213,7 @@ last_moved selection s o o' count good room comes is waiting made placed relatio
     (ap (bytes_behind selection pool sent o.made.items) is ∙ sym (take-append-drop count o.made.items) ∙ ap (λ (l : List ℕ). take count o.made.items ++ l) (sym behind_is))
     (ap (λ (l : List ℕ). sent_behind selection pool l o'.waiting.items) sent_is ∙ ap (sent_behind selection pool sent) is' ∙ sym (ap (sent_behind selection pool sent) is))
     (ap ready_states is' ∙ sym (ap ready_states is))
+    (ap (map (lent_in pool.arena)) is' ∙ sym (ap (map (lent_in pool.arena)) is))
     (subst (AreWithin (length o'.made.items)) (sym is') tt)
     (ap (λ (q : _). places q.items) waiting ∙ good.placed ∙ sym placed)
     (comes.size ∙ room)
@@ -223,44 +238,62 @@ frame_made selection s o o' w ws next bytes good none room comes is is' made pla
     (ap (bytes_behind selection pool sent o.made.items) is ∙ frame_moved selection pool sent sent' o.made.items bytes w ws next none makes ∙ ap (λ (l : List ℕ). bytes ++ l) (sym behind_is))
     (ap (sent_behind selection pool sent') is' ∙ ap (λ (l : List ℕ). sent_behind selection pool l ws) (sym makes.names) ∙ sym (ap (sent_behind selection pool sent) is))
     (ap ready_states is' ∙ sym (ap ready_states is))
+    (ap (map (lent_in pool.arena)) is' ∙ sym (ap (map (lent_in pool.arena)) is))
     (subst (AreWithin (length o'.made.items)) (sym is') (subst (λ (n : ℕ). AreWithin n (moved_to w next ∷ ws)) (sym size) (within.0, within.1)))
     (ap places is' ∙ ap places (sym is) ∙ good.placed ∙ sym placed)
     (comes.size ∙ room)
     selected
     (λ more. let low = good.capacity (subst (λ (l : List Waiting). 0 < length l) (sym is) (omega arith)) in omega (arith, low, capacity))
 
--- the first has nothing left, and waits no more
+-- the first has no change left: its Commit is made, and it waits no more
 pub first_over : (selection : PublicationSet) (s s' : ReorderState) (o o' : Outgoing) (w : Waiting) → IsOutgoing selection s o → o.waiting.items ≡ w ∷ o'.waiting.items → w.before ≡ 0 → length w.ready.places ≤ w.next
-    → s' ≡ after_giving_back s w.ready → o' ≡ record o { waiting = o'.waiting } → HoldsSame selection s s' o o'
-first_over selection s s' o o' w good is none over back rest =
+    → length o.frames.items ≡ FRAMES_LENGTH → ComesToFrames o o' (commit_bytes w.clock w.header) → s' ≡ after_giving_back s w.ready
+    → o'.made.items ≡ o.made.items → o'.placed ≡ o.placed → o'.relations_sent ≡ o.relations_sent → HoldsSame selection s s' o o'
+first_over selection s s' o o' w good is none over room comes back made placed relations =
     let pool = s.strands.pool in
     let pool' = s'.strands.pool in
     let ws = o'.waiting.items in
     let sent = reverse o.relations_sent.items in
-    let o2 : Outgoing = record o { waiting = o'.waiting } in
+    let commit = commit_bytes w.clock w.header in
     let lent : AreLentIn s (w.ready ∷ ready_states ws) = subst (λ (l : List Waiting). AreLentIn s (ready_states l)) is good.lent in
     let later = entries_given_back s s' w.ready (ready_states ws) lent back in
     let within : AreWithin (length o.made.items) (w ∷ ws) = subst (AreWithin (length o.made.items)) is good.within in
+    let size : length o'.made.items ≡ length o.made.items = ap (length {A = ℕ}) made in
     let left = none_left selection pool w over in
-    let bytes : bytes_behind selection pool sent o.made.items (w ∷ ws) ≡ bytes_behind selection pool sent o.made.items ws =
+    let sent_is : reverse o'.relations_sent.items ≡ sent = ap (λ (r : _). reverse r.items) relations in
+    let bytes : bytes_behind selection pool sent o.made.items (w ∷ ws) ≡ commit ++ bytes_behind selection pool sent o.made.items ws =
     bytes_first selection pool sent o.made.items w ws none
-    ∙ ap (λ (cs : List PublishedChange). changes_bytes selection sent w.clock cs ++ bytes_behind selection pool (relations_sent_by_all sent cs) o.made.items ws) left in
+    ∙ ap (λ (cs : List PublishedChange). (changes_bytes selection sent w.clock cs ++ commit) ++ bytes_behind selection pool (relations_sent_by_all sent cs) o.made.items ws) left in
     let names : sent_behind selection pool sent (w ∷ ws) ≡ sent_behind selection pool sent ws = ap (λ (cs : List PublishedChange). sent_behind selection pool (relations_sent_by_all sent cs) ws) left in
-    let behind : held_behind selection s' o2 ≡ held_behind selection s o =
-    bytes_same selection pool pool' sent o.made.items ws later.1 ∙ sym bytes ∙ sym (ap (bytes_behind selection pool sent o.made.items) is) in
-    let whole : HoldsSame selection s s' o o2 = record {
+    let behind_is : held_behind selection s' o' ≡ bytes_behind selection pool sent o.made.items ws =
+    ap (λ (l : List ℕ). bytes_behind selection pool' l o'.made.items ws) sent_is ∙ ap (λ (l : List ℕ). bytes_behind selection pool' sent l ws) made
+    ∙ bytes_same selection pool pool' sent o.made.items ws later.1 in
+    let behind : held_behind selection s o ≡ commit ++ held_behind selection s' o' =
+    ap (bytes_behind selection pool sent o.made.items) is ∙ bytes ∙ ap (λ (l : List ℕ). commit ++ l) (sym behind_is) in
+    let frames : frames_left o' ≡ frames_left o ++ commit =
+    ap (λ (n : ℕ). take (o'.to - n) (drop n o'.frames.items)) comes.from ∙ part_more o.from o.to o'.to o.frames.items o'.frames.items commit good.from comes.low good.to comes.taken in
+    let before : w.before + places ws ≡ o.placed = ap places (sym is) ∙ good.placed in
+    let less_left : length o.made.items - w.before ≡ length o'.made.items = omega (arith, none, size) in
+    record {
       good = record {
         lent = later.0;
-        within = subst (λ (n : ℕ). AreWithin n ws) (let l = none in omega arith) within.1;
-        placed = (let l = none in let p : w.before + places ws ≡ o.placed = ap places (sym is) ∙ good.placed in omega (arith, l, p));
-        from = good.from;
-        to = good.to;
-        room = good.room;
-        sent = good.sent;
-        capacity = λ more. good.capacity (subst (λ (l : List Waiting). 0 < length l) (sym is) (omega arith));
+        within = subst (λ (n : ℕ). AreWithin n ws) less_left within.1;
+        placed = omega (arith, none, before, placed);
+        from = omega (arith, comes.from, comes.low, good.from);
+        to = comes.high;
+        room = inl (comes.size ∙ room);
+        sent = subst (AreSelected selection) (sym sent_is) good.sent;
+        capacity = λ more. subst (λ (r : _). length (selected_oids selection) ≤ vec_capacity r) (sym relations) (good.capacity (subst (λ (l : List Waiting). 0 < length l) (sym is) (omega arith)));
       };
-      held = ap (λ (l : List ℕ). o.front.items ++ (frames_left o ++ l)) behind;
-      sent = sent_same selection pool pool' sent ws later.1 ∙ sym names ∙ sym (ap (sent_behind selection pool sent) is);
+      held =
+          ap (λ (l : List ℕ). l ++ (frames_left o' ++ held_behind selection s' o')) comes.front
+          ∙ ap (λ (l : List ℕ). o.front.items ++ (l ++ held_behind selection s' o')) frames
+          ∙ ap (λ (l : List ℕ). o.front.items ++ l) (append_assoc (frames_left o) commit (held_behind selection s' o'))
+          ∙ ap (λ (l : List ℕ). o.front.items ++ (frames_left o ++ l)) (sym behind);
+      sent = ap (λ (l : List ℕ). sent_behind selection pool' l ws) sent_is ∙ sent_same selection pool pool' sent ws later.1 ∙ sym names ∙ sym (ap (sent_behind selection pool sent) is);
       settled = ap (λ (t : ReorderState). after_giving_all_back t (ready_states ws)) back ∙ sym (ap (λ (l : List Waiting). after_giving_all_back s (ready_states l)) is);
-    } in
-    subst (HoldsSame selection s s' o) (sym rest) whole
+      lent = (
+        lent_in pool.arena w ∷ [],
+        ap (map (lent_in pool.arena)) is ∙ ap (λ (l : List LentTransaction). lent_in pool.arena w ∷ l) (sym (lents_same pool.arena pool'.arena ws (chunks_each_given_back s s' w.ready (ready_states ws) lent back))),
+      );
+    }

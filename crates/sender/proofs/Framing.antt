@@ -11,14 +11,14 @@ use Rattle.frames.specs.Frame.{frame}
 use Rattle.copyboth.specs.XLogData.{xlogdata}
 use Rattle.copyboth.specs.Keepalive.{keepalive, ask_byte}
 use Rattle.pgoutput.specs.declared.logical.Logical.{Logical}
-use Rattle.pgoutput.specs.declared.logical.Logical.TheVariants as logical
-use Rattle.pgoutput.specs.declared.begin.Begin.{Begin}
-use Rattle.pgoutput.specs.declared.commit.Commit.{Commit}
+use Rattle.pgoutput.specs.Logical.{spell_logical}
 use Rattle.pgoutput.specs.declared.relation.Relation.{Relation}
 use Rattle.stream.specs.declared.word.Word.{Word}
 use Rattle.stream.specs.declared.published.Published.{Published}
 use Rattle.stream.specs.Words.{word_bytes, frames_of}
-use Rattle.stream.specs.Items.{xlogdata_word, keepalive_word, begin_message, commit_message, changes_words, transaction_words, IsShortMessage}
+use Rattle.stream.specs.Items.{xlogdata_word, keepalive_word, begin_message, commit_message, changes_words, transaction_words}
+use Rattle.sender.specs.Spelled.{begin_with, commit_with}
+use Rattle.sender.specs.declared.header.Header.{Header}
 
 length-xlogdata : (start end : ℕ) (clock : ℤ) (payload : List ℕ) → length (xlogdata start end clock payload) ≡ 25 + length payload
 length-xlogdata start end clock payload =
@@ -66,11 +66,11 @@ block_is relation relations_sent clock t =
     flat_map-cons word_bytes begun (changes ++ (ended ∷ [])) ∙ ap (λ (l : List ℕ). word_bytes begun ++ l) (frames_append changes (ended ∷ []) ∙ ap (λ (l : List ℕ). frames_of changes ++ l) (frames_one ended))
     ∙ sym (append_assoc (word_bytes begun) (frames_of changes) (word_bytes ended))
 
-pub begin_short : (m : Begin) → IsShortMessage (logical.Begin m)
-begin_short m = omega (arith, length-int64 m.position, length-int64 (cast_unsigned w64 m.time), length-int32 m.xid, length-append (int64 m.position) (int64 (cast_unsigned w64 m.time) ++ int32 m.xid), length-append (int64 (cast_unsigned w64 m.time)) (int32 m.xid))
+pub begin_length : (h : Header) → length (spell_logical (begin_with h)) ≡ 21
+begin_length h = omega (arith, length-int64 h.start, length-int64 (cast_unsigned w64 h.time), length-int32 h.xid, length-append (int64 h.start) (int64 (cast_unsigned w64 h.time) ++ int32 h.xid), length-append (int64 (cast_unsigned w64 h.time)) (int32 h.xid))
 
-pub commit_short : (m : Commit) → IsShortMessage (logical.Commit m)
-commit_short m = omega (arith, length-int64 m.position, length-int64 m.end, length-int64 (cast_unsigned w64 m.time), length-append (int64 m.position) (int64 m.end ++ int64 (cast_unsigned w64 m.time)), length-append (int64 m.end) (int64 (cast_unsigned w64 m.time)))
+pub commit_length : (h : Header) → length (spell_logical (commit_with h)) ≡ 26
+commit_length h = omega (arith, length-int64 h.start, length-int64 h.end, length-int64 (cast_unsigned w64 h.time), length-append (int64 h.start) (int64 h.end ++ int64 (cast_unsigned w64 h.time)), length-append (int64 h.end) (int64 (cast_unsigned w64 h.time)))
 
 pub block_whole : (relation : ℕ → Relation) (relations_sent : List ℕ) (clock : ℤ) (t : Published) (old begun changed ended : List ℕ) (m n : Logical) → m ≡ begin_message t → n ≡ commit_message t
     → begun ≡ old ++ word_bytes (xlogdata_word t.start clock m) → changed ≡ begun ++ frames_of (changes_words relation relations_sent clock t.changes) → ended ≡ changed ++ word_bytes (xlogdata_word t.end clock n)

@@ -1,5 +1,5 @@
 -- Where what waits has given way, a change finds no room only because of transactions in progress, and a record is read as before.
-use Rattle.std.proofs.Common.{◌≡◌, ℕ, ℤ, Bool, List, [], ap, subst, sym, arith, inl, inr, ⊎_elim}
+use Rattle.std.proofs.Common.{◌≡◌, ℕ, ℤ, Bool, List, [], ◌++◌, ap, subst, sym, arith, inl, inr, ⊎_elim}
 use Rattle.std.specs.Prelude.{◌⊎◌}
 use Rattle.wal.specs.declared.record.Record.{Record}
 use Rattle.publication.specs.Publications.{PublicationSet}
@@ -8,10 +8,11 @@ use Rattle.reorder.specs.Ready.{ReadyState}
 use Rattle.reorder.specs.Settled.{AreLentIn, LeavesNoRoomBeside, after_giving_all_back, lent_chunks}
 use Rattle.reorder.specs.Taking.{HasTaken, ReorderState}
 use Rattle.reorder.proofs.Settling.{settled_taken}
-use Rattle.sender.specs.Outgoing.{HasFreeChunk, HoldsSame, held_of, sent_of, settled_of}
-use Rattle.sender.specs.Sending.{ReadOne, SenderState}
+use Rattle.sender.specs.Outgoing.{HasFreeChunk, HoldsSame, held_of, lent_of, sent_of, settled_of}
+use Rattle.sender.specs.Sending.{ReadOne, SenderState, sent_by_record}
 use Rattle.sender.specs.Waiting.{ready_states}
 use Rattle.sender.specs.declared.outgoing.Outgoing.{Outgoing}
+use Rattle.sender.proofs.Lasting.{last_more, last_then}
 use Rattle.sender.proofs.States.{state}
 
 none_left : (s : ReorderState) (ws : List ReadyState) (rs : List Record) (count : ℕ) (r : Record) → (ws ≡ []) ⊎ HasFreeChunk s → HasTaken s rs → AreLentIn s ws → IsTidy count [] (after_giving_all_back s ws).strands
@@ -42,9 +43,25 @@ module _ (selection : PublicationSet) (old new : ReorderState) (o o' : Outgoing)
       then same.good.lent (tidy_then count tidy) (full then (tidy_then count tidy))
 
   -- what is read behind the same is read behind what it was
-  pub read_behind : (clock : ℤ) (start position : ℕ) (failed : Bool) (r : Record) (last : SenderState) → ReadOne clock (state selection start position failed (held_of selection new o') (sent_of selection new o') (settled_of new o')) last r
-      → ReadOne clock (state selection start position failed (held_of selection old o) (sent_of selection old o) (settled_of old o)) last r
+  pub read_behind : (clock : ℤ) (start position : ℕ) (failed : Bool) (r : Record) (last : SenderState)
+      → ReadOne clock (state selection start position failed (held_of selection new o') (sent_of selection new o') (settled_of new o') (lent_of new o')) last r
+      → ReadOne clock (state selection start position failed (held_of selection old o) (sent_of selection old o) (settled_of old o) (lent_of old o)) last r
   read_behind clock start position failed r last read =
-      subst (λ (h : List ℕ). ReadOne clock (state selection start position failed h (sent_of selection old o) (settled_of old o)) last r) same.held
-      (subst (λ (l : List ℕ). ReadOne clock (state selection start position failed (held_of selection new o') l (settled_of old o)) last r) same.sent
-      (subst (λ (s : ReorderState). ReadOne clock (state selection start position failed (held_of selection new o') (sent_of selection new o') s) last r) same.settled read))
+      let lent = lent_of new o' in
+      let one =
+      subst (λ (h : List ℕ). ReadOne clock (state selection start position failed h (sent_of selection old o) (settled_of old o) lent) last r) same.held
+      (subst (λ (l : List ℕ). ReadOne clock (state selection start position failed (held_of selection new o') l (settled_of old o) lent) last r) same.sent
+      (subst (λ (s : ReorderState). ReadOne clock (state selection start position failed (held_of selection new o') (sent_of selection new o') s lent) last r) same.settled read)) in
+      record {
+        ready = one.ready;
+        takes = one.takes;
+        selection = one.selection;
+        start = one.start;
+        position = one.position;
+        held = one.held;
+        fit = one.fit;
+        relations_sent = one.relations_sent;
+        lent = λ before taken may.
+            let sent = sent_by_record selection start r one.ready in
+            last_then (lent_of old o ++ sent) (lent ++ sent) last.lent (last_more (lent_of old o) lent sent same.lent) (one.lent before taken may);
+      }

@@ -1,5 +1,5 @@
 -- What the fields of what is on its way out do to all that is held.
-use Rattle.std.proofs.Common.{◌≡◌, ◌<◌, ◌≤◌, ℕ, ◌+◌, ◌-◌, List, [], ◌++◌, Result, Ok, Err, OnOk, drop, length, take, sym, ap, subst, ◌∙◌, append_assoc, arith}
+use Rattle.std.proofs.Common.{◌≡◌, ◌<◌, ◌≤◌, ℕ, ◌+◌, ◌-◌, List, [], ◌++◌, Result, Ok, Err, OnOk, drop, length, map, take, sym, ap, subst, ◌∙◌, append_assoc, arith}
 use Rattle.std.specs.Prelude.{◌⊎◌, OnErr, reverse}
 use Rattle.std.specs.declared.alloc.AllocError.{AllocError}
 use Rattle.std.proofs.Common.{⊎_elim, inl, inr}
@@ -8,7 +8,7 @@ use Rattle.publication.specs.Publications.{PublicationSet}
 use Rattle.reorder.specs.Settled.{AreLentIn, after_giving_all_back}
 use Rattle.reorder.specs.Taking.{ReorderState}
 use Rattle.sender.specs.Waiting.{AreSelected, AreWithin, bytes_behind, places, ready_states, sent_behind}
-use Rattle.sender.specs.Outgoing.{AddsBytes, IsOutgoing, IsSameQueue, IsSized, frames_left, held_behind, held_of, sent_of, settled_of}
+use Rattle.sender.specs.Outgoing.{AddsBytes, HasRoom, IsOutgoing, IsSameQueue, IsSized, frames_left, held_behind, held_of, lent_in, lent_of, sent_of, settled_of}
 use Rattle.sender.specs.declared.outgoing.Outgoing.{Outgoing}
 use Rattle.sender.specs.declared.outgoing.TheConstants.{FRAMES_LENGTH}
 use Rattle.sender.specs.declared.waiting.Waiting.{Waiting}
@@ -34,17 +34,16 @@ module _ (o o' : Outgoing) (low : o.from ≤ o.to) (high : o.to ≤ length o.fra
       ⊎_elim (λ (e : o'.frames.items ≡ o.frames.items). omega (arith, high, ap (length {A = ℕ}) e))
       (λ (p : (length o.frames.items ≡ 0) × (length o'.frames.items ≡ FRAMES_LENGTH)). omega (arith, none_there o low high p.0)) sized
 
-  pub room_made : (length o.frames.items ≡ FRAMES_LENGTH) ⊎ ((length o.frames.items ≡ 0) × (o.made.items ≡ [])) → 0 < length o'.frames.items → length o'.frames.items ≡ FRAMES_LENGTH
+  pub room_made : HasRoom o → 0 < length o'.frames.items → length o'.frames.items ≡ FRAMES_LENGTH
   room_made room some =
       ⊎_elim (λ (e : o'.frames.items ≡ o.frames.items). ⊎_elim (λ (f : length o.frames.items ≡ FRAMES_LENGTH). ap (length {A = ℕ}) e ∙ f)
-      (λ (p : (length o.frames.items ≡ 0) × (o.made.items ≡ [])). absurd (omega (arith, some, ap (length {A = ℕ}) e, p.0))) room)
+      (λ (p : (length o.frames.items ≡ 0) × (o.made.items ≡ []) × (o.waiting.items ≡ [])). absurd (omega (arith, some, ap (length {A = ℕ}) e, p.0))) room)
       (λ (p : (length o.frames.items ≡ 0) × (length o'.frames.items ≡ FRAMES_LENGTH)). p.1) sized
 
-  room_kept : (length o.frames.items ≡ FRAMES_LENGTH) ⊎ ((length o.frames.items ≡ 0) × (o.made.items ≡ [])) → o'.made.items ≡ o.made.items
-      → (length o'.frames.items ≡ FRAMES_LENGTH) ⊎ ((length o'.frames.items ≡ 0) × (o'.made.items ≡ []))
-  room_kept room made =
+  room_kept : HasRoom o → o'.made.items ≡ o.made.items → o'.waiting.items ≡ o.waiting.items → HasRoom o'
+  room_kept room made waiting =
       ⊎_elim (λ (e : o'.frames.items ≡ o.frames.items). ⊎_elim (λ (f : length o.frames.items ≡ FRAMES_LENGTH). inl (ap (length {A = ℕ}) e ∙ f))
-      (λ (p : (length o.frames.items ≡ 0) × (o.made.items ≡ [])). inr (ap (length {A = ℕ}) e ∙ p.0, made ∙ p.1)) room)
+      (λ (p : (length o.frames.items ≡ 0) × (o.made.items ≡ []) × (o.waiting.items ≡ [])). inr (ap (length {A = ℕ}) e ∙ p.0, made ∙ p.1, waiting ∙ p.2)) room)
       (λ (p : (length o.frames.items ≡ 0) × (length o'.frames.items ≡ FRAMES_LENGTH)). inl p.1) sized
 
 -- ---- bytes that are added
@@ -66,10 +65,13 @@ module _ (selection : PublicationSet) (s : ReorderState) (o o' : Outgoing) (good
       ap (λ (l : List ℕ). sent_behind selection s.strands.pool (reverse l) o'.waiting.items) rest.sent
       ∙ ap (λ (ws : List Waiting). sent_behind selection s.strands.pool (reverse o.relations_sent.items) ws) rest.waiting
 
+  pub lent_kept : lent_of s o' ≡ lent_of s o
+  lent_kept = ap (map (lent_in s.strands.pool.arena)) rest.waiting
+
   pub settled_kept : settled_of s o' ≡ settled_of s o
   settled_kept = ap (λ (ws : List Waiting). after_giving_all_back s (ready_states ws)) rest.waiting
 
-  good_as : AreWithin (length o'.made.items) o.waiting.items → (length o'.frames.items ≡ FRAMES_LENGTH) ⊎ ((length o'.frames.items ≡ 0) × (o'.made.items ≡ [])) → IsOutgoing selection s o'
+  good_as : AreWithin (length o'.made.items) o.waiting.items → HasRoom o' → IsOutgoing selection s o'
   good_as within room = record {
     lent = subst (λ (ws : List Waiting). AreLentIn s (ready_states ws)) (sym rest.waiting) good.lent;
     within = subst (λ (ws : List Waiting). AreWithin (length o'.made.items) ws) (sym rest.waiting) within;
@@ -82,7 +84,7 @@ module _ (selection : PublicationSet) (s : ReorderState) (o o' : Outgoing) (good
   }
 
   pub stays : o'.made.items ≡ o.made.items → IsOutgoing selection s o' × (held_of selection s o' ≡ held_of selection s o)
-  stays made = (good_as (subst (λ (l : List ℕ). AreWithin (length l) o.waiting.items) (sym made) good.within) (room_kept o o' good.from good.to sized good.room made), held_as o.made.items made)
+  stays made = (good_as (subst (λ (l : List ℕ). AreWithin (length l) o.waiting.items) (sym made) good.within) (room_kept o o' good.from good.to sized good.room made rest.waiting), held_as o.made.items made)
 
   pub adds : (bytes : List ℕ) → o'.made.items ≡ o.made.items ++ bytes → 0 < length o'.frames.items → IsOutgoing selection s o' × (held_of selection s o' ≡ held_of selection s o ++ bytes)
   adds bytes made some =

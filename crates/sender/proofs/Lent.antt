@@ -9,14 +9,16 @@ use Rattle.reorder.specs.Pool.{AreApart, StaysLent}
 use Rattle.reorder.specs.Ready.{ReadyState, ready_entries}
 use Rattle.reorder.specs.Chunks.{IsHeldBy, IsOwned, IsTidy}
 use Rattle.reorder.specs.Taking.{HasTaken, ReorderState}
-use Rattle.reorder.specs.Settled.{AreLentIn, after_giving_all_back, after_giving_back}
+use Rattle.reorder.specs.Settled.{AreLentIn, after_giving_all_back, after_giving_back, ready_chunks}
 use Rattle.reorder.proofs.Settling.{entries_given_back, entries_lent, taken_settled}
-use Rattle.reorder.proofs.Filling.{settled_tidy, tidy_settled}
-use Rattle.sender.specs.Waiting.{AreWithin, bytes_behind, ready_states}
-use Rattle.sender.specs.Outgoing.{IsOutgoing, frames_left, held_behind, held_of, sent_of}
+use Rattle.reorder.proofs.Filling.{chunks_each_given_back, chunks_each_lent, settled_tidy, tidy_settled}
+use Rattle.sender.specs.Waiting.{bytes_behind, ready_states}
+use Rattle.sender.specs.Outgoing.{IsOutgoing, frames_left, held_behind, held_of, lent_of, sent_of}
 use Rattle.sender.specs.declared.outgoing.Outgoing.{Outgoing}
 use Rattle.sender.specs.declared.waiting.Waiting.{Waiting}
-use Rattle.sender.proofs.Queueing.{bytes_low, bytes_same, sent_same}
+use Rattle.sender.proofs.Emptied.{none_held}
+use Rattle.sender.proofs.Lasting.{lents_same}
+use Rattle.sender.proofs.Queueing.{bytes_low, bytes_same, sent_same, waits_some}
 use Rattle.sender.proofs.Sections.{all_back, all_front}
 
 -- ---- the last one first
@@ -58,45 +60,36 @@ pub record Keeps (selection : PublicationSet) (s s' : ReorderState) (o : Outgoin
   pub good : IsOutgoing selection s' o
   pub held : held_of selection s' o ≡ held_of selection s o
   pub sent : sent_of selection s' o ≡ sent_of selection s o
+  pub lent : lent_of s' o ≡ lent_of s o
 
 keeps : (selection : PublicationSet) (s s' : ReorderState) (o : Outgoing) → IsOutgoing selection s o → AreLentIn s' (ready_states o.waiting.items)
-    → map (ready_entries s'.strands.pool) (ready_states o.waiting.items) ≡ map (ready_entries s.strands.pool) (ready_states o.waiting.items) → Keeps selection s s' o
-keeps selection s s' o good lent same = record {
+    → map (ready_entries s'.strands.pool) (ready_states o.waiting.items) ≡ map (ready_entries s.strands.pool) (ready_states o.waiting.items)
+    → map (ready_chunks s'.strands.pool.arena) (ready_states o.waiting.items) ≡ map (ready_chunks s.strands.pool.arena) (ready_states o.waiting.items) → Keeps selection s s' o
+keeps selection s s' o good lent same chunks = record {
   good = record { lent = lent; within = good.within; placed = good.placed; from = good.from; to = good.to; room = good.room; sent = good.sent; capacity = good.capacity };
   held = ap (λ (l : List ℕ). o.front.items ++ (frames_left o ++ l)) (bytes_same selection s.strands.pool s'.strands.pool (reverse o.relations_sent.items) o.made.items o.waiting.items same);
   sent = sent_same selection s.strands.pool s'.strands.pool (reverse o.relations_sent.items) o.waiting.items same;
+  lent = lents_same s.strands.pool.arena s'.strands.pool.arena o.waiting.items chunks;
 }
 
 -- a record is taken
 pub keeps_lent : (selection : PublicationSet) (s s' : ReorderState) (o : Outgoing) → IsOutgoing selection s o → StaysLent s.strands.pool s'.strands.pool → Keeps selection s s' o
-keeps_lent selection s s' o good stays = let e = entries_lent s s' (ready_states o.waiting.items) good.lent stays in keeps selection s s' o good e.0 e.1
+keeps_lent selection s s' o good stays = let e = entries_lent s s' (ready_states o.waiting.items) good.lent stays in
+    keeps selection s s' o good e.0 e.1 (chunks_each_lent s s' (ready_states o.waiting.items) good.lent stays)
 
 -- what was made ready last is given back
 pub keeps_given_back : (selection : PublicationSet) (s s' : ReorderState) (o : Outgoing) (ready : ReadyState) → IsOutgoing selection s o → AreLentIn s (ready_states o.waiting.items ++ ready ∷ []) → s' ≡ after_giving_back s ready → Keeps selection s s' o
 keeps_given_back selection s s' o ready good lent is =
-    let e = entries_given_back s s' ready (ready_states o.waiting.items) (lent_first s (ready_states o.waiting.items) ready lent) is in
-    keeps selection s s' o good e.0 e.1
+    let first = lent_first s (ready_states o.waiting.items) ready lent in
+    let e = entries_given_back s s' ready (ready_states o.waiting.items) first is in
+    keeps selection s s' o good e.0 e.1 (chunks_each_given_back s s' ready (ready_states o.waiting.items) first is)
 
 -- ---- where nothing is held
 
--- nothing waits
-pub none_waits : (selection : PublicationSet) (s : ReorderState) (o : Outgoing) → IsOutgoing selection s o → held_of selection s o ≡ [] → o.waiting.items ≡ []
-none_waits selection s o good none = by_list o.waiting.items good.within refl
-  where
-    made_none : length o.made.items ≡ 0
-    made_none =
-        let behind = held_behind selection s o in
-        let low : length o.made.items ≤ length behind = bytes_low selection s.strands.pool (reverse o.relations_sent.items) o.made.items o.waiting.items good.within in
-        omega (arith, ap (length {A = ℕ}) none, length-append o.front.items (frames_left o ++ behind), length-append (frames_left o) behind)
-
-    by_list : (ws : List Waiting) → AreWithin (length o.made.items) ws → o.waiting.items ≡ ws → o.waiting.items ≡ []
-    by_list [] within is = is
-    by_list (w ∷ ws) within is = absurd (let low = within.0 in omega (arith, made_none))
-
--- whether anything is held is whether anything is in the front, a frame left or a byte made
+-- whether anything is held is whether anything is in the front, a frame left, a byte made or a transaction waiting
 pub holds_as : (selection : PublicationSet) (s : ReorderState) (o : Outgoing) → IsOutgoing selection s o
-    → not ((length o.front.items == 0) && (not (nat_lt o.from o.to) && (length o.made.items == 0))) ≡ not (length (held_of selection s o) == 0)
-holds_as selection s o good = by_tests (length o.front.items == 0) refl (nat_lt o.from o.to) refl (length o.made.items == 0) refl
+    → not ((length o.front.items == 0) && (not (nat_lt o.from o.to) && ((length o.made.items == 0) && (length o.waiting.items == 0)))) ≡ not (length (held_of selection s o) == 0)
+holds_as selection s o good = by_tests (length o.front.items == 0) refl (nat_lt o.from o.to) refl (length o.made.items == 0) refl (length o.waiting.items == 0) refl
   where
     behind : List ℕ
     behind = held_behind selection s o
@@ -113,23 +106,23 @@ holds_as selection s o good = by_tests (length o.front.items == 0) refl (nat_lt 
     low : length o.made.items ≤ length behind
     low = bytes_low selection s.strands.pool (reverse o.relations_sent.items) o.made.items o.waiting.items good.within
 
-    none_behind : (ws : List Waiting) → AreWithin (length o.made.items) ws → length o.made.items ≡ 0 → o.waiting.items ≡ ws → length behind ≡ 0
-    none_behind [] within none is = ap (λ (ws : List Waiting). length (bytes_behind selection s.strands.pool (reverse o.relations_sent.items) o.made.items ws)) is ∙ none
-    none_behind (w ∷ ws) within none is = absurd (let l = within.0 in omega arith)
+    some_behind : (ws : List Waiting) → o.waiting.items ≡ ws → (length ws == 0) ≡ false → 0 < length behind
+    some_behind [] is never = absurd (let f : true ≡ false = never in cc)
+    some_behind (w ∷ ws) is never =
+        let long : length behind ≡ length (bytes_behind selection s.strands.pool (reverse o.relations_sent.items) o.made.items (w ∷ ws)) =
+        ap (λ (l : List Waiting). length (bytes_behind selection s.strands.pool (reverse o.relations_sent.items) o.made.items l)) is in
+        omega (arith, long, waits_some selection s.strands.pool (reverse o.relations_sent.items) o.made.items w ws)
 
     some : 0 < length (held_of selection s o) → true ≡ not (length (held_of selection s o) == 0)
     some long = ap not (sym (ne_eqb (length (held_of selection s o)) 0 (λ none. omega (arith, none, long))))
 
-    by_tests : (a : Bool) → (length o.front.items == 0) ≡ a → (b : Bool) → nat_lt o.from o.to ≡ b → (d : Bool) → (length o.made.items == 0) ≡ d → not (a && (not b && d)) ≡ not (length (held_of selection s o) == 0)
-    by_tests false is_a b is_b d is_d = some (omega (arith, eqb-false (length o.front.items) 0 is_a, size))
-    by_tests true is_a true is_b d is_d = some (omega (arith, ltb-true o.from o.to is_b, size, frames))
-    by_tests true is_a false is_b false is_d = some (omega (arith, eqb-false (length o.made.items) 0 is_d, size, low))
-    by_tests true is_a false is_b true is_d =
-        let made : length o.made.items ≡ 0 = eqb-true (length o.made.items) 0 is_d in
-        let none : length behind ≡ 0 = none_behind o.waiting.items good.within made refl in
-        let front : length o.front.items ≡ 0 = eqb-true (length o.front.items) 0 is_a in
+    by_tests : (a : Bool) → (length o.front.items == 0) ≡ a → (b : Bool) → nat_lt o.from o.to ≡ b → (d : Bool) → (length o.made.items == 0) ≡ d → (e : Bool) → (length o.waiting.items == 0) ≡ e
+        → not (a && (not b && (d && e))) ≡ not (length (held_of selection s o) == 0)
+    by_tests false is_a b is_b d is_d e is_e = some (omega (arith, eqb-false (length o.front.items) 0 is_a, size))
+    by_tests true is_a true is_b d is_d e is_e = some (omega (arith, ltb-true o.from o.to is_b, size, frames))
+    by_tests true is_a false is_b false is_d e is_e = some (omega (arith, eqb-false (length o.made.items) 0 is_d, size, low))
+    by_tests true is_a false is_b true is_d false is_e = some (omega (arith, some_behind o.waiting.items refl is_e, size))
+    by_tests true is_a false is_b true is_d true is_e =
         let order = ltb-false o.from o.to is_b in
-        ap (λ (n : ℕ). not (n == 0)) (sym (all_none none front order))
-      where
-        all_none : length behind ≡ 0 → length o.front.items ≡ 0 → o.to ≤ o.from → length (held_of selection s o) ≡ 0
-        all_none none front order = omega (arith, size, frames)
+        let only : held_of selection s o ≡ o.front.items = none_held selection s o good order (eqb-true (length o.made.items) 0 is_d) (eqb-true (length o.waiting.items) 0 is_e) in
+        ap (λ (n : ℕ). not (n == 0)) (sym (ap (length {A = ℕ}) only ∙ eqb-true (length o.front.items) 0 is_a))

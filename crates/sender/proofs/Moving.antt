@@ -7,18 +7,24 @@ use Rattle.std.proofs.Math.Seq.{take-add, take-append-add}
 use Rattle.std.proofs.lemmas.List.{drop-drop, drop-take, drop-append-le, drop_at, take-append-le, length-append, length-drop, length-take-le, drop_all}
 use borrow.Rule.Slice.PartMut.{put_mid}
 use Rattle.publication.specs.Publications.{PublicationSet}
-use Rattle.reorder.specs.Pool.{PoolState}
 use Rattle.reorder.specs.Taking.{ReorderState}
-use Rattle.stream.specs.Items.{relations_sent_by_all}
-use Rattle.sender.specs.Waiting.{AreWithin, bytes_behind, changes_bytes, left_of}
-use Rattle.sender.specs.Outgoing.{HoldsSame, IsOutgoing, MovesOut, frames_left, held_behind, held_of}
+use Rattle.sender.specs.Waiting.{bytes_behind}
+use Rattle.sender.specs.Outgoing.{HoldsSame, IsOutgoing, MovesOut, frames_left, held_behind, held_of, lent_of}
 use Rattle.sender.specs.declared.outgoing.Outgoing.{Outgoing}
 use Rattle.sender.specs.declared.waiting.Waiting.{Waiting}
+use Rattle.sender.proofs.Lasting.{last_then}
+use Rattle.sender.proofs.Queueing.{waits_some}
 
 -- ---- one after another
 
 pub moves_same : (selection : PublicationSet) (count : ℕ) (s s' s'' : ReorderState) (o o' o'' : Outgoing) → MovesOut selection count s s' o o' → HoldsSame selection s' s'' o' o'' → MovesOut selection count s s'' o o''
-moves_same selection count s s' s'' o o' o'' a b = record { good = b.good; held = b.held ∙ a.held; sent = b.sent ∙ a.sent; settled = b.settled ∙ a.settled }
+moves_same selection count s s' s'' o o' o'' a b = record {
+  good = b.good;
+  held = b.held ∙ a.held;
+  sent = b.sent ∙ a.sent;
+  settled = b.settled ∙ a.settled;
+  lent = last_then (lent_of s o) (lent_of s' o') (lent_of s'' o'') a.lent b.lent;
+}
 
 pub moves_both : (selection : PublicationSet) (count more : ℕ) (s s' s'' : ReorderState) (o o' o'' : Outgoing) → MovesOut selection count s s' o o' → MovesOut selection more s' s'' o' o'' → MovesOut selection (count + more) s s'' o o''
 moves_both selection count more s s' s'' o o' o'' a b = record {
@@ -26,6 +32,7 @@ moves_both selection count more s s' s'' o o' o'' a b = record {
   held = b.held ∙ ap (drop more) a.held ∙ drop-drop more count (held_of selection s o);
   sent = b.sent ∙ a.sent;
   settled = b.settled ∙ a.settled;
+  lent = last_then (lent_of s o) (lent_of s' o') (lent_of s'' o'') a.lent b.lent;
 }
 
 -- ---- bytes at the front, and frames
@@ -38,6 +45,7 @@ module _ (selection : PublicationSet) (s : ReorderState) (o o' : Outgoing) (good
     held = ap (λ (l : List ℕ). l ++ (frames_left o ++ held_behind selection s o)) items ∙ sym (drop-append-le count o.front.items (frames_left o ++ held_behind selection s o) low);
     sent = refl;
     settled = refl;
+    lent = ([], refl);
   }
 
   left_gone : (count : ℕ) → count ≤ o.to - o.from → take (o.to - (o.from + count)) (drop (o.from + count) o.frames.items) ≡ drop count (frames_left o)
@@ -61,6 +69,7 @@ module _ (selection : PublicationSet) (s : ReorderState) (o o' : Outgoing) (good
         ∙ ap (λ (l : List ℕ). drop count (l ++ (frames_left o ++ held_behind selection s o))) (sym none);
     sent = refl;
     settled = refl;
+    lent = ([], refl);
   }
 
   -- frames that are there lie in front of what is held, where there is nothing at the front
@@ -83,28 +92,20 @@ module _ (selection : PublicationSet) (s : ReorderState) (o o' : Outgoing) (good
   -- ---- what waits has bytes behind the front
 
   pub behind_waits : 0 < length o.waiting.items → length o.front.items < length (held_of selection s o)
-  behind_waits some =
-      let made : length o.made.items ≤ length (held_behind selection s o) = made_low selection s.strands.pool (reverse o.relations_sent.items) o.made.items o.waiting.items in
-      let low : 0 < length o.made.items = within_some (length o.made.items) o.waiting.items some good.within in
-      omega (arith, made, low, length-append o.front.items (frames_left o ++ held_behind selection s o), length-append (frames_left o) (held_behind selection s o))
+  behind_waits some = by_list o.waiting.items refl some
     where
-      within_some : (n : ℕ) (ws : List Waiting) → 0 < length ws → AreWithin n ws → 0 < n
-      within_some n [] some within = absurd (omega (arith, some))
-      within_some n (w ∷ ws) some within = let low = within.0 in omega (arith, low)
-
-      made_low : (selection : PublicationSet) (pool : PoolState) (sent made : List ℕ) (ws : List Waiting) → length made ≤ length (bytes_behind selection pool sent made ws)
-      made_low selection pool sent made [] = omega arith
-      made_low selection pool sent made (w ∷ ws) =
-          let changes = changes_bytes selection sent w.clock (left_of selection pool w) in
-          let rest = bytes_behind selection pool (relations_sent_by_all sent (left_of selection pool w)) (drop w.before made) ws in
-          let low : length (drop w.before made) ≤ length rest = made_low selection pool (relations_sent_by_all sent (left_of selection pool w)) (drop w.before made) ws in
-          let whole : length (take w.before made) + length (drop w.before made) ≡ length made = halves w.before made in
-          omega (arith, low, whole, length-append (take w.before made) (changes ++ rest), length-append changes rest)
-        where
-          halves : (n : ℕ) (xs : List ℕ) → length (take n xs) + length (drop n xs) ≡ length xs
-          halves zero xs = omega arith
-          halves (suc n) [] = refl
-          halves (suc n) (x ∷ xs) = let rest = halves n xs in omega (arith, rest)
+      by_list : (ws : List Waiting) → o.waiting.items ≡ ws → 0 < length ws → length o.front.items < length (held_of selection s o)
+      by_list [] is some = absurd (omega (arith, some))
+      by_list (w ∷ ws) is some =
+          let long : length (held_behind selection s o) ≡ length (bytes_behind selection s.strands.pool (reverse o.relations_sent.items) o.made.items (w ∷ ws)) =
+          ap (λ (l : List Waiting). length (bytes_behind selection s.strands.pool (reverse o.relations_sent.items) o.made.items l)) is in
+          omega (
+            arith,
+            long,
+            waits_some selection s.strands.pool (reverse o.relations_sent.items) o.made.items w ws,
+            length-append o.front.items (frames_left o ++ held_behind selection s o),
+            length-append (frames_left o) (held_behind selection s o),
+          )
 
 -- ---- moved into a slice
 

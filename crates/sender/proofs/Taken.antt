@@ -11,15 +11,17 @@ use Rattle.reorder.specs.Pool.{IsLent, StaysLent}
 use Rattle.reorder.specs.Ready.{ReadyState}
 use Rattle.reorder.specs.declared.ready.Step.{Step}
 use Rattle.reorder.specs.declared.ready.Step.TheVariants as steps
-use Rattle.reorder.specs.Settled.{AreLentIn, after_giving_all_back, lent_chunks}
-use Rattle.reorder.specs.Taking.{HasTaken, IsStepApart, IsStepHeld, ReorderState, Takes}
+use Rattle.reorder.specs.Settled.{AreLentIn, FillsReady, after_giving_all_back}
+use Rattle.reorder.specs.Taking.{HasTaken, IsStepApart, IsStepHeld, MayCome, ReorderState, Takes, readied_changes}
 use Rattle.reorder.proofs.Filling.{tidy_more, tidy_quiet}
 use Rattle.reorder.proofs.Settling.{entries_lent, lent_more, settled_taken}
 use Rattle.sender.specs.Waiting.{ready_states, ready_states_with}
-use Rattle.sender.specs.Outgoing.{Grows, IsOutgoing, held_of, sent_of, settled_of}
-use Rattle.sender.specs.Sending.{ReadOne, blocks, published_by_record}
+use Rattle.sender.specs.Lent.{LentTransaction}
+use Rattle.sender.specs.Outgoing.{Grows, held_of, lent_by_step, lent_of, sent_of, settled_of}
+use Rattle.sender.specs.Sending.{ReadOne, blocks, published_by_record, sent_by_record}
 use Rattle.sender.specs.declared.outgoing.Outgoing.{Outgoing}
-use Rattle.sender.proofs.Lent.{Keeps, none_waits}
+use Rattle.sender.proofs.Lasting.{last_same, step_fills}
+use Rattle.sender.proofs.Lent.{Keeps}
 use Rattle.sender.proofs.States.{state}
 
 -- what it has taken while these are ready, it has taken once they are given back
@@ -41,17 +43,16 @@ pub tidy_step : (old new : ReorderState) (ws : List ReadyState) (step : Step) (c
 tidy_step old new ws steps.Quiet count before after takes tidy = tidy_quiet old new ws count before after takes tidy
 tidy_step old new ws (steps.Ready ready) count before after takes tidy = tidy_more old new ws ready count before after takes tidy
 
--- nothing is lent where nothing is held
-pub none_lent : (selection : PublicationSet) (s : ReorderState) (o : Outgoing) → IsOutgoing selection s o → held_of selection s o ≡ [] → lent_chunks s (ready_states o.waiting.items) ≡ 0
-none_lent selection s o good none = ap (λ ws. lent_chunks s (ready_states ws)) (none_waits selection s o good none)
-
 -- ---- a record that was read
 
-pub read_one : (clock : ℤ) (selection : PublicationSet) (start position end : ℕ) (failed : Bool) (r : Record) (old mid new : ReorderState) (o o' : Outgoing) (ready : Option (List Entry)) → AreLentIn old (ready_states o.waiting.items) → Keeps selection old mid o
-    → Takes old mid r ready → end ≡ r.end → Grows selection clock (published_by_record selection start r ready) (Ok tt) mid new o o' → AllByRecursion (FitsPublished (relation selection)) (published_by_record selection start r ready)
-    → ((rs : List Record) → HasTaken mid rs → HasTaken (settled_of new o') rs)
-    → ReadOne clock (state selection start position failed (held_of selection old o) (sent_of selection old o) (settled_of old o)) (state selection start end failed (held_of selection new o') (sent_of selection new o') (settled_of new o')) r
-read_one clock selection start position end failed r old mid new o o' ready are kept takes is grows fit taken =
+pub read_one : (clock : ℤ) (selection : PublicationSet) (start position end : ℕ) (failed : Bool) (r : Record) (old mid new : ReorderState) (o o' : Outgoing) (step : Step) → AreLentIn old (ready_states o.waiting.items) → Keeps selection old mid o
+    → Takes old mid r (readied_changes mid step) → end ≡ r.end → Grows selection clock (published_by_record selection start r (readied_changes mid step)) (Ok tt) mid new o o'
+    → AllByRecursion (FitsPublished (relation selection)) (published_by_record selection start r (readied_changes mid step)) → ((rs : List Record) → HasTaken mid rs → HasTaken (settled_of new o') rs)
+    → ((rs : List Record) → HasTaken old rs → MayCome rs r.body → FillsReady mid step)
+    → lent_of new o' ≡ lent_of mid o ++ lent_by_step (published_by_record selection start r (readied_changes mid step)) mid step
+    → ReadOne clock (state selection start position failed (held_of selection old o) (sent_of selection old o) (settled_of old o) (lent_of old o)) (state selection start end failed (held_of selection new o') (sent_of selection new o') (settled_of new o') (lent_of new o')) r
+read_one clock selection start position end failed r old mid new o o' step are kept takes is grows fit taken fills lents =
+    let ready = readied_changes mid step in
     let ts = published_by_record selection start r ready in
     record {
       ready = ready;
@@ -64,4 +65,9 @@ read_one clock selection start position end failed r old mid new o o' ready are 
           ∙ ap (λ (l : List ℕ). held_of selection old o ++ bytes_of_items (relation selection) l (blocks clock ts)) kept.sent;
       fit = fit;
       relations_sent = grows.sent ∙ ap (λ (l : List ℕ). relations_sent_through l ts) kept.sent;
+      lent = λ before told may.
+          let taken_before = settled_taken old (ready_states o.waiting.items) before are told in
+          last_same (lent_of old o ++ sent_by_record selection start r ready) (lent_of new o')
+          (lents ∙ ap (λ (l : List LentTransaction). l ++ lent_by_step ts mid step) kept.lent
+          ∙ ap (λ (l : List LentTransaction). lent_of old o ++ l) (step_fills selection start r mid step (fills before taken_before may)));
     }

@@ -1,6 +1,6 @@
 -- What is ready can be told in a stream.
-use Rattle.std.proofs.Common.{◌≡◌, ◌<◌, ◌^◌, ℕ, List, [], ◌∷◌, ◌++◌, Option, Some, None, get_or, length, map, zero, suc, refl, sym, ap, subst, ◌∙◌, arith}
-use Rattle.std.specs.Prelude.{FitsSigned, IfSome, option_map, option_to_list}
+use Rattle.std.proofs.Common.{◌≡◌, ◌<◌, ◌+◌, ◌^◌, ℕ, Bool, true, false, List, [], ◌∷◌, ◌++◌, Option, Some, None, drop, get_or, length, map, zero, suc, refl, sym, ap, subst, ◌∙◌, arith}
+use Rattle.std.specs.Prelude.{FitsSigned, IfSome, MatchBool, is_some, option_map, option_to_list}
 use Rattle.std.specs.Int.{w64}
 use Rattle.std.specs.List.{All, AllByRecursion}
 use Rattle.pgoutput.specs.declared.logical.Logical.{Logical}
@@ -13,12 +13,14 @@ use Rattle.publication.specs.Projection.{MessageFits}
 use Rattle.publication.specs.Selection.{relation}
 use Rattle.reorder.specs.Entries.{IsEntry, body_in, position_in}
 use Rattle.reorder.specs.Pool.{PoolState, entries_at}
-use Rattle.reorder.specs.Ready.{IsReadyIn, IsPlace, ReadyState, PlaceState, bytes_at, entry_at, lent_from, ready_entries}
+use Rattle.reorder.specs.Ready.{IsEntryAt, IsReadyIn, IsPlace, ReadyState, PlaceState, bytes_at, entry_at, lent_from, ready_entries}
 use Rattle.reorder.proofs.Coding.{body_spells, position_of}
 use Rattle.stream.specs.declared.published.Published.{Published}
+use Rattle.stream.specs.declared.published.PublishedChange.{PublishedChange}
 use Rattle.stream.specs.Items.{FitsPublished}
 use Rattle.sender.specs.declared.header.Header.{Header}
 use Rattle.sender.specs.Published.{CanBeTold, published_at, published_changes, published_with}
+use Rattle.sender.proofs.Changes.{there}
 use Rattle.sender.proofs.Fitting.{commit_fits}
 
 -- the change has a position of 64 bits, and a body that spells it
@@ -46,6 +48,24 @@ ready_spelled pool ready is = each ready.places is.places
     each : (places : List PlaceState) → All (IsPlace (lent_from pool ready)) places → AllByRecursion IsSpelled (map (entry_at (lent_from pool ready)) places)
     each [] all = tt
     each (place ∷ places) all = (place_spelled (lent_from pool ready) place (is.lent.hold place.xid) (all 0 place (omega arith)), each places (λ k d low. all (suc k) d (omega (arith, low))))
+
+-- ---- whether a change has a message
+
+pub entry_told : (selection : PublicationSet) (entries : List Entry) (k position : ℕ) (body : List ℕ) (told : Bool) → k < length entries → IsEntryAt entries k position body
+    → ((p : ℕ) (c : Change) → SpellsBody body c → told ≡ is_some (change_message selection p c))
+    → MatchBool told (0 < length (published_changes selection (drop k entries))) (published_changes selection (drop k entries) ≡ published_changes selection (drop (k + 1) entries))
+entry_told selection entries k position body told lt at value =
+    let t = there entries k lt in
+    let e = t.entry in
+    let later = published_changes selection (drop (k + 1) entries) in
+    let P : List PublishedChange → Type 0 = λ l. MatchBool told (0 < length l) (l ≡ later) in
+    subst P (sym (ap (published_changes selection) t.parts)) (by_option (change_message selection e.position e.change) told (value e.position e.change (at e t.gets).1) e.position later)
+  where
+    by_option : (o : Option Logical) (b : Bool) → b ≡ is_some o → (position : ℕ) (later : List PublishedChange) → MatchBool b (0 < length (published_at position o ++ later)) (published_at position o ++ later ≡ later)
+    by_option None true is position later = absurd (let f : true ≡ false = is in cc)
+    by_option None false is position later = refl
+    by_option (Some m) true is position later = omega arith
+    by_option (Some m) false is position later = absurd (let f : false ≡ true = is in cc)
 
 -- ---- what it publishes
 

@@ -6,6 +6,7 @@ use Rattle.std.proofs.KnownBytes.{Appends-trans}
 use Rattle.std.specs.declared.option.Option.{Option}
 use Rattle.wal.specs.declared.record.Record.{Record}
 use Rattle.wal.specs.Log.{follows}
+use Rattle.sender.specs.Lent.{AreLastOf}
 use Rattle.sender.specs.Sending.{SenderState, ReadAll}
 use Rattle.sender.specs.Turning.{ReadAndGave}
 
@@ -15,6 +16,6 @@ more_taken a b c bytes taken n p q = subst (Appends a c) (sym (take-add taken n 
 -- ---- a whole turn
 
 pub turned : (clock : ℤ) (old fed new : SenderState) (rs fetched : List Record) (given : List ℕ) → rs ≡ fetched → old.failed ≡ false → follows old.position rs ≡ true → ReadAll clock old fed rs → fed.failed ≡ false
-    → fed.held ≡ given ++ new.held → new ≡ record fed { held = new.held } → ReadAndGave clock old new fetched given
-turned clock old fed new rs fetched given same running follow read runs_on parts rest =
-    subst (λ l. ReadAndGave clock old new l given) same (record { running = running; follow = follow; fed = fed; read = read; runs_on = runs_on; parts = parts; rest = rest })
+    → fed.held ≡ given ++ new.held → new ≡ record fed { held = new.held; lent = new.lent } → AreLastOf new.lent fed.lent → ReadAndGave clock old new fetched given
+turned clock old fed new rs fetched given same running follow read runs_on parts rest lent =
+    subst (λ l. ReadAndGave clock old new l given) same (record { running = running; follow = follow; fed = fed; read = read; runs_on = runs_on; parts = parts; rest = rest; lent = lent })

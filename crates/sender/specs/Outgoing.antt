@@ -4,17 +4,20 @@ use Rattle.std.specs.declared.alloc.AllocError.{AllocError}
 use Rattle.publication.specs.Publications.{PublicationSet}
 use Rattle.publication.specs.Selection.{relation, selected_oids}
 use Rattle.stream.specs.declared.published.Published.{Published}
-use Rattle.stream.specs.Items.{Block, bytes_of_items, relations_sent_through, xlogdata_word}
-use Rattle.stream.specs.Words.{word_bytes}
+use Rattle.stream.specs.Items.{Block, bytes_of_items, relations_sent_through}
 use Rattle.reorder.specs.Ready.{ReadyState}
-use Rattle.sender.specs.Spelled.{begin_with, commit_with}
 use Rattle.sender.specs.declared.header.Header.{Header}
 use Rattle.reorder.specs.Chunks.{IsTidy, live_chunks}
-use Rattle.reorder.specs.Settled.{AreLentIn, after_giving_all_back, lent_chunks}
+use Rattle.reorder.specs.Settled.{AreLentIn, after_giving_all_back, lent_chunks, ready_chunks}
+use Rattle.reorder.specs.declared.ready.Step.{Step}
+use Rattle.reorder.specs.declared.ready.Step.TheVariants as steps
+use Rattle.chgarena.specs.Strands.{Strands as Arena}
 use Rattle.reorder.specs.Taking.{HasTaken, ReorderState}
 use Rattle.wal.specs.declared.record.Record.{Record}
-use Rattle.sender.specs.Waiting.{AreSelected, AreWithin, bytes_behind, places, ready_states, sent_behind}
+use Rattle.sender.specs.Waiting.{AreSelected, AreWithin, begin_bytes, bytes_behind, places, ready_states, sent_behind}
+use Rattle.sender.specs.Lent.{AreLastOf, LentTransaction, lent_with}
 use Rattle.sender.specs.declared.outgoing.Outgoing.{Outgoing}
+use Rattle.sender.specs.declared.waiting.Waiting.{Waiting}
 use Rattle.sender.specs.declared.outgoing.TheConstants.{FRAMES_LENGTH}
 
 -- the frames that are made and not yet taken
@@ -37,6 +40,23 @@ sent_of selection s o = sent_behind selection s.strands.pool (reverse o.relation
 abbrev pub settled_of : ReorderState → Outgoing → ReorderState
 settled_of s o = after_giving_all_back s (ready_states o.waiting.items)
 
+-- a transaction that waits, with the chunks that its changes fill
+abbrev pub lent_in : Arena → Waiting → LentTransaction
+lent_in arena w = record { commit = record { position = w.header.start; end = w.header.end; time = w.header.time }; chunks = ready_chunks arena w.ready }
+
+-- those that wait
+abbrev pub lent_of : ReorderState → Outgoing → List LentTransaction
+lent_of s o = map (lent_in s.strands.pool.arena) o.waiting.items
+
+-- those of which a record sends the published one, by what it made ready
+abbrev pub lent_by_step : List Published → ReorderState → Step → List LentTransaction
+lent_by_step ts s steps.Quiet = []
+lent_by_step ts s (steps.Ready ready) = map (lent_with (ready_chunks s.strands.pool.arena ready)) ts
+
+-- there is room for frames, or there are none to be made
+abbrev pub HasRoom : Outgoing → Type 0
+HasRoom o = (length o.frames.items ≡ FRAMES_LENGTH) ⊎ ((length o.frames.items ≡ 0) × (o.made.items ≡ []) × (o.waiting.items ≡ []))
+
 -- What holds between two calls: the transactions that wait lie in the arena, each has its place among the bytes that are made, there is
 -- room for frames where any are to be made, and for the OIDs of all Relations that are to be sent.
 pub record IsOutgoing (selection : PublicationSet) (s : ReorderState) (o : Outgoing) : Type 0 where
@@ -45,7 +65,7 @@ pub record IsOutgoing (selection : PublicationSet) (s : ReorderState) (o : Outgo
   pub placed : places o.waiting.items ≡ o.placed
   pub from : o.from ≤ o.to
   pub to : o.to ≤ length o.frames.items
-  pub room : (length o.frames.items ≡ FRAMES_LENGTH) ⊎ ((length o.frames.items ≡ 0) × (o.made.items ≡ []))
+  pub room : HasRoom o
   pub sent : AreSelected selection (reverse o.relations_sent.items)
   pub capacity : 0 < length o.waiting.items → length (selected_oids selection) ≤ vec_capacity o.relations_sent
 
@@ -55,6 +75,7 @@ pub record HoldsSame (selection : PublicationSet) (s s' : ReorderState) (o o' : 
   pub held : held_of selection s' o' ≡ held_of selection s o
   pub sent : sent_of selection s' o' ≡ sent_of selection s o
   pub settled : settled_of s' o' ≡ settled_of s o
+  pub lent : AreLastOf (lent_of s' o') (lent_of s o)
 
 -- Blocks of these transactions came behind what was held, or, where memory was refused, nothing.
 pub record Grows (selection : PublicationSet) (clock : ℤ) (ts : List Published) (result : Result (Unit {0}) AllocError) (s s' : ReorderState) (o o' : Outgoing) : Type 0 where
@@ -92,18 +113,12 @@ pub record StaysQueued (o o' : Outgoing) : Type 0 where
   pub frames : IsSized o o'
   pub rest : IsSameQueue o o'
 
-abbrev pub begin_bytes : ℤ → Header → List ℕ
-begin_bytes clock h = word_bytes (xlogdata_word h.start clock (begin_with h))
-
-abbrev pub commit_bytes : ℤ → Header → List ℕ
-commit_bytes clock h = word_bytes (xlogdata_word h.end clock (commit_with h))
-
--- A transaction waits behind all others, between its Begin and its Commit.
-pub record Queues (selection : PublicationSet) (ready : ReadyState) (clock : ℤ) (begin commit : List ℕ) (o o' : Outgoing) : Type 0 where
+-- A transaction waits behind all others and behind its Begin.
+pub record Queues (selection : PublicationSet) (ready : ReadyState) (clock : ℤ) (header : Header) (o o' : Outgoing) : Type 0 where
   pub before : ℕ
-  pub place : before + o.placed ≡ length (o.made.items ++ begin)
-  pub made : o'.made.items ≡ (o.made.items ++ begin) ++ commit
-  pub waiting : o'.waiting.items ≡ o.waiting.items ++ record { ready = ready; next = 0; clock = clock; before = before } ∷ []
+  pub place : before + o.placed ≡ length (o.made.items ++ begin_bytes clock header)
+  pub made : o'.made.items ≡ o.made.items ++ begin_bytes clock header
+  pub waiting : o'.waiting.items ≡ o.waiting.items ++ record { ready = ready; next = 0; header = header; clock = clock; before = before } ∷ []
   pub placed : o'.placed ≡ o.placed + before
   pub room : 0 < length o'.frames.items
   pub frames : IsSized o o'
@@ -127,6 +142,7 @@ pub record MovesOut (selection : PublicationSet) (count : ℕ) (s s' : ReorderSt
   pub held : held_of selection s' o' ≡ drop count (held_of selection s o)
   pub sent : sent_of selection s' o' ≡ sent_of selection s o
   pub settled : settled_of s' o' ≡ settled_of s o
+  pub lent : AreLastOf (lent_of s' o') (lent_of s o)
 
 -- Whatever was taken, a chunk is free beside those of the transactions in progress and of what is lent.
 abbrev pub HasFreeChunk : ReorderState → Type 0

@@ -1,19 +1,20 @@
 -- A sender between its calls, and what reading records does to it. The records may be those of a whole log or of a section of
 -- one, which begins behind earlier records of its transactions.
-use Rattle.std.specs.Prelude.{◌≡◌, ◌⊎◌, ◌+◌, ◌<◌, ℕ, ℤ, Bool, true, false, List, [], ◌∷◌, ◌++◌, length, take, map, filter, nat_le, slice_get, Option, Some, None, if◌then◌else◌}
+use Rattle.std.specs.Prelude.{◌≡◌, ◌⊎◌, ◌+◌, ◌<◌, ℕ, ℤ, Bool, true, false, List, [], ◌∷◌, ◌++◌, length, take, map, filter, nat_le, slice_get, sum_by, Option, Some, None, if◌then◌else◌}
 use Rattle.std.specs.List.{AllByRecursion}
 use Rattle.publication.specs.Publications.{PublicationSet}
 use Rattle.wal.specs.declared.record.Record.{Record}
 use Rattle.wal.specs.declared.record.Body.{Body}
 use Rattle.wal.specs.declared.record.Body.TheVariants.{Commit, Note}
 use Rattle.wal.specs.Log.{Entry, Transaction, end_of}
-use Rattle.reorder.specs.Chunks.{IsTidy, LeavesNoRoom, live_chunks}
+use Rattle.reorder.specs.Chunks.{IsTidy, LeavesNoRoom, live_chunks, transaction_chunks}
 use Rattle.reorder.specs.Taking.{ReorderState, HasTaken, MayCome, StartsBehind, Takes}
 use Rattle.publication.specs.Selection.{relation}
 use Rattle.stream.specs.declared.published.Published.{Published}
 use Rattle.stream.specs.Items.{Item, Block, FitsPublished, bytes_of_items, relations_sent_through}
 use Rattle.sender.specs.declared.fault.SendFault.{SendFault}
 use Rattle.sender.specs.declared.fault.SendFault.TheVariants.{ArenaFull, Memory}
+use Rattle.sender.specs.Lent.{AreHeld, AreLastOf, LentTransaction, lent_with, sent_transactions}
 use Rattle.sender.specs.Published.{published_transactions, published_as, published_from, published_note, has_message}
 
 -- what determines the bytes to come
@@ -25,6 +26,7 @@ pub record SenderState : Type 0 where
   pub held : List ℕ
   pub relations_sent : List ℕ
   pub reorder : ReorderState
+  pub lent : List LentTransaction
 
 -- Each record may come next, in a section of a well-formed log, behind those before it.
 abbrev pub MayFollow : List Record → List Record → Type 0
@@ -35,6 +37,7 @@ MayFollow before (r ∷ rs) = MayCome before r.body × StartsBehind before r × 
 pub record HasRead (s : SenderState) (rs : List Record) : Type 0 where
   pub taken : HasTaken s.reorder rs
   pub relations_sent : s.relations_sent ≡ relations_sent_through [] (published_transactions s.selection rs s.start)
+  pub lent : AreLastOf s.lent (sent_transactions s.selection rs s.start)
 
 -- blocks of these transactions, all under one clock
 abbrev pub blocks : ℤ → List Published → List Item
@@ -75,12 +78,12 @@ pub record RanOut (clock : ℤ) (old new : SenderState) (rs : List Record) : Typ
 abbrev pub HasChunks : SenderState → ℕ → Type 0
 HasChunks s count = IsTidy count [] s.reorder.strands
 
--- So many chunks are free: all but those of live xids, by these records, and those of transactions of which bytes are held, of which there
--- are none where nothing is held.
-pub record LeavesChunks (held : List ℕ) (chunks : ℕ) (rs : List Record) (free : ℕ) : Type 0 where
-  pub waiting : ℕ
-  pub none : held ≡ [] → waiting ≡ 0
-  pub all : free + live_chunks rs + waiting ≡ chunks
+-- So many chunks are free: all but those of live xids, by these records, and those of the last ones of the transactions that these records
+-- send, of each of which at least the Commit is held whole.
+pub record LeavesChunks (s : SenderState) (chunks : ℕ) (rs : List Record) (free : ℕ) : Type 0 where
+  pub all : free + live_chunks rs + sum_by (λ (t : LentTransaction). t.chunks) s.lent ≡ chunks
+  pub sent : AreLastOf s.lent (sent_transactions s.selection rs s.start)
+  pub held : AreHeld s.held s.lent
 
 -- Behind those of these records that were read, which the position tells, stands a change for which no chunk was left.
 pub record LacksRoom (old new : SenderState) (rs : List Record) : Type 0 where
@@ -108,6 +111,11 @@ abbrev pub published_by_record : PublicationSet → ℕ → Record → Option (L
 published_by_record selection s r None = published_quietly selection s r.start r.end r.body
 published_by_record selection s r (Some entries) = filter has_message (map (published_as selection) (ready_at s r.start r.end r.body entries))
 
+-- the transaction that a record sends by what it made ready, with the chunks that its changes fill
+abbrev pub sent_by_record : PublicationSet → ℕ → Record → Option (List Entry) → List LentTransaction
+sent_by_record selection s r None = []
+sent_by_record selection s r (Some entries) = map (lent_with (transaction_chunks entries)) (published_by_record selection s r (Some entries))
+
 -- one record was read
 pub record ReadOne (clock : ℤ) (old new : SenderState) (r : Record) : Type 0 where
   pub ready : Option (List Entry)
@@ -118,6 +126,7 @@ pub record ReadOne (clock : ℤ) (old new : SenderState) (r : Record) : Type 0 w
   pub held : new.held ≡ old.held ++ bytes_of_items (relation old.selection) old.relations_sent (blocks clock (published_by_record old.selection old.start r ready))
   pub fit : AllByRecursion (FitsPublished (relation old.selection)) (published_by_record old.selection old.start r ready)
   pub relations_sent : new.relations_sent ≡ relations_sent_through old.relations_sent (published_by_record old.selection old.start r ready)
+  pub lent : (before : List Record) → HasTaken old.reorder before → MayCome before r.body → AreLastOf new.lent (old.lent ++ sent_by_record old.selection old.start r ready)
 
 -- nothing that a drain or a reader of the position sees has changed
 pub record OutputUnchanged (old new : SenderState) : Type 0 where

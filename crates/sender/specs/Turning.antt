@@ -5,6 +5,7 @@ use Rattle.wal.specs.Log.{follows}
 use Rattle.sender.specs.declared.fault.SendFault.{SendFault}
 use Rattle.sender.specs.declared.fault.SendFault.TheVariants as sends
 use Rattle.sender.specs.declared.limits.TheConstants.{TURN_RECORDS}
+use Rattle.sender.specs.Lent.{AreLastOf}
 use Rattle.sender.specs.Sending.{SenderState, ReadAll, RanOut}
 
 -- the records from the place on, as many as a turn fetches, of what its reader sees
@@ -20,7 +21,8 @@ pub record ReadAndGave (clock : ℤ) (old new : SenderState) (rs : List Record) 
   pub read : ReadAll clock old fed rs
   pub runs_on : fed.failed ≡ false
   pub parts : fed.held ≡ given ++ new.held
-  pub rest : new ≡ record fed { held = new.held }
+  pub rest : new ≡ record fed { held = new.held; lent = new.lent }
+  pub lent : AreLastOf new.lent fed.lent
 
 -- why the sender refused these records, and how it is then
 abbrev pub IsRefused : ℤ → SenderState → SenderState → List Record → SendFault → Type 0

@@ -4,6 +4,7 @@ ghost use Rattle.std.specs.Prelude.{◌≡◌, ◌+◌, ◌<◌, ◌≤◌, ◌+
 ghost use Rattle.sender.specs.declared.waiting.Waiting.{Waiting};
 ghost use Rattle.sender.specs.Outgoing.{HoldsSame, IsFilled, IsOutgoing, held_of};
 
+use crate::bounds::put_commit_of;
 use crate::making::{MAX_FRAME_LENGTH, next_frame};
 use crate::outgoing::Outgoing;
 use publication::Selection;
@@ -21,7 +22,7 @@ impl Outgoing {
         if self.from < self.to {
             return true;
         }
-        if self.made.is_empty() {
+        if self.made.is_empty() && self.waiting.is_empty() {
             return false;
         }
         self.from = 0;
@@ -44,8 +45,7 @@ impl Outgoing {
         true
     }
 
-    /// Makes frames behind those that are left, and answers whether there were any to make. What was ready of a transaction goes back
-    /// once all its changes are made.
+    /// Makes frames behind those that are left, and answers whether there were any to make.
     fn make(&mut self, selection: &Selection, reorder: &mut Reorder) -> bool
         requires good { IsOutgoing selection.now reorder.old self.old }
         requires room { self.old.to + MAX_FRAME_LENGTH ≤ length self.old.frames.items }
@@ -55,36 +55,33 @@ impl Outgoing {
             ((self.new.to ≡ self.old.to) × (self.new.made.items ≡ [])
             × (self.new.waiting.items ≡ [])) }
     {
-        while !self.waiting.is_empty() {
-            if self.make_first(selection, reorder) {
-                return true;
-            }
+        if !self.waiting.is_empty() {
+            self.make_first(selection, reorder);
+            return true;
         }
         let count = self.made.len().min(MAX_FRAME_LENGTH);
         self.move_made(count);
         count > 0
     }
 
-    /// The same of the first transaction that waits and of what is made before it. Where nothing of that is left, it waits no more.
-    fn make_first(&mut self, selection: &Selection, reorder: &mut Reorder) -> bool
+    /// Makes a frame of the first transaction that waits, or moves bytes that are made before it.
+    fn make_first(&mut self, selection: &Selection, reorder: &mut Reorder)
         requires good { IsOutgoing selection.now reorder.old self.old }
         requires room { self.old.to + MAX_FRAME_LENGTH ≤ length self.old.frames.items }
         requires waits { 0 < length self.old.waiting.items }
         ensures same { HoldsSame selection.now reorder.old reorder.new self.old self.new }
         ensures frames { IsFilled self.old self.new }
-        ensures more { MatchBool result (self.old.to < self.new.to)
-            ((self.new.to ≡ self.old.to)
-            × (length self.new.waiting.items + 1 ≡ length self.old.waiting.items)) }
+        ensures more { self.old.to < self.new.to }
     {
         let Some(waiting) = self.waiting.front_mut() else {
-            return false;
+            return;
         };
         if waiting.before > 0 {
             let count = waiting.before.min(MAX_FRAME_LENGTH);
             waiting.before -= count;
             self.placed -= count;
             self.move_made(count);
-            return true;
+            return;
         }
         let end = self.to + MAX_FRAME_LENGTH;
         let count = next_frame(
@@ -98,20 +95,22 @@ impl Outgoing {
         if count == 0 {
             self.finish_first(selection, reorder);
         }
-        count > 0
     }
 
-    /// Gives back what was ready of the first transaction that waits, which waits no more.
+    /// Makes the Commit of the first transaction that waits, of which no change is left. What was ready goes back, and it waits no more.
     fn finish_first(&mut self, selection: &Selection, reorder: &mut Reorder)
         requires good { IsOutgoing selection.now reorder.old self.old }
+        requires room { self.old.to + MAX_FRAME_LENGTH ≤ length self.old.frames.items }
         requires over { (w : Waiting) (ws : List Waiting) → self.old.waiting.items ≡ w ∷ ws →
             (w.before ≡ 0) × (length w.ready.places ≤ w.next) }
         requires waits { 0 < length self.old.waiting.items }
         ensures same { HoldsSame selection.now reorder.old reorder.new self.old self.new }
-        ensures one { length self.new.waiting.items + 1 ≡ length self.old.waiting.items }
-        ensures rest { self.new ≡ record self.old { waiting = self.new.waiting } }
+        ensures frames { IsFilled self.old self.new }
+        ensures more { self.old.to < self.new.to }
     {
         if let Some(waiting) = self.waiting.pop_front() {
+            let end = self.to + MAX_FRAME_LENGTH;
+            self.to += put_commit_of(&waiting, &mut self.frames[self.to..end]);
             reorder.finish(waiting.ready);
         }
     }

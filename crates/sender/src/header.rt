@@ -1,7 +1,7 @@
 //! What a Commit tells of its transaction.
 
 ghost use Rattle.std.specs.Prelude.{◌≡◌, ◌<◌, ◌^◌, FitsSigned};
-ghost use Rattle.std.specs.Int.{w64};
+ghost use Rattle.std.specs.Int.{w64, cast_unsigned};
 
 /// Where the record of a commit stands, and what it says.
 #[derive(Drop)]
@@ -24,5 +24,12 @@ impl Header {
             time,
             xid,
         }
+    }
+
+    /// The commit time as it is sent.
+    pub(crate) fn time_bits(&self) -> u64
+        ensures { result ≡ cast_unsigned w64 self.now.time }
+    {
+        self.time.cast_unsigned()
     }
 }

@@ -1,6 +1,7 @@
 //! The walsender's core: from records of the log to the bytes of a stream.
 #![tactic(auto)]
 
+mod bounds;
 mod draining;
 mod ended;
 mod fault;

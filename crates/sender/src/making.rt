@@ -152,7 +152,7 @@ fn first_due(relations_sent: &[u32], mut oids: Cursor<'_>) -> Option<u32>
 }
 
 /// Writes the head of the frame of a message of this size at a position.
-fn put_head(head: &mut [u8], position: u64, clock: i64, size: usize)
+pub(crate) fn put_head(head: &mut [u8], position: u64, clock: i64, size: usize)
     requires room { length head.old ≡ HEAD_LENGTH }
     requires short { size ≤ MAX_MESSAGE_LENGTH }
     ensures { head.new ≡ frame_head position clock size }

@@ -1,24 +1,21 @@
-//! What is on its way out: bytes that are made, transactions whose changes are still to be made, and the tables whose Relation was sent.
-#![tactic(auto, using(pqformat::proofs::Putting::in_place))]
+//! What is on its way out: bytes that are made, transactions that are still to be made, and the tables whose Relation was sent.
 
 ghost use Rattle.std.specs.Prelude.{◌≡◌, ◌==◌, ◌&&◌, ◌+◌, ◌≤◌, ◌<◌, ◌^◌, ◌++◌, [], IfErr, IfOk, OnErr, OnOk, length, nat_lt, not, vec_capacity};
-ghost use Rattle.pqformat.specs.Putting.{Extends, Puts};
 ghost use Rattle.copyboth.specs.XLogData.{xlogdata};
 ghost use Rattle.frames.specs.Frame.{frame};
 ghost use Rattle.frames.specs.declared.copy_data.TheConstants.{COPY_DATA};
 ghost use Rattle.frames.specs.declared.frame.TheConstants.{FRAME_LIMIT};
-ghost use Rattle.pgoutput.specs.Logical.{IsShort};
 ghost use Rattle.publication.specs.Selection.{selected_oids};
 ghost use Rattle.stream.specs.Words.{word_bytes};
-ghost use Rattle.stream.specs.Items.{IsShortMessage, keepalive_word, xlogdata_word};
-ghost use Rattle.sender.specs.Spelled.{begin_with, commit_with};
-ghost use Rattle.sender.specs.Outgoing.{AddsBytes, IsSameQueue, IsSized, Queues, StaysQueued, begin_bytes, commit_bytes};
+ghost use Rattle.stream.specs.Items.{keepalive_word};
+ghost use Rattle.sender.specs.Outgoing.{AddsBytes, IsSameQueue, IsSized, Queues, StaysQueued};
+ghost use Rattle.sender.specs.Waiting.{begin_bytes};
 
+use crate::bounds::{BEGIN_FRAME_LENGTH, put_begin};
 use crate::header::Header;
 use crate::waiting::Waiting;
-use crate::word::{put_keepalive, put_spelled, put_xlogdata};
-use bytes::BytesMut;
-use pgoutput::{Begin, Commit, Logical};
+use crate::word::{put_keepalive, put_spelled};
+use bytes::{BufMut, BytesMut};
 use pqformat::whole_or_nothing;
 use publication::Selection;
 use reorder::Ready;
@@ -28,8 +25,9 @@ use std::collections::VecDeque;
 /// How many bytes of frames are made ahead at most: so a writer gets many frames at once.
 pub(crate) const FRAMES_LENGTH: usize = 65_536;
 
-/// Bytes on their way out, in this order: those at the front, the frames that are made, and then the rest: the bytes that are made of all
-/// but changes, and between them the changes of the transactions that wait, of which frames are made when they go out.
+/// Bytes on their way out, in this order: those at the front, the frames that are made, and then the rest: Begins, keepalives and notes,
+/// which are made already, and between them the changes and Commits of the transactions that wait, of which frames are made when they
+/// go out.
 #[derive(Drop)]
 pub(crate) struct Outgoing {
     alloc: Global,
@@ -40,7 +38,7 @@ pub(crate) struct Outgoing {
     pub(crate) frames: Vec<u8>,
     pub(crate) from: usize,
     pub(crate) to: usize,
-    /// The frames of Begins and Commits, keepalives and notes.
+    /// The frames of Begins, keepalives and notes.
     pub(crate) made: BytesMut,
     /// Committed transactions, the oldest first.
     pub(crate) waiting: VecDeque<Waiting>,
@@ -48,8 +46,6 @@ pub(crate) struct Outgoing {
     pub(crate) placed: usize,
     /// The tables whose Relation was sent, the oldest first.
     pub(crate) relations_sent: Vec<u32>,
-    /// One message, before its frame is made.
-    message: BytesMut,
 }
 
 impl Outgoing {
@@ -71,7 +67,6 @@ impl Outgoing {
             waiting: VecDeque::new(alloc),
             placed: 0,
             relations_sent: Vec::new(alloc),
-            message: BytesMut::new(alloc),
         }
     }
 
@@ -81,9 +76,12 @@ impl Outgoing {
             ≡ not
             ((length self.now.front.items == 0)
             && (not (nat_lt self.now.from self.now.to)
-            && (length self.now.made.items == 0))) }
+            && ((length self.now.made.items == 0) && (length self.now.waiting.items == 0)))) }
     {
-        !self.front.is_empty() || self.from < self.to || !self.made.is_empty()
+        !self.front.is_empty()
+            || self.from < self.to
+            || !self.made.is_empty()
+            || !self.waiting.is_empty()
     }
 
     /// Has room for frames.
@@ -137,25 +135,24 @@ impl Outgoing {
         &mut self,
         selection: &Selection,
         ready: Ready,
-        header: &Header,
+        header: Header,
         clock: i64,
     ) -> Result<(), Ready>
         requires { self.old.placed ≤ length self.old.made.items }
-        ensures ok { OnOk result
-            (Queues selection.now ready clock (begin_bytes clock header.now)
-            (commit_bytes clock header.now) self.old self.new) }
+        ensures ok { OnOk result (Queues selection.now ready clock header self.old self.new) }
         ensures err { IfErr result (λ r. (r ≡ ready) × StaysQueued self.old self.new) }
     {
         let Ok(()) = self.waiting.reserve(1) else {
             return Err(ready);
         };
-        match self.begin_and_commit(selection, header, clock) {
+        match self.begin(selection, &header, clock) {
             Ok(before) => {
                 self.waiting.push_back_reserved(Waiting {
                     ready,
                     next: 0,
                     clock,
                     before,
+                    header,
                 });
                 self.placed += before;
                 Ok(())
@@ -164,9 +161,9 @@ impl Outgoing {
         }
     }
 
-    /// Adds the Begin and the Commit of a transaction, with room for what is between them, and answers how many of the bytes that are made
-    /// stand before that. Where memory is refused, it adds nothing.
-    fn begin_and_commit(
+    /// Adds the Begin of a transaction, with room for what comes behind it, and answers how many of the bytes that are made stand before
+    /// its changes. Where memory is refused, it adds nothing.
+    fn begin(
         &mut self,
         selection: &Selection,
         header: &Header,
@@ -176,9 +173,7 @@ impl Outgoing {
         ensures ok { IfOk result
             (λ before. (before + self.old.placed
             ≡ length (self.old.made.items ++ begin_bytes clock header.now))
-            × (self.new.made.items
-            ≡ (self.old.made.items ++ begin_bytes clock header.now)
-            ++ commit_bytes clock header.now)
+            × (self.new.made.items ≡ self.old.made.items ++ begin_bytes clock header.now)
             × (0 < length self.new.frames.items)
             × (length (selected_oids selection.now) ≤ vec_capacity self.new.relations_sent)) }
         ensures fits { IfOk result (λ before. before + self.old.placed < 2 ^ 64) }
@@ -189,82 +184,9 @@ impl Outgoing {
     {
         self.reserve()?;
         self.relations_sent.reserve(selection.oids().len())?;
-        let length = self.made.len();
-        let written = self.add_both(header, clock);
-        if written.is_err() {
-            self.made.truncate(length);
-        }
-        written
+        let mut frame = [0; BEGIN_FRAME_LENGTH];
+        put_begin(header, clock, &mut frame);
+        self.made.put_slice(&frame)?;
+        Ok(self.made.len() - self.placed)
     }
-
-    fn add_both(&mut self, header: &Header, clock: i64) -> Result<usize, AllocError>
-        requires { self.old.placed ≤ length self.old.made.items }
-        ensures ok { IfOk result
-            (λ before. (before + self.old.placed
-            ≡ length (self.old.made.items ++ begin_bytes clock header.now))
-            × (self.new.made.items
-            ≡ (self.old.made.items ++ begin_bytes clock header.now)
-            ++ commit_bytes clock header.now)) }
-        ensures fits { IfOk result (λ before. before + self.old.placed < 2 ^ 64) }
-        ensures front { Extends self.old.made.items self.new.made.items }
-        ensures rest { self.new
-            ≡ record self.old { made = self.new.made; message = self.new.message } }
-    {
-        self.add_begin(header, clock)?;
-        let before = self.made.len() - self.placed;
-        self.add_commit(header, clock)?;
-        Ok(before)
-    }
-
-    /// Adds the Begin of a transaction.
-    fn add_begin(&mut self, header: &Header, clock: i64) -> Result<(), AllocError>
-        ensures made { Puts result self.old.made.items self.new.made.items
-            (begin_bytes clock header.now) }
-        ensures rest { self.new
-            ≡ record self.old { made = self.new.made; message = self.new.message } }
-    {
-        self.add(header.start, clock, &begin_of(header))
-    }
-
-    /// Adds the Commit of a transaction.
-    fn add_commit(&mut self, header: &Header, clock: i64) -> Result<(), AllocError>
-        ensures made { Puts result self.old.made.items self.new.made.items
-            (commit_bytes clock header.now) }
-        ensures rest { self.new
-            ≡ record self.old { made = self.new.made; message = self.new.message } }
-    {
-        self.add(header.end, clock, &commit_of(header))
-    }
-
-    /// Adds a message at a position.
-    fn add(&mut self, position: u64, clock: i64, message: &Logical) -> Result<(), AllocError>
-        requires counts { IsShort message.now }
-        requires fits { IsShortMessage message.now }
-        ensures made { Puts result self.old.made.items self.new.made.items
-            (word_bytes (xlogdata_word position clock message.now)) }
-        ensures rest { self.new
-            ≡ record self.old { made = self.new.made; message = self.new.message } }
-    {
-        put_xlogdata(&mut self.made, &mut self.message, position, clock, message)
-    }
-}
-
-fn begin_of(header: &Header) -> Logical
-    ensures { result ≡ begin_with header.now }
-{
-    Logical::Begin(Begin {
-        position: header.start,
-        time: header.time,
-        xid: header.xid,
-    })
-}
-
-fn commit_of(header: &Header) -> Logical
-    ensures { result ≡ commit_with header.now }
-{
-    Logical::Commit(Commit {
-        position: header.start,
-        end: header.end,
-        time: header.time,
-    })
 }

@@ -1,6 +1,6 @@
 //! What a commit publishes, change by change, straight from where the changes lie.
 
-ghost use Rattle.std.specs.Prelude.{◌≡◌, ℕ, ◌+◌, ◌<◌, ◌≤◌, ◌==◌, ◌^◌, ◌++◌, ◌∷◌, [], List, None, FitsSigned, IfOk, IfSome, OnOk, Some, drop, length, not, option_map, option_to_list, vec_len};
+ghost use Rattle.std.specs.Prelude.{◌≡◌, ℕ, ◌+◌, ◌<◌, ◌≤◌, ◌==◌, ◌^◌, ◌++◌, ◌∷◌, [], List, None, FitsSigned, IfSome, MatchBool, OnOk, Some, drop, length, map, not, option_map, option_to_list, vec_len};
 ghost use Rattle.std.specs.Int.{w64};
 ghost use Rattle.std.specs.List.{AllByRecursion};
 ghost use Rattle.wal.specs.declared.record.Record.{Record as Logged};
@@ -8,13 +8,14 @@ ghost use Rattle.publication.specs.Selection.{relation};
 ghost use Rattle.stream.specs.Items.{FitsPublished};
 ghost use Rattle.reorder.specs.Chunks.{IsTidy};
 ghost use Rattle.reorder.specs.Ready.{IsReadyIn, ready_entries};
-ghost use Rattle.reorder.specs.Settled.{AreLentIn, after_giving_all_back};
+ghost use Rattle.reorder.specs.Settled.{AreLentIn, after_giving_all_back, ready_chunks};
 ghost use Rattle.reorder.specs.Taking.{HasTaken, ReorderState, readied_changes};
 ghost use Rattle.sender.specs.Published.{published_changes, published_note, published_with};
 ghost use Rattle.sender.specs.Sending.{published_by_record};
 ghost use Rattle.sender.specs.Spelled.{Yields};
 ghost use Rattle.sender.specs.Waiting.{ready_states, ready_states_with};
-ghost use Rattle.sender.specs.Outgoing.{Grows, IsOutgoing, settled_of};
+ghost use Rattle.sender.specs.Lent.{lent_with};
+ghost use Rattle.sender.specs.Outgoing.{Grows, IsOutgoing, lent_by_step, lent_of, settled_of};
 
 use crate::header::Header;
 use crate::outgoing::Outgoing;
@@ -52,12 +53,16 @@ impl Outgoing {
             (after_giving_all_back reorder.old
             (ready_states_with (ready_states self.old.waiting.items) step)).strands →
             IsTidy count [] (settled_of reorder.new self.new).strands }
+        ensures lent { OnOk result
+            (lent_of reorder.new self.new
+            ≡ lent_of reorder.old self.old
+            ++ lent_by_step
+            (published_by_record selection.now start next.now (readied_changes reorder.old step))
+            reorder.old step) }
     {
         match step {
             Step::Quiet => self.add_note(selection, start, next, clock, room),
-            Step::Ready(ready) => {
-                self.publish(selection, start, reorder, next, ready, clock, room)
-            }
+            Step::Ready(ready) => { self.publish(selection, start, reorder, next, ready, clock) }
         }
     }
 
@@ -123,7 +128,6 @@ impl Outgoing {
         next: &Record,
         mut ready: Ready,
         clock: i64,
-        room: &mut Vec<u8>,
     ) -> Result<(), AllocError>
         requires good { IsOutgoing selection.now reorder.old self.old }
         requires lent { AreLentIn reorder.old (ready_states self.old.waiting.items ++ ready ∷ []) }
@@ -142,16 +146,18 @@ impl Outgoing {
             (after_giving_all_back reorder.old
             (ready_states self.old.waiting.items ++ ready ∷ [])).strands →
             IsTidy count [] (settled_of reorder.new self.new).strands }
+        ensures lent { OnOk result
+            (lent_of reorder.new self.new
+            ≡ lent_of reorder.old self.old
+            ++ map (lent_with (ready_chunks reorder.old.strands.pool.arena ready))
+            (published_by_record selection.now start next.now
+            (Some (ready_entries reorder.old.strands.pool ready)))) }
     {
-        match judge(selection, start, next, reorder, &mut ready, room) {
-            Ok(Some(header)) => self.queue(selection, reorder, ready, &header, clock),
-            Ok(None) => {
+        match judge(selection, start, next, reorder, &mut ready) {
+            Some(header) => self.queue(selection, reorder, ready, header, clock),
+            None => {
                 reorder.finish(ready);
                 Ok(())
-            }
-            Err(fault) => {
-                reorder.finish(ready);
-                Err(fault)
             }
         }
     }
@@ -162,14 +168,13 @@ impl Outgoing {
         selection: &Selection,
         reorder: &mut Reorder,
         ready: Ready,
-        header: &Header,
+        header: Header,
         clock: i64,
     ) -> Result<(), AllocError>
         requires good { IsOutgoing selection.now reorder.old self.old }
         requires lent { AreLentIn reorder.old (ready_states self.old.waiting.items ++ ready ∷ []) }
         ensures grows { Grows selection.now clock
-            (published_with selection.now (ready_entries reorder.old.strands.pool ready) header.now
-            ∷ [])
+            (published_with selection.now (ready_entries reorder.old.strands.pool ready) header ∷ [])
             result reorder.old reorder.new self.old self.new }
         ensures taken { (rs : List Logged) → HasTaken reorder.old rs →
             HasTaken (settled_of reorder.new self.new) rs }
@@ -178,6 +183,12 @@ impl Outgoing {
             (after_giving_all_back reorder.old
             (ready_states self.old.waiting.items ++ ready ∷ [])).strands →
             IsTidy count [] (settled_of reorder.new self.new).strands }
+        ensures lent { OnOk result
+            (lent_of reorder.new self.new
+            ≡ lent_of reorder.old self.old
+            ++ lent_with (ready_chunks reorder.old.strands.pool.arena ready)
+            (published_with selection.now (ready_entries reorder.old.strands.pool ready) header)
+            ∷ []) }
     {
         match self.commit(selection, ready, header, clock) {
             Ok(()) => Ok(()),
@@ -196,36 +207,21 @@ fn judge(
     next: &Record,
     reorder: &Reorder,
     ready: &mut Ready,
-    room: &mut Vec<u8>,
-) -> Result<Option<Header>, AllocError>
+) -> Option<Header>
     requires held { IsReadyIn reorder.now.strands.pool ready.old }
-    ensures value { IfOk result
-        (λ o. option_to_list
+    ensures value { option_to_list
         (option_map
-        (published_with selection.now
-        (ready_entries reorder.now.strands.pool ready.old))
-        o)
+        (published_with selection.now (ready_entries reorder.now.strands.pool ready.old))
+        result)
         ≡ published_by_record selection.now start next.now
-        (Some (ready_entries reorder.now.strands.pool ready.old))) }
-    ensures fit { OnOk result
-        (AllByRecursion (FitsPublished (relation selection.now))
+        (Some (ready_entries reorder.now.strands.pool ready.old)) }
+    ensures fit { AllByRecursion (FitsPublished (relation selection.now))
         (published_by_record selection.now start next.now
-        (Some (ready_entries reorder.now.strands.pool ready.old)))) }
+        (Some (ready_entries reorder.now.strands.pool ready.old))) }
     ensures ready { ready.new ≡ ready.old }
 {
-    make_room(room)?;
     selection.messages_fit();
-    Ok(header_of(selection, start, next, reorder, ready, room.as_mut_slice()))
-}
-
-/// Room for the message of any change.
-pub(crate) fn make_room(room: &mut Vec<u8>) -> Result<(), AllocError>
-    ensures { OnOk result (MAX_MESSAGE_LENGTH ≤ vec_len room.new) }
-{
-    if room.len() < MAX_MESSAGE_LENGTH {
-        room.resize(MAX_MESSAGE_LENGTH, 0)?;
-    }
-    Ok(())
+    header_of(selection, start, next, reorder, ready)
 }
 
 /// What the record commits, if it starts at the start position or later and a change of it has a message.
@@ -235,10 +231,8 @@ fn header_of(
     next: &Record,
     reorder: &Reorder,
     ready: &mut Ready,
-    room: &mut [u8],
 ) -> Option<Header>
     requires held { IsReadyIn reorder.now.strands.pool ready.old }
-    requires room { MAX_MESSAGE_LENGTH ≤ length room.old }
     ensures value { option_to_list
         (option_map
         (published_with selection.now (ready_entries reorder.now.strands.pool ready.old))
@@ -248,7 +242,6 @@ fn header_of(
     ensures numbers { IfSome result
         (λ h. (h.start < 2 ^ 64) × (h.end < 2 ^ 64) × FitsSigned w64 h.time × (h.xid < 2 ^ 32)) }
     ensures ready { ready.new ≡ ready.old }
-    ensures same { length room.new ≡ length room.old }
 {
     let Body::Commit(xid, time) = next.body else {
         return None;
@@ -256,30 +249,57 @@ fn header_of(
     if next.start < start {
         return None;
     }
-    if !has_message(selection, reorder, ready, room) {
+    if !has_message(selection, reorder, ready) {
         return None;
     }
     Some(Header::new(next.start, next.end, time, xid))
 }
 
 /// Whether a change that is ready has a message.
-fn has_message(selection: &Selection, reorder: &Reorder, ready: &mut Ready, room: &mut [u8]) -> bool
+fn has_message(selection: &Selection, reorder: &Reorder, ready: &mut Ready) -> bool
     requires held { IsReadyIn reorder.now.strands.pool ready.old }
-    requires room { MAX_MESSAGE_LENGTH ≤ length room.old }
     ensures value { result
         ≡ not
         (length
         (published_changes selection.now (ready_entries reorder.now.strands.pool ready.old))
         == 0) }
     ensures ready { ready.new ≡ ready.old }
-    ensures same { length room.new ≡ length room.old }
 {
     for k in 0..ready.count() {
-        if let Some(_) = put_entry(selection, reorder, ready, k, room) {
+        if tells_entry(selection, reorder, ready, k) {
             return true;
         }
     }
     false
+}
+
+/// Whether the k-th change that is ready has a message.
+fn tells_entry(selection: &Selection, reorder: &Reorder, ready: &mut Ready, k: usize) -> bool
+    requires held { IsReadyIn reorder.now.strands.pool ready.old }
+    requires within { k < length ready.old.places }
+    ensures told { MatchBool result
+        (0
+        < length
+        (published_changes selection.now
+        (drop k (ready_entries reorder.now.strands.pool ready.old))))
+        (published_changes selection.now
+        (drop k (ready_entries reorder.now.strands.pool ready.old))
+        ≡ published_changes selection.now
+        (drop (k + 1) (ready_entries reorder.now.strands.pool ready.old))) }
+    ensures ready { ready.new ≡ ready.old }
+{
+    let (_, body) = reorder.entry(ready, k);
+    selection.has_message(body)
+}
+
+/// Room for the message of any note.
+fn make_room(room: &mut Vec<u8>) -> Result<(), AllocError>
+    ensures { OnOk result (MAX_MESSAGE_LENGTH ≤ vec_len room.new) }
+{
+    if room.len() < MAX_MESSAGE_LENGTH {
+        room.resize(MAX_MESSAGE_LENGTH, 0)?;
+    }
+    Ok(())
 }
 
 /// Writes the message of the k-th change that is ready to the front of the room, and answers the change's position and how long the

@@ -5,6 +5,7 @@ ghost use Rattle.wal.specs.Log.{follows};
 ghost use Rattle.wal.specs.Records.{shared_records};
 ghost use Rattle.stream.specs.Words.{word_bytes};
 ghost use Rattle.stream.specs.Items.{keepalive_word};
+ghost use Rattle.sender.specs.Lent.{AreLastOf};
 ghost use Rattle.sender.specs.Sending.{HasChunks, HasRead, LacksRoom, LeavesChunks, ReadAll, RanOut};
 ghost use Rattle.wal.specs.declared.record.Record.{Record as Logged};
 
@@ -44,7 +45,7 @@ pub struct Sender {
 impl Model for Sender {
     ghost use Rattle.std.specs.Coded.{codes};
     ghost use Rattle.publication.specs.Publications.{condition_code};
-    ghost use Rattle.sender.specs.Outgoing.{IsOutgoing, held_of, sent_of, settled_of};
+    ghost use Rattle.sender.specs.Outgoing.{IsOutgoing, held_of, lent_of, sent_of, settled_of};
     ghost use Rattle.sender.specs.Sending.{SenderState};
 
     ghost Value = { SenderState };
@@ -59,6 +60,7 @@ impl Model for Sender {
       held = held_of s.selection s.reorder s.outgoing;
       relations_sent = sent_of s.selection s.reorder s.outgoing;
       reorder = settled_of s.reorder s.outgoing;
+      lent = lent_of s.reorder s.outgoing;
     } };
 
     ghost invariant = { λ s. IsOutgoing s.selection s.reorder s.outgoing };
@@ -155,26 +157,33 @@ impl Sender {
         ensures count { result ≡ min (length out.old) (length self.old.held) }
         ensures moved { take result out.new ≡ take result self.old.held }
         ensures others { drop result out.new ≡ drop result out.old }
-        ensures rest { self.new ≡ record self.old { held = drop result self.old.held } }
+        ensures rest { self.new
+            ≡ record self.old { held = drop result self.old.held; lent = self.new.lent } }
+        ensures lent { AreLastOf self.new.lent self.old.lent }
     {
         self.outgoing.drain(&self.selection, &mut self.reorder, out)
     }
 
-    /// Moves up to `max` held bytes to the end of `out`, or, where there is no memory for them, nothing.
+    /// Moves up to `max` held bytes to the end of `out`, or, where there is no memory for them, nothing. Frames may have been made
+    /// meanwhile, so that chunks are free.
     pub fn drain_into(&mut self, max: usize, out: &mut BytesMut) -> Result<(), AllocError>
         ensures moved { OnOk result (out.new.items ≡ out.old.items ++ take max self.old.held) }
-        ensures rest { OnOk result (self.new ≡ record self.old { held = drop max self.old.held }) }
-        ensures err { OnErr result ((self.new ≡ self.old) × (out.new.items ≡ out.old.items)) }
+        ensures rest { OnOk result
+            (self.new ≡ record self.old { held = drop max self.old.held; lent = self.new.lent }) }
+        ensures lent { AreLastOf self.new.lent self.old.lent }
+        ensures err { OnErr result
+            ((self.new ≡ record self.old { lent = self.new.lent })
+            × (out.new.items ≡ out.old.items)) }
     {
         self.outgoing
             .drain_into(&self.selection, &mut self.reorder, max, out)
     }
 
     /// How many chunks of the arena are free: all but those that changes of transactions in progress fill, savepoints that were rolled
-    /// back left out, and those of committed transactions of which bytes are held.
+    /// back left out, and those of the last committed transactions, of each of which at least the Commit is held whole.
     pub fn free_chunks(&self) -> usize
         ensures { (rs : List Logged) (count : ℕ) → HasRead self.now rs → HasChunks self.now count →
-            LeavesChunks self.now.held count rs result }
+            LeavesChunks self.now count rs result }
     {
         self.reorder.free_chunks()
     }

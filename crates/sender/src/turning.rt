@@ -10,6 +10,7 @@ ghost use Rattle.shared_log.specs.Readers.{HasSeen, seen_of};
 ghost use Rattle.shared_log.specs.declared.fault.ReadFault.{ReadFault};
 ghost use Rattle.sender.specs.declared.fault.SendFault.{SendFault};
 ghost use Rattle.sender.specs.Faults.{fault_of_fetch, has_fetched, has_written};
+ghost use Rattle.sender.specs.Lent.{AreLastOf};
 ghost use Rattle.sender.specs.Turning.{IsRefused, ReadAndGave, fetched_from};
 ghost use Rattle.sender.specs.Outgoing.{IsOutgoing, MovesOut, held_of};
 
@@ -80,7 +81,9 @@ impl Sender {
         ensures err { OnErr result (0 < length self.new.held) }
         ensures given { (given : List ℕ) × (self.old.held ≡ given ++ self.new.held)
             × Appends (W.contents out.old) (W.contents out.new) given }
-        ensures rest { self.new ≡ record self.old { held = self.new.held } }
+        ensures rest { self.new
+            ≡ record self.old { held = self.new.held; lent = self.new.lent } }
+        ensures lent { AreLastOf self.new.lent self.old.lent }
     {
         self.outgoing.write(&self.selection, &mut self.reorder, out)
     }

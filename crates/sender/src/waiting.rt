@@ -1,8 +1,9 @@
-//! A committed transaction whose changes are still to be made into bytes.
+//! A committed transaction that is still to be made into bytes.
 
+use crate::header::Header;
 use reorder::Ready;
 
-/// What is left to be made of a committed transaction: its changes from the next one on. Its Begin and its Commit are made already.
+/// What is left to be made of a committed transaction: its changes from the next one on, and its Commit. Its Begin is made already.
 #[derive(Drop)]
 pub(crate) struct Waiting {
     pub(crate) ready: Ready,
@@ -12,4 +13,6 @@ pub(crate) struct Waiting {
     pub(crate) clock: i64,
     /// How many of the bytes that are made go out before its changes, and behind those of the transaction before it.
     pub(crate) before: usize,
+    /// What its Commit tells.
+    pub(crate) header: Header,
 }

@@ -1,20 +1,18 @@
-//! Words of the stream as frames: a CopyData of an XLogData with a message, or of a keepalive (PostgreSQL 15, 55.4).
+//! Words of the stream as frames: a CopyData of an XLogData with the message of a note, or of a keepalive (PostgreSQL 15, 55.4).
 #![tactic(auto, using(pqformat::proofs::Putting::in_place))]
 
 ghost use Rattle.std.specs.Prelude.{◌≡◌, ◌+◌, ◌<◌, ◌≤◌, ◌^◌, ◌∷◌, ◌++◌, OnOk, OnErr, length};
 ghost use Rattle.pqformat.specs.Fields.{int32};
 ghost use Rattle.pqformat.specs.Putting.{Puts};
 ghost use Rattle.frames.specs.declared.frame.TheConstants.{FRAME_LIMIT};
-ghost use Rattle.pgoutput.specs.Logical.{IsShort, spell_logical};
 ghost use Rattle.frames.specs.Frame.{frame};
 ghost use Rattle.copyboth.specs.XLogData.{xlogdata};
 ghost use Rattle.stream.specs.Words.{word_bytes};
-ghost use Rattle.stream.specs.Items.{xlogdata_word, keepalive_word, IsShortMessage};
+ghost use Rattle.stream.specs.Items.{keepalive_word};
 
 use bytes::BytesMut;
 use copyboth::{write_keepalive, write_xlogdata};
 use frames::COPY_DATA;
-use pgoutput::{Logical, write_logical};
 use pqformat::{put_byte, put_int32};
 use std::alloc::AllocError;
 
@@ -23,25 +21,6 @@ const XLOGDATA_HEAD: u32 = 25;
 
 /// The bytes of a keepalive's body.
 const KEEPALIVE_SIZE: u32 = 18;
-
-/// Adds the frame of a message at a position. The message is spelled into `scratch` first, since the frame begins with its
-/// length.
-pub(crate) fn put_xlogdata(
-    out: &mut BytesMut,
-    scratch: &mut BytesMut,
-    position: u64,
-    clock: i64,
-    message: &Logical,
-) -> Result<(), AllocError>
-    requires counts { IsShort message.now }
-    requires fits { IsShortMessage message.now }
-    ensures { Puts result out.old.items out.new.items
-        (word_bytes (xlogdata_word position clock message.now)) }
-{
-    scratch.clear();
-    write_logical(message, scratch)?;
-    put_spelled(out, position, clock, scratch.as_slice())
-}
 
 /// Adds the frame of a message at a position, of which this is the spelling.
 pub(crate) fn put_spelled(

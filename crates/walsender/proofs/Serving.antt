@@ -20,6 +20,8 @@ use Rattle.stream.specs.Stream.{IsStream}
 use Rattle.sender.specs.declared.fault.SendFault.{SendFault}
 use Rattle.sender.specs.declared.fault.SendFault.TheVariants as sends
 use Rattle.sender.specs.Published.{published_from, published_transactions}
+use Rattle.sender.specs.Lent.{AreLastOf, sent_transactions}
+use Rattle.sender.proofs.Lasting.{last_then}
 use Rattle.sender.specs.Sending.{SenderState, HasRead, published_bytes, AddsPublished, ReadAll, RanOut}
 use Rattle.sender.specs.Turning.{IsRefused}
 use Rattle.sender.proofs.Sections.{all_back, starts_below}
@@ -178,7 +180,7 @@ kept_alive log place clock ask written s serving fits lt =
         stream = stream_moved (relation s.selection) ((written ++ s.held) ++ word) (written ++ (s.held ++ word)) all s.position
             (stream_kept_alive (relation s.selection) clock ask (written ++ s.held) all s.position t.stream lt fits) (sym (append_assoc written s.held word));
       };
-      running = λ still. let r = serving.running still in (r.0, record { taken = r.1.taken; relations_sent = r.1.relations_sent });
+      running = λ still. let r = serving.running still in (r.0, record { taken = r.1.taken; relations_sent = r.1.relations_sent; lent = r.1.lent });
     }
 
 pub kept_on : (log : List Record) (place : ℕ) (clock : ℤ) (ask : Bool) (written : List ℕ) (s new : SenderState) (r : Result (Unit {0}) SendFault) → FitsSigned w64 clock
@@ -187,9 +189,9 @@ kept_on log place clock ask written s new (Ok done) fits ok err lt serving = let
 kept_on log place clock ask written s new (Err fault) fits ok err lt serving = let P : SenderState → Type 0 = λ n. IsServing log place written n in subst P (sym err) serving
 
 -- bytes from the front of what was held are written
-pub given : (log : List Record) (place : ℕ) (written bytes : List ℕ) (s new : SenderState) → s.held ≡ bytes ++ new.held → new ≡ record s { held = new.held } → IsServing log place written s
+pub given : (log : List Record) (place : ℕ) (written bytes : List ℕ) (s new : SenderState) → s.held ≡ bytes ++ new.held → new ≡ record s { held = new.held; lent = new.lent } → AreLastOf new.lent s.lent → IsServing log place written s
     → IsServing log place (written ++ bytes) new
-given log place written bytes s new parts rest serving =
+given log place written bytes s new parts rest last serving =
     let t = serving.streaming in
     let P : SenderState → Type 0 = λ n. IsServing log place (written ++ bytes) n in
     subst P (sym rest) (record {
@@ -203,14 +205,37 @@ given log place written bytes s new parts rest serving =
         stream = stream_moved (relation s.selection) (written ++ s.held) ((written ++ bytes) ++ new.held) (published_transactions s.selection (take serving.count log) s.start) s.position t.stream
             (append_assoc written bytes new.held ∙ ap (λ (l : List ℕ). written ++ l) (sym parts));
       };
-      running = λ still. let r = serving.running still in (r.0, record { taken = r.1.taken; relations_sent = r.1.relations_sent });
+      running = λ still.
+          let r = serving.running still in
+          (r.0, record { taken = r.1.taken; relations_sent = r.1.relations_sent; lent = last_then (sent_transactions s.selection (drop serving.from (take place log)) s.start) s.lent new.lent r.1.lent last });
     })
 
 -- bytes from the front of what was held are moved out
-pub drained : (log : List Record) (place max : ℕ) (written : List ℕ) (s new : SenderState) → new ≡ record s { held = drop max s.held } → IsServing log place written s → IsServing log place (written ++ take max s.held) new
-drained log place max written s new is serving =
+pub drained : (log : List Record) (place max : ℕ) (written : List ℕ) (s new : SenderState) → new ≡ record s { held = drop max s.held; lent = new.lent } → AreLastOf new.lent s.lent → IsServing log place written s
+    → IsServing log place (written ++ take max s.held) new
+drained log place max written s new is last serving =
     let P : SenderState → Type 0 = λ n. IsServing log place (written ++ take max s.held) n in
-    subst P (sym is) (given log place written (take max s.held) s (record s { held = drop max s.held }) (sym (take-append-drop max s.held)) refl serving)
+    subst P (sym is) (given log place written (take max s.held) s (record s { held = drop max s.held; lent = new.lent }) (sym (take-append-drop max s.held)) refl last serving)
+
+-- nothing was moved out, but chunks may be free
+pub kept_shorter : (log : List Record) (place : ℕ) (written : List ℕ) (s new : SenderState) → new ≡ record s { lent = new.lent } → AreLastOf new.lent s.lent → IsServing log place written s → IsServing log place written new
+kept_shorter log place written s new is last serving =
+    let t = serving.streaming in
+    let P : SenderState → Type 0 = λ n. IsServing log place written n in
+    subst P (sym is) (record {
+      from = serving.from;
+      reads_from = serving.reads_from;
+      count = serving.count;
+      since = serving.since;
+      streaming = record { within = t.within; at = t.at; stream = t.stream };
+      running = λ still.
+          let r = serving.running still in
+          (r.0, record { taken = r.1.taken; relations_sent = r.1.relations_sent; lent = last_then (sent_transactions s.selection (drop serving.from (take place log)) s.start) s.lent new.lent r.1.lent last });
+    })
+
+pub err_then : {A E : Type 0} (P Q : Type 0) (r : Result A E) → (P → Q) → OnErr r P → OnErr r Q
+err_then P Q (Ok a) f p = tt
+err_then P Q (Err e) f p = f p
 
 pub ok_then : {A E : Type 0} (P Q : Type 0) (r : Result A E) → (P → Q) → OnOk r P → OnOk r Q
 ok_then P Q (Ok a) f p = f p

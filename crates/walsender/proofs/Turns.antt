@@ -69,7 +69,7 @@ gave : (clock : ℤ) (old new : SenderState) (place moved_to : ℕ) (early seen 
 gave clock old new place moved_to early seen before after fits begins good moved (bytes, read, appended) = (
   bytes,
   λ written serving.
-      given seen moved_to written bytes read.fed new read.parts read.rest
+      given seen moved_to written bytes read.fed new read.parts read.rest read.lent
       (read_on seen place moved_to TURN_RECORDS clock written old read.fed (Ok tt) good fits moved (read.running, read.read, read.runs_on) (grown_to early seen place written old begins serving)),
   appended,
 )

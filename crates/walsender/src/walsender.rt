@@ -12,6 +12,7 @@ ghost use Rattle.shared_log.specs.Fronts.{settled_records};
 ghost use Rattle.shared_log.specs.Readers.{HasSeen, seen_of};
 ghost use Rattle.shared_log.specs.declared.fault.ReadFault.{ReadFault};
 ghost use Rattle.sender.specs.Faults.{fault_of_fetch, has_fetched, has_written};
+ghost use Rattle.sender.specs.Lent.{AreLastOf};
 ghost use Rattle.sender.specs.Sending.{HasChunks, HasRead, LeavesChunks};
 ghost use Rattle.sender.specs.Turning.{fetched_from};
 ghost use Rattle.walsender.specs.Serving.{BeginsAt, Gives, GoesOn, Reads, ReadsAndWrites, ReadsOn, Serves, StaysOn, WritesFirst, next_records};
@@ -76,10 +77,10 @@ impl<L: LogName> Walsender<L> {
     }
 
     /// How many chunks of its arena are free: all but those that changes of transactions in progress fill, savepoints that were rolled
-    /// back left out, and those of committed transactions of which bytes are held.
+    /// back left out, and those of the last committed transactions, of each of which at least the Commit is held whole.
     pub fn free_chunks(&self) -> usize
         ensures { (rs : List Record) (count : ℕ) → HasRead self.now.sender rs →
-            HasChunks self.now.sender count → LeavesChunks self.now.sender.held count rs result }
+            HasChunks self.now.sender count → LeavesChunks self.now.sender count rs result }
     {
         self.sender.free_chunks()
     }
@@ -179,7 +180,9 @@ impl<L: LogName> Walsender<L> {
         ensures serves { (given : List ℕ) × (self.old.sender.held ≡ given ++ self.new.sender.held)
             × Gives given self.old self.new
             × Appends (W.contents to.old) (W.contents to.new) given }
-        ensures rest { self.new.sender ≡ record self.old.sender { held = self.new.sender.held } }
+        ensures rest { self.new.sender
+            ≡ record self.old.sender { held = self.new.sender.held; lent = self.new.sender.lent } }
+        ensures lent { AreLastOf self.new.sender.lent self.old.sender.lent }
         ensures reader { self.new.reader ≡ self.old.reader }
     {
         self.sender.write_held(to)
@@ -190,11 +193,18 @@ impl<L: LogName> Walsender<L> {
         ensures moved { OnOk result
             (out.new.items ≡ out.old.items ++ take max self.old.sender.held) }
         ensures rest { OnOk result
-            (self.new.sender ≡ record self.old.sender { held = drop max self.old.sender.held }) }
+            (self.new.sender
+            ≡ record self.old.sender {
+              held = drop max self.old.sender.held;
+              lent = self.new.sender.lent;
+            }) }
+        ensures lent { AreLastOf self.new.sender.lent self.old.sender.lent }
         ensures err { OnErr result
-            ((self.new.sender ≡ self.old.sender) × (out.new.items ≡ out.old.items)) }
+            ((self.new.sender ≡ record self.old.sender { lent = self.new.sender.lent })
+            × (out.new.items ≡ out.old.items)) }
         ensures reader { self.new.reader ≡ self.old.reader }
         ensures serves { OnOk result (Gives (take max self.old.sender.held) self.old self.new) }
+        ensures stays { OnErr result (StaysOn self.old self.new) }
     {
         self.sender.drain_into(max, out)
     }

@@ -1,4 +1,4 @@
-use Rattle.std.proofs.Common.{◌≡◌, drop, length}
+use Rattle.std.proofs.Common.{◌≡◌, drop}
 use Rattle.reorder.specs.Ready.{ready_entries}
 use Rattle.sender.specs.Published.{published_changes}
 use Rattle.sender.proofs.publishing.has_message.Given as goal
@@ -7,5 +7,4 @@ abbrev pub invariant-loop-k : goal.invariant-loop-k
 invariant-loop-k l = record {
   none : published_changes l.selection (drop l.k (ready_entries l.reorder.strands.pool l.fn.ready)) ≡ published_changes l.selection (ready_entries l.reorder.strands.pool l.fn.ready);
   ready : l.ready ≡ l.fn.ready;
-  same : length l.room ≡ length l.fn.room;
 }

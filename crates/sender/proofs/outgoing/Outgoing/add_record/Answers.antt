@@ -1,11 +1,13 @@
-use Rattle.std.proofs.Common.{List, sym, subst}
+use Rattle.std.proofs.Common.{List, append-nil, ap, map, sym, subst, ◌∙◌}
 use Rattle.std.specs.Int.{w64}
 use Rattle.std.proofs.lemmas.Int.{to_z-of_z}
 use Rattle.reorder.specs.Settled.{after_giving_all_back}
 use Rattle.reorder.specs.Taking.{HasTaken}
 use Rattle.reorder.proofs.Settling.{taken_settled}
+use Rattle.sender.specs.Outgoing.{lent_in, lent_of}
 use Rattle.sender.specs.Waiting.{ready_states}
 use Rattle.sender.specs.declared.waiting.Waiting.{Waiting}
+use Rattle.sender.proofs.Noting.{on_ok}
 use Rattle.sender.proofs.outgoing.Outgoing.add_record.Goals as goal
 
 pub returns-in-Quiet-clause-grows : goal.returns-in-Quiet-clause-grows
@@ -20,3 +22,8 @@ returns-in-Quiet-clause-taken c = λ rs taken.
 
 pub returns-in-Ready-clause-tidy : goal.returns-in-Ready-clause-tidy
 returns-in-Ready-clause-tidy c = rw c.in-Ready.is c.publish.ensures.tidy
+
+pub returns-in-Quiet-clause-lent : goal.returns-in-Quiet-clause-lent
+returns-in-Quiet-clause-lent c =
+    let waits = ap (map (lent_in c.args.reorder.now.strands.pool.arena)) c.add_note.ensures.waiting in
+    rw c.in-Quiet.is (on_ok c.add_note.result _ (waits ∙ sym (append-nil (lent_of c.args.reorder.now c.args.self.now))))

@@ -1,6 +1,6 @@
 use Rattle.std.proofs.Common.{◌<◌, ◌-◌, drop, length, take, arith}
 use Rattle.std.proofs.lemmas.List.{take_rest}
-use Rattle.sender.proofs.Moving.{drained_all, drained_more, drained_same, put_end}
+use Rattle.sender.proofs.Moving.{drained_all, drained_more, drained_same, moves_same, put_end}
 use Rattle.sender.proofs.outgoing.Outgoing.drain.Goals as goal
 
 pub loop-count-preserved : goal.loop-count-preserved
@@ -20,3 +20,7 @@ returns-else-fill-clause-count c =
     c.fill.ensures.front in
     let some : count < length c.args.out.now = omega (arith, c.loop-count-test.true, c.loop-count.invariant.size) in
     drained_all c.args.selection.now c.args.reorder.now c.fill.new.reorder c.args.self.now c.fill.new.self c.args.out.now c.loop-count.out count d some c.if-fill.ensures.more
+
+pub returns-else-fill-clause-rest : goal.returns-else-fill-clause-rest
+returns-else-fill-clause-rest c =
+    moves_same c.args.selection.now c.loop-count.count c.args.reorder.now c.loop-count.reorder c.fill.new.reorder c.args.self.now c.loop-count.self c.fill.new.self c.loop-count.invariant.moves c.fill.ensures.same

@@ -1,20 +1,18 @@
 use Rattle.std.proofs.Common.{◌≡◌, [], deque_len, sym, ap, ◌∙◌, arith}
 use Rattle.std.proofs.lemmas.Bool.{eqb-true}
 use Rattle.sender.specs.declared.outgoing.Outgoing.{Outgoing}
-use Rattle.sender.proofs.Frames.{last_moved, room_there, same_then}
+use Rattle.sender.proofs.Frames.{last_moved, room_there}
 use Rattle.sender.proofs.Emptied.{empty_is}
 use Rattle.sender.proofs.outgoing.Outgoing.make.Goals as goal
 
 pub returns-clause-same : goal.returns-clause-same
 returns-clause-same c =
     let selection = c.args.selection.now in
-    let o = c.loop-self.self in
-    let inv = c.loop-self.invariant in
+    let o = c.args.self.now in
     let rest = c.move_made.ensures.rest in
-    let none : o.waiting.items ≡ [] = empty_is o.waiting.items (let ok = o.waiting.ok in omega (arith, ok, eqb-true (deque_len o.waiting) 0 (sym c.is_empty.ensures ∙ c.loop-self-test.false))) in
-    same_then selection c.args.reorder.now c.loop-self.reorder c.loop-self.reorder c.args.self.now o c.move_made.new.self inv.same
-    (last_moved selection c.loop-self.reorder o c.move_made.new.self c.min-count.result inv.same.good
-    (inv.filled.size ∙ room_there selection c.args.reorder.now c.args.self.now 32030 c.requires.good (omega arith) c.requires.room)
+    let none : o.waiting.items ≡ [] = empty_is o.waiting.items (let ok = o.waiting.ok in omega (arith, ok, eqb-true (deque_len o.waiting) 0 (sym c.is_empty.ensures ∙ c.if-not-is_empty.false))) in
+    last_moved selection c.args.reorder.now o c.move_made.new.self c.min-count.result c.requires.good
+    (room_there selection c.args.reorder.now o 32030 c.requires.good (omega arith) c.requires.room)
     (record {
       front = ap (λ (p : Outgoing). p.front.items) rest;
       from = ap (λ (p : Outgoing). p.from) rest;
@@ -23,4 +21,4 @@ returns-clause-same c =
       high = omega arith;
       size = c.move_made.ensures.size;
     })
-    none (ap (λ (p : Outgoing). p.waiting) rest) c.move_made.ensures.made (ap (λ (p : Outgoing). p.placed) rest) (ap (λ (p : Outgoing). p.relations_sent) rest))
+    none (ap (λ (p : Outgoing). p.waiting) rest) c.move_made.ensures.made (ap (λ (p : Outgoing). p.placed) rest) (ap (λ (p : Outgoing). p.relations_sent) rest)

@@ -4,7 +4,7 @@ use Rattle.std.proofs.lemmas.Int.{to_z-of_z}
 use Rattle.reorder.specs.Ready.{IsReadyIn, ReadyState}
 use Rattle.reorder.specs.Settled.{after_giving_back}
 use Rattle.sender.specs.Waiting.{ready_states}
-use Rattle.sender.proofs.Committing.{queue_grows, queue_taken, refused_grows, refused_taken, refused_tidy}
+use Rattle.sender.proofs.Committing.{lent_queued, queue_grows, queue_taken, refused_grows, refused_taken, refused_tidy}
 use Rattle.sender.proofs.Lent.{lent_first}
 use Rattle.sender.proofs.Queueing.{places_low}
 use Rattle.sender.proofs.outgoing.Outgoing.queue.Goals as goal
@@ -22,12 +22,17 @@ finish-requires c =
 pub returns-in-Ok-clause-grows : goal.returns-in-Ok-clause-grows
 returns-in-Ok-clause-grows c =
     let q = rw (to_z-of_z w64 c.args.clock c.ranges.clock) at c.in-Ok.ensures.ok in
-    queue_grows c.args.selection.now c.args.reorder.now c.args.self.now c.commit.new.self c.args.ready c.args.clock c.args.header.now c.requires.good q c.requires.lent
+    queue_grows c.args.selection.now c.args.reorder.now c.args.self.now c.commit.new.self c.args.ready c.args.clock c.args.header c.requires.good q c.requires.lent
 
 pub returns-in-Ok-clause-taken : goal.returns-in-Ok-clause-taken
 returns-in-Ok-clause-taken c = λ rs taken.
     let q = rw (to_z-of_z w64 c.args.clock c.ranges.clock) at c.in-Ok.ensures.ok in
-    queue_taken c.args.selection.now c.args.reorder.now c.args.self.now c.commit.new.self c.args.ready c.args.clock c.args.header.now c.requires.good q rs c.requires.lent taken
+    queue_taken c.args.selection.now c.args.reorder.now c.args.self.now c.commit.new.self c.args.ready c.args.clock c.args.header c.requires.good q rs c.requires.lent taken
+
+pub returns-in-Ok-clause-lent : goal.returns-in-Ok-clause-lent
+returns-in-Ok-clause-lent c =
+    let q = rw (to_z-of_z w64 c.args.clock c.ranges.clock) at c.in-Ok.ensures.ok in
+    lent_queued c.args.selection.now c.args.reorder.now c.args.self.now c.commit.new.self c.args.ready c.args.clock c.args.header c.requires.good q
 
 pub returns-in-Err-clause-grows : goal.returns-in-Err-clause-grows
 returns-in-Err-clause-grows c =

@@ -43,3 +43,10 @@ returns-in_err-written-2-clause-given g c =
     written_more c.args.selection.now c.args.reorder.now c.fill_up.new.reorder c.args.self.now c.fill_up.new.self (record c.fill_up.new.self { from = c.fill_up.new.self.from + taken }) (g.W.Write.contents c.args.out.now)
     (g.W.Write.contents c.loop-out.out) (g.W.Write.contents c.write_front-taken-in-loop-out.new.out) taken before none (rw c.deref.ensures.value at told.within) (rw c.deref.ensures.value at told.taken) refl in
     (w.count, w.low, w.moves, w.given)
+
+pub returns-clause-given : goal.returns-clause-given
+returns-clause-given g c =
+    let w =
+    written_same c.args.selection.now c.args.reorder.now c.loop-out.reorder c.fill_up.new.reorder c.args.self.now c.loop-out.self c.fill_up.new.self (g.W.Write.contents c.args.out.now) (g.W.Write.contents c.loop-out.out) c.loop-out.invariant.0
+    c.fill_up.ensures.same in
+    (w.count, w.low, w.moves, w.given)

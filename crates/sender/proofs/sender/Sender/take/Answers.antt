@@ -1,9 +1,9 @@
-use Rattle.std.proofs.Common.{◌≡◌, Err, ap, refl, sym, subst, ◌∙◌}
+use Rattle.std.proofs.Common.{◌≡◌, Err, List, ap, refl, sym, subst, ◌∙◌}
 use Rattle.std.specs.Int.{w64}
 use Rattle.std.proofs.lemmas.Int.{to_z-of_z}
 use Rattle.wal.specs.declared.record.Record.{Record}
-use Rattle.reorder.specs.Settled.{LeavesNoRoomBeside, lent_chunks}
-use Rattle.reorder.specs.Taking.{MayCome, Takes, readied_changes}
+use Rattle.reorder.specs.Settled.{FillsReady, LeavesNoRoomBeside, lent_chunks}
+use Rattle.reorder.specs.Taking.{HasTaken, MayCome, Takes, readied_changes}
 use Rattle.reorder.specs.declared.fault.ReorderFault.{ReorderFault}
 use Rattle.sender.specs.Waiting.{ready_states}
 use Rattle.sender.proofs.GivingWay.{lacks_room_alone, read_behind, tidy_then}
@@ -75,10 +75,12 @@ returns-clause-ok c =
     let grows = rw (to_z-of_z w64 c.args.clock c.ranges.clock, c.deref-in-Ok.ensures) at told.grows in
     let fit = rw c.deref-in-Ok.ensures at told.fit in
     let takes = subst (λ (r : Record). Takes g.reorder m r ready) c.deref.ensures c.in-Ok.ensures.ok in
+    let fills = subst (λ (r : Record). (rs : List Record) → HasTaken g.reorder rs → MayCome rs r.body → FillsReady m c.in-Ok.step) c.deref.ensures c.in-Ok.ensures.chunks in
+    let lents = rw c.deref-in-Ok.ensures at told.lent in
     rw (← c.self.view_is)
     (read_behind i.selection i.reorder g.reorder i.outgoing g.self c.give_way.ensures.same c.args.clock i.start i.position i.failed c.args.next.now.value _
-    (read_one c.args.clock i.selection i.start i.position c.deref-2.result.now.end i.failed c.args.next.now.value g.reorder m c.add_record.new.reorder g.self c.add_record.new.self ready c.give_way.ensures.same.good.lent
-    (keeps_lent i.selection g.reorder m g.self c.give_way.ensures.same.good c.take.ensures.lent) takes (ap (λ (r : Record). r.end) c.deref-2.ensures) grows fit told.taken))
+    (read_one c.args.clock i.selection i.start i.position c.deref-2.result.now.end i.failed c.args.next.now.value g.reorder m c.add_record.new.reorder g.self c.add_record.new.self c.in-Ok.step c.give_way.ensures.same.good.lent
+    (keeps_lent i.selection g.reorder m g.self c.give_way.ensures.same.good c.take.ensures.lent) takes (ap (λ (r : Record). r.end) c.deref-2.ensures) grows fit told.taken fills lents))
 
 pub returns-clause-chunks : goal.returns-clause-chunks
 returns-clause-chunks c =
