@@ -1,13 +1,16 @@
 -- A condition laid out flat, as steps: what each asks, and which is asked next. That is told by a number: 0 and 1 end the asking, the
 -- condition being true at 1 alone, and 2 is the lowest step.
-use Rattle.std.specs.Prelude.{◌≡◌, ◌==◌, ◌≤◌, ◌+◌, ℕ, ℤ, nat_lt, Bool, List, [], ◌∷◌, length, map, reverse, if◌then◌else◌}
+use Rattle.std.specs.Prelude.{◌≡◌, ◌<◌, ◌^◌, Option, Some, None, slice_get, ◌==◌, ◌≤◌, ◌+◌, ℕ, ℤ, nat_lt, Bool, List, [], ◌∷◌, length, map, reverse, if◌then◌else◌}
 use Rattle.conditions.specs.declared.comparison.Comparison.{Comparison}
 use Rattle.conditions.specs.declared.comparison.Comparison.TheVariants as signs
 use Rattle.conditions.specs.declared.step.Step.{Step}
+use Rattle.conditions.specs.declared.step.NumberRead.{NumberRead}
 use Rattle.conditions.specs.declared.step.Asked.{Asked}
 use Rattle.conditions.specs.declared.step.Asked.TheVariants as asked
-use Rattle.conditions.specs.Conditions.{Number, Bytes, Condition, Column, Literal, Compare, And, Or}
+use Rattle.conditions.specs.Conditions.{Datum, Number, Bytes, Condition, Column, Literal, Compare, And, Or}
 use Rattle.conditions.specs.Shapes.{shape}
+use Rattle.conditions.specs.Truth.{datum_at}
+use Rattle.tables.specs.declared.kinds.Value.{Value}
 
 -- a column against an integer
 abbrev pub number_asked : Comparison → ℕ → ℤ → Condition
@@ -29,6 +32,15 @@ condition_asked (asked.SameText place text) = text_asked signs.Equal place text
 condition_asked (asked.OtherText place text) = text_asked signs.NotEqual place text
 condition_asked (asked.Text how place text) = text_asked how place text
 condition_asked (asked.Other condition) = shape condition.value
+
+-- the whole number that a value is
+abbrev pub whole_number : Datum → Option ℤ
+whole_number (Number n) = Some n
+whole_number datum = None
+
+-- It is a number of the row, or none was read.
+abbrev pub IsRead : List Value → NumberRead → Type 0
+IsRead row last = last.place < 2 ^ 32 → datum_at (slice_get row last.place) ≡ Number last.number
 
 -- a step as contracts see it
 pub record Turn : Type 0 where

@@ -7,7 +7,7 @@ ghost use Rattle.conditions.specs.Steps.{AreStepsOf, LeadDown, turns, turns_of};
 ghost use Rattle.conditions.specs.Truth.{is_true, truth as truth_in};
 
 use crate::expression::Expression;
-use crate::step::{Asked, Step};
+use crate::step::{Asked, NumberRead, Step};
 use std::alloc::{AllocError, Global};
 use tables::RowRef;
 
@@ -21,8 +21,8 @@ impl Expression {
         Ok(steps)
     }
 
-    #[tactic(auto, using(crate::proofs::Stepping::stepping))]
     /// Adds its steps to those that are asked after it, of which these are next where it is true, and where it isn't.
+    #[tactic(auto, using(crate::proofs::Stepping::stepping))]
     fn lay_out(
         &self,
         alloc: Global,
@@ -32,7 +32,7 @@ impl Expression {
     ) -> Result<(), AllocError>
         ensures { OnOk result
             (turns steps.new.items
-                ≡ turns_of (shape self.now) next_if_true next_if_not (turns steps.old.items)) }
+            ≡ turns_of (shape self.now) next_if_true next_if_not (turns steps.old.items)) }
     {
         match self {
             Expression::And(a, b) => {
@@ -65,10 +65,11 @@ pub fn holds_by(steps: &[Step], row: &RowRef<'_>) -> bool
     requires { LeadDown (turns steps.now) }
     ensures { (c : Condition) → AreStepsOf steps.now c → result ≡ is_true (truth_in c row.now) }
 {
+    let mut last = NumberRead::none();
     let mut next = steps.len() + 1;
     while next > 1 {
         let step = &steps[next - 2];
-        next = if step.asked.holds(row) {
+        next = if step.asked.holds(row, &mut last) {
             step.next_if_true
         } else {
             step.next_if_not

@@ -18,10 +18,11 @@ loop-next-preserved-then-holds c =
     let test = c.loop-next-test.true in
     let within = c.loop-next.invariant.within in
     record {
+      read = c.holds.ensures.read;
       within = omega (arith, within, next_lower steps c.loop-next.next step true test within c.index-steps-next.is c.requires);
       same =
-        next_same (λ d. is_true (truth d c.args.row.now)) steps c.loop-next.next step true test within c.index-steps-next.is c.requires (sym c.if-holds.true ∙ c.holds.ensures)
-        ∙ c.loop-next.invariant.same;
+          next_same (λ d. is_true (truth d c.args.row.now)) steps c.loop-next.next step true test within c.index-steps-next.is c.requires (sym c.if-holds.true ∙ c.holds.ensures.answer)
+          ∙ c.loop-next.invariant.same;
     }
 
 pub loop-next-preserved : goal.loop-next-preserved
@@ -31,10 +32,11 @@ loop-next-preserved c =
     let test = c.loop-next-test.true in
     let within = c.loop-next.invariant.within in
     record {
+      read = c.holds.ensures.read;
       within = omega (arith, within, next_lower steps c.loop-next.next step false test within c.index-steps-next.is c.requires);
       same =
-        next_same (λ d. is_true (truth d c.args.row.now)) steps c.loop-next.next step false test within c.index-steps-next.is c.requires (sym c.if-holds.false ∙ c.holds.ensures)
-        ∙ c.loop-next.invariant.same;
+          next_same (λ d. is_true (truth d c.args.row.now)) steps c.loop-next.next step false test within c.index-steps-next.is c.requires (sym c.if-holds.false ∙ c.holds.ensures.answer)
+          ∙ c.loop-next.invariant.same;
     }
 
 -- src/steps.rt:64:1
