@@ -6,25 +6,25 @@ use Rattle.std.proofs.lemmas.Bool.{le-ltb, lt-ltb}
 use Rattle.tables.specs.declared.kinds.Value.{Value}
 use Rattle.conditions.specs.declared.step.Step.{Step}
 use Rattle.conditions.specs.Conditions.{Condition, Column, Literal, Compare, Is, Not, And, Or}
-use Rattle.conditions.specs.Steps.{Turn, AreStepsOf, LeadDown, condition_asked, next_by, outcome, turn_of, turns, turns_of, uppermost}
+use Rattle.conditions.specs.Steps.{Turn, AreStepsOf, LeadDown, condition_asked, next_number, outcome, turn_of, turns, turns_of, highest_number}
 use Rattle.conditions.specs.Truth.{is_true, truth}
 use Rattle.conditions.proofs.Truths.{true_of_both, true_of_either, truth_again}
 
 -- ---- any steps
 module _ (answers : Condition → Bool) where
   -- the uppermost is asked
-  asked : (next : ℕ) (turn : Turn) (below : List Turn) → uppermost below < next → outcome answers next (turn ∷ below) ≡ outcome answers (next_by (answers turn.asked) turn) below
-  asked next turn below h = rw (lt-ltb (uppermost below) next h) refl
+  asked : (next : ℕ) (turn : Turn) (below : List Turn) → highest_number below < next → outcome answers next (turn ∷ below) ≡ outcome answers (next_number (answers turn.asked) turn) below
+  asked next turn below h = rw (lt-ltb (highest_number below) next h) refl
 
   -- those above the next are not
-  passed : (next : ℕ) (above below : List Turn) → next ≤ uppermost below → outcome answers next (above ++ below) ≡ outcome answers next below
+  passed : (next : ℕ) (above below : List Turn) → next ≤ highest_number below → outcome answers next (above ++ below) ≡ outcome answers next below
   passed next [] below h = refl
-  passed next (turn ∷ above) below h = rw (le-ltb (uppermost (above ++ below)) next (omega (arith, length-append above below, h))) (passed next above below h)
+  passed next (turn ∷ above) below h = rw (le-ltb (highest_number (above ++ below)) next (omega (arith, length-append above below, h))) (passed next above below h)
 
   -- nothing is next
   pub ended : (next : ℕ) (ts : List Turn) → next ≤ 1 → outcome answers next ts ≡ (next == 1)
   ended next [] h = refl
-  ended next (turn ∷ below) h = rw (le-ltb (uppermost below) next (omega (arith, h))) (ended next below h)
+  ended next (turn ∷ below) h = rw (le-ltb (highest_number below) next (omega (arith, h))) (ended next below h)
 
 -- ---- steps of a condition
 longer : (c : Condition) (m n : ℕ) (below : List Turn) → length below ≤ length (turns_of c m n below)
@@ -35,12 +35,12 @@ longer (Is question negated a) m n below = omega arith
 longer (Not a) m n below = omega arith
 longer (And a b) m n below =
     let others = turns_of b m n below in
-    omega (arith, longer b m n below, longer a (uppermost others) n others)
+    omega (arith, longer b m n below, longer a (highest_number others) n others)
 longer (Or a b) m n below =
     let others = turns_of b m n below in
-    omega (arith, longer b m n below, longer a m (uppermost others) others)
+    omega (arith, longer b m n below, longer a m (highest_number others) others)
 
-passed_all : (answers : Condition → Bool) (next : ℕ) (c : Condition) (m n : ℕ) (below : List Turn) → next ≤ uppermost below
+passed_all : (answers : Condition → Bool) (next : ℕ) (c : Condition) (m n : ℕ) (below : List Turn) → next ≤ highest_number below
     → outcome answers next (turns_of c m n below) ≡ outcome answers next below
 passed_all answers next (Column place) m n below h = passed answers next (record { asked = Column place; next_if_true = m; next_if_not = n } ∷ []) below h
 passed_all answers next (Literal datum) m n below h = passed answers next (record { asked = Literal datum; next_if_true = m; next_if_not = n } ∷ []) below h
@@ -49,13 +49,13 @@ passed_all answers next (Is question negated d) m n below h = passed answers nex
 passed_all answers next (Not d) m n below h = passed answers next (record { asked = Not d; next_if_true = m; next_if_not = n } ∷ []) below h
 passed_all answers next (And d e) m n below h =
     let others = turns_of e m n below in
-    passed_all answers next d (uppermost others) n others (omega (arith, h, longer e m n below)) ∙ passed_all answers next e m n below h
+    passed_all answers next d (highest_number others) n others (omega (arith, h, longer e m n below)) ∙ passed_all answers next e m n below h
 passed_all answers next (Or d e) m n below h =
     let others = turns_of e m n below in
-    passed_all answers next d m (uppermost others) others (omega (arith, h, longer e m n below)) ∙ passed_all answers next e m n below h
+    passed_all answers next d m (highest_number others) others (omega (arith, h, longer e m n below)) ∙ passed_all answers next e m n below h
 
 -- they lead down
-down : (c : Condition) (m n : ℕ) (below : List Turn) → m ≤ uppermost below → n ≤ uppermost below → LeadDown below → LeadDown (turns_of c m n below)
+down : (c : Condition) (m n : ℕ) (below : List Turn) → m ≤ highest_number below → n ≤ highest_number below → LeadDown below → LeadDown (turns_of c m n below)
 down (Column place) m n below h k lead = (h, k, lead)
 down (Literal datum) m n below h k lead = (h, k, lead)
 down (Compare how a b) m n below h k lead = (h, k, lead)
@@ -63,10 +63,10 @@ down (Is question negated a) m n below h k lead = (h, k, lead)
 down (Not a) m n below h k lead = (h, k, lead)
 down (And a b) m n below h k lead =
     let others = turns_of b m n below in
-    down a (uppermost others) n others (omega arith) (omega (arith, k, longer b m n below)) (down b m n below h k lead)
+    down a (highest_number others) n others (omega arith) (omega (arith, k, longer b m n below)) (down b m n below h k lead)
 down (Or a b) m n below h k lead =
     let others = turns_of b m n below in
-    down a m (uppermost others) others (omega (arith, h, longer b m n below)) (omega arith) (down b m n below h k lead)
+    down a m (highest_number others) others (omega (arith, h, longer b m n below)) (omega arith) (down b m n below h k lead)
 
 pub all_down : (steps : List Step) (c : Condition) → AreStepsOf steps c → LeadDown (turns steps)
 all_down steps c are = subst LeadDown (sym are) (down c 1 0 [] (omega arith) (omega arith) tt)
@@ -98,8 +98,8 @@ module _ (row : List Value) where
   led_either false q m n middle others below on past = on
 
   -- the steps of a condition lead on by what it is
-  led : (c : Condition) (m n : ℕ) (below : List Turn) → m ≤ uppermost below → n ≤ uppermost below
-      → outcome holds (uppermost (turns_of c m n below)) (turns_of c m n below) ≡ outcome holds (if holds c then m else n) below
+  led : (c : Condition) (m n : ℕ) (below : List Turn) → m ≤ highest_number below → n ≤ highest_number below
+      → outcome holds (highest_number (turns_of c m n below)) (turns_of c m n below) ≡ outcome holds (if holds c then m else n) below
   led (Column place) m n below h k = asked holds (suc (length below) + 1) (record { asked = Column place; next_if_true = m; next_if_not = n }) below (omega arith)
   led (Literal datum) m n below h k = asked holds (suc (length below) + 1) (record { asked = Literal datum; next_if_true = m; next_if_not = n }) below (omega arith)
   led (Compare how d e) m n below h k = asked holds (suc (length below) + 1) (record { asked = Compare how d e; next_if_true = m; next_if_not = n }) below (omega arith)
@@ -107,13 +107,13 @@ module _ (row : List Value) where
   led (Not d) m n below h k = asked holds (suc (length below) + 1) (record { asked = Not d; next_if_true = m; next_if_not = n }) below (omega arith)
   led (And d e) m n below h k =
       let others = turns_of e m n below in
-      led d (uppermost others) n others (omega arith) (omega (arith, k, longer e m n below))
-      ∙ led_both (holds d) (holds e) m n (uppermost others) others below (led e m n below h k) (passed_all holds n e m n below k)
+      led d (highest_number others) n others (omega arith) (omega (arith, k, longer e m n below))
+      ∙ led_both (holds d) (holds e) m n (highest_number others) others below (led e m n below h k) (passed_all holds n e m n below k)
       ∙ ap (λ r. outcome holds (if r then m else n) below) (sym (holds_both d e))
   led (Or d e) m n below h k =
       let others = turns_of e m n below in
-      led d m (uppermost others) others (omega (arith, h, longer e m n below)) (omega arith)
-      ∙ led_either (holds d) (holds e) m n (uppermost others) others below (led e m n below h k) (passed_all holds m e m n below h)
+      led d m (highest_number others) others (omega (arith, h, longer e m n below)) (omega arith)
+      ∙ led_either (holds d) (holds e) m n (highest_number others) others below (led e m n below h k) (passed_all holds m e m n below h)
       ∙ ap (λ r. outcome holds (if r then m else n) below) (sym (holds_either d e))
 
 -- ---- steps as they lie
@@ -138,11 +138,11 @@ down_below : (above below : List Turn) → LeadDown (above ++ below) → LeadDow
 down_below [] below lead = lead
 down_below (turn ∷ above) below lead = down_below above below lead.2
 
-next_down : (answer : Bool) (turn : Turn) (below : List Turn) → LeadDown (turn ∷ below) → next_by answer turn ≤ uppermost below
+next_down : (answer : Bool) (turn : Turn) (below : List Turn) → LeadDown (turn ∷ below) → next_number answer turn ≤ highest_number below
 next_down true turn below lead = lead.0
 next_down false turn below lead = lead.1
 
-lower : (steps : List Step) (k : ℕ) (step : Step) (answer : Bool) → k < length steps → step ≡ get_or steps k step → LeadDown (turns steps) → next_by answer (turn_of step) ≤ k + 1
+lower : (steps : List Step) (k : ℕ) (step : Step) (answer : Bool) → k < length steps → step ≡ get_or steps k step → LeadDown (turns steps) → next_number answer (turn_of step) ≤ k + 1
 lower steps k step answer h is lead =
     let below = turns (take k steps) in
     let count : length below ≡ k = count_of_turns (take k steps) ∙ length-take-le k steps (omega (arith, h)) in
@@ -150,12 +150,12 @@ lower steps k step answer h is lead =
     omega (arith, count, next_down answer (turn_of step) below led_down)
 
 stepped : (answers : Condition → Bool) (steps : List Step) (k : ℕ) (step : Step) → k < length steps → step ≡ get_or steps k step → LeadDown (turns steps)
-    → outcome answers (k + 2) (turns steps) ≡ outcome answers (next_by (answers (condition_asked step.asked)) (turn_of step)) (turns steps)
+    → outcome answers (k + 2) (turns steps) ≡ outcome answers (next_number (answers (condition_asked step.asked)) (turn_of step)) (turns steps)
 stepped answers steps k step h is lead =
     let above = turns (drop (suc k) steps) in
     let below = turns (take k steps) in
     let turn = turn_of step in
-    let next = next_by (answers turn.asked) turn in
+    let next = next_number (answers turn.asked) turn in
     let count : length below ≡ k = count_of_turns (take k steps) ∙ length-take-le k steps (omega (arith, h)) in
     let small = lower steps k step (answers turn.asked) h is lead in
     let as_laid = laid steps k step h is in
@@ -168,15 +168,15 @@ stepped answers steps k step h is lead =
 
 -- the step of a number, and which is next by its answer
 pub next_lower : (steps : List Step) (from : ℕ) (step : Step) (answer : Bool) → 1 < from → from ≤ length steps + 1 → step ≡ get_or steps (from - 2) step → LeadDown (turns steps)
-    → next_by answer (turn_of step) < from
+    → next_number answer (turn_of step) < from
 next_lower steps from step answer h k is lead = omega (arith, h, lower steps (from - 2) step answer (omega (arith, h, k)) is lead)
 
 pub next_same : (answers : Condition → Bool) (steps : List Step) (from : ℕ) (step : Step) (answer : Bool) → 1 < from → from ≤ length steps + 1 → step ≡ get_or steps (from - 2) step
     → LeadDown (turns steps) → answer ≡ answers (condition_asked step.asked)
-    → outcome answers (next_by answer (turn_of step)) (turns steps) ≡ outcome answers from (turns steps)
+    → outcome answers (next_number answer (turn_of step)) (turns steps) ≡ outcome answers from (turns steps)
 next_same answers steps from step answer h k is lead e =
     let number : from - 2 + 2 ≡ from = omega (arith, h) in
-    ap (λ (b : Bool). outcome answers (next_by b (turn_of step)) (turns steps)) e
+    ap (λ (b : Bool). outcome answers (next_number b (turn_of step)) (turns steps)) e
     ∙ sym (stepped answers steps (from - 2) step (omega (arith, h, k)) is lead)
     ∙ ap (λ (n : ℕ). outcome answers n (turns steps)) number
 
@@ -187,7 +187,7 @@ told false = refl
 pub all_led : (row : List Value) (steps : List Step) (c : Condition) → AreStepsOf steps c → outcome (holds row) (length steps + 1) (turns steps) ≡ holds row c
 all_led row steps c are =
     ap (λ (n : ℕ). outcome (holds row) (n + 1) (turns steps)) (sym (count_of_turns steps))
-    ∙ ap (λ (ts : List Turn). outcome (holds row) (uppermost ts) ts) are
+    ∙ ap (λ (ts : List Turn). outcome (holds row) (highest_number ts) ts) are
     ∙ led row c 1 0 [] (omega arith) (omega arith)
     ∙ told (holds row c)
 

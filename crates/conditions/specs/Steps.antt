@@ -1,6 +1,6 @@
 -- A condition laid out flat, as steps: what each asks, and which is asked next. That is told by a number: 0 and 1 end the asking, the
 -- condition being true at 1 alone, and 2 is the lowest step.
-use Rattle.std.specs.Prelude.{◌≡◌, ◌<◌, ◌^◌, Option, Some, None, slice_get, ◌==◌, ◌≤◌, ◌+◌, ℕ, ℤ, nat_lt, Bool, List, [], ◌∷◌, length, map, reverse, if◌then◌else◌}
+use Rattle.std.specs.Prelude.{◌≡◌, ◌==◌, ◌<◌, ◌≤◌, ◌+◌, ◌^◌, ℕ, ℤ, nat_lt, Bool, Option, Some, None, slice_get, List, [], ◌∷◌, length, map, reverse, if◌then◌else◌}
 use Rattle.conditions.specs.declared.comparison.Comparison.{Comparison}
 use Rattle.conditions.specs.declared.comparison.Comparison.TheVariants as signs
 use Rattle.conditions.specs.declared.step.Step.{Step}
@@ -39,8 +39,8 @@ whole_number (Number n) = Some n
 whole_number datum = None
 
 -- It is a number of the row, or none was read.
-abbrev pub IsRead : List Value → NumberRead → Type 0
-IsRead row last = last.place < 2 ^ 32 → datum_at (slice_get row last.place) ≡ Number last.number
+abbrev pub IsNumberOf : List Value → NumberRead → Type 0
+IsNumberOf row last = last.place < 2 ^ 32 → datum_at (slice_get row last.place) ≡ Number last.number
 
 -- a step as contracts see it
 pub record Turn : Type 0 where
@@ -56,13 +56,13 @@ abbrev pub turns : List Step → List Turn
 turns steps = reverse (map turn_of steps)
 
 -- the number of the uppermost step
-abbrev pub uppermost : List Turn → ℕ
-uppermost steps = length steps + 1
+abbrev pub highest_number : List Turn → ℕ
+highest_number steps = length steps + 1
 
 -- the steps of a condition above others, of which these are next where it is true, and where it isn't
 abbrev pub turns_of : Condition → ℕ → ℕ → List Turn → List Turn
-turns_of (And a b) if_true if_not below = turns_of a (uppermost (turns_of b if_true if_not below)) if_not (turns_of b if_true if_not below)
-turns_of (Or a b) if_true if_not below = turns_of a if_true (uppermost (turns_of b if_true if_not below)) (turns_of b if_true if_not below)
+turns_of (And a b) if_true if_not below = turns_of a (highest_number (turns_of b if_true if_not below)) if_not (turns_of b if_true if_not below)
+turns_of (Or a b) if_true if_not below = turns_of a if_true (highest_number (turns_of b if_true if_not below)) (turns_of b if_true if_not below)
 turns_of condition if_true if_not below = record { asked = condition; next_if_true = if_true; next_if_not = if_not } ∷ below
 
 -- These are all steps of the condition.
@@ -72,14 +72,14 @@ AreStepsOf steps condition = turns steps ≡ turns_of condition 1 0 []
 -- Each step is followed by lower ones.
 abbrev pub LeadDown : List Turn → Type 0
 LeadDown [] = Unit {0}
-LeadDown (turn ∷ below) = (turn.next_if_true ≤ uppermost below) × (turn.next_if_not ≤ uppermost below) × LeadDown below
+LeadDown (turn ∷ below) = (turn.next_if_true ≤ highest_number below) × (turn.next_if_not ≤ highest_number below) × LeadDown below
 
 -- which is next by the answer
-abbrev pub next_by : Bool → Turn → ℕ
-next_by answer turn = if answer then turn.next_if_true else turn.next_if_not
+abbrev pub next_number : Bool → Turn → ℕ
+next_number answer turn = if answer then turn.next_if_true else turn.next_if_not
 
 -- what comes of steps from the one of this number on, by the answers to each
 abbrev pub outcome : (Condition → Bool) → ℕ → List Turn → Bool
 outcome answers next [] = next == 1
 outcome answers next (turn ∷ below) =
-    if nat_lt (uppermost below) next then outcome answers (next_by (answers turn.asked) turn) below else outcome answers next below
+    if nat_lt (highest_number below) next then outcome answers (next_number (answers turn.asked) turn) below else outcome answers next below

@@ -3,7 +3,7 @@
 ghost use Rattle.std.specs.Prelude.{◌≡◌, ◌^◌, IfOk, slice_get};
 ghost use Rattle.conditions.specs.Conditions.{Bytes, Number};
 ghost use Rattle.conditions.specs.Shapes.{shape};
-ghost use Rattle.conditions.specs.Steps.{IsRead, condition_asked, number_asked, text_asked, whole_number};
+ghost use Rattle.conditions.specs.Steps.{IsNumberOf, condition_asked, number_asked, text_asked, whole_number};
 ghost use Rattle.conditions.specs.Truth.{datum_at, is_true, truth as truth_in, truth_of_comparison};
 
 use crate::comparison::Comparison;
@@ -86,9 +86,9 @@ impl Asked {
     }
 
     pub(crate) fn holds(&self, row: &RowRef<'_>, last: &mut NumberRead) -> bool
-        requires { IsRead row.now last.old }
+        requires { IsNumberOf row.now last.old }
         ensures answer { result ≡ is_true (truth_in (condition_asked self.now) row.now) }
-        ensures read { IsRead row.now last.new }
+        ensures read { IsNumberOf row.now last.new }
     {
         match self {
             Asked::Equal(at, n) => is_number(row, last, *at, Comparison::Equal, n),
@@ -139,10 +139,10 @@ fn is_number(
     how: Comparison,
     number: &i64,
 ) -> bool
-    requires { IsRead row.now last.old }
+    requires { IsNumberOf row.now last.old }
     ensures answer { result
         ≡ is_true (truth_of_comparison how (datum_at (slice_get row.now place)) (Number number.now)) }
-    ensures read { IsRead row.now last.new }
+    ensures read { IsNumberOf row.now last.new }
 {
     let place = place as usize;
     if place != last.place {

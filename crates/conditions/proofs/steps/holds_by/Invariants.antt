@@ -1,11 +1,11 @@
 use Rattle.std.proofs.Common.{◌≡◌, ◌≤◌, ◌+◌, length}
-use Rattle.conditions.specs.Steps.{IsRead, outcome, turns}
+use Rattle.conditions.specs.Steps.{IsNumberOf, outcome, turns}
 use Rattle.conditions.specs.Truth.{is_true, truth}
 use Rattle.conditions.proofs.steps.holds_by.Given as goal
 
 abbrev pub invariant-loop-next : goal.invariant-loop-next
 invariant-loop-next l = record {
-  read : IsRead l.row l.last;
+  read : IsNumberOf l.row l.last;
   within : l.next ≤ length l.steps + 1;
   same : outcome (λ c. is_true (truth c l.row)) l.next (turns l.steps) ≡ outcome (λ c. is_true (truth c l.row)) (length l.steps + 1) (turns l.steps);
 }
