@@ -7,3 +7,4 @@ pub mod Stacking
 pub mod Numbers
 pub mod Sayings
 pub mod Truths
+pub mod Stepping

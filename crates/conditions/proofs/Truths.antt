@@ -1,5 +1,11 @@
 -- Truths as values, and back.
-use Rattle.std.proofs.Common.{◌≡◌, ◌&&◌, ◌||◌, refl}
+use Rattle.std.proofs.Common.{◌≡◌, ◌&&◌, ◌||◌, ◌∙◌, ℕ, List, ap, not, refl}
+use Rattle.std.proofs.lemmas.Map.Text.{is_eq-slice_cmp}
+use Rattle.std.specs.declared.cmp.Ordering.{Ordering}
+use Rattle.std.specs.declared.cmp.Ordering.TheVariants.{Less, Equal, Greater}
+use Rattle.std.specs.Cmp.Lexicographic.{slice_cmp}
+use Rattle.std.specs.Ordering.{is_eq, is_ne, nat_cmp}
+use Rattle.std.specs.Str.{bytes_eq}
 use Rattle.conditions.specs.declared.truth.Truth.{Truth}
 use Rattle.conditions.specs.declared.truth.Truth.TheVariants.{True, False, Unknown}
 use Rattle.conditions.specs.Truth.{both, datum_of_truth, either, is_true, truth_of}
@@ -29,4 +35,16 @@ true_of_either Unknown True = refl
 true_of_either Unknown False = refl
 true_of_either Unknown Unknown = refl
 
-pub ruleset deciding = (true_of_both, true_of_either)
+-- texts that compare as equal are the same
+pub same_text : (s t : List ℕ) → is_eq (slice_cmp nat_cmp s t) ≡ bytes_eq s t
+same_text s t = is_eq-slice_cmp s t
+
+not_equal : (o : Ordering) → is_ne o ≡ not (is_eq o)
+not_equal Less = refl
+not_equal Equal = refl
+not_equal Greater = refl
+
+pub another_text : (s t : List ℕ) → is_ne (slice_cmp nat_cmp s t) ≡ not (bytes_eq s t)
+another_text s t = not_equal (slice_cmp nat_cmp s t) ∙ ap not (is_eq-slice_cmp s t)
+
+pub ruleset same_texts = (same_text, another_text)

@@ -9,3 +9,4 @@ pub mod Shapes
 pub mod Stacks
 pub mod Parts
 pub mod Views
+pub mod Steps

@@ -1,7 +1,7 @@
 //! A condition as a tree, and what it is in a row.
 
 ghost use Rattle.std.specs.Prelude.{◌≡◌, IfOk, OnOk};
-ghost use Rattle.conditions.specs.Truth.{is_true, truth as truth_in, truth_of_comparison, value_in};
+ghost use Rattle.conditions.specs.Truth.{truth as truth_in, truth_of_comparison, value_in};
 ghost use Rattle.conditions.specs.Conditions.{names};
 ghost use Rattle.conditions.specs.Kinds.{are_known, sort_of};
 ghost use Rattle.conditions.specs.Shapes.{datum_of_operand, literal_datum, shape, with_places_of};
@@ -51,7 +51,7 @@ impl Expression {
     }
 
     #[cycle(copying)]
-    fn boxed_copy(&self, alloc: Global) -> Result<Box<Expression>, AllocError>
+    pub(crate) fn boxed_copy(&self, alloc: Global) -> Result<Box<Expression>, AllocError>
         ensures { IfOk result (λ e. shape e.value ≡ shape self.now) }
     {
         Ok(Box::new(alloc, self.copy(alloc)?)?)
@@ -105,25 +105,6 @@ impl Expression {
             Expression::Is(_, _, _) | Expression::Column(_) | Expression::Literal(_) => {
                 self.evaluate(&*row).truth()
             }
-        }
-    }
-
-    /// Whether it is true of the row, by the sides that decide it. Conditions are mostly comparisons of a column with a literal, and
-    /// what is joined of them; what is none of these goes by its truth.
-    #[tactic(auto, using(crate::proofs::Truths::deciding))]
-    pub fn holds(&self, row: &RowRef<'_>) -> bool
-        ensures { result ≡ is_true (truth_in (shape self.now) row.now) }
-    {
-        match self {
-            Expression::And(a, b) => a.holds(row) && b.holds(row),
-            Expression::Or(a, b) => a.holds(row) || b.holds(row),
-            Expression::Compare(how, a, b) => match (&**a, &**b) {
-                (Expression::Column(place), Expression::Literal(literal)) => {
-                    column_against(*how, row, *place, literal).is_true()
-                }
-                _ => self.truth(row).is_true(),
-            },
-            _ => self.truth(row).is_true(),
         }
     }
 

@@ -5,7 +5,9 @@ ghost use Rattle.tables.specs.Kinds.{value_of};
 ghost use Rattle.conditions.specs.Conditions.{Bytes, Number};
 ghost use Rattle.conditions.specs.Kinds.{datum_of, sort_of_kind};
 ghost use Rattle.conditions.specs.Shapes.{datum_of_operand};
-ghost use Rattle.conditions.specs.Truth.{truth_of_comparison};
+ghost use Rattle.conditions.specs.Truth.{holds, truth_of_comparison};
+ghost use Rattle.std.specs.Cmp.Lexicographic.{slice_cmp};
+ghost use Rattle.std.specs.Ordering.{nat_cmp};
 
 use crate::comparison::Comparison;
 use crate::operand::Operand;
@@ -57,11 +59,24 @@ pub(crate) fn text_against(how: Comparison, value: ValueRef<'_>, text: &[u8]) ->
     ensures { result ≡ truth_of_comparison how (datum_of (value_of value.entry)) (Bytes text.now) }
 {
     match value {
-        ValueRef::Text(value) => Truth::of(how.holds(value.cmp(text))),
+        ValueRef::Text(value) => Truth::of(text_holds(how, value, text)),
         ValueRef::Uuid(high, low) => match uuid_of_text(text) {
             Some(n) => Truth::of(how.holds(uuid_of_halves(high, low).cmp(&n))),
             None => Truth::Unknown,
         },
         _ => Truth::Unknown,
+    }
+}
+
+/// Whether the comparison holds of the two texts. Most ask only whether they are the same.
+#[inline(always)]
+#[tactic(auto, using(crate::proofs::Truths::same_texts))]
+pub(crate) fn text_holds(how: Comparison, value: &[u8], text: &[u8]) -> bool
+    ensures { result ≡ holds how (slice_cmp nat_cmp value.now text.now) }
+{
+    match how {
+        Comparison::Equal => value == text,
+        Comparison::NotEqual => value != text,
+        _ => how.holds(value.cmp(text)),
     }
 }

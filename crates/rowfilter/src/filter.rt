@@ -5,7 +5,7 @@ ghost use Rattle.conditions.specs.Truth.{is_true, truth as truth_in};
 ghost use Rattle.conditions.specs.Conditions.{AreNamed, names};
 ghost use Rattle.conditions.specs.Shapes.{shape};
 
-use conditions::{Expression, Truth};
+use conditions::{Expression, Step, Truth, holds_by};
 use pqformat::Items;
 use std::alloc::{AllocError, Global};
 use std::marker::Model;
@@ -16,6 +16,8 @@ use tables::{Row, RowRef};
 pub struct Filter {
     expression: Expression,
     columns: Items<usize>,
+    /// The same condition, by which it is asked row by row.
+    steps: Items<Step>,
 }
 
 impl Model for Filter {
@@ -24,6 +26,7 @@ impl Model for Filter {
     ghost use Rattle.rowfilter.specs.Codes.{condition_code};
     ghost use Rattle.conditions.specs.Conditions.{Condition};
     ghost use Rattle.conditions.specs.Shapes.{shape, with_places_of};
+    ghost use Rattle.conditions.specs.Steps.{AreStepsOf};
 
     ghost Value = { Condition };
 
@@ -31,7 +34,8 @@ impl Model for Filter {
 
     ghost view = { λ f. shape f.expression };
 
-    ghost invariant = { λ f. f.columns ≡ with_places_of (shape f.expression) [] };
+    ghost invariant = { λ f. (f.columns ≡ with_places_of (shape f.expression) [])
+        × AreStepsOf f.steps (shape f.expression) };
 }
 
 impl Filter {
@@ -40,19 +44,18 @@ impl Filter {
     {
         let mut columns = Vec::new(alloc);
         expression.gather(&mut columns)?;
+        let steps = expression.steps(alloc)?;
         Ok(Filter {
             expression,
             columns: Items::new(columns),
+            steps: Items::new(steps),
         })
     }
 
     pub fn copy(&self, alloc: Global) -> Result<Filter, AllocError>
         ensures { IfOk result (λ f. f ≡ self.now) }
     {
-        Ok(Filter {
-            expression: self.expression.copy(alloc)?,
-            columns: Items::new(Vec::from_slice(alloc, self.columns.as_slice())?),
-        })
+        Filter::new(alloc, self.expression.copy(alloc)?)
     }
 
     /// Whether the filter is true of the row, false, or unknown. The row is one of the table that it was read for; it
@@ -70,11 +73,11 @@ impl Filter {
         self.expression.truth(row)
     }
 
-    /// Whether the filter is true of a row that is read where it lies, by the sides that decide it.
+    /// Whether the filter is true of a row that is read where it lies, by the steps that decide it.
     pub fn holds(&self, row: &RowRef<'_>) -> bool
         ensures { result ≡ is_true (truth_in self.now row.now) }
     {
-        self.expression.holds(row)
+        holds_by(self.steps.as_slice(), row)
     }
 
     /// Whether the filter names the column at this place of its table.

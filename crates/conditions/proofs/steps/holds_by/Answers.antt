@@ -1,0 +1,46 @@
+use Rattle.std.proofs.Common.{◌∙◌, true, false, sym, arith}
+use Rattle.conditions.specs.Conditions.{Condition}
+use Rattle.conditions.specs.Steps.{turns}
+use Rattle.conditions.specs.Truth.{is_true, truth}
+use Rattle.conditions.proofs.Stepping.{all_led, ended, next_lower, next_same}
+use Rattle.conditions.proofs.steps.holds_by.Goals as goal
+
+pub loop-next-smaller-then-holds : goal.loop-next-smaller-then-holds
+loop-next-smaller-then-holds c = next_lower c.args.steps.now c.loop-next.next c.index-steps-next.result true c.loop-next-test.true c.loop-next.invariant.within c.index-steps-next.is c.requires
+
+pub loop-next-smaller : goal.loop-next-smaller
+loop-next-smaller c = next_lower c.args.steps.now c.loop-next.next c.index-steps-next.result false c.loop-next-test.true c.loop-next.invariant.within c.index-steps-next.is c.requires
+
+pub loop-next-preserved-then-holds : goal.loop-next-preserved-then-holds
+loop-next-preserved-then-holds c =
+    let steps = c.args.steps.now in
+    let step = c.index-steps-next.result in
+    let test = c.loop-next-test.true in
+    let within = c.loop-next.invariant.within in
+    record {
+      read = c.holds.ensures.read;
+      within = omega (arith, within, next_lower steps c.loop-next.next step true test within c.index-steps-next.is c.requires);
+      same =
+          next_same (λ d. is_true (truth d c.args.row.now)) steps c.loop-next.next step true test within c.index-steps-next.is c.requires (sym c.if-holds.true ∙ c.holds.ensures.answer)
+          ∙ c.loop-next.invariant.same;
+    }
+
+pub loop-next-preserved : goal.loop-next-preserved
+loop-next-preserved c =
+    let steps = c.args.steps.now in
+    let step = c.index-steps-next.result in
+    let test = c.loop-next-test.true in
+    let within = c.loop-next.invariant.within in
+    record {
+      read = c.holds.ensures.read;
+      within = omega (arith, within, next_lower steps c.loop-next.next step false test within c.index-steps-next.is c.requires);
+      same =
+          next_same (λ d. is_true (truth d c.args.row.now)) steps c.loop-next.next step false test within c.index-steps-next.is c.requires (sym c.if-holds.false ∙ c.holds.ensures.answer)
+          ∙ c.loop-next.invariant.same;
+    }
+
+-- src/steps.rt:64:1
+pub returns : goal.returns
+returns c d are =
+    let answers : Condition → _ = λ e. is_true (truth e c.args.row.now) in
+    sym (ended answers c.loop-next.next (turns c.args.steps.now) c.loop-next-test.false) ∙ c.loop-next.invariant.same ∙ all_led c.args.row.now c.args.steps.now d are
