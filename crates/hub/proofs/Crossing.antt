@@ -1,4 +1,4 @@
--- What threads share of a hub, and what crosses between the threads of a connection. Filters are trees, so each type above them
+-- What threads share of a hub, and what crosses between the threads of a connection. Filters have trees, so each type above them
 -- is a step of its own here.
 use mir.Syntax.{Sym}
 use mathlib.Core.List.{List, [], ◌∷◌}
@@ -12,8 +12,7 @@ use Rattle.chgarena.proofs.arena.Arena.TheSendSync as arena
 use Rattle.pqformat.proofs.items.Items.TheSendSync as items
 use Rattle.pqformat.proofs.text.Text.TheSendSync as text
 use Rattle.tables.proofs.table.Table.TheSendSync as table
-use Rattle.conditions.proofs.expression.Expression.TheLaws.TheKnot as tree
-use Rattle.rowfilter.specs.contracts.filter.Filter as filter
+use Rattle.rowfilter.proofs.Crossing.{filter_send, filter_sync}
 use Rattle.publication_config.specs.contracts.published_table.PublishedTable as published
 use Rattle.publication_config.specs.contracts.publication.Publication as publication
 use Rattle.publication.specs.contracts.selection.Selection as selection
@@ -44,12 +43,6 @@ pub both : {A B : Type 0} → A → B → A × B
 both a b = (a, b)
 
 -- ---- publications
-filter_send : IsSend filter.the_row
-filter_send = search (tree.crosses, heap.crosses, sendable) depth 40
-
-filter_sync : IsSync filter.the_row
-filter_sync = search (tree.crosses, heap.crosses, sendable) depth 40
-
 published_send : IsSend published.the_row
 published_send = search (filter_send, items.the_send, sendable) depth 40
 
