@@ -5,6 +5,7 @@ ghost use Rattle.tables.specs.Kinds.{value_of};
 ghost use Rattle.conditions.specs.Conditions.{Bytes, Number};
 ghost use Rattle.conditions.specs.Kinds.{datum_of, sort_of_kind};
 ghost use Rattle.conditions.specs.Shapes.{datum_of_operand};
+ghost use Rattle.conditions.specs.Steps.{whole_number};
 ghost use Rattle.conditions.specs.Truth.{holds, truth_of_comparison};
 ghost use Rattle.std.specs.Cmp.Lexicographic.{slice_cmp};
 ghost use Rattle.std.specs.Ordering.{nat_cmp};
@@ -47,11 +48,22 @@ impl<'a> Operand<'a> {
 pub(crate) fn number_against(how: Comparison, value: ValueRef<'_>, number: i64) -> Truth
     ensures { result ≡ truth_of_comparison how (datum_of (value_of value.entry)) (Number number) }
 {
+    match number_of(value) {
+        Some(n) => Truth::of(how.holds(n.cmp(&number))),
+        None => Truth::Unknown,
+    }
+}
+
+/// The whole number that a value is.
+#[inline]
+pub(crate) fn number_of(value: ValueRef<'_>) -> Option<i64>
+    ensures { result ≡ whole_number (datum_of (value_of value.entry)) }
+{
     match value {
-        ValueRef::Int2(n) => Truth::of(how.holds(i64::from(n).cmp(&number))),
-        ValueRef::Int4(n) => Truth::of(how.holds(i64::from(n).cmp(&number))),
-        ValueRef::Int8(n) => Truth::of(how.holds(n.cmp(&number))),
-        _ => Truth::Unknown,
+        ValueRef::Int2(n) => Some(i64::from(n)),
+        ValueRef::Int4(n) => Some(i64::from(n)),
+        ValueRef::Int8(n) => Some(n),
+        _ => None,
     }
 }
 

@@ -8,7 +8,7 @@ ghost use Rattle.conditions.specs.Truth.{datum_at, is_true, truth as truth_in, t
 
 use crate::comparison::Comparison;
 use crate::expression::Expression;
-use crate::kinds::{text_against, text_holds};
+use crate::kinds::{number_of, text_against, text_holds};
 use crate::literal::Literal;
 use crate::truth::Truth;
 use pqformat::Items;
@@ -160,12 +160,7 @@ fn is_number(
 fn number_at(row: &RowRef<'_>, place: usize) -> Option<i64>
     ensures { result ≡ whole_number (datum_at (slice_get row.now place)) }
 {
-    match row.get(place)? {
-        ValueRef::Int2(n) => Some(i64::from(n)),
-        ValueRef::Int4(n) => Some(i64::from(n)),
-        ValueRef::Int8(n) => Some(n),
-        _ => None,
-    }
+    number_of(row.get(place)?)
 }
 
 /// The same of a text.
