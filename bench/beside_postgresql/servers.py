@@ -65,22 +65,49 @@ def create_slots(port, names):
             wait_until_ready(answers)
 
 
-def stream_of(port, slot, transactions):
-    """The frames of a slot's stream that carry a message, up to so many Commits."""
-    start = f"START_REPLICATION SLOT {slot} LOGICAL 0/0 (proto_version '1', publication_names 'p')\0".encode()
-    frames, commits = [], 0
-    with socket.create_connection(("127.0.0.1", port)) as connection, connection.makefile("rb") as answers:
-        connection.sendall(STARTUP)
-        wait_until_ready(answers)
-        connection.sendall(b"Q" + struct.pack(">I", len(start) + 4) + start)
-        while commits < transactions:
-            head = answers.read(5)
-            body = answers.read(struct.unpack(">I", head[1:])[0] - 4)
+class Stream:
+    """A connection, and its stream once it has asked for it."""
+
+    def __init__(self, port):
+        self.connection = socket.create_connection(("127.0.0.1", port))
+        self.connection.sendall(STARTUP)
+        self.answers = self.connection.makefile("rb")
+        wait_until_ready(self.answers)
+
+    def start(self, slot):
+        start = f"START_REPLICATION SLOT {slot} LOGICAL 0/0 (proto_version '1', publication_names 'p')\0".encode()
+        self.connection.sendall(b"Q" + struct.pack(">I", len(start) + 4) + start)
+
+    def messages(self):
+        """The frames that carry a message, each with that message's kind."""
+        while head := self.answers.read(5):
+            body = self.answers.read(struct.unpack(">I", head[1:])[0] - 4)
             if head[:1] == b"E":
                 raise Failed(body.decode(errors="replace"))
             if head[:1] == b"d" and body[:1] == b"w":
-                frames.append(head + body)
-                commits += body[25:26] == b"C"
+                yield head + body, body[25:26]
+        raise Failed("the server ended the stream")
+
+    def until(self, kind):
+        """Reads up to the first message of this kind."""
+        next(True for _, each in self.messages() if each == kind)
+
+    def close(self):
+        self.answers.close()
+        self.connection.close()
+
+
+def stream_of(port, slot, transactions):
+    """The frames of a slot's stream that carry a message, up to so many Commits."""
+    frames, commits = [], 0
+    stream = Stream(port)
+    stream.start(slot)
+    for frame, kind in stream.messages():
+        frames.append(frame)
+        commits += kind == b"C"
+        if commits == transactions:
+            break
+    stream.close()
     return b"".join(frames)
 
 

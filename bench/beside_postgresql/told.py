@@ -1,11 +1,9 @@
-"""A pubd that is told its lines one by one, and the messages of its streams as they come."""
+"""A pubd that is told its lines one by one."""
 import pathlib
 import re
-import socket
-import struct
 import subprocess
 
-from .servers import STARTUP, Failed, Pubd, wait_until_ready
+from .servers import Failed, Pubd
 
 
 class Told:
@@ -40,31 +38,3 @@ class Told:
     def stop(self):
         self.process.kill()
         self.process.wait()
-
-
-class Stream:
-    """A connection, and its stream once it has asked for it."""
-
-    def __init__(self, port):
-        self.connection = socket.create_connection(("127.0.0.1", port))
-        self.connection.sendall(STARTUP)
-        self.answers = self.connection.makefile("rb")
-        wait_until_ready(self.answers)
-
-    def start(self, slot):
-        start = f"START_REPLICATION SLOT {slot} LOGICAL 0/0 (proto_version '1', publication_names 'p')\0".encode()
-        self.connection.sendall(b"Q" + struct.pack(">I", len(start) + 4) + start)
-
-    def until(self, kind):
-        """Reads up to the first message of this kind."""
-        while head := self.answers.read(5):
-            body = self.answers.read(struct.unpack(">I", head[1:])[0] - 4)
-            if head[:1] == b"E":
-                raise Failed(body.decode(errors="replace"))
-            if head[:1] == b"d" and body[:1] == b"w" and body[25:26] == kind:
-                return
-        raise Failed("the server ended the stream")
-
-    def close(self):
-        self.answers.close()
-        self.connection.close()
