@@ -1,4 +1,5 @@
-"""The crates and which stands on which, from crates.txt; what each is about, from the table of the map."""
+"""The crates and which stands on which, from crates.txt; what each is about, from the table of the map. Those that only use them
+stand on so many that their lines would hide the others: they have none."""
 import re
 
 from layers import Drawing, layers_of, reduced
@@ -53,7 +54,7 @@ def width_of(node):
 
 def picture(top):
     groups, every = groups_of(top)
-    kinds, below = kinds_of(top), reduced(every)
+    kinds, below = kinds_of(top), {crate: [] if crate in groups[-1] else ones for crate, ones in reduced(every).items()}
     for crate in below:
         if crate not in kinds:
             raise SystemExit(f"docs/MAP.md: its table lacks {crate}, so it can't be drawn")
@@ -63,7 +64,7 @@ def picture(top):
     y = {node: TOP + (len(drawing.rows) - 1 - drawing.layer[node]) * ROW for node in drawing.x}
     wide = max(x[node] + width_of(node) / 2 for node in x) + SIDE
     it = Picture(wide, max(y.values()) + HIGH + MARGIN + 12, "The crates: each stands on those that lines lead down to")
-    it.text(SIDE, 32, "Each crate stands on those that lines lead down to, and on what these stand on.", 14, PALE, "start")
+    it.text(SIDE, 32, "Each crate stands on those that lines lead down to, and on what these stand on; those that only use them, on any.", 14, PALE, "start")
     for group, name in zip(groups, GROUPS):
         high, low = min(y[crate] for crate in group) - MARGIN, max(y[crate] for crate in group) + HIGH + MARGIN
         it.box(SIDE / 2, high, wide - SIDE, low - high, GROUND, GROUND)

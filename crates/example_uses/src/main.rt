@@ -1,6 +1,6 @@
 //! Short uses of the crates, each in a file of its own, to read and to time: `example_uses USE [then USE]..`. The first three are first
-//! steps, and the last is a small service. What the others print is small, so that many turns of them measure their speed, or nothing.
-//! `example_uses` alone says which there are.
+//! steps. What the others print is small, so that many turns of them measure their speed, or nothing. `example_uses` alone says which
+//! there are.
 #![tactic(auto)]
 
 mod chunks;
@@ -8,7 +8,6 @@ mod claims;
 mod connection;
 mod desk;
 mod filters;
-mod orders;
 mod sending;
 mod subscriber;
 mod without_memory;
@@ -18,15 +17,12 @@ use chunks::work_on_arena;
 use claims::work_on_slots;
 use connection::hold_conversations;
 use filters::work_on_filters;
-use orders::follow_orders;
 use sending::bytes_sent;
 use std::alloc::Global;
 use std::env;
 use std::io::Print;
-use std::net::{Net, TcpListener, TcpStream};
 use std::sync::Wait;
 use std::thread::Threads;
-use std::time::Clock;
 use subscriber::follow_stream;
 use without_memory::call_without_memory;
 
@@ -37,8 +33,7 @@ const USAGE: &str = "usage: example_uses USE [then USE].., where a USE is one of
   filter TURNS filter|hand
   slots slots|words|apart THREADS TURNS
   arena CHUNKS LENGTH TURNS push|copy
-  without-memory arena|store|slots|log|wire|filter|message made|called
-  orders";
+  without-memory arena|store|slots|log|wire|filter|message made|called";
 
 /// The word between two uses.
 const THEN: &str = "then";
@@ -54,7 +49,7 @@ fn main(rt: HostRuntime) -> Result<()> {
 
 fn use_one<R>(rt: &R, alloc: Global, words: &[String]) -> Result<()>
 where
-    R: Net<Listener = TcpListener, Stream = TcpStream> + Threads + Wait + Clock + Print + Sync,
+    R: Threads + Wait + Print + Sync,
 {
     let [name, words @ ..] = words else {
         bail!("{USAGE}");
@@ -67,7 +62,6 @@ where
         "slots" => work_on_slots(rt, alloc, words),
         "arena" => work_on_arena(alloc, words),
         "without-memory" => call_without_memory(rt, alloc, words),
-        "orders" => follow_orders(rt, alloc),
         _ => bail!("{USAGE}"),
     }
 }

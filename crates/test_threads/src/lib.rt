@@ -12,8 +12,6 @@ mod log_fixture;
 #[cfg(test)]
 mod receipt_calls;
 #[cfg(test)]
-mod server_calls;
-#[cfg(test)]
 mod slot_calls;
 #[cfg(test)]
 mod turn_calls;

@@ -18,7 +18,7 @@ use wal::{Body, FIRST_POSITION, Record};
 pub const CHUNKS: usize = 64;
 
 /// One table, and a publication of it.
-pub const CONFIGURATION: &str = "\
+const CONFIGURATION: &str = "\
 table = [{ oid = 16384, schema = 'public', name = 'item', key = ['id'], \
     columns = [['id', 'int4'], ['name', 'text'], ['qty', 'int8']] }]
 publication = [{ name = 'p', tables = [{ name = 'public.item' }] }]

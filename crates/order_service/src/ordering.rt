@@ -1,12 +1,12 @@
 //! The service's own thread: each order is a transaction, and each article of it stands behind a savepoint.
 
-use crate::orders::FOLLOWERS;
-use crate::orders::fault::OrderFault;
-use crate::orders::shop::{
+use crate::fault::OrderFault;
+use crate::service::FOLLOWERS;
+use crate::shop::{
     LINE_TABLE, ORDER_TABLE, STOCK_TABLE, line_row, order_row, pieces_and_price, stock_key,
     stock_row,
 };
-use crate::orders::stock::{ORDERS, Order, STOCK};
+use crate::stock::{ORDERS, Order, STOCK};
 use hub::{Hub, Transaction};
 use shared_log::LogName;
 use slots::SlotName;

@@ -1,12 +1,17 @@
 //! A hub of one table, for tests.
 
-use crate::log_fixture::CONFIGURATION;
 use hub::OpenedHub;
 use pqformat::Text;
 use publication::Publications;
 use std::alloc::Global;
 use std::test::Fail;
 use tables::Catalog;
+
+const CONFIGURATION: &str = "\
+table = [{ oid = 16384, schema = 'public', name = 'item', key = ['id'], \
+    columns = [['id', 'int4'], ['name', 'text'], ['qty', 'int8']] }]
+publication = [{ name = 'p', tables = [{ name = 'public.item' }] }]
+";
 
 /// A hub of the table, whose log has room for 4,000 records.
 pub fn opened(alloc: Global) -> Result<OpenedHub, Fail> {

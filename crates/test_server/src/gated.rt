@@ -2,9 +2,9 @@
 
 ghost use Rattle.std.specs.Prelude.{◌≡◌};
 
-use crate::server_calls::beside::serve_beside;
-use crate::server_calls::fixture::opened;
-use crate::server_calls::peer::{connect, read_until, send_query};
+use crate::beside::serve_beside;
+use crate::fixture::opened;
+use crate::peer::{connect, read_until, send_query};
 use hub::{Gate, Hub, OpenedHub};
 use shared_log::LogName;
 use slots::SlotName;

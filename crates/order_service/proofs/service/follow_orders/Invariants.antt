@@ -1,4 +1,4 @@
-use Rattle.example_uses.proofs.orders.follow_orders.Given as goal
+use Rattle.order_service.proofs.service.follow_orders.Given as goal
 
 abbrev pub ghosts-served-L-LogName : goal.ghosts-served-L-LogName
 ghosts-served-L-LogName g a = record { book = a.opened.log.history.seen.book }

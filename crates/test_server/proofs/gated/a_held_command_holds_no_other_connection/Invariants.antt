@@ -1,4 +1,4 @@
-use Rattle.test_threads.proofs.server_calls.gated.a_held_command_holds_no_other_connection.Given as goal
+use Rattle.test_server.proofs.gated.a_held_command_holds_no_other_connection.Given as goal
 
 abbrev pub ghosts-serve_both-L-LogName : goal.ghosts-serve_both-L-LogName
 ghosts-serve_both-L-LogName g a = record { book = a.opened.log.history.seen.book }

@@ -1,17 +1,11 @@
 //! A service that publishes what it does: a thread of its own takes orders and commits them, connections are served beside it,
-//! and two followers read what it publishes. `orders` prints what they got.
-
-mod fault;
-mod following;
-mod ordering;
-mod shop;
-mod stock;
+//! and two followers read what it publishes. It prints what they got.
 
 ghost use Rattle.std.specs.Prelude.{◌≡◌};
 
-use crate::orders::following::{Followed, follow_both};
-use crate::orders::ordering::take_orders;
-use crate::orders::shop::CONFIGURATION;
+use crate::following::{Followed, follow_both};
+use crate::ordering::take_orders;
+use crate::shop::CONFIGURATION;
 use anyhow::Result;
 use hub::{Hub, OpenGate, OpenedHub, serve};
 use pqformat::Text;

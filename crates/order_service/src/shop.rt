@@ -1,6 +1,6 @@
 //! The tables of the shop, and their rows.
 
-use crate::orders::stock::Order;
+use crate::stock::Order;
 use pqformat::Text;
 use std::alloc::{AllocError, Global};
 use tables::{Row, Value};
