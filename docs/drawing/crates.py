@@ -54,7 +54,7 @@ def width_of(node):
 
 def picture(top):
     groups, every = groups_of(top)
-    kinds, below = kinds_of(top), {crate: [] if crate in groups[-1] else ones for crate, ones in reduced(every).items()}
+    kinds, below = kinds_of(top), reduced(every) | {crate: [] for crate in groups[-1]}
     for crate in below:
         if crate not in kinds:
             raise SystemExit(f"docs/MAP.md: its table lacks {crate}, so it can't be drawn")
@@ -64,7 +64,8 @@ def picture(top):
     y = {node: TOP + (len(drawing.rows) - 1 - drawing.layer[node]) * ROW for node in drawing.x}
     wide = max(x[node] + width_of(node) / 2 for node in x) + SIDE
     it = Picture(wide, max(y.values()) + HIGH + MARGIN + 12, "The crates: each stands on those that lines lead down to")
-    it.text(SIDE, 32, "Each crate stands on those that lines lead down to, and on what these stand on; those that only use them, on any.", 14, PALE, "start")
+    told = "Each crate stands on those that lines lead down to, and on what these stand on; those that only use them, on any."
+    it.text(SIDE, 32, told, 14, PALE, "start")
     for group, name in zip(groups, GROUPS):
         high, low = min(y[crate] for crate in group) - MARGIN, max(y[crate] for crate in group) + HIGH + MARGIN
         it.box(SIDE / 2, high, wide - SIDE, low - high, GROUND, GROUND)
