@@ -51,9 +51,9 @@ use Rattle.pqformat.proofs.Codec as codec
 use Rattle.pqformat.proofs.Codec.{IsBytes, Takes, Takes-then, Codec, bind_ok, ok_is, done, field, last_field, codec_of, tested, repeated}
 use Rattle.pqformat.proofs.Numbers.{number16, number32, signed16, signed32, byte_codec, bytes_codec, string_codec, letter_codec, count_codec}
 use Rattle.frames.proofs.Cases.{Cases, Body, body_of_codec, case, no_case, whole_again, made}
-use Rattle.frames.proofs.Lists.{until_body}
-use Rattle.frames.proofs.Startups.{parameter_codec, key_codec, empty_body}
-use Rattle.frames.proofs.Frames.{AreBodies}
+use Rattle.frames.proofs.ClosedLists.{until_body}
+use Rattle.frames.proofs.StartupBodies.{parameter_codec, key_codec, empty_body}
+use Rattle.frames.proofs.Readers.{AreBodies}
 
 -- all bytes are those of CopyData, so nothing stands behind it
 copy_data_body : Body copy_data_at copy_data (λ _. Unit {0})

@@ -1,7 +1,7 @@
--- The laws of regular frames, over any set of them: what reading a type byte, a length and a body finds, that it finds
+-- The laws of a regular frame, whatever its body: what reading a type byte, a length and a body finds, that it finds
 -- what was spelled, what it waits for, and where its faults stand.
 use Rattle.std.proofs.Common.{◌≡◌, ℕ, ◌+◌, ◌-◌, ◌^◌, ◌<◌, ◌≤◌, Bool, true, false, cond, ltb, List, [], ◌∷◌, ◌++◌, length, take, drop, Option, Some, None, Result, Ok, Err, refl, sym, ap, subst, ◌∙◌, append_assoc, arith, inl, inr}
-use Rattle.std.specs.Prelude.{◌⊎◌, option_map, IfOk, IfErr, IfSome, IsSomeAnd}
+use Rattle.std.specs.Prelude.{◌⊎◌, option_map}
 use Rattle.std.specs.Option.{ok_or}
 use Rattle.std.specs.Int.{w32}
 use Rattle.std.proofs.lemmas.Bool.{ltb-true, ltb-false, le-ltb, lt-ltb, cases_lt}
@@ -9,13 +9,10 @@ use Rattle.std.proofs.lemmas.List.{take_at, drop_at, take-append-drop, take-appe
 use Rattle.pqformat.specs.Fields.{int32, bytes_at, number_at}
 use Rattle.pqformat.specs.Steps.{◌>>=◌}
 use Rattle.frames.specs.declared.fault.FrameFault.{FrameFault}
-use Rattle.frames.specs.declared.fault.FrameFault.TheVariants.{BadLength, BadVersion, UnknownType, BadBody, NotUtf8, TooLong, Memory}
-use Rattle.frames.specs.Body.{checked_text}
-use Rattle.frames.specs.Frame.{frame, FitsLength, with_size, with_kind, Fits, SpellsFrame, IsShort, Fails, Gives, sized_at, body_at, raw_at, whole_of, framed_at, IsWhole, IsKept, HasBody, BeginsWith, StandsAt}
-use Rattle.pqformat.proofs.Codec.{IsBytes, IsBytes-take, IsBytes-rest, bind_ok, found_some, some_is, done, ok_is}
+use Rattle.frames.specs.declared.fault.FrameFault.TheVariants.{BadLength, UnknownType, TooLong}
+use Rattle.frames.specs.Frame.{frame, FitsLength, with_size, with_kind, sized_at, body_at, raw_at, BeginsWith}
+use Rattle.pqformat.proofs.Codec.{IsBytes, IsBytes-take, IsBytes-rest, bind_ok, found_some, some_is, ok_is}
 use Rattle.pqformat.proofs.Numbers.{number32, bytes_codec, length-int32}
-use Rattle.frames.proofs.Cases.{Cases}
-use Rattle.frames.proofs.Steps.{kept_is_whole, kept_body}
 
 -- ---- steps
 
@@ -26,12 +23,6 @@ went_on false d r y e = (refl, e)
 pub mapped : {A B : Type 0} (f : A → B) (o : Option A) (y : B) → option_map f o ≡ Some y → (x : A) × (o ≡ Some x) × (f x ≡ y)
 mapped f None y e = absurd cc
 mapped f (Some x) y e = (x, refl, cc)
-
-abbrev pub failed : (F : Type 0) → FrameFault → Result (Option (F × ℕ)) FrameFault
-failed F e = Err e
-
-pub err_is : {A E : Type 0} (x : Result A E) (d e : E) → x ≡ Err d → x ≡ Err e → d ≡ e
-err_is x d e p q = cc
 
 -- a number that stands at the front
 pub number_there : (n : ℕ) (rest : List ℕ) → n < 2 ^ 32 → number_at w32 (int32 n ++ rest) ≡ Some (n, rest)
@@ -202,6 +193,9 @@ raw_faults limit (kind ∷ bytes) e fits is = by_limit (limit kind) refl (unmapp
 
 -- ---- one frame and another
 
+pub length-frame : (kind : ℕ) (body : List ℕ) → length (frame kind body) ≡ 5 + length body
+length-frame kind body = omega (arith, length-append (int32 (4 + length body)) body, length-int32 (4 + length body))
+
 pub frame_begins : (k l : ℕ) (a b x y : List ℕ) → FitsLength a → FitsLength b → frame k a ++ x ≡ frame l b ++ y → (k ≡ l) × (a ≡ b) × (x ≡ y)
 frame_begins k l a b x y fits_a fits_b e =
     let heads : k ≡ l = cc in
@@ -217,196 +211,3 @@ frame_begins k l a b x y fits_a fits_b e =
     let front : a ≡ b = sym (take_at a x (length a) refl) ∙ ap (take (length a)) rest ∙ take_at b y (length a) (sym len) in
     let back : x ≡ y = sym (drop_at a x (length a) refl) ∙ ap (drop (length a)) rest ∙ drop_at b y (length a) (sym len) in
     (heads, front, back)
-
--- ---- a set of frames, whose bodies are read as they are spelled
-
-pub record AreBodies {F : Type 0} (limit : ℕ → Option ℕ) (kind_of : F → ℕ) (body_of : F → List ℕ) (Shaped : F → Type 0) (is_text : F → Bool) (of : ℕ → List ℕ → Result F FrameFault) : Type 0 where
-  pub cases : Cases kind_of body_of Shaped is_text limit of
-  pub again : (f : F) → Shaped f → of (kind_of f) (body_of f) ≡ checked_text is_text f
-
-read_again : {F : Type 0} {limit : ℕ → Option ℕ} {kind_of : F → ℕ} {body_of : F → List ℕ} {Shaped : F → Type 0} {is_text : F → Bool} {of : ℕ → List ℕ → Result F FrameFault} → AreBodies limit kind_of body_of Shaped is_text of
-    → (f : F) → Fits Shaped is_text f → of (kind_of f) (body_of f) ≡ Ok f
-read_again bodies f fits = bodies.again f fits.0 ∙ rw fits.1 refl
-
-pub length-frame : (kind : ℕ) (body : List ℕ) → length (frame kind body) ≡ 5 + length body
-length-frame kind body = omega (arith, length-append (int32 (4 + length body)) body, length-int32 (4 + length body))
-
-framed_takes : {F : Type 0} (limit : ℕ → Option ℕ) (kind_of : F → ℕ) (body_of : F → List ℕ) (Shaped : F → Type 0) (is_text : F → Bool) (of : ℕ → List ℕ → Result F FrameFault) → AreBodies limit kind_of body_of Shaped is_text of
-    → (bytes : List ℕ) (f : F) (n : ℕ) → IsBytes bytes → framed_at limit of bytes ≡ Ok (Some (f, n))
-    → (n ≤ length bytes) × SpellsFrame kind_of body_of (Fits Shaped is_text) (take n bytes) f × IsShort limit kind_of body_of f
-framed_takes {F} limit kind_of body_of Shaped is_text of bodies bytes f n fits e = by_raw (raw_at limit bytes) refl e
-  where
-    Found : F → ℕ → Type 0
-    Found f n = (n ≤ length bytes) × SpellsFrame kind_of body_of (Fits Shaped is_text) (take n bytes) f × IsShort limit kind_of body_of f
-
-    by_raw : (r : Result (Option ((ℕ × List ℕ) × ℕ)) FrameFault) → raw_at limit bytes ≡ r → (r >>= λ raw. whole_of of raw) ≡ Ok (Some (f, n)) → Found f n
-    by_raw (Err d) is e = absurd cc
-    by_raw (Ok None) is e = absurd cc
-    by_raw (Ok (Some raw)) is e =
-        let answer : F × ℕ = (f, n) in
-        let t = raw_takes limit bytes raw.0.0 raw.0.1 raw.1 fits is in
-        let g = bind_ok (of raw.0.0 raw.0.1) (λ f. Ok (Some (f, raw.1))) (Some answer) e in
-        let read : F × ℕ = (g.0, raw.1) in
-        let c = bodies.cases.takes raw.0.0 raw.0.1 g.0 t.body_fits g.1 in
-        let b = c.0 in
-        let same = some_is read answer (ok_is FrameFault (Some read) (Some answer) g.2) in
-        let text : bytes ≡ frame (kind_of g.0) (body_of g.0) ++ t.rest = rw (b.0, b.1) t.text in
-        let size : length (frame (kind_of g.0) (body_of g.0)) ≡ raw.1 = length-frame (kind_of g.0) (body_of g.0) ∙ ap (λ (l : List ℕ). 5 + length l) b.1 ∙ sym t.size in
-        let within : raw.1 ≤ length bytes = rw text (omega (arith, size, length-append (frame (kind_of g.0) (body_of g.0)) t.rest)) in
-        let front : take raw.1 bytes ≡ frame (kind_of g.0) (body_of g.0) = ap (take raw.1) text ∙ take_at (frame (kind_of g.0) (body_of g.0)) t.rest raw.1 size in
-        let short : IsShort limit kind_of body_of g.0 = rw (b.0, t.allowed, b.1) t.within in
-        let P : F × ℕ → Type 0 = λ p. Found p.0 p.1 in
-        subst P same (within, record { in_range = (b.2, c.1); fits_length = rw b.1 t.fits_length; text = front }, short)
-
--- ---- the clauses of a reader
-
-abbrev pub Reads : {F : Type 0} → (ℕ → Option ℕ) → (F → ℕ) → (F → List ℕ) → (F → Type 0) → (F → Bool) → List ℕ → Option (F × ℕ) → Type 0
-Reads limit kind_of body_of Shaped is_text bytes o = IfSome o (λ x. (x.1 ≤ length bytes) × SpellsFrame kind_of body_of (Fits Shaped is_text) (take x.1 bytes) x.0 × IsShort limit kind_of body_of x.0)
-
-pub is_found : {F : Type 0} {limit : ℕ → Option ℕ} {kind_of : F → ℕ} {body_of : F → List ℕ} {Shaped : F → Type 0} {is_text : F → Bool} {of : ℕ → List ℕ → Result F FrameFault} → AreBodies limit kind_of body_of Shaped is_text of
-    → (bytes : List ℕ) (r : Result (Option (F × ℕ)) FrameFault) → IsBytes bytes → Gives r (framed_at limit of bytes) → IfOk r (λ o. Reads limit kind_of body_of Shaped is_text bytes o)
-is_found {F} {limit} {kind_of} {body_of} {Shaped} {is_text} {of} bodies bytes (Ok (Some x)) fits given = framed_takes limit kind_of body_of Shaped is_text of bodies bytes x.0 x.1 fits given
-is_found bodies bytes (Ok None) fits given = tt
-is_found bodies bytes (Err e) fits given = tt
-
-pub is_only : {F : Type 0} {limit : ℕ → Option ℕ} {kind_of : F → ℕ} {body_of : F → List ℕ} {Shaped : F → Type 0} {is_text : F → Bool} {of : ℕ → List ℕ → Result F FrameFault} → AreBodies limit kind_of body_of Shaped is_text of
-    → (bytes : List ℕ) (r : Result (Option (F × ℕ)) FrameFault) → Gives r (framed_at limit of bytes)
-    → (text rest : List ℕ) (f : F) → SpellsFrame kind_of body_of (Fits Shaped is_text) text f → IsShort limit kind_of body_of f → bytes ≡ text ++ rest → Gives r (Ok (Some (f, length text)))
-is_only {F} {limit} {kind_of} {body_of} {Shaped} {is_text} {of} bodies bytes r given text rest f spells short parts =
-    let P : Result (Option (F × ℕ)) FrameFault → Type 0 = λ read. Gives r read in
-    subst P (by_limit (limit (kind_of f)) refl short) given
-  where
-    by_limit : (o : Option ℕ) → limit (kind_of f) ≡ o → IsSomeAnd o (λ most. 4 + length (body_of f) ≤ most) → framed_at limit of bytes ≡ Ok (Some (f, length text))
-    by_limit None none short = absurd short
-    by_limit (Some most) allowed short =
-        let raw = raw_again limit (kind_of f) most (body_of f) rest allowed short spells.fits_length in
-        let whole : bytes ≡ frame (kind_of f) (body_of f) ++ rest = parts ∙ ap (λ (l : List ℕ). l ++ rest) spells.text in
-        let size : 5 + length (body_of f) ≡ length text = sym (length-frame (kind_of f) (body_of f)) ∙ ap length (sym spells.text) in
-        rw (whole, raw, read_again bodies f spells.in_range, size) refl
-
--- where the raw reading waits, so does the call
-pub still_waits : {F : Type 0} (raw : Result (Option ((ℕ × List ℕ) × ℕ)) FrameFault) (of : Option ((ℕ × List ℕ) × ℕ) → Result (Option (F × ℕ)) FrameFault) (r : Result (Option (F × ℕ)) FrameFault)
-    → Gives r (raw >>= of) → (r ≡ Err Memory → IsWhole raw) → of None ≡ Ok None → raw ≡ Ok None → r ≡ Ok None
-still_waits {F} raw of r given memory nothing none = by_answer r given memory
-  where
-    read : (raw >>= of) ≡ Ok None
-    read = rw none nothing
-
-    none_whole : (x : Result (Option ((ℕ × List ℕ) × ℕ)) FrameFault) → x ≡ Ok None → IsWhole x → ⊥
-    none_whole (Ok None) is whole = whole
-    none_whole (Ok (Some y)) is whole = absurd cc
-    none_whole (Err d) is whole = whole
-
-    by_fault : (e : FrameFault) → Fails {Y = Option (F × ℕ)} e (Ok None) → (failed F e ≡ Err Memory → IsWhole raw) → failed F e ≡ Ok None
-    by_fault BadLength given memory = absurd cc
-    by_fault BadVersion given memory = absurd cc
-    by_fault UnknownType given memory = absurd cc
-    by_fault BadBody given memory = absurd cc
-    by_fault NotUtf8 given memory = absurd cc
-    by_fault TooLong given memory = absurd cc
-    by_fault Memory given memory = absurd (none_whole raw none (memory refl))
-
-    by_answer : (r : Result (Option (F × ℕ)) FrameFault) → Gives r (raw >>= of) → (r ≡ Err Memory → IsWhole raw) → r ≡ Ok None
-    by_answer (Ok o) given memory = sym given ∙ read
-    by_answer (Err e) given memory =
-        let P : Result (Option (F × ℕ)) FrameFault → Type 0 = λ x. Fails e x in
-        by_fault e (subst P read given) memory
-
-pub is_waiting : {F : Type 0} {limit : ℕ → Option ℕ} {kind_of : F → ℕ} {body_of : F → List ℕ} {Shaped : F → Type 0} {is_text : F → Bool} {of : ℕ → List ℕ → Result F FrameFault} → AreBodies limit kind_of body_of Shaped is_text of
-    → (needs_memory : F → Bool) (bytes : List ℕ) (r : Result (Option (F × ℕ)) FrameFault) → Gives r (framed_at limit of bytes) → (r ≡ Err Memory → IsKept needs_memory (framed_at limit of bytes))
-    → (text more : List ℕ) (f : F) → SpellsFrame kind_of body_of (Fits Shaped is_text) text f → IsShort limit kind_of body_of f → text ≡ bytes ++ more → length bytes < length text → r ≡ Ok None
-is_waiting {F} {limit} {kind_of} {body_of} {Shaped} {is_text} {of} bodies needs_memory bytes r given memory text more f spells short parts less =
-    still_waits (raw_at limit bytes) (λ raw. whole_of of raw) r given (λ h. kept_is_whole needs_memory of (raw_at limit bytes) (memory h)) refl (by_limit (limit (kind_of f)) refl short)
-  where
-    by_limit : (o : Option ℕ) → limit (kind_of f) ≡ o → IsSomeAnd o (λ most. 4 + length (body_of f) ≤ most) → raw_at limit bytes ≡ Ok None
-    by_limit None none short = absurd short
-    by_limit (Some most) allowed short =
-        raw_waits limit (kind_of f) most (body_of f) bytes more allowed short spells.fits_length (sym spells.text ∙ parts)
-        (omega (arith, length-frame (kind_of f) (body_of f), ap length spells.text))
-
-pub is_fault : {F : Type 0} {limit : ℕ → Option ℕ} {kind_of : F → ℕ} {body_of : F → List ℕ} {Shaped : F → Type 0} {is_text : F → Bool} {of : ℕ → List ℕ → Result F FrameFault} → AreBodies limit kind_of body_of Shaped is_text of
-    → (needs_memory : F → Bool) (bytes : List ℕ) (r : Result (Option (F × ℕ)) FrameFault) → IsBytes bytes → Gives r (framed_at limit of bytes) → (r ≡ Err Memory → IsKept needs_memory (framed_at limit of bytes))
-    → IfErr r (λ e. StandsAt limit kind_of body_of Shaped is_text needs_memory e bytes)
-is_fault {F} {limit} {kind_of} {body_of} {Shaped} {is_text} {of} bodies needs_memory bytes (Ok o) fits given memory = tt
-is_fault {F} {limit} {kind_of} {body_of} {Shaped} {is_text} {of} bodies needs_memory bytes (Err e) fits given memory = by_fault e given memory
-  where
-    Stands : FrameFault → Type 0
-    Stands e = StandsAt limit kind_of body_of Shaped is_text needs_memory e bytes
-
-    before : (e : FrameFault) → StandsBefore limit e bytes → Stands e
-    before BadLength is = is
-    before BadVersion is = absurd is
-    before UnknownType is = is
-    before BadBody is = absurd is
-    before NotUtf8 is = absurd is
-    before TooLong is = is
-    before Memory is = absurd is
-
-    sized : ℕ → F → Result (Option (F × ℕ)) FrameFault
-    sized n f = Ok (Some (f, n))
-
-    alone : (n : ℕ) (e : FrameFault) (r : Result F FrameFault) → (r >>= sized n) ≡ Err e → r ≡ Err e
-    alone n e (Ok x) is = absurd cc
-    alone n e (Err d) is = cc
-
-    never_bad : (f : F) (b : Bool) → cond b (Ok f) (Err NotUtf8) ≡ Err BadBody → ⊥
-    never_bad f true is = absurd cc
-    never_bad f false is = absurd cc
-
-    none_has : (kind : ℕ) (body : List ℕ) → of kind body ≡ Err BadBody → (f : F) → HasBody kind_of body_of Shaped kind body f → ⊥
-    none_has kind body bad f has =
-        let P : ℕ → Type 0 = λ k. of k body ≡ checked_text is_text f in
-        let Q : List ℕ → Type 0 = λ b. of (kind_of f) b ≡ checked_text is_text f in
-        let read : of kind body ≡ checked_text is_text f = subst P has.0 (subst Q has.1 (bodies.again f has.2)) in
-        never_bad f (is_text f) (sym read ∙ bad)
-
-    by_body : (raw : (ℕ × List ℕ) × ℕ) (e : FrameFault) → IsRaw limit bytes raw.0.0 raw.0.1 raw.1 → of raw.0.0 raw.0.1 ≡ Err e
-        → (e ≡ BadBody) ⊎ ((e ≡ NotUtf8) × (f : F) × HasBody kind_of body_of Shaped raw.0.0 raw.0.1 f × (is_text f ≡ false)) → Stands e
-    by_body raw e t refused (inl bad) =
-        let P : FrameFault → Type 0 = λ f. Stands f in
-        let E : FrameFault → Type 0 = λ d. of raw.0.0 raw.0.1 ≡ Err d in
-        subst P (sym bad) (raw.0.0, t.most, raw.0.1, t.rest, t.allowed, t.within, t.text, none_has raw.0.0 raw.0.1 (subst E bad refused))
-    by_body raw e t refused (inr x) =
-        let P : FrameFault → Type 0 = λ f. Stands f in
-        subst P (sym x.0) (raw.0.0, t.most, raw.0.1, t.rest, t.allowed, t.within, t.text, (x.1, x.2, x.3))
-
-    by_raw : (e : FrameFault) (x : Result (Option ((ℕ × List ℕ) × ℕ)) FrameFault) → raw_at limit bytes ≡ x → (x >>= λ raw. whole_of of raw) ≡ Err e → Stands e
-    by_raw e (Err d) is read =
-        let P : FrameFault → Type 0 = λ f. Stands f in
-        let same : d ≡ e = cc in
-        subst P same (before d (raw_faults limit bytes d fits is))
-    by_raw e (Ok None) is read = absurd cc
-    by_raw e (Ok (Some raw)) is read =
-        let t = raw_takes limit bytes raw.0.0 raw.0.1 raw.1 fits is in
-        let refused = alone raw.1 e (of raw.0.0 raw.0.1) read in
-        by_body raw e t refused (bodies.cases.fails raw.0.0 t.most raw.0.1 e t.body_fits t.allowed refused)
-
-    by_kept : (x : Result (Option ((ℕ × List ℕ) × ℕ)) FrameFault) → raw_at limit bytes ≡ x → IsKept needs_memory (x >>= λ raw. whole_of of raw) → Stands Memory
-    by_kept (Ok (Some raw)) is kept =
-        let t = raw_takes limit bytes raw.0.0 raw.0.1 raw.1 fits is in
-        let f = kept_body needs_memory (of raw.0.0 raw.0.1) raw.1 kept in
-        let b = bodies.cases.takes raw.0.0 raw.0.1 f.0 t.body_fits f.1 in
-        (raw.0.0, t.most, raw.0.1, t.rest, t.allowed, t.within, t.text, (f.0, b.0, b.1, f.2))
-    by_kept (Ok None) is kept = absurd kept
-    by_kept (Err d) is kept = absurd kept
-
-    by_fault : (e : FrameFault) → Fails e (framed_at limit of bytes) → (failed F e ≡ Err Memory → IsKept needs_memory (framed_at limit of bytes)) → Stands e
-    by_fault BadLength given memory = by_raw BadLength (raw_at limit bytes) refl given
-    by_fault BadVersion given memory = by_raw BadVersion (raw_at limit bytes) refl given
-    by_fault UnknownType given memory = by_raw UnknownType (raw_at limit bytes) refl given
-    by_fault BadBody given memory = by_raw BadBody (raw_at limit bytes) refl given
-    by_fault NotUtf8 given memory = by_raw NotUtf8 (raw_at limit bytes) refl given
-    by_fault TooLong given memory = by_raw TooLong (raw_at limit bytes) refl given
-    by_fault Memory given memory = by_kept (raw_at limit bytes) refl (memory refl)
-
--- of two frames that begin the same bytes one is the other
-pub same_frame : {F : Type 0} {limit : ℕ → Option ℕ} {kind_of : F → ℕ} {body_of : F → List ℕ} {Shaped : F → Type 0} {is_text : F → Bool} {of : ℕ → List ℕ → Result F FrameFault} → AreBodies limit kind_of body_of Shaped is_text of
-    → (a b x y : List ℕ) (f g : F) → SpellsFrame kind_of body_of (Fits Shaped is_text) a f → SpellsFrame kind_of body_of (Fits Shaped is_text) b g → a ++ x ≡ b ++ y → (a ≡ b) × (f ≡ g) × (x ≡ y)
-same_frame {F} {limit} {kind_of} {body_of} {Shaped} {is_text} {of} bodies a b x y f g is_a is_b e =
-    let both : frame (kind_of f) (body_of f) ++ x ≡ frame (kind_of g) (body_of g) ++ y = ap (λ (l : List ℕ). l ++ x) (sym is_a.text) ∙ e ∙ ap (λ (l : List ℕ). l ++ y) is_b.text in
-    let same = frame_begins (kind_of f) (kind_of g) (body_of f) (body_of g) x y is_a.fits_length is_b.fits_length both in
-    let kinds : kind_of f ≡ kind_of g = same.0 in
-    let bodies_same : body_of f ≡ body_of g = same.1 in
-    let texts : a ≡ b = is_a.text ∙ ap (λ (k : ℕ). frame k (body_of f)) kinds ∙ ap (frame (kind_of g)) bodies_same ∙ sym is_b.text in
-    let read : Ok f ≡ done FrameFault g = sym (read_again bodies f is_a.in_range) ∙ ap (λ (k : ℕ). of k (body_of f)) kinds ∙ ap (of (kind_of g)) bodies_same ∙ read_again bodies g is_b.in_range in
-    (texts, ok_is FrameFault f g read, same.2)

@@ -1,5 +1,5 @@
 -- How long parts of bodies are.
-use Rattle.std.proofs.Common.{◌≡◌, ℕ, ◌+◌, ◌-◌, ◌<◌, ◌≤◌, List, [], ◌∷◌, ◌++◌, length, refl, arith}
+use Rattle.std.proofs.Common.{◌≡◌, ℕ, ◌+◌, List, [], ◌∷◌, ◌++◌, length, arith}
 use Rattle.std.specs.Int.{w16, w32, cast_unsigned}
 use Rattle.std.proofs.lemmas.List.{length-append}
 use Rattle.frames.specs.declared.row_description.ColumnDescription.{ColumnDescription}

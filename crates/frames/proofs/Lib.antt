@@ -1,7 +1,13 @@
 pub mod Lengths
 pub mod Cases
-pub mod Lists
-pub mod Frames
+pub mod Faults
+pub mod ListSteps
+pub mod Passing
+pub mod Listed
+pub mod ClosedLists
 pub mod Steps
+pub mod Frames
+pub mod Readers
+pub mod StartupBodies
 pub mod Startups
 pub mod Bodies

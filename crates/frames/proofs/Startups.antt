@@ -1,102 +1,24 @@
 -- The laws of startups: they are read as they are spelled, what is waited for, and where their faults stand.
-use Rattle.std.proofs.Common.{◌≡◌, ℕ, ◌+◌, ◌-◌, ◌^◌, ◌<◌, ◌≤◌, Bool, true, false, cond, eqb, ltb, List, [], ◌∷◌, ◌++◌, length, take, drop, Option, Some, None, Result, Ok, Err, refl, sym, ap, subst, ◌∙◌, append_assoc, arith, inl, inr}
-use Rattle.std.specs.Prelude.{◌⊎◌, ◌||◌, not, IfOk, IfErr, IfSome}
+use Rattle.std.proofs.Common.{◌≡◌, ℕ, ◌+◌, ◌-◌, ◌^◌, ◌<◌, ◌≤◌, Bool, true, false, cond, ltb, List, ◌++◌, length, take, drop, Option, Some, None, Result, Ok, Err, refl, sym, ap, subst, ◌∙◌, append_assoc, arith, inl, inr}
+use Rattle.std.specs.Prelude.{◌⊎◌, IfOk, IfErr, IfSome}
 use Rattle.std.specs.Option.{ok_or}
 use Rattle.std.specs.Int.{w32}
-use Rattle.std.specs.List.{AllByRecursion, list_all}
 use Rattle.std.proofs.lemmas.Bool.{ltb-true, ltb-false, le-ltb, lt-ltb, cases_lt}
 use Rattle.std.proofs.lemmas.List.{take_at, drop_at, take-append-drop, take-append-le, length-append, length-drop}
-use Rattle.pqformat.specs.Fields.{int32, string, has_zero, bytes_at, number_at}
-use Rattle.pqformat.specs.Steps.{◌>>=◌, closed_list}
-use Rattle.frames.specs.Body.{checked_text, always, nothing_at, starts}
-use Rattle.frames.specs.Frame.{Fits, HasBody, Fails, Gives, whole_of, IsKept}
-use Rattle.frames.specs.Plain.{backend_key, backend_key_at}
-use Rattle.frames.specs.Parameter.{parameter, parameter_at, is_empty, FitsParameter, is_parameter_text}
-use Rattle.frames.specs.Startup.{startup, startup_number, startup_body, IsShapedStartup, is_startup_text, startup_needs_memory, SpellsStartup, startup_limit, is_length, lengthy, numbered, numbered_at, headed_at, raw_startup, parameters_at, startup_at, framed_startup, IsStartupFault}
-use Rattle.frames.specs.declared.parameter.Parameter.{Parameter}
+use Rattle.pqformat.specs.Fields.{int32, bytes_at, number_at}
+use Rattle.pqformat.specs.Steps.{◌>>=◌}
+use Rattle.frames.specs.Frame.{HasBody, Gives, whole_of, IsKept}
+use Rattle.frames.specs.Startup.{startup, startup_number, startup_body, IsShapedStartup, is_startup_text, startup_needs_memory, SpellsStartup, startup_limit, is_length, lengthy, numbered, numbered_at, headed_at, raw_startup, startup_at, framed_startup, IsStartupFault}
 use Rattle.frames.specs.declared.startup.Startup.{Startup}
 use Rattle.frames.specs.declared.startup.Startup.TheVariants.{Session, Ssl, Gss, Cancel}
-use Rattle.frames.specs.declared.startup.TheConstants.{STARTUP_LIMIT, PROTOCOL_VERSION, SSL_REQUEST, GSS_REQUEST, CANCEL_REQUEST}
+use Rattle.frames.specs.declared.startup.TheConstants.{STARTUP_LIMIT}
 use Rattle.frames.specs.declared.fault.FrameFault.{FrameFault}
-use Rattle.frames.specs.declared.fault.FrameFault.TheVariants.{BadLength, BadVersion, UnknownType, BadBody, NotUtf8, TooLong, Memory}
-use Rattle.pqformat.proofs.Codec.{IsBytes, IsBytes-take, bind_ok, found_some, some_is, done, ok_is, Codec, field, last_field, codec_of}
-use Rattle.pqformat.proofs.Numbers.{number32, string_codec, nothing_codec, bytes_codec, length-int32}
-use Rattle.frames.proofs.Cases.{Body, Cases, body_of_codec, case, no_case, whole_again, made}
-use Rattle.frames.proofs.Lists.{Starting, until_body}
-use Rattle.frames.proofs.Steps.{kept_is_whole, kept_body}
-use Rattle.frames.proofs.Frames.{went_on, mapped, failed, number_there, bytes_there, still_waits}
-
--- ---- bodies
-
-pub parameter_codec : Codec parameter_at parameter (λ p. (has_zero p.name ≡ false) × (has_zero p.value ≡ false))
-unfolding parameter_at
-parameter_codec = codec_of (
-    field (string_codec tt) (λ (p : Parameter). p.name) _ _ _ _ (λ name.
-    last_field (string_codec tt) (λ (p : Parameter). p.value) _ (λ value. record { name = name; value = value })
-    (λ _. refl) (λ _ _. (refl, tt)) (λ p known. rw (← known.0) refl)))
-
-long_parameter : (p : Parameter) → 0 < length (parameter p)
-long_parameter p = omega (arith, length-append (string p.name) (string p.value), length-append p.name (0 ∷ []))
-
-starts_named : (name more : List ℕ) → starts ((name ++ 0 ∷ []) ++ more) ≡ true → is_empty name ≡ false
-starts_named [] more is = absurd cc
-starts_named (b ∷ name) more is = refl
-
-named_starts : (name more : List ℕ) → is_empty name ≡ false → has_zero name ≡ false → starts ((name ++ 0 ∷ []) ++ more) ≡ true
-named_starts [] more is none = absurd cc
-named_starts (b ∷ name) more is none = by_test (eqb b 0) none
-  where
-    by_test : (t : Bool) → (t || has_zero name) ≡ false → not t ≡ true
-    by_test true none = absurd cc
-    by_test false none = refl
-
-abbrev Named : Parameter → Type 0
-Named p = Starting (λ q. (has_zero q.name ≡ false) × (has_zero q.value ≡ false)) parameter p
-
-all_fit : (ps : List Parameter) → AllByRecursion Named ps → AllByRecursion FitsParameter ps
-all_fit [] all = tt
-all_fit (p ∷ ps) all = ((starts_named p.name (string p.value) all.0.1, all.0.0.0, all.0.0.1), all_fit ps all.1)
-
-all_named : (ps : List Parameter) → AllByRecursion FitsParameter ps → AllByRecursion Named ps
-all_named [] all = tt
-all_named (p ∷ ps) all = (((all.0.1, all.0.2), named_starts p.name (string p.value) all.0.0 all.0.1), all_named ps all.1)
-
-session_body : Body parameters_at (closed_list parameter) (AllByRecursion FitsParameter)
-session_body =
-    let b = until_body parameter_codec long_parameter in
-    record {
-      takes = λ bytes ps rest fits e. let t = b.takes bytes ps rest fits e in (t.0, all_fit ps t.1);
-      again = λ ps fits. b.again ps (all_named ps fits);
-    }
-
-pub key_codec : Codec backend_key_at backend_key (λ m. (m.0 < 2 ^ 32) × (m.1 < 2 ^ 32))
-unfolding backend_key_at
-key_codec = codec_of (
-    field (number32 tt) (λ (m : ℕ × ℕ). m.0) _ _ _ _ (λ process.
-    last_field (number32 tt) (λ (m : ℕ × ℕ). m.1) _ (λ key. (process, key))
-    (λ _. refl) (λ _ _. (refl, tt)) (λ m known. rw (← known.0) refl)))
-
-pub empty_body : Body nothing_at (λ _. []) (λ _. Unit {0})
-empty_body = body_of_codec nothing_codec
-
-startup_cases : Cases startup_number startup_body IsShapedStartup is_startup_text startup_limit startup_at
-startup_cases =
-    case PROTOCOL_VERSION STARTUP_LIMIT session_body (list_all is_parameter_text) (λ ps. Session ps) (λ _ fits. (refl, refl, fits)) (λ _. refl) (
-    case SSL_REQUEST 8 empty_body always (λ _. Ssl) (λ _ _. (refl, refl, tt)) (λ _. refl) (
-    case GSS_REQUEST 8 empty_body always (λ _. Gss) (λ _ _. (refl, refl, tt)) (λ _. refl) (
-    case CANCEL_REQUEST 16 (body_of_codec key_codec) always (λ m. Cancel m.0 m.1) (λ _ fits. (refl, refl, fits)) (λ _. refl) (
-    no_case startup_number startup_body IsShapedStartup is_startup_text BadVersion))))
-
-startup_again : (f : Startup) → IsShapedStartup f → startup_at (startup_number f) (startup_body f) ≡ checked_text is_startup_text f
-startup_again (Session ps) shaped = ap (λ (r : Result (List Parameter) FrameFault). r >>= λ x. done FrameFault (Session x)) (whole_again session_body (list_all is_parameter_text) ps shaped) ∙ made Session (list_all is_parameter_text ps) ps
-startup_again Ssl shaped = refl
-startup_again Gss shaped = refl
-startup_again (Cancel p k) shaped =
-    let m : ℕ × ℕ = (p, k) in
-    ap (λ (r : Result (ℕ × ℕ) FrameFault). r >>= λ x. done FrameFault (Cancel x.0 x.1)) (whole_again (body_of_codec key_codec) always m shaped)
-
-read_again : (f : Startup) → Fits IsShapedStartup is_startup_text f → startup_at (startup_number f) (startup_body f) ≡ Ok f
-read_again f fits = startup_again f fits.0 ∙ rw fits.1 refl
+use Rattle.frames.specs.declared.fault.FrameFault.TheVariants.{BadLength, BadVersion, BadBody, NotUtf8, TooLong, Memory}
+use Rattle.pqformat.proofs.Codec.{IsBytes, IsBytes-take, bind_ok, found_some, some_is, done, ok_is}
+use Rattle.pqformat.proofs.Numbers.{number32, bytes_codec, length-int32}
+use Rattle.frames.proofs.Frames.{went_on, mapped, number_there, bytes_there}
+use Rattle.frames.proofs.Steps.{FaultsStand, kept_is_whole, fault_stands, still_waits}
+use Rattle.frames.proofs.StartupBodies.{none_has, read_again, startup_cases}
 
 -- ---- a startup at the front
 
@@ -273,138 +195,6 @@ is_waiting bytes r given memory text more f spells parts less =
     (raw_waits (startup_number f) (startup_body f) bytes more (is_allowed f spells.short) (sym spells.text ∙ parts)
     (omega (arith, length-startup (startup_number f) (startup_body f), ap length spells.text)))
 
--- ---- where a fault stands
-
-abbrev StandsBefore : FrameFault → List ℕ → Type 0
-StandsBefore BadLength bytes = IsStartupFault BadLength bytes
-StandsBefore TooLong bytes = IsStartupFault TooLong bytes
-StandsBefore BadVersion bytes = IsStartupFault BadVersion bytes
-StandsBefore _ bytes = ⊥
-
-abbrev fine : Result (Unit {0}) FrameFault
-fine = Ok tt
-
-wrong_length : (b : Bool) (e : FrameFault) → cond b fine (Err BadLength) ≡ Err e → (b ≡ false) × (BadLength ≡ e)
-wrong_length true e is = absurd cc
-wrong_length false e is = (refl, cc)
-
-raw_faults : (bytes : List ℕ) (e : FrameFault) → IsBytes bytes → raw_startup bytes ≡ Err e → StandsBefore e bytes
-raw_faults bytes e fits is = by_length (number_at w32 bytes) refl is
-  where
-    by_limit : (m k : ℕ × List ℕ) → bytes ≡ int32 m.0 ++ m.1 → m.0 < 2 ^ 32 → m.1 ≡ int32 k.0 ++ k.1 → (o : Option ℕ) → startup_limit k.0 ≡ o
-        → (ok_or o BadVersion >>= λ most. cond (is_length k.0 most m.0) fine (Err BadLength)) ≡ Err e → StandsBefore e bytes
-    by_limit m k head narrow second None limit is =
-        let P : FrameFault → Type 0 = λ d. StandsBefore d bytes in
-        let same : BadVersion ≡ e = cc in
-        subst P same (m.0, m.1, narrow, head, (k.0, k.1, second, limit))
-    by_limit m k head narrow second (Some most) limit is =
-        let P : FrameFault → Type 0 = λ d. StandsBefore d bytes in
-        let wrong = wrong_length (is_length k.0 most m.0) e is in
-        subst P wrong.1 (m.0, m.1, narrow, head, inr (k.0, most, k.1, second, limit, wrong.0))
-
-    refused : (m k : ℕ × List ℕ) (r : Result (Unit {0}) FrameFault) → (r >>= λ _. done FrameFault (numbered k.0 m.0 (bytes_at (m.0 - 8) k.1))) ≡ Err e → r ≡ Err e
-    refused m k (Ok u) is = absurd cc
-    refused m k (Err d) is = cc
-
-    by_number : (m : ℕ × List ℕ) → bytes ≡ int32 m.0 ++ m.1 → IsBytes m.1 → m.0 < 2 ^ 32 → (o : Option (ℕ × List ℕ)) → number_at w32 m.1 ≡ o → numbered_at m.0 o ≡ Err e → StandsBefore e bytes
-    by_number m head head_fits narrow None came is = absurd cc
-    by_number m head head_fits narrow (Some k) came is =
-        let second = at_front m.1 k head_fits came in
-        by_limit m k head narrow second.0 (startup_limit k.0) refl (refused m k (lengthy k.0 m.0) is)
-
-    by_long : (m : ℕ × List ℕ) → bytes ≡ int32 m.0 ++ m.1 → IsBytes m.1 → m.0 < 2 ^ 32 → (b : Bool) → (b ≡ true → STARTUP_LIMIT < m.0)
-        → cond b (Err TooLong) (numbered_at m.0 (number_at w32 m.1)) ≡ Err e → StandsBefore e bytes
-    by_long m head head_fits narrow true over is =
-        let P : FrameFault → Type 0 = λ d. StandsBefore d bytes in
-        let same : TooLong ≡ e = cc in
-        subst P same (m.0, m.1, narrow, head, over refl)
-    by_long m head head_fits narrow false over is = by_number m head head_fits narrow (number_at w32 m.1) refl is
-
-    by_short : (m : ℕ × List ℕ) → bytes ≡ int32 m.0 ++ m.1 → IsBytes m.1 → m.0 < 2 ^ 32 → (b : Bool) → (b ≡ true → m.0 < 8)
-        → cond b (Err BadLength) (cond (ltb STARTUP_LIMIT m.0) (Err TooLong) (numbered_at m.0 (number_at w32 m.1))) ≡ Err e → StandsBefore e bytes
-    by_short m head head_fits narrow true under is =
-        let P : FrameFault → Type 0 = λ d. StandsBefore d bytes in
-        let same : BadLength ≡ e = cc in
-        subst P same (m.0, m.1, narrow, head, inl (under refl))
-    by_short m head head_fits narrow false under is = by_long m head head_fits narrow (ltb STARTUP_LIMIT m.0) (λ over. ltb-true _ _ over) is
-
-    by_length : (o : Option (ℕ × List ℕ)) → number_at w32 bytes ≡ o → headed_at o ≡ Err e → StandsBefore e bytes
-    by_length None came is = absurd cc
-    by_length (Some m) came is =
-        let head = at_front bytes m fits came in
-        by_short m head.0 head.1 head.2 (ltb m.0 8) (λ under. ltb-true _ _ under) is
-
-none_has : (number : ℕ) (body : List ℕ) → startup_at number body ≡ Err BadBody → (f : Startup) → HasBody startup_number startup_body IsShapedStartup number body f → ⊥
-none_has number body bad f has =
-    let P : ℕ → Type 0 = λ k. startup_at k body ≡ checked_text is_startup_text f in
-    let Q : List ℕ → Type 0 = λ b. startup_at (startup_number f) b ≡ checked_text is_startup_text f in
-    let read : startup_at number body ≡ checked_text is_startup_text f = subst P has.0 (subst Q has.1 (startup_again f has.2)) in
-    never_bad (is_startup_text f) (sym read ∙ bad)
-  where
-    never_bad : (b : Bool) → cond b (done FrameFault f) (Err NotUtf8) ≡ Err BadBody → ⊥
-    never_bad true is = absurd cc
-    never_bad false is = absurd cc
-
-pub is_fault : (bytes : List ℕ) (r : Result (Option (Startup × ℕ)) FrameFault) → IsBytes bytes → Gives r (framed_startup bytes) → (r ≡ Err Memory → IsKept startup_needs_memory (framed_startup bytes))
-    → IfErr r (λ e. IsStartupFault e bytes)
-is_fault bytes (Ok o) fits given memory = tt
-is_fault bytes (Err e) fits given memory = by_fault e given memory
-  where
-    before : (e : FrameFault) → StandsBefore e bytes → IsStartupFault e bytes
-    before BadLength is = is
-    before BadVersion is = is
-    before UnknownType is = absurd is
-    before BadBody is = absurd is
-    before NotUtf8 is = absurd is
-    before TooLong is = is
-    before Memory is = absurd is
-
-    sized : ℕ → Startup → Result (Option (Startup × ℕ)) FrameFault
-    sized n f = Ok (Some (f, n))
-
-    alone : (n : ℕ) (e : FrameFault) (r : Result Startup FrameFault) → (r >>= sized n) ≡ Err e → r ≡ Err e
-    alone n e (Ok x) is = absurd cc
-    alone n e (Err d) is = cc
-
-    by_body : (raw : (ℕ × List ℕ) × ℕ) (e : FrameFault) → IsRawStartup bytes raw.0.0 raw.0.1 raw.1 → startup_at raw.0.0 raw.0.1 ≡ Err e
-        → (e ≡ BadBody) ⊎ ((e ≡ NotUtf8) × (f : Startup) × HasBody startup_number startup_body IsShapedStartup raw.0.0 raw.0.1 f × (is_startup_text f ≡ false)) → IsStartupFault e bytes
-    by_body raw e t refused (inl bad) =
-        let P : FrameFault → Type 0 = λ d. IsStartupFault d bytes in
-        let E : FrameFault → Type 0 = λ d. startup_at raw.0.0 raw.0.1 ≡ Err d in
-        subst P (sym bad) (raw.0.0, t.most, raw.0.1, t.rest, t.allowed, t.within, t.text, none_has raw.0.0 raw.0.1 (subst E bad refused))
-    by_body raw e t refused (inr x) =
-        let P : FrameFault → Type 0 = λ d. IsStartupFault d bytes in
-        subst P (sym x.0) (raw.0.0, t.most, raw.0.1, t.rest, t.allowed, t.within, t.text, (x.1, x.2, x.3))
-
-    by_raw : (e : FrameFault) (x : Result (Option ((ℕ × List ℕ) × ℕ)) FrameFault) → raw_startup bytes ≡ x → (x >>= λ raw. whole_of startup_at raw) ≡ Err e → IsStartupFault e bytes
-    by_raw e (Err d) is read =
-        let P : FrameFault → Type 0 = λ f. IsStartupFault f bytes in
-        let same : d ≡ e = cc in
-        subst P same (before d (raw_faults bytes d fits is))
-    by_raw e (Ok None) is read = absurd cc
-    by_raw e (Ok (Some raw)) is read =
-        let t = raw_takes bytes raw.0.0 raw.0.1 raw.1 fits is in
-        let refused = alone raw.1 e (startup_at raw.0.0 raw.0.1) read in
-        by_body raw e t refused (startup_cases.fails raw.0.0 t.most raw.0.1 e t.body_fits t.allowed refused)
-
-    by_kept : (x : Result (Option ((ℕ × List ℕ) × ℕ)) FrameFault) → raw_startup bytes ≡ x → IsKept startup_needs_memory (x >>= λ raw. whole_of startup_at raw) → IsStartupFault Memory bytes
-    by_kept (Ok (Some raw)) is kept =
-        let t = raw_takes bytes raw.0.0 raw.0.1 raw.1 fits is in
-        let f = kept_body startup_needs_memory (startup_at raw.0.0 raw.0.1) raw.1 kept in
-        let b = startup_cases.takes raw.0.0 raw.0.1 f.0 t.body_fits f.1 in
-        (raw.0.0, t.most, raw.0.1, t.rest, t.allowed, t.within, t.text, (f.0, b.0, b.1, f.2))
-    by_kept (Ok None) is kept = absurd kept
-    by_kept (Err d) is kept = absurd kept
-
-    by_fault : (e : FrameFault) → Fails e (framed_startup bytes) → (failed Startup e ≡ Err Memory → IsKept startup_needs_memory (framed_startup bytes)) → IsStartupFault e bytes
-    by_fault BadLength given memory = by_raw BadLength (raw_startup bytes) refl given
-    by_fault BadVersion given memory = by_raw BadVersion (raw_startup bytes) refl given
-    by_fault UnknownType given memory = by_raw UnknownType (raw_startup bytes) refl given
-    by_fault BadBody given memory = by_raw BadBody (raw_startup bytes) refl given
-    by_fault NotUtf8 given memory = by_raw NotUtf8 (raw_startup bytes) refl given
-    by_fault TooLong given memory = by_raw TooLong (raw_startup bytes) refl given
-    by_fault Memory given memory = by_kept (raw_startup bytes) refl (memory refl)
-
 -- of two startups that begin the same bytes one is the other
 pub same_startup : (a b x y : List ℕ) (f g : Startup) → SpellsStartup a f → SpellsStartup b g → a ++ x ≡ b ++ y → (a ≡ b) × (f ≡ g) × (x ≡ y)
 same_startup a b x y f g is_a is_b e =
@@ -416,3 +206,85 @@ same_startup a b x y f g is_a is_b e =
     let front : a ≡ b = sym (take_at a x (length a) refl) ∙ ap (take (length a)) e ∙ take_at b y (length a) (sym len) in
     let back : x ≡ y = sym (drop_at a x (length a) refl) ∙ ap (drop (length a)) e ∙ drop_at b y (length a) (sym len) in
     (front, ap (λ (p : Startup × ℕ). p.0) same, back)
+
+-- ---- where a fault stands
+
+abbrev fine : Result (Unit {0}) FrameFault
+fine = Ok tt
+
+wrong_length : (b : Bool) (e : FrameFault) → cond b fine (Err BadLength) ≡ Err e → (b ≡ false) × (BadLength ≡ e)
+wrong_length true e is = absurd cc
+wrong_length false e is = (refl, cc)
+
+raw_faults : (bytes : List ℕ) (e : FrameFault) → IsBytes bytes → raw_startup bytes ≡ Err e → IsStartupFault e bytes
+raw_faults bytes e fits is = by_length (number_at w32 bytes) refl is
+  where
+    by_limit : (m k : ℕ × List ℕ) → bytes ≡ int32 m.0 ++ m.1 → m.0 < 2 ^ 32 → m.1 ≡ int32 k.0 ++ k.1 → (o : Option ℕ) → startup_limit k.0 ≡ o
+        → (ok_or o BadVersion >>= λ most. cond (is_length k.0 most m.0) fine (Err BadLength)) ≡ Err e → IsStartupFault e bytes
+    by_limit m k head narrow second None limit is =
+        let P : FrameFault → Type 0 = λ d. IsStartupFault d bytes in
+        let same : BadVersion ≡ e = cc in
+        subst P same (m.0, m.1, narrow, head, (k.0, k.1, second, limit))
+    by_limit m k head narrow second (Some most) limit is =
+        let P : FrameFault → Type 0 = λ d. IsStartupFault d bytes in
+        let wrong = wrong_length (is_length k.0 most m.0) e is in
+        subst P wrong.1 (m.0, m.1, narrow, head, inr (k.0, most, k.1, second, limit, wrong.0))
+
+    refused : (m k : ℕ × List ℕ) (r : Result (Unit {0}) FrameFault) → (r >>= λ _. done FrameFault (numbered k.0 m.0 (bytes_at (m.0 - 8) k.1))) ≡ Err e → r ≡ Err e
+    refused m k (Ok u) is = absurd cc
+    refused m k (Err d) is = cc
+
+    by_number : (m : ℕ × List ℕ) → bytes ≡ int32 m.0 ++ m.1 → IsBytes m.1 → m.0 < 2 ^ 32 → (o : Option (ℕ × List ℕ)) → number_at w32 m.1 ≡ o → numbered_at m.0 o ≡ Err e → IsStartupFault e bytes
+    by_number m head head_fits narrow None came is = absurd cc
+    by_number m head head_fits narrow (Some k) came is =
+        let second = at_front m.1 k head_fits came in
+        by_limit m k head narrow second.0 (startup_limit k.0) refl (refused m k (lengthy k.0 m.0) is)
+
+    by_long : (m : ℕ × List ℕ) → bytes ≡ int32 m.0 ++ m.1 → IsBytes m.1 → m.0 < 2 ^ 32 → (b : Bool) → (b ≡ true → STARTUP_LIMIT < m.0)
+        → cond b (Err TooLong) (numbered_at m.0 (number_at w32 m.1)) ≡ Err e → IsStartupFault e bytes
+    by_long m head head_fits narrow true over is =
+        let P : FrameFault → Type 0 = λ d. IsStartupFault d bytes in
+        let same : TooLong ≡ e = cc in
+        subst P same (m.0, m.1, narrow, head, over refl)
+    by_long m head head_fits narrow false over is = by_number m head head_fits narrow (number_at w32 m.1) refl is
+
+    by_short : (m : ℕ × List ℕ) → bytes ≡ int32 m.0 ++ m.1 → IsBytes m.1 → m.0 < 2 ^ 32 → (b : Bool) → (b ≡ true → m.0 < 8)
+        → cond b (Err BadLength) (cond (ltb STARTUP_LIMIT m.0) (Err TooLong) (numbered_at m.0 (number_at w32 m.1))) ≡ Err e → IsStartupFault e bytes
+    by_short m head head_fits narrow true under is =
+        let P : FrameFault → Type 0 = λ d. IsStartupFault d bytes in
+        let same : BadLength ≡ e = cc in
+        subst P same (m.0, m.1, narrow, head, inl (under refl))
+    by_short m head head_fits narrow false under is = by_long m head head_fits narrow (ltb STARTUP_LIMIT m.0) (λ over. ltb-true _ _ over) is
+
+    by_length : (o : Option (ℕ × List ℕ)) → number_at w32 bytes ≡ o → headed_at o ≡ Err e → IsStartupFault e bytes
+    by_length None came is = absurd cc
+    by_length (Some m) came is =
+        let head = at_front bytes m fits came in
+        by_short m head.0 head.1 head.2 (ltb m.0 8) (λ under. ltb-true _ _ under) is
+
+pub is_fault : (bytes : List ℕ) (r : Result (Option (Startup × ℕ)) FrameFault) → IsBytes bytes → Gives r (framed_startup bytes) → (r ≡ Err Memory → IsKept startup_needs_memory (framed_startup bytes))
+    → IfErr r (λ e. IsStartupFault e bytes)
+is_fault bytes (Ok o) fits given memory = tt
+is_fault bytes (Err e) fits given memory = fault_stands all e given memory
+  where
+    by_body : (raw : (ℕ × List ℕ) × ℕ) (e : FrameFault) → IsRawStartup bytes raw.0.0 raw.0.1 raw.1 → startup_at raw.0.0 raw.0.1 ≡ Err e
+        → (e ≡ BadBody) ⊎ ((e ≡ NotUtf8) × (f : Startup) × HasBody startup_number startup_body IsShapedStartup raw.0.0 raw.0.1 f × (is_startup_text f ≡ false)) → IsStartupFault e bytes
+    by_body raw e t refused (inl bad) =
+        let P : FrameFault → Type 0 = λ d. IsStartupFault d bytes in
+        let E : FrameFault → Type 0 = λ d. startup_at raw.0.0 raw.0.1 ≡ Err d in
+        subst P (sym bad) (raw.0.0, t.most, raw.0.1, t.rest, t.allowed, t.within, t.text, none_has raw.0.0 raw.0.1 (subst E bad refused))
+    by_body raw e t refused (inr x) =
+        let P : FrameFault → Type 0 = λ d. IsStartupFault d bytes in
+        subst P (sym x.0) (raw.0.0, t.most, raw.0.1, t.rest, t.allowed, t.within, t.text, (x.1, x.2, x.3))
+
+    all : FaultsStand (λ e. IsStartupFault e bytes) startup_at startup_needs_memory (raw_startup bytes)
+    all = record {
+      unread = λ e is. raw_faults bytes e fits is;
+      refused = λ raw e is refused.
+          let t = raw_takes bytes raw.0.0 raw.0.1 raw.1 fits is in
+          by_body raw e t refused (startup_cases.fails raw.0.0 t.most raw.0.1 e t.body_fits t.allowed refused);
+      kept = λ raw f is read needs.
+          let t = raw_takes bytes raw.0.0 raw.0.1 raw.1 fits is in
+          let b = startup_cases.takes raw.0.0 raw.0.1 f t.body_fits read in
+          (raw.0.0, t.most, raw.0.1, t.rest, t.allowed, t.within, t.text, (f, b.0, b.1, needs));
+    }

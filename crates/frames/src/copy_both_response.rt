@@ -64,7 +64,7 @@ impl Put for u16 {
     }
 }
 
-#[tactic(auto, using(crate::proofs::Lists::untested))]
+#[tactic(auto, using(crate::proofs::Listed::untested))]
 fn formats_of(alloc: Global, cursor: &mut Cursor<'_>) -> Result<Items<u16>, FrameFault>
     ensures exact { Gives result (whole always (counted_at format_at cursor.old)) }
     ensures memory { result ≡ Err FrameFault.Memory →

@@ -79,7 +79,7 @@ impl Field for DataValue {
     }
 }
 
-#[tactic(auto, using(crate::proofs::Lists::untested))]
+#[tactic(auto, using(crate::proofs::Listed::untested))]
 pub(crate) fn data_row_of(alloc: Global, body: &[u8]) -> Result<Items<DataValue>, FrameFault>
     ensures exact { Gives result (whole always (counted_at value_at body.now)) }
     ensures memory { result ≡ Err FrameFault.Memory →

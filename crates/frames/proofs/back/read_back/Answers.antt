@@ -1,5 +1,5 @@
 use Rattle.std.proofs.Common.{arith}
-use Rattle.frames.proofs.Frames.{is_found, is_only, is_waiting, is_fault}
+use Rattle.frames.proofs.Readers.{is_found, is_only, is_waiting, is_fault}
 use Rattle.frames.specs.Back.{back_needs_memory}
 use Rattle.frames.proofs.Bodies.{back_bodies}
 use Rattle.frames.proofs.back.read_back.Goals as goal

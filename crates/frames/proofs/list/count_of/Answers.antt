@@ -2,7 +2,7 @@ use Rattle.std.proofs.Common.{length}
 use Rattle.std.proofs.lemmas.Result.{err_from_is_err_and}
 use Rattle.pqformat.specs.Steps.{until_at}
 use Rattle.frames.specs.Body.{passed_part}
-use Rattle.frames.proofs.Lists.{stops, goes_on, fails, runs_out}
+use Rattle.frames.proofs.Passing.{stops, goes_on, fails, runs_out}
 use Rattle.frames.proofs.list.count_of.Goals as goal
 
 pub returns-in_err-pass_next : goal.returns-in_err-pass_next

@@ -1,6 +1,6 @@
 use Rattle.std.proofs.Common.{sym}
 use Rattle.std.specs.List.{list_all}
-use Rattle.frames.proofs.Lists.{are_counted, are_items}
+use Rattle.frames.proofs.Listed.{are_counted, are_items}
 use Rattle.frames.proofs.list.ending_of.Goals as goal
 
 pub returns-clause-exact : goal.returns-clause-exact

@@ -2,7 +2,7 @@ use Rattle.std.proofs.lemmas.Result.{err_from_is_err_and}
 use Rattle.pqformat.specs.Steps.{repeat_at}
 use Rattle.frames.specs.Body.{checked_at}
 use Rattle.pqformat.proofs.Loop.{goes_on, is_done}
-use Rattle.frames.proofs.Lists.{ends}
+use Rattle.frames.proofs.Listed.{ends}
 use Rattle.frames.proofs.list.items_of.Goals as goal
 
 pub returns-in_err-item : goal.returns-in_err-item

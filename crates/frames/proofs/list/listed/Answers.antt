@@ -1,6 +1,6 @@
 use Rattle.std.proofs.Common.{length, refl, sym}
 use Rattle.std.specs.List.{list_all}
-use Rattle.frames.proofs.Lists.{are_listed, passes, judges, are_items}
+use Rattle.frames.proofs.Listed.{are_listed, passes, judges, are_items}
 use Rattle.frames.proofs.list.listed.Goals as goal
 
 pub returns-in_err-are_texts-clause-exact : goal.returns-in_err-are_texts-clause-exact

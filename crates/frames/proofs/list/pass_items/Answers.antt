@@ -2,7 +2,7 @@ use Rattle.std.specs.List.{list_all}
 use Rattle.std.proofs.lemmas.Result.{err_from_is_err_and}
 use Rattle.pqformat.specs.Steps.{repeat_at}
 use Rattle.frames.specs.Body.{passed_part}
-use Rattle.frames.proofs.Lists.{passes_on, passing_fails, all_passed}
+use Rattle.frames.proofs.Passing.{passes_on, passing_fails, all_passed}
 use Rattle.frames.proofs.list.pass_items.Goals as goal
 
 pub returns-in_err-are_texts : goal.returns-in_err-are_texts

@@ -2,7 +2,7 @@ use Rattle.std.proofs.Common.{◌≡◌, ◌-◌}
 use Rattle.std.specs.List.{list_all}
 use Rattle.pqformat.specs.Steps.{repeat_at}
 use Rattle.frames.specs.Body.{passed_part}
-use Rattle.frames.proofs.Lists.{judged_on}
+use Rattle.frames.proofs.Passing.{judged_on}
 use Rattle.frames.proofs.list.pass_items.Given as goal
 
 abbrev pub invariant-loop : goal.invariant-loop
