@@ -5,7 +5,7 @@ use Rattle.std.specs.Int.{w64, cast_unsigned}
 use Rattle.std.proofs.lemmas.Bool.{eqb-true}
 use Rattle.pqformat.specs.Fields.{int64}
 use Rattle.pqformat.specs.Steps.{◌>>=◌, signed_at}
-use Rattle.pqformat.proofs.Codec.{Codec, Takes, IsBytes, IsBytes-rest, bind_ok, ok_is}
+use Rattle.pqformat.proofs.Codec.{IsBytes, IsBytes-rest, bind_ok, ok_is}
 use Rattle.pqformat.proofs.Numbers.{number64, signed64}
 use Rattle.copyboth.specs.declared.keepalive.Keepalive.{Keepalive}
 use Rattle.copyboth.specs.declared.keepalive.TheConstants.{KEEPALIVE, ASKS}
@@ -15,10 +15,10 @@ use Rattle.copyboth.specs.declared.status.Status.{Status}
 use Rattle.copyboth.specs.declared.server_body.ServerBody.{ServerBody}
 use Rattle.copyboth.specs.declared.server_body.ServerBody.TheVariants as bodies
 use Rattle.copyboth.specs.declared.fault.CopyFault.{CopyFault}
-use Rattle.copyboth.specs.declared.fault.CopyFault.TheVariants.{Short, UnknownKind, Trailing}
-use Rattle.copyboth.specs.XLogData.{XLogDataBody, xlogdata}
+use Rattle.copyboth.specs.declared.fault.CopyFault.TheVariants.{Short, UnknownKind}
+use Rattle.copyboth.specs.XLogData.{XLogDataBody}
 use Rattle.copyboth.specs.Server.{SpellsServer, SpellsXLogData, SpellsKeepalive}
-use Rattle.copyboth.specs.Status.{SpellsStatus, status_with}
+use Rattle.copyboth.specs.Status.{SpellsStatus}
 use Rattle.copyboth.specs.Reading.{int64_at, ask_at, nothing_left, xlogdata_at, keepalive_at, status_at, server_at, client_at}
 
 -- ---- XLogData

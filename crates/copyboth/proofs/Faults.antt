@@ -1,21 +1,16 @@
 -- Where the faults of a body stand: reading field by field fails just where too few bytes are there, or too many.
-use Rattle.std.proofs.Common.{◌≡◌, ℕ, ℤ, ◌+◌, ◌-◌, ◌<◌, Bool, true, false, cond, ltb, eqb, List, [], ◌∷◌, length, take, drop, Option, Some, None, Result, Ok, Err, refl, sym, subst, arith}
-use Rattle.std.specs.Prelude.{nat_lt}
+use Rattle.std.proofs.Common.{◌≡◌, ℕ, ℤ, ◌+◌, Bool, true, false, cond, ltb, eqb, List, [], ◌∷◌, length, take, drop, Option, Some, None, Result, Ok, Err, refl, sym, subst, arith}
 use Rattle.std.specs.Option.{ok_or}
 use Rattle.std.specs.Int.{w64, from_be_bytes, cast_signed}
 use Rattle.std.proofs.lemmas.Bool.{ltb-true, ltb-false, lt-ltb, le-ltb}
 use Rattle.std.proofs.lemmas.List.{length-drop}
 use Rattle.pqformat.specs.Steps.{◌>>=◌, signed_at}
-use Rattle.copyboth.specs.declared.keepalive.Keepalive.{Keepalive}
 use Rattle.copyboth.specs.declared.keepalive.TheConstants.{KEEPALIVE}
 use Rattle.copyboth.specs.declared.xlogdata.TheConstants.{XLOGDATA}
 use Rattle.copyboth.specs.declared.status.TheConstants.{STATUS}
-use Rattle.copyboth.specs.declared.status.Status.{Status}
-use Rattle.copyboth.specs.declared.server_body.ServerBody.{ServerBody}
 use Rattle.copyboth.specs.declared.server_body.ServerBody.TheVariants as bodies
 use Rattle.copyboth.specs.declared.fault.CopyFault.{CopyFault}
-use Rattle.copyboth.specs.declared.fault.CopyFault.TheVariants.{Short, UnknownKind, Trailing}
-use Rattle.copyboth.specs.XLogData.{XLogDataBody}
+use Rattle.copyboth.specs.declared.fault.CopyFault.TheVariants.{Short, UnknownKind}
 use Rattle.copyboth.specs.Server.{at_least, exactly, server_fault}
 use Rattle.copyboth.specs.Status.{client_fault}
 use Rattle.copyboth.specs.Reading.{FaultIs, int64_at, ask_at, nothing_left, xlogdata_at, keepalive_at, status_at, server_at, client_at}

@@ -33,7 +33,12 @@ impl<'a> Model for XLogData<'a> {
 
     ghost Value = { XLogDataBody };
 
-    ghost view = { λ m. record { start = m.start; end = m.end; clock = m.clock; payload = m.payload.now } };
+    ghost view = { λ m. record {
+      start = m.start;
+      end = m.end;
+      clock = m.clock;
+      payload = m.payload.now;
+    } };
 }
 
 /// Adds the body of an XLogData (PostgreSQL 15, 55.4) at the end of `out`; refused, adds nothing.
@@ -54,25 +59,25 @@ pub fn write_xlogdata(
         (out.new.items ≡ out.old.items ++ xlogdata start end clock payload.now) }
     ensures err { OnErr result (out.new.items ≡ out.old.items) }
 {
-    let data = XLogData {
+    let piece = XLogData {
         start,
         end,
         clock,
         payload,
     };
     let length = out.len();
-    whole_or_nothing(put_xlogdata(&data, out), length, out)
+    whole_or_nothing(put_xlogdata(&piece, out), length, out)
 }
 
-fn put_xlogdata(data: &XLogData<'_>, out: &mut BytesMut) -> Result<(), AllocError>
+fn put_xlogdata(piece: &XLogData<'_>, out: &mut BytesMut) -> Result<(), AllocError>
     ensures { Puts result out.old.items out.new.items
-        (xlogdata data.now.start data.now.end data.now.clock data.now.payload) }
+        (xlogdata piece.now.start piece.now.end piece.now.clock piece.now.payload) }
 {
     put_byte(out, XLOGDATA)?;
-    put_int64(out, data.start)?;
-    put_int64(out, data.end)?;
-    put_int64(out, data.clock.cast_unsigned())?;
-    put_bytes(out, data.payload)
+    put_int64(out, piece.start)?;
+    put_int64(out, piece.end)?;
+    put_int64(out, piece.clock.cast_unsigned())?;
+    put_bytes(out, piece.payload)
 }
 
 /// What stands behind the kind byte.

@@ -1,5 +1,5 @@
 use Rattle.std.proofs.Common.{sym, subst, ◌∙◌, arith}
-use Rattle.std.specs.Prelude.{List, ℕ, Result}
+use Rattle.std.specs.Prelude.{Result}
 use Rattle.copyboth.specs.declared.server_body.ServerBody.{ServerBody}
 use Rattle.copyboth.specs.declared.fault.CopyFault.{CopyFault}
 use Rattle.copyboth.specs.Reading.{FaultIs}
