@@ -12,7 +12,7 @@ use Rattle.pgoutput.specs.declared.relation.Relation.{Relation}
 use Rattle.stream.specs.declared.word.Word.{Word}
 use Rattle.stream.specs.Words.{word_bytes, frames_of, FitsWord}
 use Rattle.stream.specs.Items.{Item, item_words, words_of, bytes_of_items, FitItems}
-use Rattle.stream.proofs.OneReading.{words_fit}
+use Rattle.stream.proofs.Ranges.{words_fit}
 use Rattle.client.specs.declared.fault.ClientFault.{ClientFault}
 use Rattle.client.specs.declared.fault.ClientFault.TheVariants as faults
 use Rattle.client.specs.Words.{Waits, IsNoWord, IsError, Holds}
