@@ -2,6 +2,7 @@ pub mod Columns
 pub mod Pieces
 pub mod Lexemes
 pub mod Phrases
+pub mod Rereading
 pub mod Growing
 pub mod Stacking
 pub mod Numbers

@@ -1,19 +1,16 @@
--- The reading of words with a stack gives a phrase exactly where the words are written so and its parts bind so.
-use Rattle.std.proofs.Common.{◌≡◌, ℕ, suc, nat_lt, ◌≤◌, ◌<◌, Bool, true, false, cond, List, [], ◌∷◌, ◌++◌, map, Option, Some, None, refl, sym, ap, subst, ◌∙◌, arith, lit≤, append_assoc}
-use Rattle.std.proofs.lemmas.Bool.{ltb-true, ltb-false, lt-ltb, le-ltb}
+-- A phrase that the reading of words with a stack gives is written with these words, and its parts bind so.
+use Rattle.std.proofs.Common.{◌≡◌, ℕ, nat_lt, ◌≤◌, ◌<◌, Bool, true, false, cond, List, [], ◌∷◌, ◌++◌, map, Option, Some, None, refl, sym, ap, subst, ◌∙◌, arith, lit≤, append_assoc}
+use Rattle.std.proofs.lemmas.Bool.{ltb-true, ltb-false}
 use Rattle.std.proofs.lemmas.List.{append-nil}
-use Rattle.std.specs.Prelude.{MatchOption, unwrap_or, option_and_then, if◌then◌else◌}
+use Rattle.std.specs.Prelude.{MatchOption, unwrap_or, option_and_then}
 use Rattle.conditions.specs.declared.joint.Joint.{Joint}
 use Rattle.conditions.specs.declared.joint.Joint.TheVariants as joints
-use Rattle.conditions.specs.declared.question.Question.{Question}
-use Rattle.conditions.specs.declared.question.Question.TheVariants as questions
 use Rattle.conditions.specs.Words.{Saying, SayAnd, SayOr, SayNot, SayIs, SayNull, SayBool, SayUnknown, SayName, SayNumber, SayText, SayComparison, SayOpen, SayClose}
-use Rattle.conditions.specs.Grammar.{Phrase, InName, InUnknown, InNumber, InText, InBool, InNull, InParentheses, InCompare, InIs, InNot, InAnd, InOr, saying_of_question, is_or_is_not, sayings_of, tightness, IsBound}
+use Rattle.conditions.specs.Grammar.{Phrase, InParentheses, InIs, saying_of_question, is_or_is_not, sayings_of, tightness, IsBound}
 use Rattle.conditions.specs.Stacks.{binds, left_of, Word, Joins, Denies, Asks, Opens, Closes, Operand, Stray, Pending, Enclosing, Denying, Joining, wants, completed, State, Wanting, Having, Asking, wanted_by, folded, joins, asks, closes_over, ends_over, step, outcome, run, word_of}
 use Rattle.conditions.specs.Parts.{phrases, leaf_of}
-use Rattle.conditions.proofs.Pieces.{if_true, if_false}
 
-abbrev Items : Type 0
+abbrev pub Items : Type 0
 Items = List (Pending Phrase)
 
 abbrev said_joint : Joint → Saying
@@ -47,7 +44,7 @@ IsFit (Wanting stack) = AreFit stack
 IsFit (Having stack a) = (wanted_by stack ≤ tightness a) × IsBound a × AreFit stack
 IsFit (Asking stack a negated) = (wanted_by stack ≤ 3) × (4 ≤ tightness a) × (IsBound a × AreFit stack)
 
-at_least_zero : (n : ℕ) → 0 ≤ n
+pub at_least_zero : (n : ℕ) → 0 ≤ n
 at_least_zero n = omega arith
 
 wanted_most : (stack : Items) → wanted_by stack ≤ 5
@@ -237,184 +234,3 @@ run_sound state fit (saying ∷ sayings) phrase e = by_step (step phrases state 
 
 pub sound : (sayings : List Saying) (phrase : Phrase) → run phrases (Wanting []) (map (word_of leaf_of) sayings) ≡ Some phrase → IsReading sayings phrase
 sound sayings phrase e = run_sound (Wanting []) tt sayings phrase e
-
--- ---- a phrase is read again
-
-abbrev Sayings : Type 0
-Sayings = List Saying
-
--- how the words are read
-abbrev reads : State Phrase → Sayings → Option Phrase
-reads state sayings = run phrases state (map (word_of leaf_of) sayings)
-
--- how tight a tree the first word takes on its left: what waits for a tighter one is completed first
-abbrev uses : Sayings → ℕ
-uses (SayAnd ∷ rest) = 1
-uses (SayIs ∷ rest) = 3
-uses (SayComparison how ∷ rest) = 4
-uses rest = 0
-
--- how tight a joint behind the phrase must be looser than, so that it takes the whole phrase
-abbrev opening : Phrase → ℕ
-opening (InOr a b) = 1
-opening (InAnd a b) = 2
-opening (InNot a) = 2
-opening a = 5
-
-opens_tighter : (k : ℕ) (a : Phrase) → k ≤ tightness a → k ≤ 1 → suc k ≤ opening a
-opens_tighter k (InOr a b) tight small = omega (arith, tight)
-opens_tighter k (InAnd a b) tight small = omega (arith, small)
-opens_tighter k (InNot a) tight small = omega (arith, small)
-opens_tighter k (InIs question negated a) tight small = omega (arith, small)
-opens_tighter k (InCompare how a b) tight small = omega (arith, small)
-opens_tighter k (InName name) tight small = omega (arith, small)
-opens_tighter k InUnknown tight small = omega (arith, small)
-opens_tighter k (InNumber n) tight small = omega (arith, small)
-opens_tighter k (InText text) tight small = omega (arith, small)
-opens_tighter k (InBool b) tight small = omega (arith, small)
-opens_tighter k InNull tight small = omega (arith, small)
-opens_tighter k (InParentheses a) tight small = omega (arith, small)
-
-opens_as : (k : ℕ) (a : Phrase) → k ≤ tightness a → k ≤ 2 → k ≤ opening a
-opens_as k (InOr a b) tight small = omega (arith, tight)
-opens_as k (InAnd a b) tight small = omega (arith, tight)
-opens_as k (InNot a) tight small = omega (arith, tight, small)
-opens_as k (InIs question negated a) tight small = omega (arith, small)
-opens_as k (InCompare how a b) tight small = omega (arith, small)
-opens_as k (InName name) tight small = omega (arith, small)
-opens_as k InUnknown tight small = omega (arith, small)
-opens_as k (InNumber n) tight small = omega (arith, small)
-opens_as k (InText text) tight small = omega (arith, small)
-opens_as k (InBool b) tight small = omega (arith, small)
-opens_as k InNull tight small = omega (arith, small)
-opens_as k (InParentheses a) tight small = omega (arith, small)
-
-abbrev Reads : Phrase → Type 0
-Reads a = (stack : Items) (rest : Sayings) → wanted_by stack ≤ tightness a → uses rest < opening a → reads (Wanting stack) (sayings_of a ++ rest) ≡ reads (Having stack a) rest
-
-pair_of : Items → Phrase → Items × Phrase
-pair_of stack a = (stack, a)
-
-folded_on : (m : ℕ) (item : Pending Phrase) (stack : Items) (a : Phrase) → m < wants item → folded phrases m (item ∷ stack) a ≡ folded phrases m stack (completed phrases item a)
-folded_on m item stack a less = if_true (nat_lt m (wants item)) (folded phrases m stack (completed phrases item a)) (item ∷ stack, a) (lt-ltb m (wants item) less)
-
-folded_stops : (m : ℕ) (stack : Items) (a : Phrase) → wanted_by stack ≤ m → folded phrases m stack a ≡ (stack, a)
-folded_stops m [] a most = refl
-folded_stops m (item ∷ stack) a most = if_false (nat_lt m (wants item)) (folded phrases m stack (completed phrases item a)) (item ∷ stack, a) (le-ltb m (wants item) most)
-
--- a tree completes what waits on top, if that is tighter than the use of it
-completes_first : (item : Pending Phrase) (stack : Items) (a : Phrase) (rest : Sayings) → uses rest < wants item → reads (Having (item ∷ stack) a) rest ≡ reads (Having stack (completed phrases item a)) rest
-completes_first item stack a [] less = ap (λ (x : Items × Phrase). ends_over x.0 x.1) (folded_on 0 item stack a less)
-completes_first item stack a (SayAnd ∷ rest) less = ap (λ (x : Items × Phrase). option_and_then (λ to. reads to rest) (joins phrases joints.And x)) (folded_on 1 item stack a less)
-completes_first item stack a (SayOr ∷ rest) less = ap (λ (x : Items × Phrase). option_and_then (λ to. reads to rest) (joins phrases joints.Or x)) (folded_on 0 item stack a less)
-completes_first item stack a (SayIs ∷ rest) less = ap (λ (x : Items × Phrase). option_and_then (λ to. reads to rest) (asks phrases x)) (folded_on 3 item stack a less)
-completes_first item stack a (SayComparison how ∷ rest) less = ap (λ (x : Items × Phrase). option_and_then (λ to. reads to rest) (joins phrases (joints.Comparison how) x)) (folded_on 4 item stack a less)
-completes_first item stack a (SayClose ∷ rest) less = ap (λ (x : Items × Phrase). option_and_then (λ to. reads to rest) (closes_over phrases x.0 x.1)) (folded_on 0 item stack a less)
-completes_first item stack a (saying ∷ rest) less = refl
-
--- a joint takes the tree that stands there
-joins_on : (joint : Joint) (stack : Items) (a : Phrase) (rest : Sayings) → wanted_by stack ≤ binds joint → left_of joint ≤ tightness a
-    → option_and_then (λ to. reads to rest) (joins phrases joint (folded phrases (binds joint) stack a)) ≡ reads (Wanting (Joining joint a ∷ stack)) rest
-joins_on joint stack a rest most tight =
-    ap (λ (x : Items × Phrase). option_and_then (λ to. reads to rest) (joins phrases joint x)) (folded_stops (binds joint) stack a most)
-    ∙ ap (option_and_then (λ to. reads to rest)) (if_false (nat_lt (tightness a) (left_of joint)) None (Some (Wanting (Joining joint a ∷ stack))) (le-ltb (tightness a) (left_of joint) tight))
-
-asks_on : (stack : Items) (a : Phrase) (rest : Sayings) → wanted_by stack ≤ 3 → 4 ≤ tightness a
-    → option_and_then (λ to. reads to rest) (asks phrases (folded phrases 3 stack a)) ≡ reads (Asking stack a false) rest
-asks_on stack a rest most tight =
-    ap (λ (x : Items × Phrase). option_and_then (λ to. reads to rest) (asks phrases x)) (folded_stops 3 stack a most)
-    ∙ ap (option_and_then (λ to. reads to rest)) (if_false (nat_lt (tightness a) 4) None (Some (Asking stack a false)) (le-ltb (tightness a) 4 tight))
-
-answers_on : (stack : Items) (a : Phrase) (question : Question) (negated : Bool) (rest : Sayings)
-    → reads (Asking stack a false) ((if negated then (SayNot ∷ []) else []) ++ saying_of_question question ∷ rest) ≡ reads (Having stack (InIs question negated a)) rest
-answers_on stack a questions.Null false rest = refl
-answers_on stack a questions.True false rest = refl
-answers_on stack a questions.False false rest = refl
-answers_on stack a questions.Unknown false rest = refl
-answers_on stack a questions.Null true rest = refl
-answers_on stack a questions.True true rest = refl
-answers_on stack a questions.False true rest = refl
-answers_on stack a questions.Unknown true rest = refl
-
-opens_all : (a : Phrase) → 5 ≤ tightness a → opening a ≡ 5
-opens_all (InOr a b) tight = absurd (omega (arith, tight))
-opens_all (InAnd a b) tight = absurd (omega (arith, tight))
-opens_all (InNot a) tight = absurd (omega (arith, tight))
-opens_all (InIs question negated a) tight = refl
-opens_all (InCompare how a b) tight = refl
-opens_all (InName name) tight = refl
-opens_all InUnknown tight = refl
-opens_all (InNumber n) tight = refl
-opens_all (InText text) tight = refl
-opens_all (InBool b) tight = refl
-opens_all InNull tight = refl
-opens_all (InParentheses a) tight = refl
-
--- a phrase that binds tighter than NOT is taken whole by IS too
-opens_four : (a : Phrase) → 4 ≤ tightness a → opening a ≡ 5
-opens_four (InOr a b) tight = absurd (omega (arith, tight))
-opens_four (InAnd a b) tight = absurd (omega (arith, tight))
-opens_four (InNot a) tight = absurd (omega (arith, tight))
-opens_four (InIs question negated a) tight = refl
-opens_four (InCompare how a b) tight = refl
-opens_four (InName name) tight = refl
-opens_four InUnknown tight = refl
-opens_four (InNumber n) tight = refl
-opens_four (InText text) tight = refl
-opens_four (InBool b) tight = refl
-opens_four InNull tight = refl
-opens_four (InParentheses a) tight = refl
-
--- words that a phrase is written by stand before others
-moved : (state : State Phrase) (a : Sayings) (w : Saying) (b rest : Sayings) → reads state ((a ++ w ∷ b) ++ rest) ≡ reads state (a ++ w ∷ (b ++ rest))
-moved state a w b rest = ap (reads state) (append_assoc a (w ∷ b) rest)
-
-complete : (a : Phrase) → IsBound a → Reads a
-complete (InName name) bound stack rest most less = refl
-complete InUnknown bound stack rest most less = refl
-complete (InNumber n) bound stack rest most less = refl
-complete (InText text) bound stack rest most less = refl
-complete (InBool true) bound stack rest most less = refl
-complete (InBool false) bound stack rest most less = refl
-complete InNull bound stack rest most less = refl
-complete (InParentheses a) bound stack rest most less =
-    let opened : 0 < opening a = opens_tighter 0 a (at_least_zero (tightness a)) (lit≤ tt) in
-    moved (Wanting stack) (SayOpen ∷ sayings_of a) SayClose [] rest
-    ∙ complete a bound (Enclosing ∷ stack) (SayClose ∷ rest) (at_least_zero (tightness a)) opened
-complete (InNot a) bound stack rest most less =
-    ap (option_and_then (λ to. reads to (sayings_of a ++ rest))) (if_false (nat_lt 2 (wanted_by stack)) None (Some (Wanting (Denying ∷ stack))) (le-ltb 2 (wanted_by stack) most))
-    ∙ complete a bound.1 (Denying ∷ stack) rest bound.0 (omega (arith, less, opens_as 2 a bound.0 (lit≤ tt)))
-    ∙ completes_first Denying stack a rest less
-complete (InAnd a b) bound stack rest most less =
-    moved (Wanting stack) (sayings_of a) SayAnd (sayings_of b) rest
-    ∙ complete a bound.2.0 stack (SayAnd ∷ (sayings_of b ++ rest)) (omega (arith, most, bound.0)) (opens_tighter 1 a bound.0 (lit≤ tt))
-    ∙ joins_on joints.And stack a (sayings_of b ++ rest) most bound.0
-    ∙ complete b bound.2.1 (Joining joints.And a ∷ stack) rest bound.1 (omega (arith, less, opens_as 2 b bound.1 (lit≤ tt)))
-    ∙ completes_first (Joining joints.And a) stack b rest less
-complete (InOr a b) bound stack rest most less =
-    moved (Wanting stack) (sayings_of a) SayOr (sayings_of b) rest
-    ∙ complete a bound.1.0 stack (SayOr ∷ (sayings_of b ++ rest)) (omega (arith, most)) (opens_tighter 0 a (at_least_zero (tightness a)) (lit≤ tt))
-    ∙ joins_on joints.Or stack a (sayings_of b ++ rest) most (at_least_zero (tightness a))
-    ∙ complete b bound.1.1 (Joining joints.Or a ∷ stack) rest bound.0 (omega (arith, less, opens_as 1 b bound.0 (lit≤ tt)))
-    ∙ completes_first (Joining joints.Or a) stack b rest less
-complete (InCompare how a b) bound stack rest most less =
-    moved (Wanting stack) (sayings_of a) (SayComparison how) (sayings_of b) rest
-    ∙ complete a bound.2.0 stack (SayComparison how ∷ (sayings_of b ++ rest)) (omega (arith, most, bound.0)) (rw (opens_all a bound.0) (lit≤ tt))
-    ∙ joins_on (joints.Comparison how) stack a (sayings_of b ++ rest) most bound.0
-    ∙ complete b bound.2.1 (Joining (joints.Comparison how) a ∷ stack) rest bound.1 (rw (opens_all b bound.1) less)
-    ∙ completes_first (Joining (joints.Comparison how) a) stack b rest less
-complete (InIs question false a) bound stack rest most less =
-    moved (Wanting stack) (sayings_of a) SayIs (saying_of_question question ∷ []) rest
-    ∙ complete a bound.1 stack (SayIs ∷ (saying_of_question question ∷ rest)) (omega (arith, most, bound.0)) (rw (opens_four a bound.0) (lit≤ tt))
-    ∙ asks_on stack a (saying_of_question question ∷ rest) most bound.0
-    ∙ answers_on stack a question false rest
-complete (InIs question true a) bound stack rest most less =
-    moved (Wanting stack) (sayings_of a) SayIs (SayNot ∷ saying_of_question question ∷ []) rest
-    ∙ complete a bound.1 stack (SayIs ∷ SayNot ∷ (saying_of_question question ∷ rest)) (omega (arith, most, bound.0)) (rw (opens_four a bound.0) (lit≤ tt))
-    ∙ asks_on stack a (SayNot ∷ saying_of_question question ∷ rest) most bound.0
-    ∙ answers_on stack a question true rest
-
-pub again : (phrase : Phrase) → IsBound phrase → run phrases (Wanting []) (map (word_of leaf_of) (sayings_of phrase)) ≡ Some phrase
-again phrase bound =
-    ap (reads (Wanting [])) (sym (append-nil (sayings_of phrase)))
-    ∙ complete phrase bound [] [] (at_least_zero (tightness phrase)) (opens_tighter 0 phrase (at_least_zero (tightness phrase)) (lit≤ tt))

@@ -7,7 +7,8 @@ use Rattle.conditions.specs.Words.{Saying, said_by, said_by_all, with_first}
 use Rattle.conditions.specs.Grammar.{Phrase, sayings_of, IsBound}
 use Rattle.conditions.specs.Stacks.{Word, Stray, State, Wanting, Having, Asking, step, run, word_of, word_said}
 use Rattle.conditions.specs.Parts.{phrases, leaf_of, Grown, parts, grown, word_at, word_said_of}
-use Rattle.conditions.proofs.Phrases.{sound, again}
+use Rattle.conditions.proofs.Phrases.{sound}
+use Rattle.conditions.proofs.Rereading.{again}
 use Rattle.conditions.proofs.Growing.{grown_run}
 
 same_list : (a b : List Saying) → Some a ≡ Some b → a ≡ b

@@ -140,8 +140,8 @@ fn is_number(
     number: &i64,
 ) -> bool
     requires { IsNumberOf row.now last.old }
-    ensures answer { result
-        ≡ is_true (truth_of_comparison how (datum_at (slice_get row.now place)) (Number number.now)) }
+    ensures answer { result ≡ is_true
+        (truth_of_comparison how (datum_at (slice_get row.now place)) (Number number.now)) }
     ensures read { IsNumberOf row.now last.new }
 {
     let place = place as usize;
