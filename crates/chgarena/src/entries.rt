@@ -29,7 +29,8 @@ impl<'a> Model for Entries<'a> {
 
     ghost Value = { List (List ℕ) };
 
-    ghost view = { λ e. drop e.given (from_on (books e.links.now).next e.pages.now e.left e.chunk) };
+    ghost view = { λ e. drop e.given
+        (from_on (books e.links.now).next e.pages.now e.left e.chunk) };
 
     ghost invariant = { λ e. IsReading e.links.now e.pages.now e.chunk e.left e.given };
 }

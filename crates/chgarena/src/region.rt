@@ -22,7 +22,10 @@ impl Model for Region {
 
     ghost view = { λ r. r.memory.places };
 
-    ghost invariant = { λ r. (r.lease.alloc ≡ r.alloc) × (r.lease.ptr ≡ r.memory.ptr) × (r.lease.size ≡ r.size) × (length r.memory.places ≡ r.size) };
+    ghost invariant = { λ r. (r.lease.alloc ≡ r.alloc)
+        × (r.lease.ptr ≡ r.memory.ptr)
+        × (r.lease.size ≡ r.size)
+        × (length r.memory.places ≡ r.size) };
 }
 
 impl Region {

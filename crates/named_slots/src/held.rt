@@ -30,7 +30,8 @@ impl<L: SlotName> Model for HeldSlots<L> {
 
     ghost view = { λ h. h.slots };
 
-    ghost invariant = { λ h. (vec_len h.leases ≡ PLACES) × AreLeases h.slots (map (option_map (λ lease. lease.place)) h.leases.items) };
+    ghost invariant = { λ h. (vec_len h.leases ≡ PLACES)
+        × AreLeases h.slots (map (option_map (λ lease. lease.place)) h.leases.items) };
 }
 
 impl<L: SlotName> HeldSlots<L> {

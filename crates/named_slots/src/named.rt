@@ -31,7 +31,8 @@ impl<L: SlotName> Model for NamedSlots<L> {
 
     ghost view = { λ n. slots_in_view n.seat n.slots.items n.places };
 
-    ghost invariant = { λ n. IsNamed n.directory n.slots.items n.places × StandsIn n.seat n.slots.items n.places };
+    ghost invariant = { λ n. IsNamed n.directory n.slots.items n.places
+        × StandsIn n.seat n.slots.items n.places };
 }
 
 impl<L: SlotName> NamedSlots<L> {

@@ -21,5 +21,8 @@ impl<L: SlotName> Model for SlotSeat<L> {
 
     ghost view = { λ s. s.seat.me.0 };
 
-    ghost invariant = { λ s. (s.seat.table_id ≡ L.table) × (s.seat.me.0.number ≡ s.number) × (s.seat.me.1 ≡ []) × (s.number ≤ 2 ^ 63) };
+    ghost invariant = { λ s. (s.seat.table_id ≡ L.table)
+        × (s.seat.me.0.number ≡ s.number)
+        × (s.seat.me.1 ≡ [])
+        × (s.number ≤ 2 ^ 63) };
 }
