@@ -27,7 +27,8 @@ impl Model for LoggedChange {
 
     ghost view = { λ l. change_in l.body.items };
 
-    ghost invariant = { λ l. SpellsBody l.body.items (change_in l.body.items) × IsShort (change_in l.body.items) };
+    ghost invariant = { λ l. SpellsBody l.body.items (change_in l.body.items)
+        × IsShort (change_in l.body.items) };
 }
 
 impl LoggedChange {
