@@ -1,20 +1,54 @@
--- How a writer stands between its calls.
-use Rattle.std.specs.Prelude.{◌≡◌, ℕ, List, length, true}
+-- How a writer stands between its calls, and what it makes of a record.
+use Rattle.std.specs.Prelude.{◌≡◌, ◌<◌, ◌^◌, ℕ, List, [], ◌∷◌, ◌++◌, length, None, Some, true, vec_capacity, vec_len}
+use Rattle.std.specs.Arc.{arc_value}
 use Rattle.std.specs.List.{AllByRecursion}
+use Rattle.logbook.specs.Pages.{Book}
 use Rattle.wal.specs.declared.record.TheConstants.{FIRST_POSITION}
 use Rattle.wal.specs.declared.record.Record.{Record}
-use Rattle.wal.specs.Log.{end_of}
+use Rattle.wal.specs.Log.{IsWellFormedLog, end_of}
+use Rattle.wal.specs.Restart.{oldest}
 use Rattle.shared_log.specs.declared.entry.Entry.{Entry}
 use Rattle.shared_log.specs.declared.copy.Put.{Put}
-use Rattle.shared_log.specs.Fronts.{settled_records, ends_confirmed}
+use Rattle.shared_log.specs.declared.openings.Openings.{Openings as Noted}
+use Rattle.shared_log.specs.declared.outline.Outline.{Outline}
+use Rattle.shared_log.specs.Fronts.{settled_records, open_from, ends_confirmed}
 use Rattle.shared_log.specs.Kept.{with_restarts}
+use Rattle.shared_log.specs.Openings.{AreOpenings, is_end, owner_of}
+use Rattle.shared_log.specs.Telling.{TellsOf}
 
--- Readers see what is settled, with its restart places, a front is known at which nothing is offered, and each record that still waits for a copy
--- enters at the log's end.
-pub record Stands (kept : List (Record × ℕ)) (waiting : List Put) (count end : ℕ) (front sure : List Entry) : Type 0 where
-  pub shown : kept ≡ with_restarts (settled_records front)
+-- What is known of a log by the history that was seen: how many records are settled and where they end, a front at which nothing is
+-- offered, and the transactions in progress, with room to note one more where a record is offered.
+pub record Stands (front sure : List Entry) (count end : ℕ) (noted : Noted) : Type 0 where
   pub counted : count ≡ length (settled_records front)
   pub ends : end ≡ end_of FIRST_POSITION (settled_records front)
   pub alike : settled_records sure ≡ settled_records front
   pub confirmed : ends_confirmed sure ≡ true
-  pub waits : AllByRecursion (λ put. put.place ≡ length (settled_records front)) waiting
+  pub progress : AreOpenings (settled_records front) noted.items.items
+  pub room : (r : Record) → open_from None front ≡ Some r → vec_len noted.items < vec_capacity noted.items
+
+-- Readers see the log with its restart places, and each record that still waits for a copy enters at its end.
+pub record Shows (log : List Record) (kept : List (Record × ℕ)) (waiting : List Put) : Type 0 where
+  pub shown : kept ≡ with_restarts log
+  pub waits : AllByRecursion (λ put. put.place ≡ length log) waiting
+
+-- what is known beside its body of a record that may stand at the end of a log
+pub record IsOutline (log : List Record) (r : Record) (outline : Outline) : Type 0 where
+  pub good : IsWellFormedLog (log ++ r ∷ [])
+  pub tells : TellsOf r outline.start outline.end
+  pub owner : owner_of (log ++ r ∷ []) r ≡ outline.top
+  pub last : is_end r.body ≡ outline.is_last
+
+-- a record of this outline was offered last, and there is room for its confirmation
+pub record IsOffered (front : List Entry) (outline : Outline) : Type 0 where
+  pub offered : Record
+  pub waits : open_from None front ≡ Some offered
+  pub fits : IsOutline (settled_records front) offered outline
+  pub short : length front < 2 ^ 62
+
+-- what enters a copy: a record at the end of a log, with its restart place, and the history that shows both
+pub record IsPut (name : Book) (log : List Record) (r : Record) (history : List Entry) (put : Put) : Type 0 where
+  pub place : put.place ≡ length log
+  pub entry : arc_value put.entry ≡ r
+  pub restart : put.restart ≡ oldest (log ++ r ∷ [])
+  pub named : put.mark.seen.book ≡ name
+  pub says : put.mark.seen.log ≡ history

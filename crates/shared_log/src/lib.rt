@@ -11,10 +11,12 @@ mod mark;
 mod name;
 mod opened;
 mod openings;
+mod outline;
 mod reader;
 mod receipt;
 mod resuming;
 mod rule;
+mod state;
 mod writer;
 
 pub use copy::{LogCopy, Logged, Put};

@@ -31,10 +31,12 @@ impl Openings {
         })
     }
 
-    /// Room for one more.
+    /// Room for one more. Room that there was stays.
     pub fn reserve(&mut self) -> Result<(), AllocError>
         ensures same { self.new.items.items ≡ self.old.items.items }
         ensures room { OnOk result (vec_len self.new.items < vec_capacity self.new.items) }
+        ensures stays { vec_len self.old.items < vec_capacity self.old.items →
+            vec_len self.new.items < vec_capacity self.new.items }
     {
         self.items.reserve(1)
     }

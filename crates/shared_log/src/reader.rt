@@ -96,52 +96,32 @@ impl<L: LogName> LogReader<L> {
         } = self;
         match reader.enter_as::<Sees<L>>() {
             Err(reader) => {
-                return (
-                    LogReader {
-                        reader,
-                        place,
-                        told,
-                    },
-                    Err(ReadFault::NoEntry),
-                );
+                let same = LogReader {
+                    reader,
+                    place,
+                    told,
+                };
+                return (same, Err(ReadFault::NoEntry));
             }
             Ok(reading) => {
                 let copy = reading.get();
                 let is_there = told.is_in(&copy.mark);
                 let got = shares(alloc, part(copy.records.as_slice(), place, max));
                 let reader = reading.leave();
+                let mut left = LogReader {
+                    reader,
+                    place,
+                    told,
+                };
                 if !is_there {
-                    return (
-                        LogReader {
-                            reader,
-                            place,
-                            told,
-                        },
-                        Err(ReadFault::Stale),
-                    );
+                    return (left, Err(ReadFault::Stale));
                 }
                 match got {
                     Ok(records) => {
-                        let place = place + records.len();
-                        return (
-                            LogReader {
-                                reader,
-                                place,
-                                told,
-                            },
-                            Ok(records),
-                        );
+                        left.place += records.len();
+                        return (left, Ok(records));
                     }
-                    Err(_) => {
-                        return (
-                            LogReader {
-                                reader,
-                                place,
-                                told,
-                            },
-                            Err(ReadFault::Memory),
-                        );
-                    }
+                    Err(_) => return (left, Err(ReadFault::Memory)),
                 }
             }
         }

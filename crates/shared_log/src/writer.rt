@@ -1,6 +1,6 @@
 //! The writer of the log.
 
-ghost use Rattle.std.specs.Prelude.{◌≡◌, ◌+◌, ◌<◌, ◌≤◌, ◌^◌, ◌++◌, ◌∷◌, [], None, Some, false, length, true, vec_len, IfOk, OnErr};
+ghost use Rattle.std.specs.Prelude.{◌≡◌, ◌+◌, ◌<◌, ◌≤◌, ◌^◌, ◌++◌, ◌∷◌, [], length, false, true, vec_len, IfOk, OnErr};
 ghost use mathlib.Core.List.{IsPrefix};
 ghost use Rattle.wal.specs.Log.{IsWellFormedLog, end_of, is_note, size_of, top_of, xid_in};
 ghost use Rattle.wal.specs.Records.{record_after};
@@ -8,44 +8,32 @@ ghost use Rattle.wal.specs.declared.record.TheConstants.{FIRST_POSITION};
 ghost use Rattle.std.specs.Arc.{arc_value};
 ghost use Rattle.std.specs.List.{AllByRecursion};
 ghost use Rattle.shared_log.specs.Fronts.{ends_confirmed, settled_records};
-ghost use Rattle.shared_log.specs.Openings.{is_end, owner_of};
+ghost use Rattle.shared_log.specs.Openings.{owner_of};
 ghost use Rattle.shared_log.specs.Telling.{TellsOf};
-ghost use Rattle.shared_log.specs.declared.entry.Entry.TheVariants.{Confirmed};
+ghost use Rattle.shared_log.specs.Writing.{IsOutline};
 
 use crate::copy::{LogCopy, Put};
 use crate::front::Front;
-use crate::history::History;
 use crate::name::LogName;
 use crate::opened::Opened;
-use crate::openings::Openings;
+use crate::outline::Outline;
 use crate::reader::LogReader;
 use crate::receipt::Receipt;
 use crate::rule::{Published, Sees, View};
+use crate::state::LogState;
 use core::mem;
 use left_right::writer::Writer;
 use std::alloc::{AllocError, Global};
 use std::marker::Model;
 use std::sync::{Arc, Wait};
-use wal::{Body, FIRST_POSITION, LoggedChange, Record};
-
-/// How long a history may become: each record that is written, or refused for memory, makes it longer.
-const MOST_STEPS: u64 = 1 << 61;
+use wal::{Body, LoggedChange, Record};
 
 /// Writes the log, whose records readers see once they stand in it whole. Contracts see the records.
 ///
 /// It isn't `Drop`: `close` ends it.
 pub struct LogWriter<L: LogName> {
-    alloc: Global,
     writer: Writer<LogCopy, Put, View, Published<L>>,
-    history: History<L>,
-    /// The history with all that was offered.
-    front: Front<L>,
-    /// The history up to the record that was confirmed last.
-    sure: Front<L>,
-    count: usize,
-    end: u64,
-    /// The transactions in progress, by which each record is told where to begin behind it.
-    openings: Openings,
+    state: LogState<L>,
 }
 
 impl<L: LogName> Model for LogWriter<L> {
@@ -53,14 +41,15 @@ impl<L: LogName> Model for LogWriter<L> {
     ghost use Rattle.wal.specs.declared.record.Record.{Record as Written};
     ghost use Rattle.shared_log.specs.Fronts.{settled_records};
     ghost use Rattle.shared_log.specs.Kept.{kept_in};
-    ghost use Rattle.shared_log.specs.Openings.{AreOpenings};
-    ghost use Rattle.shared_log.specs.Writing.{Stands};
+    ghost use Rattle.shared_log.specs.Writing.{Shows};
 
     ghost Value = { List Written };
 
-    ghost view = { λ w. settled_records w.front };
+    ghost view = { λ w. settled_records w.state };
 
-    ghost invariant = { λ w. Stands (kept_in w.writer.desk.shown.value.records.items) (drop w.writer.behind w.writer.log.items) w.count w.end w.front w.sure × AreOpenings (settled_records w.front) w.openings.items.items };
+    ghost invariant = { λ w. Shows (settled_records w.state)
+        (kept_in w.writer.desk.shown.value.records.items)
+        (drop w.writer.behind w.writer.log.items) };
 }
 
 impl<L: LogName> LogWriter<L> {
@@ -81,9 +70,8 @@ impl<L: LogName> LogWriter<L> {
         ensures readers { IfOk result
             (λ r. (vec_len r.1 ≡ readers) × AllByRecursion (λ reader. reader.place ≡ 0) r.1.items) }
     {
-        let (history, front) = opened.named::<L>();
-        let mark = front.mark();
-        let openings = Openings::new(alloc)?;
+        let state = LogState::<L>::open(alloc, opened)?;
+        let mark = state.front().mark();
         let first = LogCopy {
             records: Vec::with_capacity(alloc, records)?,
             mark: mark.again(),
@@ -93,20 +81,8 @@ impl<L: LogName> LogWriter<L> {
             mark,
         };
         let writer = Writer::new(alloc, first, second, readers)?;
-        match readers_of(alloc, &writer, &front, readers) {
-            Ok(made) => {
-                let writer = LogWriter {
-                    alloc,
-                    writer,
-                    history,
-                    sure: front.again(),
-                    front,
-                    count: 0,
-                    end: FIRST_POSITION,
-                    openings,
-                };
-                Ok((writer, made))
-            }
+        match readers_of(alloc, &writer, state.front(), readers) {
+            Ok(made) => Ok((LogWriter { writer, state }, made)),
             Err(_) => {
                 drop(writer.take(rt));
                 Err(AllocError)
@@ -118,14 +94,14 @@ impl<L: LogName> LogWriter<L> {
     pub fn count(&self) -> usize
         ensures { result ≡ length self.now }
     {
-        self.count
+        self.state.count()
     }
 
     /// The position where the log ends.
     pub fn end(&self) -> u64
         ensures { result ≡ end_of FIRST_POSITION self.now }
     {
-        self.end
+        self.state.end()
     }
 
     /// Tells a reader of the whole log: its next fetch sees no less. It answers how many records that are, and takes no memory.
@@ -137,22 +113,13 @@ impl<L: LogName> LogWriter<L> {
         ensures place { (seen_of reader.new ≡ seen_of reader.old)
             × (reader.new.place ≡ reader.old.place) }
     {
-        reader.told = reader.told.longer(&self.sure);
-        self.count
+        reader.told = reader.told.longer(self.state.sure());
+        self.state.count()
     }
 
     /// Ends the log. It waits for readers that are in it; later fetches are E1.
     pub fn close<R: Wait>(self, rt: &R) {
-        let LogWriter {
-            alloc: _,
-            writer,
-            history: _,
-            front: _,
-            sure: _,
-            count: _,
-            end: _,
-            openings: _,
-        } = self;
+        let LogWriter { writer, state: _ } = self;
         drop(writer.take(rt));
     }
 
@@ -210,12 +177,9 @@ impl<L: LogName> LogWriter<L> {
             × (settled_records r.front ≡ result.0)) }
         ensures err { OnErr result.1 (result.0 ≡ self) }
     {
-        let start = self.end;
-        let end = start + body.size();
-        let ends = matches!(body, Body::Commit(_, _) | Body::Abort(_));
-        match Arc::new(self.alloc, Record { start, end, body }) {
-            Ok(entry) => return self.offered(rt, entry, (start, end), (top, ends)),
-            Err(_) => return (self, Err(AllocError)),
+        match self.state.draft(top, body) {
+            Ok((entry, outline)) => self.offered(rt, entry, outline),
+            Err(fault) => (self, Err(fault)),
         }
     }
 
@@ -224,13 +188,9 @@ impl<L: LogName> LogWriter<L> {
         self,
         rt: &R,
         entry: Arc<Record>,
-        bounds: (u64, u64),
-        about: (Option<u32>, bool),
+        outline: Outline,
     ) -> (Self, Result<Receipt<L>, AllocError>)
-        requires tells { TellsOf (arc_value entry) bounds.0 bounds.1 }
-        requires good { IsWellFormedLog (self ++ arc_value entry ∷ []) }
-        requires top { owner_of (self ++ arc_value entry ∷ []) (arc_value entry) ≡ about.0 }
-        requires ends { is_end (arc_value entry).body ≡ about.1 }
+        requires { IsOutline self (arc_value entry) outline }
         ensures ok { IfOk result.1
             (λ r. (result.0 ≡ self ++ arc_value entry ∷ [])
             × TellsOf (arc_value entry) r.start r.end × (r.place ≡ length self)
@@ -238,102 +198,25 @@ impl<L: LogName> LogWriter<L> {
         ensures err { OnErr result.1 (result.0 ≡ self) }
     {
         let LogWriter {
-            alloc,
             mut writer,
-            history,
-            front,
-            sure,
-            count,
-            end: before,
-            mut openings,
+            mut state,
         } = self;
-        let (start, end) = bounds;
-        let (top, ends) = about;
-        if openings.reserve().is_err() {
-            let unchanged = LogWriter {
-                alloc,
-                writer,
-                history,
-                front,
-                sure,
-                count,
-                end: before,
-                openings,
-            };
-            return (unchanged, Err(AllocError));
-        }
-        let mut next = front.again();
-        if front.count >= MOST_STEPS || !next.offer(&history, &entry) {
-            let same = LogWriter {
-                alloc,
-                writer,
-                history,
-                front,
-                sure,
-                count,
-                end: before,
-                openings,
-            };
-            return (same, Err(AllocError));
-        }
-        let put = Put {
-            place: count,
-            entry,
-            restart: openings.restart_after(top, ends, count),
-            mark: next.mark(),
+        let put = match state.offer(entry, outline) {
+            Ok(put) => put,
+            Err(fault) => return (LogWriter { writer, state }, Err(fault)),
         };
         match writer.append(put) {
             Ok(()) => {}
-            Err(_) => {
-                let same = LogWriter {
-                    alloc,
-                    writer,
-                    history,
-                    front: next,
-                    sure,
-                    count,
-                    end: before,
-                    openings,
-                };
-                return (same, Err(AllocError));
-            }
+            Err(_) => return (LogWriter { writer, state }, Err(AllocError)),
         }
         let (writer, published) = writer.publish_as::<Sees<L>, R>(rt);
         match published {
-            Ok(()) => {}
-            Err(_) => {
-                let same = LogWriter {
-                    alloc,
-                    writer,
-                    history,
-                    front: next,
-                    sure,
-                    count,
-                    end: before,
-                    openings,
-                };
-                return (same, Err(AllocError));
+            Ok(()) => {
+                let receipt = state.confirm(rt, outline);
+                (LogWriter { writer, state }, Ok(receipt))
             }
+            Err(fault) => (LogWriter { writer, state }, Err(fault)),
         }
-        openings.note(top, ends, count);
-        let sure = confirmed(rt, &history, next);
-        let receipt = Receipt {
-            place: count,
-            start,
-            end,
-            front: sure.again(),
-        };
-        let grown = LogWriter {
-            alloc,
-            writer,
-            history,
-            front: sure.again(),
-            sure,
-            count: count + 1,
-            end,
-            openings,
-        };
-        (grown, Ok(receipt))
     }
 }
 
@@ -359,18 +242,4 @@ fn readers_of<L: LogName>(
         })?;
     }
     Ok(readers)
-}
-
-/// The front with a confirmation. Nobody but the writer makes the history longer, so it is never refused; no contract knows.
-fn confirmed<L: LogName, R: Wait>(rt: &R, history: &History<L>, front: Front<L>) -> Front<L>
-    requires room { length front < 2 ^ 62 }
-    ensures value { result ≡ front ++ Confirmed ∷ [] }
-    ensures ends { ends_confirmed result ≡ true }
-{
-    let mut sure = front;
-    if !sure.confirm(history) {
-        for _ in rt.forever() {}
-        unreachable!();
-    }
-    sure
 }

@@ -7,4 +7,4 @@ use Rattle.shared_log.proofs.writer.LogWriter.tell.Goals as goal
 
 pub returns-clause-told : goal.returns-clause-told
 returns-clause-told g c =
-    subst (λ (l : List Record). IsPrefix l (settled_records c.longer.result)) (c.self.invariant.0.alike ∙ c.self.view_is) (settled_grows c.self.inside.sure c.longer.result c.longer.ensures.that)
+    subst (λ (l : List Record). IsPrefix l (settled_records c.longer.result)) (c.sure.ensures.alike ∙ c.self.view_is) (settled_grows c.sure.result.now c.longer.result c.longer.ensures.that)
