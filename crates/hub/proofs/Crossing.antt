@@ -27,6 +27,7 @@ use Rattle.hub.specs.contracts.grant.StreamGrant as grant
 use Rattle.hub.specs.contracts.hub.Hub as hub
 use Rattle.hub.specs.contracts.line.Line as line
 use Rattle.hub.specs.contracts.system.SystemName as system
+use Rattle.hub.proofs.settings.HubSettings.TheSendSync as settings
 use Rattle.connections.proofs.names.Names.TheSendSync as names
 use Rattle.hub.proofs.commit_notice.CommitNotice.TheSendSync as notice
 use Rattle.hub.proofs.pool.Pool.TheSendSync as pool
@@ -89,19 +90,19 @@ module _ (L : RattleType) (s : slot_name.Ghosts L.Denot) (l : log_name.Ghosts L.
       (
         system_sync,
         (
-          search (publisher.the_send, heap.crosses, sendable) depth 10,
+          settings.the_sync,
           (
-            slots.the_sync L s,
+            search (publisher.the_send, heap.crosses, sendable) depth 10,
             (
-              search (pool.the_send, heap.crosses, sendable) depth 10,
+              slots.the_sync L s,
               (
-                search (names.the_send, heap.crosses, sendable) depth 10,
+                search (pool.the_send, heap.crosses, sendable) depth 10,
                 (
-                  search (notice.the_send, heap.crosses, sendable) depth 10,
+                  search (names.the_send, heap.crosses, sendable) depth 10,
                   (
-                    search (latch_sync, heap.crosses, sendable) depth 10,
+                    search (notice.the_send, heap.crosses, sendable) depth 10,
                     (
-                      search (heap.crosses, sendable) depth 10,
+                      search (latch_sync, heap.crosses, sendable) depth 10,
                       (
                         search (heap.crosses, sendable) depth 10,
                         (
@@ -111,20 +112,8 @@ module _ (L : RattleType) (s : slot_name.Ghosts L.Denot) (l : log_name.Ghosts L.
                             (
                               search (heap.crosses, sendable) depth 10,
                               (
-                                search (heap.crosses, sendable) depth 10,
-                                (
-                                  search (heap.crosses, sendable) depth 10,
-                                  (
-                                    search (heap.crosses, sendable) depth 10,
-                                    (
-                                      search (heap.crosses, sendable) depth 10,
-                                      (
-                                        search (post_sync, heap.crosses, sendable) depth 10,
-                                        (sockets_sync, (search (reader.the_send L l, heap.crosses, sendable) depth 10, (search sendable depth 10, tt))),
-                                      ),
-                                    ),
-                                  ),
-                                ),
+                                search (post_sync, heap.crosses, sendable) depth 10,
+                                (sockets_sync, (search (reader.the_send L l, heap.crosses, sendable) depth 10, tt)),
                               ),
                             ),
                           ),

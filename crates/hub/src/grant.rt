@@ -23,8 +23,8 @@ use walsender::ClaimFault;
 /// How many records of the log count for where a stream begins: all that its reader sees.
 const LIMIT: usize = usize::MAX;
 
-/// What a stream is made of beside its slot and its reader: what these names select, told as the options ask, and an arena of so many
-/// chunks.
+/// What a stream is made of beside its slot and its reader: what these names select, told as the options ask, and an arena of so
+/// many chunks.
 #[derive(Drop)]
 pub(crate) struct Means<'a> {
     pub alloc: Global,
@@ -45,6 +45,55 @@ impl<'a> Means<'a> {
         let arena = Arena::new(self.alloc, self.chunks as usize)?;
         Ok((selection.with_messages(self.options.messages), arena))
     }
+
+    /// Begins at the position, or at a later one that the slot has confirmed. The reader goes to where it begins to read for that, in
+    /// all of the log that it sees.
+    fn begin<L: LogName + SlotName>(
+        &self,
+        slots: &SlotTable<L>,
+        hold: &mut Hold<L>,
+        reader: &mut LogReader<L>,
+        position: u64,
+    ) -> Result<Beginning, ClaimFault>
+        ensures start { IfOk result
+            (λ b. (confirmed : ℕ)
+            × (hold.new.seat
+            ≡ with_step hold.old.seat
+            (slot_step Read hold.old.lease.place confirmed confirmed))
+            × (b.start ≡ max position confirmed)) }
+        ensures lease { hold.new.lease ≡ hold.old.lease }
+        ensures selection { IfOk result
+            (λ b. b.selection
+            ≡ asked_for self.now.publications.now self.now.names.now self.now.options.now) }
+        ensures place { IfOk result
+            (λ b. reader.new.place ≡ restart_place b.start (take LIMIT (seen_of reader.new))) }
+        ensures first { IfOk result
+            (λ b. b.first ≡ restart b.start (take LIMIT (seen_of reader.new))) }
+    {
+        let Ok((selection, arena)) = self.make() else {
+            return Err(ClaimFault::Memory);
+        };
+        let start = position.max(hold.confirmed(slots));
+        let first = match reader.resume(start, LIMIT) {
+            Ok(first) => first,
+            Err(_) => return Err(ClaimFault::NoEntry),
+        };
+        Ok(Beginning {
+            selection,
+            start,
+            first,
+            arena,
+        })
+    }
+}
+
+/// What a stream begins with, beside its slot and its reader: the fields of its grant.
+#[derive(Drop)]
+struct Beginning {
+    selection: Selection,
+    start: u64,
+    first: u64,
+    arena: Arena,
 }
 
 /// What a START was granted, on its way to the thread that writes: `Stream::open` makes the stream of it. It isn't `Drop`: where
@@ -66,7 +115,8 @@ pub(crate) struct StreamGrant<L: LogName + SlotName> {
 
 impl<L: LogName + SlotName> StreamGrant<L> {
     /// Claims the slot at this place for what these names select, and begins at the position, or at a later one that the slot
-    /// has confirmed. Its reader goes to where it begins to read for that, in all of the log that it sees. What is refused gives the pair back, and the slot is as free as it was.
+    /// has confirmed. Its reader goes to where it begins to read for that, in all of the log that it sees. What is refused gives
+    /// the pair back, and the slot is as free as it was.
     pub fn claim(
         slots: &SlotTable<L>,
         pair: Pair<L>,
@@ -95,48 +145,28 @@ impl<L: LogName + SlotName> StreamGrant<L> {
         let mut hold = match Hold::claim(slots, seat, place) {
             Ok(hold) => hold,
             Err((seat, fault)) => {
-                let pair = Pair {
-                    reader,
-                    seat,
-                    latch,
-                };
-                return Err((pair, ClaimFault::Slot(fault)));
+                return Err((Pair::of(reader, seat, latch), ClaimFault::Slot(fault)));
             }
         };
-        let (selection, arena) = match means.make() {
-            Ok(made) => made,
-            Err(_) => {
-                let pair = Pair {
-                    reader,
-                    seat: hold.release(slots),
-                    latch,
-                };
-                return Err((pair, ClaimFault::Memory));
-            }
-        };
-        let start = position.max(hold.confirmed(slots));
-        let first = match reader.resume(start, LIMIT) {
-            Ok(first) => first,
-            Err(_) => {
-                drop(selection);
-                drop(arena);
-                let pair = Pair {
-                    reader,
-                    seat: hold.release(slots),
-                    latch,
-                };
-                return Err((pair, ClaimFault::NoEntry));
-            }
-        };
-        Ok(StreamGrant {
-            selection,
-            start,
-            first,
-            reader,
-            hold,
-            latch,
-            arena,
-        })
+        match means.begin(slots, &mut hold, &mut reader, position) {
+            Ok(
+                Beginning {
+                    selection,
+                    start,
+                    first,
+                    arena,
+                },
+            ) => Ok(StreamGrant {
+                selection,
+                start,
+                first,
+                reader,
+                hold,
+                latch,
+                arena,
+            }),
+            Err(fault) => Err((Pair::of(reader, hold.release(slots), latch), fault)),
+        }
     }
 
     /// Makes the slot free, and gives reader and seat back.
@@ -155,11 +185,6 @@ impl<L: LogName + SlotName> StreamGrant<L> {
             latch,
             arena: _,
         } = self;
-        let seat = hold.release(slots);
-        Pair {
-            reader,
-            seat,
-            latch,
-        }
+        Pair::of(reader, hold.release(slots), latch)
     }
 }

@@ -8,6 +8,7 @@ use crate::fault::HubFault;
 use crate::line::Line;
 use crate::opened::OpenedHub;
 use crate::pool::Pool;
+use crate::settings::HubSettings;
 use crate::shared::{Places, Shared};
 use crate::streaming::Stream;
 use crate::system::SystemName;
@@ -29,6 +30,7 @@ pub struct Hub<L: LogName + SlotName> {
     pub(crate) alloc: Global,
     pub(crate) publications: Publications,
     pub(crate) system: SystemName,
+    pub(crate) settings: HubSettings,
     pub(crate) publisher: Mutex<Publisher<L>>,
     pub(crate) slots: SlotTable<L>,
     pub(crate) pool: Mutex<Pool<L>>,
@@ -36,11 +38,6 @@ pub struct Hub<L: LogName + SlotName> {
     notice: Mutex<CommitNotice<L>>,
     /// One for each stream that may run.
     latches: Vec<Latch>,
-    wal_sender_timeout: Duration,
-    authentication_timeout: Duration,
-    max_connections: u32,
-    pub(crate) chunks: u32,
-    answers_postgresql: bool,
     /// How many connections are served.
     pub(crate) served: AtomicU32,
     pub(crate) streams_begun: AtomicU64,
@@ -52,8 +49,6 @@ pub struct Hub<L: LogName + SlotName> {
     pub(crate) sockets: Sockets,
     /// A reader that reads nothing: the log tells it how many records there are.
     pub(crate) counter: Mutex<LogReader<L>>,
-    /// How many records the log has room for.
-    pub(crate) capacity: usize,
 }
 
 impl<L: LogName + SlotName> Hub<L> {
@@ -68,21 +63,29 @@ impl<L: LogName + SlotName> Hub<L> {
             system,
             log,
             slots,
-            wal_sender_timeout,
-            authentication_timeout,
-            max_connections,
-            chunks,
-            answers_postgresql,
-            records,
+            settings,
         } = opened;
-        let shared = match Shared::open(rt, alloc, log, slots) {
-            Ok(shared) => shared,
+        match Shared::open(rt, alloc, log, slots) {
+            Ok(shared) => Ok(Hub::of(shared, alloc, publications, system, settings)),
             Err(fault) => {
                 drop(publications);
                 drop(system);
-                return Err(fault);
+                Err(fault)
             }
-        };
+        }
+    }
+
+    /// A hub of these parts, which no connection has reached yet.
+    fn of(
+        shared: Shared<L>,
+        alloc: Global,
+        publications: Publications,
+        system: SystemName,
+        settings: HubSettings,
+    ) -> Self
+        ensures { (result.publications ≡ publications) × (result.system ≡ system)
+            × (result.settings ≡ settings) }
+    {
         let Shared {
             places,
             publisher,
@@ -95,21 +98,17 @@ impl<L: LogName + SlotName> Hub<L> {
             latches,
             posts,
         } = places;
-        Ok(Hub {
+        Hub {
             alloc,
             publications,
             system,
+            settings,
             publisher: Mutex::new(publisher),
             slots: table,
             pool: Mutex::new(pool),
             names: Mutex::new(Names::new(alloc, seat)),
             notice: Mutex::new(CommitNotice::new()),
             latches,
-            wal_sender_timeout,
-            authentication_timeout,
-            max_connections,
-            chunks,
-            answers_postgresql,
             served: AtomicU32::new(0),
             streams_begun: AtomicU64::new(0),
             no_more_streams: AtomicBool::new(false),
@@ -117,8 +116,7 @@ impl<L: LogName + SlotName> Hub<L> {
             posts,
             sockets: Sockets::new(alloc),
             counter: Mutex::new(counter),
-            capacity: records,
-        })
+        }
     }
 
     /// Ends the log. Transactions in progress are left as they are.
@@ -127,17 +125,13 @@ impl<L: LogName + SlotName> Hub<L> {
             alloc: _,
             publications: _,
             system: _,
+            settings: _,
             publisher,
             slots: _,
             pool: _,
             names: _,
             notice: _,
             latches: _,
-            wal_sender_timeout: _,
-            authentication_timeout: _,
-            max_connections: _,
-            chunks: _,
-            answers_postgresql: _,
             served: _,
             streams_begun: _,
             no_more_streams: _,
@@ -145,7 +139,6 @@ impl<L: LogName + SlotName> Hub<L> {
             posts: _,
             sockets: _,
             counter: _,
-            capacity: _,
         } = self;
         publisher.into_inner().close(rt);
     }
@@ -163,7 +156,7 @@ impl<L: LogName + SlotName> Hub<L> {
 
     /// How the connection of this number is served.
     pub(crate) fn service(&self, number: u32) -> Service {
-        let dialect = if self.answers_postgresql {
+        let dialect = if self.settings.answers_postgresql {
             Dialect::Questions
         } else {
             Dialect::Commands
@@ -173,26 +166,26 @@ impl<L: LogName + SlotName> Hub<L> {
 
     /// For how long a read of a connection waits: half of the time for which the client of a stream may be silent.
     pub(crate) fn silence(&self) -> Option<Duration> {
-        if self.wal_sender_timeout.is_zero() {
+        if self.settings.wal_sender_timeout.is_zero() {
             return None;
         }
-        Some(self.wal_sender_timeout / 2)
+        Some(self.settings.wal_sender_timeout / 2)
     }
 
     /// By when on this clock a connection that begins now has to have said its startup.
     pub(crate) fn startup_until<R: Clock>(&self, rt: &R) -> Option<Duration> {
-        if self.authentication_timeout.is_zero() {
+        if self.settings.authentication_timeout.is_zero() {
             return None;
         }
         rt.monotonic()
             .ok()?
-            .checked_add(self.authentication_timeout)
+            .checked_add(self.settings.authentication_timeout)
     }
 
     /// One more connection is served, unless as many are as may be at once.
     pub(crate) fn admit(&self) -> bool {
         let before = self.served.fetch_add(1, Ordering::SeqCst);
-        if self.max_connections <= before {
+        if self.settings.max_connections <= before {
             self.dismiss();
             return false;
         }

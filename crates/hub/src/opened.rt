@@ -4,6 +4,7 @@ ghost use Rattle.std.specs.Prelude.{◌≡◌, ◌≤◌};
 ghost use Rattle.txlog.specs.declared.limits.TheConstants.{MAX_RECORDS};
 
 use crate::fault::HubFault;
+use crate::settings::HubSettings;
 use crate::system::SystemName;
 use pqformat::Text;
 use publication::Publications;
@@ -34,20 +35,9 @@ pub struct OpenedHub {
     pub(crate) alloc: Global,
     pub(crate) publications: Publications,
     pub(crate) system: SystemName,
-    pub(crate) records: usize,
     pub log: Opened,
     pub slots: OpenedSlots,
-    /// For how long the client of a stream may be silent: 60 seconds, unless it is set. Zero is for ever.
-    pub wal_sender_timeout: Duration,
-    /// For how long a connection may take to say its startup: 60 seconds, unless it is set. Zero is for ever.
-    pub authentication_timeout: Duration,
-    /// How many connections may be served at once: 100, unless it is set.
-    pub max_connections: u32,
-    /// How many chunks of 16,384 bytes the changes of the transactions in progress may take in a stream: 64, unless it is set.
-    pub chunks: u32,
-    /// Whether the questions of PostgreSQL's own clients are answered, which subscribers (CREATE SUBSCRIPTION) and pg_recvlogical
-    /// ask before and beside commands: false, unless it is set. Then any text that is no command is a syntax error.
-    pub answers_postgresql: bool,
+    pub settings: HubSettings,
 }
 
 impl OpenedHub {
@@ -70,14 +60,16 @@ impl OpenedHub {
             alloc,
             publications,
             system,
-            records,
             log,
             slots,
-            wal_sender_timeout: Duration::from_secs(WAL_SENDER_TIMEOUT),
-            authentication_timeout: Duration::from_secs(AUTHENTICATION_TIMEOUT),
-            max_connections: MAX_CONNECTIONS,
-            chunks: CHUNKS,
-            answers_postgresql: false,
+            settings: HubSettings {
+                wal_sender_timeout: Duration::from_secs(WAL_SENDER_TIMEOUT),
+                authentication_timeout: Duration::from_secs(AUTHENTICATION_TIMEOUT),
+                max_connections: MAX_CONNECTIONS,
+                chunks: CHUNKS,
+                answers_postgresql: false,
+                capacity: records,
+            },
         })
     }
 }

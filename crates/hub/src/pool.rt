@@ -15,6 +15,18 @@ pub(crate) struct Pair<L: LogName + SlotName> {
     pub latch: usize,
 }
 
+impl<L: LogName + SlotName> Pair<L> {
+    pub fn of(reader: LogReader<L>, seat: SlotSeat<L>, latch: usize) -> Self
+        ensures { result ≡ record { reader = reader; seat = seat; latch = latch } }
+    {
+        Pair {
+            reader,
+            seat,
+            latch,
+        }
+    }
+}
+
 /// The pairs that no stream has.
 #[derive(Drop)]
 pub(crate) struct Pool<L: LogName + SlotName> {
@@ -31,11 +43,7 @@ impl<L: LogName + SlotName> Pool<L> {
         let mut pairs = Vec::with_capacity(alloc, readers.len())?;
         for (reader, seat) in readers.into_iter().zip(seats) {
             let latch = pairs.len();
-            pairs.push(Pair {
-                reader,
-                seat,
-                latch,
-            })?;
+            pairs.push(Pair::of(reader, seat, latch))?;
         }
         Ok(Pool { pairs })
     }

@@ -63,7 +63,7 @@ impl<'h, L: LogName + SlotName, R: Wait> StartDesk for HubStart<'h, L, R> {
             publications: &hub.publications,
             names: self.names,
             options: self.options,
-            chunks: hub.chunks,
+            chunks: hub.settings.chunks,
         };
         match StreamGrant::claim(&hub.slots, pair, slot.place, &means, self.position) {
             Ok(grant) => Ok(grant),

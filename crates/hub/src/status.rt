@@ -57,7 +57,7 @@ impl<L: LogName + SlotName> Hub<L> {
             streams_begun: self.streams_begun.load(Ordering::SeqCst),
             log_end,
             records,
-            capacity: self.capacity,
+            capacity: self.settings.capacity,
             slots: self.slot_statuses(rt)?,
         })
     }

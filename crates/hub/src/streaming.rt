@@ -267,11 +267,6 @@ impl<L: LogName + SlotName> Stream<L> {
             told: _,
         } = self;
         let (_, reader) = walsender.end();
-        let seat = hold.release(slots);
-        Pair {
-            reader,
-            seat,
-            latch,
-        }
+        Pair::of(reader, hold.release(slots), latch)
     }
 }

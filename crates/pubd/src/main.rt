@@ -17,7 +17,7 @@ use command_line::{WordsFault, ended};
 use configuration::{Config, explained};
 use ending::{Door, Doors, end_server};
 use fault::Fault;
-use hub::{Hub, OpenedHub, serve};
+use hub::{Hub, HubSettings, OpenedHub, serve};
 use reports::{Level, Reports};
 use scripting::{ScriptEnd, run_input};
 use scripts::{STANDARD_INPUT, Script, run_all, scripts_of};
@@ -149,20 +149,20 @@ fn opened(rt: &HostRuntime, path: &str, numbers: &Numbers) -> Result<OpenedHub, 
         server.records,
     )
     .map_err(Fault::Hub)?;
-    opened.chunks = server.chunks as u32;
-    limit(&mut opened, numbers);
+    opened.settings.chunks = server.chunks as u32;
+    limit(&mut opened.settings, numbers);
     Ok(opened)
 }
 
-fn limit(opened: &mut OpenedHub, numbers: &Numbers) {
-    opened.wal_sender_timeout = numbers
+fn limit(settings: &mut HubSettings, numbers: &Numbers) {
+    settings.wal_sender_timeout = numbers
         .wal_sender_timeout
-        .unwrap_or(opened.wal_sender_timeout);
-    opened.authentication_timeout = numbers
+        .unwrap_or(settings.wal_sender_timeout);
+    settings.authentication_timeout = numbers
         .authentication_timeout
-        .unwrap_or(opened.authentication_timeout);
-    opened.max_connections = numbers.max_connections.unwrap_or(opened.max_connections);
-    opened.answers_postgresql = numbers.answers_postgresql;
+        .unwrap_or(settings.authentication_timeout);
+    settings.max_connections = numbers.max_connections.unwrap_or(settings.max_connections);
+    settings.answers_postgresql = numbers.answers_postgresql;
 }
 
 /// What is served, and what runs beside it.
