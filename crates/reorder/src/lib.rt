@@ -3,6 +3,7 @@
 
 mod entry;
 mod fault;
+mod lent;
 mod members;
 mod order;
 mod place;

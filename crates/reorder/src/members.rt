@@ -1,6 +1,7 @@
 //! The xids of one transaction.
 
 ghost use Rattle.std.specs.Prelude.{◌≡◌, ◌++◌, ◌∷◌, [], IfOk, OnOk};
+ghost use Rattle.reorder.specs.Lents.{xids_in};
 
 use std::alloc::{AllocError, Global};
 use std::marker::Model;
@@ -8,24 +9,42 @@ use std::marker::Model;
 /// A transaction's own xid, and those of its subtransactions in the order in which they came.
 #[derive(Drop)]
 pub(crate) struct Members {
-    xids: Vec<u32>,
+    xids: Xids,
+}
+
+/// Xids, of which most transactions have one.
+#[derive(Drop)]
+pub(crate) enum Xids {
+    /// It takes no memory.
+    One([u32; 1]),
+    Several(Vec<u32>),
 }
 
 impl Model for Members {
     ghost use Rattle.std.specs.Prelude.{List, ℕ};
+    ghost use Rattle.reorder.specs.Lents.{xids_in};
 
     ghost Value = { List ℕ };
 
-    ghost view = { λ m. m.xids.items };
+    ghost view = { λ m. xids_in m.xids };
 }
 
 impl Members {
-    pub(crate) fn of(alloc: Global, xid: u32) -> Result<Members, AllocError>
-        ensures { IfOk result (λ m. m ≡ xid ∷ []) }
+    pub(crate) fn of(xid: u32) -> Members
+        ensures { result ≡ xid ∷ [] }
     {
-        let mut xids = Vec::new(alloc);
-        xids.push(xid)?;
-        Ok(Members { xids })
+        Members {
+            xids: Xids::One([xid]),
+        }
+    }
+
+    /// Those of no transaction.
+    pub(crate) fn none(alloc: Global) -> Members
+        ensures { result ≡ [] }
+    {
+        Members {
+            xids: Xids::Several(Vec::new(alloc)),
+        }
     }
 
     pub(crate) fn as_slice(&self) -> &[u32]
@@ -34,17 +53,35 @@ impl Members {
         self.xids.as_slice()
     }
 
-    pub(crate) fn into_xids(self) -> Vec<u32>
-        ensures { result.items ≡ self }
-    {
-        let Members { xids } = self;
-        xids
-    }
-
-    pub(crate) fn push(&mut self, xid: u32) -> Result<(), AllocError>
+    pub(crate) fn push(&mut self, alloc: Global, xid: u32) -> Result<(), AllocError>
         ensures { OnOk result (self.new ≡ self.old ++ xid ∷ []) }
     {
-        self.xids.push(xid)?;
+        self.xids.push(alloc, xid)
+    }
+}
+
+impl Xids {
+    fn as_slice(&self) -> &[u32]
+        ensures { result.now ≡ xids_in self.now }
+    {
+        match self {
+            Xids::One(xid) => xid,
+            Xids::Several(xids) => xids.as_slice(),
+        }
+    }
+
+    fn push(&mut self, alloc: Global, xid: u32) -> Result<(), AllocError>
+        ensures { OnOk result (xids_in self.new ≡ xids_in self.old ++ xid ∷ []) }
+    {
+        match self {
+            Xids::One(own) => {
+                let mut xids = Vec::new(alloc);
+                xids.push(own[0])?;
+                xids.push(xid)?;
+                *self = Xids::Several(xids);
+            }
+            Xids::Several(xids) => xids.push(xid)?,
+        }
         Ok(())
     }
 }

@@ -1,14 +1,16 @@
 //! The entries of each xid, in an arena.
 
-ghost use Rattle.std.specs.Prelude.{◌≡◌, ◌≢◌, Err, None, Some, ℕ, false, ◌+◌, ◌<◌, ◌≤◌, ◌++◌, ◌∷◌, [], get_or, length, IfOk, IsSome, OnErr, OnOk, if◌then◌else◌};
+ghost use Rattle.std.specs.Prelude.{◌≡◌, ◌≢◌, Err, None, Some, ℕ, false, ◌+◌, ◌<◌, ◌≤◌, ◌++◌, ◌∷◌, [], get_or, length, IfOk, IsOk, IsSome, OnErr, OnOk, if◌then◌else◌};
 ghost use Rattle.std.specs.List.{AllByRecursion};
 ghost use Rattle.reorder.specs.Entries.{IsEntry};
 ghost use Rattle.chgarena.specs.Strands.{IsOf, arena_without, fills, has_room};
 ghost use Rattle.reorder.specs.Strands.{is_in};
 ghost use Rattle.reorder.specs.Chunks.{HasNoRoom, StaysWhole};
+ghost use Rattle.reorder.specs.Lents.{strands_in};
 ghost use Rattle.reorder.specs.Pool.{HoldEntries, IsLent, IsPool, IsSameAt, PushesAt, StaysLent, entries_at, entries_by, entries_in, map_with, strand_of, with_entries};
 
 use crate::fault::ReorderFault;
+use crate::lent::Lent;
 use chgarena::{Arena, Entries, Full, Strand};
 use std::alloc::{AllocError, Global};
 use std::collections::HashMap;
@@ -28,7 +30,8 @@ impl Model for Pool {
 
     ghost view = { λ p. record { arena = p.arena; strands = p.strands.entries } };
 
-    ghost invariant = { λ p. IsPool p.arena p.strands.entries × HoldEntries p.arena p.strands.entries };
+    ghost invariant = { λ p. IsPool p.arena p.strands.entries
+        × HoldEntries p.arena p.strands.entries };
 }
 
 impl Pool {
@@ -112,12 +115,30 @@ impl Pool {
         self.strands.remove(&xid)
     }
 
-    /// Lends the strands of these xids.
-    pub(crate) fn lend_all(
-        &mut self,
-        alloc: Global,
-        xids: &[u32],
-    ) -> Result<HashMap<u32, Strand>, AllocError>
+    /// Lends the strands of these xids. For one alone it takes no memory.
+    pub(crate) fn lend_all(&mut self, alloc: Global, xids: &[u32]) -> Result<Lent, AllocError>
+        ensures alone { length xids.now ≡ 1 → IsOk result }
+        ensures strands { IfOk result
+            (λ lent. (x : ℕ) →
+            strand_of (strands_in lent) x
+            ≡ (if is_in x xids.now then strand_of self.old.strands x else None)) }
+        ensures left { OnOk result
+            ((x : ℕ) →
+            strand_of self.new.strands x
+            ≡ (if is_in x xids.now then None else strand_of self.old.strands x)) }
+        ensures arena { self.new.arena ≡ self.old.arena }
+        ensures lent { StaysLent self.old self.new }
+        ensures pool { IsPool self.old.arena self.old.strands }
+        ensures hold { HoldEntries self.old.arena self.old.strands }
+    {
+        match xids {
+            [xid] => Ok(Lent::One(*xid, self.lend(*xid))),
+            _ => Ok(Lent::Several(self.lend_each(alloc, xids)?)),
+        }
+    }
+
+    /// Lends the strands of these xids, one after the other.
+    fn lend_each(&mut self, alloc: Global, xids: &[u32]) -> Result<HashMap<u32, Strand>, AllocError>
         ensures strands { IfOk result
             (λ lent. (x : ℕ) →
             strand_of lent.entries x
@@ -156,20 +177,15 @@ impl Pool {
 
     /// The k-th entry of an xid of which the strand was lent. It is found at once where it lies in the chunk `near` or in the one after
     /// it; the chunk in which it lies is the next `near`.
-    pub(crate) fn entry<'a>(
-        &'a self,
-        lent: &HashMap<u32, Strand>,
-        xid: u32,
-        k: usize,
-        near: &mut usize,
-    ) -> &'a [u8]
-        requires lent { IsLent self.now lent.now.entries }
-        requires within { k < length (entries_by self.now.arena (strand_of lent.now.entries xid)) }
+    pub(crate) fn entry<'a>(&'a self, lent: &Lent, xid: u32, k: usize, near: &mut usize) -> &'a [u8]
+        requires lent { IsLent self.now (strands_in lent.now) }
+        requires within { k
+            < length (entries_by self.now.arena (strand_of (strands_in lent.now) xid)) }
         ensures value { result.now
-            ≡ get_or (entries_by self.now.arena (strand_of lent.now.entries xid)) k [] }
+            ≡ get_or (entries_by self.now.arena (strand_of (strands_in lent.now) xid)) k [] }
         ensures entry { IsEntry result.now }
     {
-        match lent.get(&xid) {
+        match lent.get(xid) {
             Some(strand) => self.arena.entry_near(strand, k, near),
             None => unreachable!(),
         }

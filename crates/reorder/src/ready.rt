@@ -1,21 +1,22 @@
 //! What a commit makes ready.
 
 ghost use Rattle.std.specs.Prelude.{◌≡◌, ◌<◌, Some, length, slice_get};
+ghost use Rattle.reorder.specs.Lents.{strands_in};
 ghost use Rattle.reorder.specs.Orders.{places_in};
 
+use crate::lent::Lent;
+use crate::members::Members;
 use crate::order::Order;
 use crate::place::Place;
-use chgarena::Strand;
-use std::collections::HashMap;
 use std::marker::Model;
 
 /// The changes that a committed transaction keeps, in log order, those of rolled-back subtransactions left out. There are
 /// `count()` of them, maybe none; `Reorder::entry` lends each by its place, and `Reorder::finish` takes them back.
 #[derive(Drop)]
 pub struct Ready {
-    xids: Vec<u32>,
-    /// The strands of those that have changes, which nobody else has.
-    strands: HashMap<u32, Strand>,
+    members: Members,
+    /// The strands of those that have changes.
+    strands: Lent,
     order: Order,
     /// The chunk of the arena in which the last of them was found.
     near: usize,
@@ -23,11 +24,16 @@ pub struct Ready {
 
 impl Model for Ready {
     ghost use Rattle.reorder.specs.Ready.{ReadyState};
+    ghost use Rattle.reorder.specs.Lents.{strands_in};
     ghost use Rattle.reorder.specs.Orders.{places_in};
 
     ghost Value = { ReadyState };
 
-    ghost view = { λ r. record { xids = r.xids.items; strands = r.strands.entries; places = places_in r.order } };
+    ghost view = { λ r. record {
+      xids = r.members;
+      strands = strands_in r.strands;
+      places = places_in r.order;
+    } };
 }
 
 impl Ready {
@@ -53,34 +59,38 @@ impl Ready {
         self.near = near;
     }
 
-    pub(crate) fn strands(&self) -> &HashMap<u32, Strand>
-        ensures { result.now.entries ≡ self.now.strands }
+    pub(crate) fn strands(&self) -> &Lent
+        ensures { strands_in result.now ≡ self.now.strands }
     {
         &self.strands
     }
 
-    pub(crate) fn new(xids: Vec<u32>, strands: HashMap<u32, Strand>, order: Order) -> Ready
+    pub(crate) fn new(members: Members, strands: Lent, order: Order) -> Ready
         ensures { result
             ≡ record {
-              xids = xids.items;
-              strands = strands.entries;
+              xids = members;
+              strands = strands_in strands;
               places = places_in order;
             } }
     {
         Ready {
-            xids,
+            members,
             strands,
             order,
             near: 0,
         }
     }
 
-    pub(crate) fn into_parts(self) -> (Vec<u32>, HashMap<u32, Strand>)
-        ensures xids { result.0.items ≡ self.xids }
-        ensures strands { result.1.entries ≡ self.strands }
+    pub(crate) fn into_parts(self) -> (Members, Lent)
+        ensures xids { result.0 ≡ self.xids }
+        ensures strands { strands_in result.1 ≡ self.strands }
     {
-        let Ready { xids, strands, .. } = self;
-        (xids, strands)
+        let Ready {
+            members,
+            strands,
+            ..
+        } = self;
+        (members, strands)
     }
 }
 

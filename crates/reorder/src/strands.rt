@@ -12,16 +12,18 @@ ghost use Rattle.reorder.specs.Entries.{IsEntry, entry_in};
 ghost use Rattle.chgarena.specs.Strands.{fills};
 ghost use Rattle.reorder.specs.Chunks.{HasNoRoom, IsTidy, IsWhole, StaysTidy, StaysWhole, chunks_for, strands_alone};
 ghost use Rattle.reorder.specs.Pool.{AreApart, HoldEntries, IsLent, IsPool, Lasts, StaysLent, entries_at, map_with, strand_of};
+ghost use Rattle.reorder.specs.Lents.{strands_in};
 ghost use Rattle.reorder.specs.Ready.{IsReadyIn, PlaceState, ReadyState, bytes_at, lent_from, ready_entries};
 ghost use Rattle.reorder.specs.Settled.{heads_of, ready_chunks, ready_heads, without_all};
 ghost use Rattle.reorder.specs.Strands.{AreDistinct, AreMerged, IsSame, above_of, above_standing, all_in, with_subtransaction, back_in, behind, without_transaction, is_in, by_xid, with_change_of, with_transaction, after_rollback_of, changes_at, with_member};
 
 use crate::fault::ReorderFault;
+use crate::lent::Lent;
 use crate::members::Members;
 use crate::pool::Pool;
 use crate::ready::Ready;
 use crate::strand::Strand;
-use chgarena::{Arena, Strand as ArenaStrand};
+use chgarena::Arena;
 use std::alloc::{AllocError, Global};
 use std::collections::HashMap;
 use std::marker::Model;
@@ -44,7 +46,11 @@ impl Model for Strands {
 
     ghost Value = { StrandsState };
 
-    ghost view = { λ s. record { strands = s.strands.entries; members = s.members.entries; pool = s.pool } };
+    ghost view = { λ s. record {
+      strands = s.strands.entries;
+      members = s.members.entries;
+      pool = s.pool;
+    } };
 }
 
 impl Strands {
@@ -95,8 +101,7 @@ impl Strands {
         ensures tidy { OnOk result (StaysTidy self.old self.new) }
         ensures lent { StaysLent self.old.pool self.new.pool }
     {
-        let members = Members::of(self.alloc, xid)?;
-        self.members.insert(xid, members)?;
+        self.members.insert(xid, Members::of(xid))?;
         self.strands
             .insert(xid, Strand::under(Vec::new(self.alloc)))?;
         self.pool.give_back(xid);
@@ -167,7 +172,7 @@ impl Strands {
     {
         let above = self.chain(parent)?;
         let top = last_or(parent, above.as_slice());
-        add_member(&mut self.members, top, sub)?;
+        add_member(self.alloc, &mut self.members, top, sub)?;
         self.strands.insert(sub, Strand::under(above))?;
         self.pool.give_back(sub);
         Ok(())
@@ -194,6 +199,7 @@ impl Strands {
         if let Some(members) = self.members.remove(&top) {
             remove_all(&mut self.strands, members.as_slice());
             give_back_all(&mut self.pool, members.as_slice());
+            drop(members);
         }
     }
 
@@ -218,10 +224,10 @@ impl Strands {
         ensures lent { StaysLent self.old.pool self.new.pool }
     {
         let order = self.order(top)?;
-        let xids = remove_members(self.alloc, &mut self.members, top);
-        remove_all(&mut self.strands, xids.as_slice());
-        let strands = self.pool.lend_all(self.alloc, xids.as_slice())?;
-        Ok(Ready::new(xids, strands, order))
+        let members = remove_members(self.alloc, &mut self.members, top);
+        remove_all(&mut self.strands, members.as_slice());
+        let strands = self.pool.lend_all(self.alloc, members.as_slice())?;
+        Ok(Ready::new(members, strands, order))
     }
 
     /// The k-th entry of what is ready.
@@ -255,8 +261,8 @@ impl Strands {
         ensures lent { (lent : List (ℕ × Option ℕ)) → IsLent self.old.pool lent →
             AreApart ready.strands lent → Lasts self.old.pool self.new.pool lent }
     {
-        let (xids, strands) = ready.into_parts();
-        take_back_all(&mut self.pool, strands, xids.as_slice());
+        let (members, strands) = ready.into_parts();
+        take_back_all(&mut self.pool, strands, members.as_slice());
     }
 }
 
@@ -271,7 +277,12 @@ fn last_or(xid: u32, xids: &[u32]) -> u32
 }
 
 /// Adds an xid to those of a transaction.
-fn add_member(members: &mut HashMap<u32, Members>, top: u32, sub: u32) -> Result<(), AllocError>
+fn add_member(
+    alloc: Global,
+    members: &mut HashMap<u32, Members>,
+    top: u32,
+    sub: u32,
+) -> Result<(), AllocError>
     ensures { OnOk result
         ((t : ℕ) →
         get nat_eq members.new t
@@ -279,20 +290,20 @@ fn add_member(members: &mut HashMap<u32, Members>, top: u32, sub: u32) -> Result
         (get nat_eq members.old) t) }
 {
     if let Some(xids) = members.get_mut(&top) {
-        xids.push(sub)?;
+        xids.push(alloc, sub)?;
     }
     Ok(())
 }
 
 /// Gives up the xids of a transaction, and answers them.
-fn remove_members(alloc: Global, members: &mut HashMap<u32, Members>, top: u32) -> Vec<u32>
-    ensures xids { result.items ≡ all_in (get nat_eq members.old top) }
+fn remove_members(alloc: Global, members: &mut HashMap<u32, Members>, top: u32) -> Members
+    ensures xids { result ≡ all_in (get nat_eq members.old top) }
     ensures gone { (t : ℕ)
         → get nat_eq members.new t ≡ map_with top None (get nat_eq members.old) t }
 {
     match members.remove(&top) {
-        Some(members) => members.into_xids(),
-        None => Vec::new(alloc),
+        Some(members) => members,
+        None => Members::none(alloc),
     }
 }
 
@@ -319,21 +330,21 @@ fn give_back_all(pool: &mut Pool, xids: &[u32])
 }
 
 /// Gives back strands that were lent, of which these are the xids.
-fn take_back_all(pool: &mut Pool, mut lent: HashMap<u32, ArenaStrand>, xids: &[u32])
-    requires { IsLent pool.old lent.entries }
+fn take_back_all(pool: &mut Pool, mut lent: Lent, xids: &[u32])
+    requires { IsLent pool.old (strands_in lent) }
     ensures strands { pool.new.strands ≡ pool.old.strands }
     ensures arena { pool.new.arena
-        ≡ without_all pool.old.arena (heads_of (strand_of lent.entries) xids.now) }
+        ≡ without_all pool.old.arena (heads_of (strand_of (strands_in lent)) xids.now) }
     ensures entries { (x : ℕ) → entries_at pool.new x ≡ entries_at pool.old x }
     ensures others { (others : List (ℕ × Option ℕ)) → IsLent pool.old others →
-        AreApart lent.entries others → Lasts pool.old pool.new others }
+        AreApart (strands_in lent) others → Lasts pool.old pool.new others }
     ensures chunks { length pool.new.arena ≡ length pool.old.arena }
-    ensures whole { ((x : ℕ) → IsSome (strand_of lent.entries x) → is_in x xids.now ≡ true) →
-        (held : List ReadyState) → IsWhole (strands_alone lent.entries ∷ held) pool.old →
+    ensures whole { ((x : ℕ) → IsSome (strand_of (strands_in lent) x) → is_in x xids.now ≡ true) →
+        (held : List ReadyState) → IsWhole (strands_alone (strands_in lent) ∷ held) pool.old →
         IsWhole held pool.new }
 {
     for xid in xids {
-        if let Some(strand) = lent.remove(xid) {
+        if let Some(strand) = lent.remove(*xid) {
             pool.take_back(strand);
         }
     }

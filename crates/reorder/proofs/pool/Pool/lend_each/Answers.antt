@@ -3,8 +3,8 @@ use Rattle.std.proofs.lemmas.List.{take_all}
 use Rattle.reorder.specs.Pool.{strand_of}
 use Rattle.reorder.specs.Strands.{is_in}
 use Rattle.reorder.proofs.Lending.{left_more, lent_none, lent_some, stays_lent}
-use Rattle.reorder.proofs.pool.Pool.lend_all.Goals as goal
-use Rattle.reorder.proofs.pool.Pool.lend_all.Goals.{in-Some+in_ok-insert, in_default}
+use Rattle.reorder.proofs.pool.Pool.lend_each.Goals as goal
+use Rattle.reorder.proofs.pool.Pool.lend_each.Goals.{in-Some+in_ok-insert, in_default}
 
 pub loop-xid-preserved : goal.loop-xid-preserved
 loop-xid-preserved c =

@@ -1,7 +1,7 @@
 use Rattle.std.proofs.Common.{◌≡◌, ℕ, None, cond, take}
 use Rattle.reorder.specs.Pool.{StaysLent, strand_of}
 use Rattle.reorder.specs.Strands.{is_in}
-use Rattle.reorder.proofs.pool.Pool.lend_all.Given as goal
+use Rattle.reorder.proofs.pool.Pool.lend_each.Given as goal
 
 -- the strands of the xids so far are lent
 abbrev pub invariant-loop-xid : goal.invariant-loop-xid
