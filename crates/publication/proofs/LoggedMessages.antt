@@ -22,6 +22,7 @@ use Rattle.publication.specs.Projection.{AreValues, MessageFits}
 use Rattle.publication.specs.Selection.{FitTables}
 use Rattle.pqformat.specs.Writing.{FitsRoom}
 use Rattle.publication.specs.Spelling.{HasRoom}
+use Rattle.publication.specs.declared.putting.TheConstants.{MAX_MESSAGE_LENGTH}
 use Rattle.publication.proofs.Catalogued.{no_zero}
 use Rattle.publication.proofs.Fitting.{message_fits}
 use Rattle.publication.proofs.Rows.{both_true}
@@ -61,7 +62,7 @@ told_short is_transactional position m is = let s = short m is in omega (arith, 
 pub told_room : (is_transactional : Bool) (position : ℕ) (m : Message) (out : List ℕ) → fits_log m ≡ true → HasRoom out → FitsRoom 0 out (spell_logical (told_of is_transactional position m))
 told_room is_transactional position m out is room = let s = short m is in (omega (arith, told_length is_transactional position m, s.prefix, s.content, room.0), room.1)
 
-pub told_within : (is_transactional : Bool) (position : ℕ) (m : Message) → fits_log m ≡ true → length (spell_logical (told_of is_transactional position m)) ≤ 32000
+pub told_within : (is_transactional : Bool) (position : ℕ) (m : Message) → fits_log m ≡ true → length (spell_logical (told_of is_transactional position m)) ≤ MAX_MESSAGE_LENGTH
 told_within is_transactional position m is = let s = short m is in omega (arith, told_length is_transactional position m, s.prefix, s.content)
 
 record Logged (is_transactional : Bool) (position : ℕ) (m : Message) (told : Logical) : Type 0 where

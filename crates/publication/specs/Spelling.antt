@@ -8,6 +8,7 @@ use Rattle.tables.specs.Reading.{IsCodedRow}
 use Rattle.tables.specs.Spelling.{row_length}
 use Rattle.pgoutput.specs.declared.logical.Logical.{Logical}
 use Rattle.pgoutput.specs.Logical.{spell_logical}
+use Rattle.publication.specs.declared.putting.TheConstants.{MAX_MESSAGE_LENGTH}
 
 -- the message at the front of the slice, where there is one
 abbrev pub IsWritten : Option ℕ → List ℕ → List ℕ → Option Logical → Type 0
@@ -23,7 +24,7 @@ IsPut _ out _ = ⊥
 
 -- room for any message of a change, in a slice whose length fits a field
 abbrev pub HasRoom : List ℕ → Type 0
-HasRoom out = (32000 ≤ length out) × (length out < 2 ^ 31)
+HasRoom out = (MAX_MESSAGE_LENGTH ≤ length out) × (length out < 2 ^ 31)
 
 -- all of it was read
 abbrev pub IsReadWhole : {A : Type 0} → Result (A × List ℕ) BodyFault → Type 0

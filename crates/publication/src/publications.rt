@@ -41,9 +41,14 @@ impl Model for Publications {
 
     ghost coded = { Prim.hlevel (codes, condition_code (Prim.hlevel codes)) };
 
-    ghost view = { λ p. record { tables = p.tables; publications = p.publications; messages = false } };
+    ghost view = { λ p. record {
+      tables = p.tables;
+      publications = p.publications;
+      messages = false;
+    } };
 
-    ghost invariant = { λ p. AllByRecursion FitsTable p.tables × (repeats (oids_of p.tables) ≡ false) };
+    ghost invariant = { λ p. AllByRecursion FitsTable p.tables
+        × (repeats (oids_of p.tables) ≡ false) };
 }
 
 impl Publications {

@@ -15,8 +15,9 @@ use crate::selection::Selection;
 use publication_config::Operation;
 use tables::{DELETE_TAG, INSERT_TAG, MESSAGE_TAG, RowRef, TRUNCATE_TAG, UPDATE_TAG};
 
-/// The longest message of a change, in bytes.
-pub const MAX_MESSAGE_LENGTH: usize = 32_000;
+/// So many bytes are room for the message of any change: an update's two rows have at most 9,536 each, and 7 stand before and between
+/// them.
+pub const MAX_MESSAGE_LENGTH: usize = 19_200;
 
 impl Selection {
     /// Writes the message of the change whose body these bytes are, and whose record starts at the position, to the front of `out`, and

@@ -54,9 +54,20 @@ impl Model for Selection {
 
     ghost coded = { Prim.hlevel (codes, condition_code (Prim.hlevel codes)) };
 
-    ghost view = { λ s. record { tables = s.tables; publications = s.publications; messages = s.messages } };
+    ghost view = { λ s. record {
+      tables = s.tables;
+      publications = s.publications;
+      messages = s.messages;
+    } };
 
-    ghost invariant = { λ s. AllByRecursion FitsTable s.tables × (s.oids ≡ selected_oids (record { tables = s.tables; publications = s.publications; messages = s.messages })) × (repeats (oids_of s.tables) ≡ false) };
+    ghost invariant = { λ s. AllByRecursion FitsTable s.tables
+        × (s.oids
+        ≡ selected_oids (record {
+          tables = s.tables;
+          publications = s.publications;
+          messages = s.messages;
+        }))
+        × (repeats (oids_of s.tables) ≡ false) };
 }
 
 impl Selection {

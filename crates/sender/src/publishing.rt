@@ -173,9 +173,9 @@ impl Outgoing {
     ) -> Result<(), AllocError>
         requires good { IsOutgoing selection.now reorder.old self.old }
         requires lent { AreLentIn reorder.old (ready_states self.old.waiting.items ++ ready ∷ []) }
-        ensures grows { Grows selection.now clock
-            (published_with selection.now (ready_entries reorder.old.strands.pool ready) header ∷ [])
-            result reorder.old reorder.new self.old self.new }
+        ensures grows { let entries = ready_entries reorder.old.strands.pool ready in
+            Grows selection.now clock (published_with selection.now entries header ∷ []) result
+            reorder.old reorder.new self.old self.new }
         ensures taken { (rs : List Logged) → HasTaken reorder.old rs →
             HasTaken (settled_of reorder.new self.new) rs }
         ensures tidy { (count : ℕ) →

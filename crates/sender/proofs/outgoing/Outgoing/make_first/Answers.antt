@@ -6,6 +6,7 @@ use Rattle.std.proofs.Common.{◌≡◌, ◌+◌, ◌-◌, ◌++◌, ◌∷◌, 
 use Rattle.sender.specs.declared.outgoing.Outgoing.{Outgoing}
 use Rattle.sender.specs.declared.waiting.Waiting.{Waiting}
 use Rattle.sender.specs.declared.outgoing.TheConstants.{FRAMES_LENGTH}
+use Rattle.sender.specs.declared.making.TheConstants.{MAX_FRAME_LENGTH}
 use Rattle.sender.specs.Outgoing.{HoldsSame}
 use Rattle.sender.specs.Waiting.{Makes, left_of}
 use Rattle.sender.proofs.Frames.{ComesToFrames, first_is, first_moved, frame_made, less, mid_length, mid_taken, moved_to, room_there, same_then}
@@ -41,18 +42,18 @@ returns-else-count-eq0-clause-same c =
     let f = first_is o.waiting.items w c.requires.waits c.in-Some.ensures.value in
     let told = c.next_frame-count.ensures in
     let none : w.before ≡ 0 = omega arith in
-    let room : length o.frames.items ≡ FRAMES_LENGTH = room_there selection s o 32030 c.requires.good (omega arith) c.requires.room in
+    let room : length o.frames.items ≡ FRAMES_LENGTH = room_there selection s o MAX_FRAME_LENGTH c.requires.good (omega arith) c.requires.room in
     let makes : Makes selection w.clock (left_of selection s.strands.pool w) (left_of selection s.strands.pool (moved_to w next)) (reverse o.relations_sent.items) (reverse c.next_frame-count.new.relations_sent.items) (take count out) =
     subst (λ (x : Waiting). Makes selection w.clock (left_of selection s.strands.pool w) (left_of selection s.strands.pool x) (reverse o.relations_sent.items) (reverse c.next_frame-count.new.relations_sent.items) (take count out))
     told.waiting told.makes in
     let xs = c.deref_mut.result.now in
     let value : xs ≡ o.frames.items = c.deref_mut.ensures.value in
     let size : length xs ≡ length o.frames.items = ap (length {A = ℕ}) value in
-    let long : length out ≡ (o.to + 32030) - o.to = told.same ∙ length-take-le ((o.to + 32030) - o.to) (drop o.to xs) (omega (arith, length-drop o.to xs, size)) in
-    let mid = put_mid o.to ((o.to + 32030) - o.to) xs out in
+    let long : length out ≡ (o.to + MAX_FRAME_LENGTH) - o.to = told.same ∙ length-take-le ((o.to + MAX_FRAME_LENGTH) - o.to) (drop o.to xs) (omega (arith, length-drop o.to xs, size)) in
+    let mid = put_mid o.to ((o.to + MAX_FRAME_LENGTH) - o.to) xs out in
     let taken : take (o.to + count) mid ≡ take o.to o.frames.items ++ take count out =
-    mid_taken o.to ((o.to + 32030) - o.to) count xs out (omega (arith, size)) (omega (arith, long)) ∙ ap (λ (l : List ℕ). take o.to l ++ take count out) value in
-    let same_size : length mid ≡ length o.frames.items = mid_length o.to ((o.to + 32030) - o.to) xs out (omega (arith, size)) long ∙ size in
+    mid_taken o.to ((o.to + MAX_FRAME_LENGTH) - o.to) count xs out (omega (arith, size)) (omega (arith, long)) ∙ ap (λ (l : List ℕ). take o.to l ++ take count out) value in
+    let same_size : length mid ≡ length o.frames.items = mid_length o.to ((o.to + MAX_FRAME_LENGTH) - o.to) xs out (omega (arith, size)) long ∙ size in
     let items : (with_items o.frames mid).items ≡ mid = with_items_is o.frames mid (let ok = o.frames.ok in omega (arith, ok, same_size)) in
     let o' : Outgoing = record o { frames = with_items o.frames mid; to = o.to + count; waiting = deque_with_item o.waiting 0 c.next_frame-count.new.waiting; relations_sent = c.next_frame-count.new.relations_sent } in
     let full : length o'.frames.items ≡ length o.frames.items = ap (length {A = ℕ}) items ∙ same_size in
@@ -73,18 +74,18 @@ returns-then-count-eq0-clause-same c =
     let f = first_is o.waiting.items w c.requires.waits c.in-Some.ensures.value in
     let told = c.next_frame-count.ensures in
     let none : w.before ≡ 0 = omega arith in
-    let room : length o.frames.items ≡ FRAMES_LENGTH = room_there selection s o 32030 c.requires.good (omega arith) c.requires.room in
+    let room : length o.frames.items ≡ FRAMES_LENGTH = room_there selection s o MAX_FRAME_LENGTH c.requires.good (omega arith) c.requires.room in
     let makes : Makes selection w.clock (left_of selection s.strands.pool w) (left_of selection s.strands.pool (moved_to w next)) (reverse o.relations_sent.items) (reverse c.next_frame-count.new.relations_sent.items) (take count out) =
     subst (λ (x : Waiting). Makes selection w.clock (left_of selection s.strands.pool w) (left_of selection s.strands.pool x) (reverse o.relations_sent.items) (reverse c.next_frame-count.new.relations_sent.items) (take count out))
     told.waiting told.makes in
     let xs = c.deref_mut.result.now in
     let value : xs ≡ o.frames.items = c.deref_mut.ensures.value in
     let size : length xs ≡ length o.frames.items = ap (length {A = ℕ}) value in
-    let long : length out ≡ (o.to + 32030) - o.to = told.same ∙ length-take-le ((o.to + 32030) - o.to) (drop o.to xs) (omega (arith, length-drop o.to xs, size)) in
-    let mid = put_mid o.to ((o.to + 32030) - o.to) xs out in
+    let long : length out ≡ (o.to + MAX_FRAME_LENGTH) - o.to = told.same ∙ length-take-le ((o.to + MAX_FRAME_LENGTH) - o.to) (drop o.to xs) (omega (arith, length-drop o.to xs, size)) in
+    let mid = put_mid o.to ((o.to + MAX_FRAME_LENGTH) - o.to) xs out in
     let taken : take (o.to + count) mid ≡ take o.to o.frames.items ++ take count out =
-    mid_taken o.to ((o.to + 32030) - o.to) count xs out (omega (arith, size)) (omega (arith, long)) ∙ ap (λ (l : List ℕ). take o.to l ++ take count out) value in
-    let same_size : length mid ≡ length o.frames.items = mid_length o.to ((o.to + 32030) - o.to) xs out (omega (arith, size)) long ∙ size in
+    mid_taken o.to ((o.to + MAX_FRAME_LENGTH) - o.to) count xs out (omega (arith, size)) (omega (arith, long)) ∙ ap (λ (l : List ℕ). take o.to l ++ take count out) value in
+    let same_size : length mid ≡ length o.frames.items = mid_length o.to ((o.to + MAX_FRAME_LENGTH) - o.to) xs out (omega (arith, size)) long ∙ size in
     let items : (with_items o.frames mid).items ≡ mid = with_items_is o.frames mid (let ok = o.frames.ok in omega (arith, ok, same_size)) in
     let o' : Outgoing = record o { frames = with_items o.frames mid; to = o.to + count; waiting = deque_with_item o.waiting 0 c.next_frame-count.new.waiting; relations_sent = c.next_frame-count.new.relations_sent } in
     let full : length o'.frames.items ≡ length o.frames.items = ap (length {A = ℕ}) items ∙ same_size in
