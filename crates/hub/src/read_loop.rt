@@ -18,7 +18,7 @@ use std::sync::Wait;
 use std::time::{Clock, Duration};
 
 /// How many bytes are read at once.
-const MOST_READ: usize = 4096;
+const MOST_READ: usize = 1024;
 
 /// The fewest milliseconds for which a read waits: a socket takes none for no limit.
 const SHORTEST_WAIT: u64 = 1;

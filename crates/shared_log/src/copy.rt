@@ -46,7 +46,10 @@ impl Absorb<Put> for LogCopy {
 
     ghost state = { λ c. (kept_in c.records.items, c.mark.seen) };
 
-    ghost applied = { λ s put. (take put.place s.0 ++ (arc_value put.entry, put.restart) ∷ [], put.mark.seen) };
+    ghost applied = { λ s put. (
+      take put.place s.0 ++ (arc_value put.entry, put.restart) ∷ [],
+      put.mark.seen,
+    ) };
 
     fn absorb_first(&mut self, operation: &Put, _other: &LogCopy) -> Result<(), AllocError> {
         self.records.reserve(1)?;

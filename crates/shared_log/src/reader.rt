@@ -132,7 +132,7 @@ impl<L: LogName> LogReader<L> {
 fn shares(alloc: Global, records: &[Logged]) -> Result<Vec<Arc<Record>>, AllocError>
     ensures { IfOk result (λ v. shared_records v.items ≡ records_in records.now) }
 {
-    let mut copies = Vec::new(alloc);
+    let mut copies = Vec::with_capacity(alloc, records.len())?;
     for logged in records {
         copies.push(Arc::try_clone(&logged.entry)?)?;
     }

@@ -21,7 +21,8 @@ impl<L: LogName> Protocol<LogCopy, View> for Published<L> {
     ghost use Rattle.shared_log.specs.Kept.{kept_in, records_in};
     ghost use Rattle.shared_log.specs.Sharing.{Keeps, newcomer};
 
-    ghost holds = { λ c. Keeps L.book (records_in c.records.items) (kept_in c.records.items) c.mark.seen.book c.mark.seen.log };
+    ghost holds = { λ c. Keeps L.book (records_in c.records.items) (kept_in c.records.items)
+        c.mark.seen.book c.mark.seen.log };
 
     ghost first = { newcomer };
 }
@@ -35,5 +36,6 @@ impl<L: LogName> Outcome<LogCopy, View> for Sees<L> {
     ghost use Rattle.shared_log.specs.Kept.{kept_in, records_in};
     ghost use Rattle.shared_log.specs.Sharing.{Saw};
 
-    ghost then = { λ v before after w. Saw L.book v (records_in after.records.items) (kept_in after.records.items) after.mark.seen.book after.mark.seen.log w };
+    ghost then = { λ v before after w. Saw L.book v (records_in after.records.items)
+        (kept_in after.records.items) after.mark.seen.book after.mark.seen.log w };
 }
