@@ -39,7 +39,11 @@ impl Model for Applier {
 
     ghost Value = { ApplierState };
 
-    ghost view = { λ a. record { subscriber = a.progress; unread = a.unread.items; fault = a.fault } };
+    ghost view = { λ a. record {
+      subscriber = a.progress;
+      unread = a.unread.items;
+      fault = a.fault;
+    } };
 }
 
 impl Applier {

@@ -28,7 +28,12 @@ impl Model for Progress {
 
     ghost Value = { Subscriber };
 
-    ghost view = { λ p. record { position = p.position; applied = p.applied.items; tables = p.tables.entries; half = p.half } };
+    ghost view = { λ p. record {
+      position = p.position;
+      applied = p.applied.items;
+      tables = p.tables.entries;
+      half = p.half;
+    } };
 }
 
 impl Progress {
@@ -84,20 +89,20 @@ impl Progress {
                 self.keep_alive(&keepalive);
                 Ok(())
             }
-            Word::XLogData(data) => self.hear(data),
+            Word::XLogData(piece) => self.hear(piece),
         }
     }
 
-    fn hear(&mut self, data: XLogData) -> Result<(), ClientFault>
+    fn hear(&mut self, piece: XLogData) -> Result<(), ClientFault>
         ensures { Makes result self.old self.new
-            (after_message self.old data.start data.end data.message) }
+            (after_message self.old piece.start piece.end piece.message) }
     {
         let XLogData {
             start,
             end,
             message,
             ..
-        } = data;
+        } = piece;
         match message {
             Logical::Begin(begin) => self.begin(begin),
             Logical::Relation(relation) => self.tell(&relation),

@@ -33,7 +33,11 @@ impl Model for Config {
 
     ghost coded = { Prim.hlevel (codes, condition_code (Prim.hlevel codes)) };
 
-    ghost view = { λ c. record { tables = c.catalog; publications = c.publications; server = c.server } };
+    ghost view = { λ c. record {
+      tables = c.catalog;
+      publications = c.publications;
+      server = c.server;
+    } };
 
     ghost invariant = { λ c. IsServer c.server };
 }

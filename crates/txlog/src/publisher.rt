@@ -49,9 +49,21 @@ impl<L: LogName> Model for Publisher<L> {
 
     ghost Value = { PublisherState };
 
-    ghost view = { λ p. record { tables = p.store.tables; capacity = p.capacity; log = p.log; next_xid = p.next_xid; live = p.live } };
+    ghost view = { λ p. record {
+      tables = p.store.tables;
+      capacity = p.capacity;
+      log = p.log;
+      next_xid = p.next_xid;
+      live = p.live;
+    } };
 
-    ghost invariant = { λ p. KeepsLog p.store (record { tables = p.store.tables; capacity = p.capacity; log = p.log; next_xid = p.next_xid; live = p.live }) };
+    ghost invariant = { λ p. KeepsLog p.store (record {
+      tables = p.store.tables;
+      capacity = p.capacity;
+      log = p.log;
+      next_xid = p.next_xid;
+      live = p.live;
+    }) };
 }
 
 impl<L: LogName> Publisher<L> {

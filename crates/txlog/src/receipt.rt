@@ -22,9 +22,16 @@ impl<L: LogName> Model for Receipt<L> {
 
     ghost Value = { Committed };
 
-    ghost view = { λ r. record { place = r.told.place; start = r.told.start; end = r.told.end; xid = r.xid } };
+    ghost view = { λ r. record {
+      place = r.told.place;
+      start = r.told.start;
+      end = r.told.end;
+      xid = r.xid;
+    } };
 
-    ghost invariant = { λ r. has_commit (settled_records r.told.front) (record { place = r.told.place; start = r.told.start; end = r.told.end; xid = r.xid }) ≡ true };
+    ghost invariant = { λ r. has_commit (settled_records r.told.front)
+        (record { place = r.told.place; start = r.told.start; end = r.told.end; xid = r.xid })
+        ≡ true };
 }
 
 impl<L: LogName> Receipt<L> {
