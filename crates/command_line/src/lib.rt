@@ -7,4 +7,4 @@ mod words;
 
 pub use ending::{Ending, ended};
 pub use fault::WordsFault;
-pub use words::{address_of, count_of, required};
+pub use words::{address_of, count_of, with_required};

@@ -4,7 +4,7 @@ use crate::fault::Fault;
 use crate::numbers::timeout_of;
 use crate::reports::Level;
 use clap::{Arg, ArgAction, ArgMatches, Command, Error};
-use command_line::{address_of, count_of, required};
+use command_line::{address_of, count_of, with_required};
 use std::alloc::{AllocError, Global};
 use std::net::SocketAddr;
 use std::time::Duration;
@@ -272,10 +272,7 @@ fn command_of<'a>(alloc: Global) -> Result<Command<'a>, AllocError> {
         command = command.arg(optional(alloc, *name, *value, *help))?;
     }
     command = command.arg(answer_postgresql(alloc))?;
-    for (name, help) in &REQUIRED {
-        command = command.arg(required(alloc, *name, *help))?;
-    }
-    command.arg(scripts(alloc))
+    with_required(alloc, command, &REQUIRED)?.arg(scripts(alloc))
 }
 
 fn optional<'a>(alloc: Global, name: &'a str, value: &'a str, help: &'a str) -> Arg<'a> {

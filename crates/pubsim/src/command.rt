@@ -2,7 +2,7 @@
 
 use crate::simulation::Form;
 use clap::{Arg, ArgAction, ArgMatches, Command, Error};
-use command_line::required;
+use command_line::with_required;
 use std::alloc::{AllocError, Global};
 
 const ABOUT: &str =
@@ -114,15 +114,11 @@ pub fn words_of<'a>(alloc: Global, words: &'a [String]) -> Result<Words<'a>, Err
 }
 
 fn command_of<'a>(alloc: Global) -> Result<Command<'a>, AllocError> {
-    let mut command = Command::new(alloc, "pubsim")
+    let command = Command::new(alloc, "pubsim")
         .about(ABOUT)
         .after_help(AFTER_HELP)
         .bin_name("pubsim")?;
-    command = command.arg(render(alloc))?;
-    for (name, help) in &REQUIRED {
-        command = command.arg(required(alloc, *name, *help))?;
-    }
-    Ok(command)
+    with_required(alloc, command.arg(render(alloc))?, &REQUIRED)
 }
 
 fn render(alloc: Global) -> Arg<'static> {

@@ -1,7 +1,7 @@
 //! The words of the command line.
 
 use clap::{Arg, ArgAction, ArgMatches, Command, Error};
-use command_line::required;
+use command_line::with_required;
 use std::alloc::{AllocError, Global};
 
 const ABOUT: &str =
@@ -66,11 +66,19 @@ pub struct Words<'a> {
     pub count: &'a str,
 }
 
-const FOLLOW_HELP: &str = "Go on over lost connections, and print each transaction once";
-
-const JSON_HELP: &str = "Print an object of JSON on a line, as users of wal2json know them";
-
-const MESSAGES_HELP: &str = "Ask for the messages in the log too";
+/// The words that stand alone, and what is said of each.
+const FLAGS: [(&str, &str); 4] = [
+    ("create", "Create the slot first"),
+    (
+        "follow",
+        "Go on over lost connections, and print each transaction once",
+    ),
+    (
+        "json",
+        "Print an object of JSON on a line, as users of wal2json know them",
+    ),
+    ("messages", "Ask for the messages in the log too"),
+];
 
 /// The words that have to be there, and what is said of each.
 const REQUIRED: [(&str, &str); 5] = [
@@ -91,16 +99,8 @@ pub fn words_of<'a>(alloc: Global, words: &'a [String]) -> Result<Words<'a>, Err
 }
 
 fn command_of<'a>(alloc: Global) -> Result<Command<'a>, AllocError> {
-    let mut command = bare(alloc)?
-        .arg(flag(alloc, "create", "Create the slot first"))?
-        .arg(flag(alloc, "follow", FOLLOW_HELP))?
-        .arg(flag(alloc, "json", JSON_HELP))?
-        .arg(flag(alloc, "messages", MESSAGES_HELP))?
-        .arg(output(alloc)?)?;
-    for (name, help) in &REQUIRED {
-        command = command.arg(required(alloc, *name, *help))?;
-    }
-    Ok(command)
+    let command = with_output(alloc, with_flags(alloc, bare(alloc)?)?)?;
+    with_required(alloc, command, &REQUIRED)
 }
 
 /// The command without its words.
@@ -109,6 +109,18 @@ fn bare<'a>(alloc: Global) -> Result<Command<'a>, AllocError> {
         .about(ABOUT)
         .after_help(AFTER_HELP)
         .bin_name("subcat")
+}
+
+fn with_flags<'a>(alloc: Global, command: Command<'a>) -> Result<Command<'a>, AllocError> {
+    let mut command = command;
+    for (name, help) in &FLAGS {
+        command = command.arg(flag(alloc, *name, *help))?;
+    }
+    Ok(command)
+}
+
+fn with_output<'a>(alloc: Global, command: Command<'a>) -> Result<Command<'a>, AllocError> {
+    command.arg(output(alloc)?)
 }
 
 fn flag<'a>(alloc: Global, name: &'a str, help: &'a str) -> Arg<'a> {
