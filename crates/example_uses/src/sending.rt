@@ -81,10 +81,10 @@ fn sent<L: LogName>(
     reader: &mut LogReader<L>,
 ) -> Result<BytesMut> {
     let mut sender = sender_of_p(alloc, publisher.catalog())?;
-    let mut bytes = BytesMut::new(alloc);
     publisher.tell(reader);
-    send(alloc, reader, &mut sender, &mut bytes)?;
-    Ok(bytes)
+    let bytes = send(alloc, reader, &mut sender);
+    drop(sender);
+    bytes
 }
 
 /// The sender reads the log under clock 9, and tells how far it has read. The reader was told of the whole log.
@@ -92,14 +92,14 @@ fn send<L: LogName>(
     alloc: Global,
     reader: &mut LogReader<L>,
     sender: &mut Sender,
-    bytes: &mut BytesMut,
-) -> Result<()> {
+) -> Result<BytesMut> {
     let records = reader.fetch(alloc, 100)?;
     sender.feed(records.as_slice(), 9)?;
     sender.keepalive(9, false)?;
     // All that is held; for a socket, `drain` takes as much as a buffer has room for.
-    sender.drain_into(usize::MAX, bytes)?;
-    Ok(())
+    let mut bytes = BytesMut::new(alloc);
+    sender.drain_into(usize::MAX, &mut bytes)?;
+    Ok(bytes)
 }
 
 /// One transaction. What it did behind its savepoint is rolled back, and no subscriber gets it.

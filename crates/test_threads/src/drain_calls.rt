@@ -40,9 +40,20 @@ fn feed_and_drain<L: LogName, R: Abort>(
     reader: &mut LogReader<L>,
 ) -> Result<(), Fail> {
     let mut sender = sender_of_p(alloc)?;
+    let drained = feed_and_drain_to(rt, alloc, reader, &mut sender);
+    drop(sender);
+    drained
+}
+
+fn feed_and_drain_to<L: LogName, R: Abort>(
+    rt: &R,
+    alloc: Global,
+    reader: &mut LogReader<L>,
+    sender: &mut Sender,
+) -> Result<(), Fail> {
     let records = reader.fetch(alloc, 100)?;
     sender.feed(records.as_slice(), 9)?;
-    let bytes = drain_all(rt, alloc, &mut sender)?;
+    let bytes = drain_all(rt, alloc, sender)?;
     let text = hex::encode(alloc, bytes.as_slice())?;
     assert!(rt; text.as_str() == FIRST_BLOCK);
     assert!(rt; !sender.holds_bytes() && sender.free_chunks() == CHUNKS);

@@ -25,15 +25,19 @@ pub fn judge(alloc: Global, is_called: bool) -> Result<()> {
     let filter = filter(alloc)?;
     let row = row(alloc, 20, Text::copy_of(alloc, "even")?)?;
     let is_right = !is_called || filter.truth(&row) == Truth::True;
+    drop(row);
+    drop(filter);
     ensure!(is_right, "a filter answers otherwise");
     Ok(())
 }
 
 pub fn put(alloc: Global, is_called: bool) -> Result<()> {
+    let mut out = Vec::from_elem(alloc, 0, MAX_MESSAGE_LENGTH)?;
     let catalog = Catalog::from_toml(alloc, CONFIGURATION)?;
     let selection = selection_of_p(alloc, &catalog)?;
-    let mut out = Vec::from_elem(alloc, 0, MAX_MESSAGE_LENGTH)?;
     let is_right = !is_called || is_put(&selection, out.as_mut_slice());
+    drop(selection);
+    drop(catalog);
     ensure!(is_right, "a selection puts otherwise");
     Ok(())
 }

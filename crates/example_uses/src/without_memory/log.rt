@@ -72,10 +72,23 @@ fn with_receipt<L: LogName>(
     is_called: bool,
 ) -> Result<()> {
     let mut sender = sender_of_p(alloc, publisher.catalog())?;
-    feed(alloc, publisher, reader, &mut sender)?;
-    let is_right = !is_called || is_read(publisher, reader, receipt)? && is_drained(&mut sender);
-    ensure!(is_right, "a log's calls answer otherwise");
+    let is_right = are_answered(alloc, publisher, reader, receipt, is_called, &mut sender);
+    drop(sender);
+    ensure!(is_right?, "a log's calls answer otherwise");
     Ok(())
+}
+
+/// Whether the calls of a reader and of a sender that is fed answer as they should, where they are made.
+fn are_answered<L: LogName>(
+    alloc: Global,
+    publisher: &mut Publisher<L>,
+    reader: &mut LogReader<L>,
+    receipt: &Receipt<L>,
+    is_called: bool,
+    sender: &mut Sender,
+) -> Result<bool> {
+    feed(alloc, publisher, reader, sender)?;
+    Ok(!is_called || is_read(publisher, reader, receipt)? && is_drained(sender))
 }
 
 /// A transaction with one insert.
