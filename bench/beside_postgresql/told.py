@@ -31,9 +31,9 @@ class Told:
             some = numbers[first : first + 500]
             self.tell(*(f"insert {transaction} public.item ({n},'n{n:06}',{10 * n})" for n in some))
 
-    def peak(self):
-        """The most bytes of memory that it has had."""
-        return 1024 * int(re.search(r"VmHWM:\s+(\d+)", pathlib.Path(f"/proc/{self.process.pid}/status").read_text())[1])
+    def resident(self):
+        """The bytes of memory that it has."""
+        return 1024 * int(re.search(r"VmRSS:\s+(\d+)", pathlib.Path(f"/proc/{self.process.pid}/status").read_text())[1])
 
     def stop(self):
         self.process.kill()
