@@ -1,5 +1,5 @@
 -- The tokens that are read from a text are those that it spells.
-use Rattle.std.proofs.Common.{◌≡◌, ◌≢◌, ℕ, ◌<◌, ◌≤◌, Bool, true, false, cond, eqb, List, [], ◌∷◌, ◌++◌, length, Option, Some, None, Result, Ok, Err, IfOk, IfSome, refl, sym, ap, subst, ◌∙◌, append_assoc, arith}
+use Rattle.std.proofs.Common.{◌≡◌, ◌≢◌, ℕ, ◌<◌, ◌≤◌, Bool, true, false, cond, eqb, List, [], ◌∷◌, ◌++◌, length, Option, Some, None, Result, Ok, Err, IfOk, IfSome, refl, sym, ap, subst, ◌∙◌, arith}
 use Rattle.std.specs.List.{list_any}
 use Rattle.std.specs.Borrow.{Bor}
 use Rattle.std.specs.Char.{is_ascii_digit}
@@ -11,9 +11,11 @@ use Rattle.conditions.specs.declared.class.Class.TheVariants as classes
 use Rattle.conditions.specs.declared.token.Token.{Token}
 use Rattle.conditions.specs.declared.token.Token.TheVariants.{Word, Number, Quoted, Text, Mark, Pair, Stray}
 use Rattle.conditions.specs.declared.token.TheConstants.{NAME_QUOTE, TEXT_QUOTE, MINUS}
-use Rattle.conditions.specs.Tokens.{is_blank, is_first, is_later, is_mark, is_pair, with_doubled_quotes, spelling_of_token, without_minus, Each, begins, IsWhole, StartsWith, Spells}
-use Rattle.conditions.specs.Lexing.{is_of, run_of, after_run, quoted_at, closed_token, signed_at, one_mark, mark_at, token_behind, token_from, token_at, Lexes, lent, is_stray}
-use Rattle.conditions.proofs.Pieces.{if_true, if_false, run_takes, run_again, found, quoted_takes, quoted_again}
+use Rattle.conditions.specs.Tokens.{is_blank, is_first, is_later, is_mark, is_pair, spelling_of_token, without_minus, Each, IsWhole, StartsWith, Spells}
+use Rattle.quoting.specs.Quoting.{begins, in_quotes, quoted_at}
+use Rattle.conditions.specs.Lexing.{is_of, run_of, after_run, closed_token, signed_at, one_mark, mark_at, token_behind, token_from, token_at, Lexes, lent, is_stray}
+use Rattle.conditions.proofs.Pieces.{run_takes, run_again}
+use Rattle.quoting.proofs.Quoting.{if_true, if_false, found, whole_takes, whole_again}
 
 -- ---- what is read is spelled
 
@@ -91,23 +93,19 @@ took_mark : (b : ℕ) (bytes : List ℕ) → Took (b ∷ bytes) (mark_at b bytes
 took_mark b [] = took_one b [] refl
 took_mark b (c ∷ bytes) = either_way (b ∷ c ∷ bytes) (is_pair b c) (Pair b c, bytes) (one_mark b (c ∷ bytes)) (λ is. record { front = λ some. record { parts = refl; whole = is }; less = omega arith }) (λ other. took_one b (c ∷ bytes) other)
 
-quoted_parts : (b quote : ℕ) (bytes n rest : List ℕ) → eqb b quote ≡ true → bytes ≡ with_doubled_quotes quote n ++ (quote ∷ rest) → b ∷ bytes ≡ (quote ∷ (with_doubled_quotes quote n ++ quote ∷ [])) ++ rest
-quoted_parts b quote bytes n rest same parts = ap (λ (c : ℕ). c ∷ bytes) (eqb-true b quote same) ∙ ap (λ (l : List ℕ). quote ∷ l) (parts ∙ sym (append_assoc (with_doubled_quotes quote n) (quote ∷ []) rest))
-
-quoted_less : (b quote : ℕ) (bytes n rest : List ℕ) → bytes ≡ with_doubled_quotes quote n ++ (quote ∷ rest) → length rest < length (b ∷ bytes)
-quoted_less b quote bytes n rest parts = omega (arith, ap (length {A = ℕ}) parts, length-append (with_doubled_quotes quote n) (quote ∷ rest))
+took_quotes : (b quote : ℕ) (bytes n rest : List ℕ) (token : Token) → eqb b quote ≡ true → quoted_at false quote bytes ≡ found n rest → spelling_of_token token ≡ in_quotes quote n
+    → (begins (λ c. eqb c quote) rest ≡ false → IsWhole token rest) → Took (b ∷ bytes) (token, rest)
+took_quotes b quote bytes n rest token same is spelled ends =
+    let taken = whole_takes b quote bytes n rest same is in
+    record { front = λ some. record { parts = taken.parts ∙ ap (λ (l : List ℕ). l ++ rest) (sym spelled); whole = ends taken.end }; less = taken.less }
 
 took_quoted : (b : ℕ) (bytes : List ℕ) → eqb b NAME_QUOTE ≡ true → (o : Option (List ℕ × List ℕ)) → quoted_at false NAME_QUOTE bytes ≡ o → Took (b ∷ bytes) (closed_token (λ n. Quoted n) o)
 took_quoted b bytes same None is = stray b bytes
-took_quoted b bytes same (Some x) is =
-    let taken = quoted_takes false NAME_QUOTE bytes x.0 x.1 is in
-    record { front = λ some. record { parts = quoted_parts b NAME_QUOTE bytes x.0 x.1 same taken.parts; whole = taken.end }; less = quoted_less b NAME_QUOTE bytes x.0 x.1 taken.parts }
+took_quoted b bytes same (Some x) is = took_quotes b NAME_QUOTE bytes x.0 x.1 (Quoted x.0) same is refl (λ end. end)
 
 took_text : (b : ℕ) (bytes : List ℕ) → eqb b TEXT_QUOTE ≡ true → (o : Option (List ℕ × List ℕ)) → quoted_at false TEXT_QUOTE bytes ≡ o → Took (b ∷ bytes) (closed_token (λ t. Text t) o)
 took_text b bytes same None is = stray b bytes
-took_text b bytes same (Some x) is =
-    let taken = quoted_takes false TEXT_QUOTE bytes x.0 x.1 is in
-    record { front = λ some. record { parts = quoted_parts b TEXT_QUOTE bytes x.0 x.1 same taken.parts; whole = taken.end }; less = quoted_less b TEXT_QUOTE bytes x.0 x.1 taken.parts }
+took_text b bytes same (Some x) is = took_quotes b TEXT_QUOTE bytes x.0 x.1 (Text x.0) same is refl (λ end. end)
 
 took : (b : ℕ) (bytes : List ℕ) → Took (b ∷ bytes) (token_behind b bytes)
 took b bytes =
@@ -238,15 +236,11 @@ integer_reads (b ∷ w) rest whole = by_test (eqb b MINUS) refl whole.0
 
 quoted_reads : (n rest : List ℕ) → IsWhole (Quoted n) rest → Reads (spelling_of_token (Quoted n) ++ rest) (Quoted n) rest
 quoted_reads n rest whole =
-    let behind : quoted_at false NAME_QUOTE ((with_doubled_quotes NAME_QUOTE n ++ NAME_QUOTE ∷ []) ++ rest) ≡ found n rest =
-    ap (quoted_at false NAME_QUOTE) (append_assoc (with_doubled_quotes NAME_QUOTE n) (NAME_QUOTE ∷ []) rest) ∙ quoted_again NAME_QUOTE n rest whole in
-    record { begins_so = refl; read = ap (λ (o : Option (List ℕ × List ℕ)). some_of (closed_token (λ m. Quoted m) o)) behind }
+    record { begins_so = refl; read = ap (λ (o : Option (List ℕ × List ℕ)). some_of (closed_token (λ m. Quoted m) o)) (whole_again NAME_QUOTE n rest whole) }
 
 text_reads : (t rest : List ℕ) → IsWhole (Text t) rest → Reads (spelling_of_token (Text t) ++ rest) (Text t) rest
 text_reads t rest whole =
-    let behind : quoted_at false TEXT_QUOTE ((with_doubled_quotes TEXT_QUOTE t ++ TEXT_QUOTE ∷ []) ++ rest) ≡ found t rest =
-    ap (quoted_at false TEXT_QUOTE) (append_assoc (with_doubled_quotes TEXT_QUOTE t) (TEXT_QUOTE ∷ []) rest) ∙ quoted_again TEXT_QUOTE t rest whole in
-    record { begins_so = refl; read = ap (λ (o : Option (List ℕ × List ℕ)). some_of (closed_token (λ m. Text m) o)) behind }
+    record { begins_so = refl; read = ap (λ (o : Option (List ℕ × List ℕ)). some_of (closed_token (λ m. Text m) o)) (whole_again TEXT_QUOTE t rest whole) }
 
 token_reads : (token : Token) (rest : List ℕ) → IsWhole token rest → Reads (spelling_of_token token ++ rest) token rest
 token_reads (Word w) rest whole = word_reads w rest whole

@@ -1,7 +1,8 @@
 -- Reading tokens from the front of a text. Where none begins, the rest of the text is one of its own, which no filter has.
-use Rattle.std.specs.Prelude.{Result, Ok, Err, ◌≡◌, ℕ, ◌==◌, List, [], ◌∷◌, ◌++◌, Option, Some, None, option_map, Bool, true, false, if◌then◌else◌}
+use Rattle.std.specs.Prelude.{Result, Ok, Err, ◌≡◌, ℕ, ◌==◌, List, [], ◌∷◌, Option, Some, None, option_map, Bool, true, false, if◌then◌else◌}
 use Rattle.std.specs.declared.vec.Vec.{Vec}
 use Rattle.std.specs.declared.alloc.Global.{Global}
+use Rattle.quoting.specs.Quoting.{begins, quoted_at}
 use Rattle.conditions.specs.declared.fault.FilterFault.{FilterFault}
 use Rattle.conditions.specs.declared.fault.FilterFault.TheVariants.{Memory}
 use Rattle.std.specs.Borrow.{Bor}
@@ -11,7 +12,7 @@ use Rattle.conditions.specs.declared.class.Class.TheVariants as classes
 use Rattle.conditions.specs.declared.token.Token.{Token}
 use Rattle.conditions.specs.declared.token.Token.TheVariants.{Word, Number, Quoted, Text, Mark, Pair, Stray}
 use Rattle.conditions.specs.declared.token.TheConstants.{NAME_QUOTE, TEXT_QUOTE, MINUS}
-use Rattle.conditions.specs.Tokens.{is_blank, is_first, is_later, is_mark, is_pair, begins}
+use Rattle.conditions.specs.Tokens.{is_blank, is_first, is_later, is_mark, is_pair}
 
 abbrev pub is_of : Class → ℕ → Bool
 is_of classes.Blank b = is_blank b
@@ -26,16 +27,6 @@ run_of class (b ∷ bytes) = if is_of class b then b ∷ run_of class bytes else
 abbrev pub after_run : Class → List ℕ → List ℕ
 after_run class [] = []
 after_run class (b ∷ bytes) = if is_of class b then after_run class bytes else b ∷ bytes
-
-abbrev pub in_front : List ℕ → Option (List ℕ × List ℕ) → Option (List ℕ × List ℕ)
-in_front front found = option_map (λ x. (front ++ x.0, x.1)) found
-
--- the text up to the closing quote, and what follows it; the flag says that a quote was just read
-abbrev pub quoted_at : Bool → ℕ → List ℕ → Option (List ℕ × List ℕ)
-quoted_at false quote [] = None
-quoted_at true quote [] = Some ([], [])
-quoted_at false quote (b ∷ bytes) = if b == quote then quoted_at true quote bytes else in_front (b ∷ []) (quoted_at false quote bytes)
-quoted_at true quote (b ∷ bytes) = if b == quote then in_front (b ∷ []) (quoted_at false quote bytes) else Some ([], b ∷ bytes)
 
 abbrev pub closed_token : (List ℕ → Token) → Option (List ℕ × List ℕ) → Token × List ℕ
 closed_token make None = (Stray, [])

@@ -4,6 +4,7 @@
 use Rattle.std.specs.Prelude.{◌≡◌, ℕ, ◌==◌, List, [], ◌∷◌, ◌++◌, Bool, true, false, ◌||◌, ◌&&◌, if◌then◌else◌}
 use Rattle.std.specs.List.{AllByRecursion}
 use Rattle.std.specs.Char.{is_ascii_alphabetic, is_ascii_alphanumeric, is_ascii_digit}
+use Rattle.quoting.specs.Quoting.{begins, in_quotes}
 use Rattle.conditions.specs.declared.token.Token.{Token}
 use Rattle.conditions.specs.declared.token.Token.TheVariants.{Word, Number, Quoted, Text, Mark, Pair, Stray}
 use Rattle.conditions.specs.declared.token.TheConstants.{NAME_QUOTE, TEXT_QUOTE, MINUS}
@@ -27,26 +28,17 @@ is_mark b = b == 40 || (b == 41 || (b == 61 || (b == 60 || b == 62)))
 abbrev pub is_pair : ℕ → ℕ → Bool
 is_pair b c = (b == 60 && c == 62) || ((b == 33 && c == 61) || ((b == 60 && c == 61) || (b == 62 && c == 61)))
 
--- the text between quotes: a quote that is meant stands twice
-abbrev pub with_doubled_quotes : ℕ → List ℕ → List ℕ
-with_doubled_quotes quote [] = []
-with_doubled_quotes quote (b ∷ bytes) = if b == quote then b ∷ b ∷ with_doubled_quotes quote bytes else b ∷ with_doubled_quotes quote bytes
-
 abbrev pub spelling_of_token : Token → List ℕ
 spelling_of_token (Word w) = w
 spelling_of_token (Number w) = w
-spelling_of_token (Quoted n) = NAME_QUOTE ∷ (with_doubled_quotes NAME_QUOTE n ++ NAME_QUOTE ∷ [])
-spelling_of_token (Text t) = TEXT_QUOTE ∷ (with_doubled_quotes TEXT_QUOTE t ++ TEXT_QUOTE ∷ [])
+spelling_of_token (Quoted n) = in_quotes NAME_QUOTE n
+spelling_of_token (Text t) = in_quotes TEXT_QUOTE t
 spelling_of_token (Mark b) = b ∷ []
 spelling_of_token (Pair b c) = b ∷ c ∷ []
 spelling_of_token Stray = []
 
 abbrev pub Each : (ℕ → Bool) → List ℕ → Type 0
 Each is bytes = AllByRecursion (λ b. is b ≡ true) bytes
-
-abbrev pub begins : (ℕ → Bool) → List ℕ → Bool
-begins is [] = false
-begins is (b ∷ bytes) = is b
 
 abbrev pub AreDigits : List ℕ → Type 0
 AreDigits w = (begins is_ascii_digit w ≡ true) × Each is_ascii_digit w

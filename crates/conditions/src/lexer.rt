@@ -1,6 +1,6 @@
 //! From the text of a filter to its tokens.
 
-ghost use Rattle.std.specs.Prelude.{◌⊎◌, List, IfErr, ◌≡◌, ◌≤◌, ◌<◌, ◌∷◌, ◌++◌, [], IfOk, IfSome, Some, MatchOption, option_map, length, false};
+ghost use Rattle.std.specs.Prelude.{◌⊎◌, List, IfErr, ◌≡◌, ◌<◌, ◌∷◌, ◌++◌, IfOk, IfSome, Some, length, false};
 ghost use Rattle.std.specs.List.{list_any};
 ghost use Rattle.std.specs.Char.{is_ascii_digit};
 ghost use Rattle.conditions.specs.declared.token.Token.TheVariants.{Number, Quoted, Text, Word};
@@ -8,13 +8,15 @@ ghost use Rattle.conditions.specs.declared.token.Token.{Token};
 ghost use Rattle.conditions.specs.declared.fault.FilterFault.TheVariants.{Memory, Syntax};
 ghost use Rattle.conditions.specs.declared.token.TheConstants.{NAME_QUOTE, TEXT_QUOTE};
 ghost use Rattle.conditions.specs.declared.class.Class.TheVariants as classes;
-ghost use Rattle.conditions.specs.Tokens.{Spells, begins, is_first, is_mark, is_pair};
-ghost use Rattle.conditions.specs.Lexing.{GivesTokens, is_stray, Lexes, after_run, closed_token, in_front, lent, lent_token, mark_at, one_mark, quoted_at, run_of, signed_at, token_at, token_behind, token_from};
+ghost use Rattle.conditions.specs.Tokens.{Spells, is_first, is_mark, is_pair};
+ghost use Rattle.quoting.specs.Quoting.{begins, quoted_at};
+ghost use Rattle.conditions.specs.Lexing.{GivesTokens, is_stray, Lexes, after_run, closed_token, lent, lent_token, mark_at, one_mark, run_of, signed_at, token_at, token_behind};
 
 use crate::class::Class;
 use crate::fault::FilterFault;
 use crate::token::{MINUS, NAME_QUOTE, TEXT_QUOTE, Token};
 use pqformat::Items;
+use quoting::{nothing_of, quoted_bytes};
 use std::alloc::{AllocError, Global};
 
 fn is_first(b: u8) -> bool
@@ -77,41 +79,6 @@ fn take_run<'a>(bytes: &mut Vec<u8>, class: Class, text: &'a [u8]) -> Result<&'a
     Ok(rest)
 }
 
-/// Where a quoted text goes on behind this byte: a quote goes on behind the second of two, and else closes the text.
-fn goes_on(quote: u8, b: u8, tail: &[u8]) -> Option<&[u8]>
-    ensures goes { MatchOption result (quoted_at false quote (b ∷ tail.now) ≡ Some ([], tail.now))
-        (λ more. quoted_at false quote (b ∷ tail.now)
-        ≡ in_front (b ∷ []) (quoted_at false quote more.now)) }
-    ensures shorter { IfSome result (λ more. length more.now ≤ length tail.now) }
-{
-    if b != quote {
-        return Some(tail);
-    }
-    let (c, more) = tail.split_first()?;
-    if *c == quote { Some(more) } else { None }
-}
-
-/// The text up to the closing quote, and what follows that; None where no quote closes it.
-fn quoted_bytes(
-    alloc: Global,
-    quote: u8,
-    text: &[u8],
-) -> Result<Option<(Vec<u8>, &[u8])>, AllocError>
-    ensures { IfOk result
-        (λ x. option_map (λ y. (y.0.items, y.1.now)) x ≡ quoted_at false quote text.now) }
-{
-    let mut found = Vec::new(alloc);
-    let mut rest = text;
-    while let Some((b, tail)) = rest.split_first() {
-        let Some(more) = goes_on(quote, *b, tail) else {
-            return Ok(Some((found, tail)));
-        };
-        found.push(*b)?;
-        rest = more;
-    }
-    Ok(None)
-}
-
 /// The token of a name in quotes, where its first quote was read.
 fn quoted_name(alloc: Global, text: &[u8]) -> Result<(Token, &[u8]), AllocError>
     ensures { IfOk result
@@ -132,13 +99,6 @@ fn quoted_text(alloc: Global, text: &[u8]) -> Result<(Token, &[u8]), AllocError>
         return Ok((Token::Stray, nothing_of(text)));
     };
     Ok((Token::Text(Items::new(bytes)), rest))
-}
-
-fn nothing_of(text: &[u8]) -> &[u8]
-    ensures { result.now ≡ [] }
-{
-    let (_, end) = text.split_at(text.len());
-    end
 }
 
 fn word(alloc: Global, text: &[u8]) -> Result<(Token, &[u8]), AllocError>

@@ -6,10 +6,10 @@ use Rattle.std.proofs.lemmas.Bool.{ltb-true}
 use Rattle.std.specs.List.{list_all}
 use Rattle.std.specs.Str.{IsUtf8}
 use Rattle.std.proofs.lemmas.List.{append_cancel_left, length-append}
-use Rattle.replcmd.specs.Tokens.{begins}
-use Rattle.replcmd.proofs.Pieces.{found}
+use Rattle.quoting.specs.Quoting.{begins, in_quotes}
+use Rattle.quoting.proofs.Quoting.{found}
 use Rattle.replcmd.proofs.Texts.{behind_ascii}
-use Rattle.questions.specs.Questions.{quoted_name, further, SpellsNames}
+use Rattle.questions.specs.Questions.{further, SpellsNames}
 use Rattle.questions.specs.Reading.{quoted_front}
 use Rattle.questions.specs.declared.quoted.TheConstants.{LITERAL_QUOTE}
 use Rattle.questions.proofs.Quotes.{quoted_reads, quoted_spells}
@@ -48,17 +48,17 @@ same_first a b c d e = (inj a b c d e, injs a b c d e)
     injs a b c d e = ap right e
 
 pub done : (text : List ℕ) (names : List (List ℕ)) (place name rest : List ℕ) → Going text names place → quoted_front LITERAL_QUOTE place ≡ found name rest → rest ≡ codes ")" → SpellsNames text (names ++ name ∷ [])
-done text names place name rest going read end = going.on (name ∷ []) (quoted_spells LITERAL_QUOTE place name rest read ∙ ap (λ (l : List ℕ). quoted_name LITERAL_QUOTE name ++ l) end)
+done text names place name rest going read end = going.on (name ∷ []) (quoted_spells LITERAL_QUOTE place name rest read ∙ ap (λ (l : List ℕ). in_quotes LITERAL_QUOTE name ++ l) end)
 
 pub goes_on : (text : List ℕ) (names : List (List ℕ)) (place name rest more : List ℕ) → Going text names place → quoted_front LITERAL_QUOTE place ≡ found name rest → rest ≡ codes ", " ++ more → Going text (names ++ name ∷ []) more
 goes_on text names place name rest more going read comma = record { on = on; only = only }
   where
-    spelled : place ≡ quoted_name LITERAL_QUOTE name ++ (codes ", " ++ more)
-    spelled = quoted_spells LITERAL_QUOTE place name rest read ∙ ap (λ (l : List ℕ). quoted_name LITERAL_QUOTE name ++ l) comma
+    spelled : place ≡ in_quotes LITERAL_QUOTE name ++ (codes ", " ++ more)
+    spelled = quoted_spells LITERAL_QUOTE place name rest read ∙ ap (λ (l : List ℕ). in_quotes LITERAL_QUOTE name ++ l) comma
 
     longer : (others : List (List ℕ)) → SpellsNames more others → SpellsNames place (name ∷ others)
     longer [] spells = absurd spells
-    longer (n ∷ ns) spells = spelled ∙ ap (λ (l : List ℕ). quoted_name LITERAL_QUOTE name ++ (codes ", " ++ l)) spells
+    longer (n ∷ ns) spells = spelled ∙ ap (λ (l : List ℕ). in_quotes LITERAL_QUOTE name ++ (codes ", " ++ l)) spells
 
     on : (others : List (List ℕ)) → SpellsNames more others → SpellsNames text ((names ++ name ∷ []) ++ others)
     on others spells = subst (λ (l : List (List ℕ)). SpellsNames text l) (sym (append_assoc names (name ∷ []) others)) (going.on (name ∷ others) (longer others spells))
@@ -69,7 +69,7 @@ goes_on text names place name rest more going read comma = record { on = on; onl
         absurd (cc (sym comma ∙ same.1))
     shorter n (m ∷ ms) spells =
         let same = same_first name rest n (further (m ∷ ms)) (sym read ∙ first_read place n (m ∷ ms) spells) in
-        (same.0, behind_comma more (quoted_name LITERAL_QUOTE m ++ further ms) (sym comma ∙ same.1))
+        (same.0, behind_comma more (in_quotes LITERAL_QUOTE m ++ further ms) (sym comma ∙ same.1))
       where
         behind_comma : (a b : List ℕ) → codes ", " ++ a ≡ codes ", " ++ b → a ≡ b
         behind_comma a b e = cc e
@@ -99,12 +99,12 @@ no_comma text names place name rest going read unended dry all spells = let x = 
     by_first : (others : List (List ℕ)) → SpellsNames place others → ⊥
     by_first [] spells = spells
     by_first (n ∷ []) spells = unended (same_first name rest n (codes ")") (sym read ∙ first_read place n [] spells)).1
-    by_first (n ∷ (m ∷ ms)) spells = dry (quoted_name LITERAL_QUOTE m ++ further ms) (same_first name rest n (further (m ∷ ms)) (sym read ∙ first_read place n (m ∷ ms) spells)).1
+    by_first (n ∷ (m ∷ ms)) spells = dry (in_quotes LITERAL_QUOTE m ++ further ms) (same_first name rest n (further (m ∷ ms)) (sym read ∙ first_read place n (m ∷ ms) spells)).1
 
 -- what follows a name and a comma is shorter
 pub shrinks : (place name rest more : List ℕ) → quoted_front LITERAL_QUOTE place ≡ found name rest → rest ≡ codes ", " ++ more → length more < length place
 shrinks place name rest more read comma =
-    omega (arith, ap length (quoted_spells LITERAL_QUOTE place name rest read), length-append (quoted_name LITERAL_QUOTE name) rest, ap length comma)
+    omega (arith, ap length (quoted_spells LITERAL_QUOTE place name rest read), length-append (in_quotes LITERAL_QUOTE name) rest, ap length comma)
 
 -- what follows ASCII is a text
 pub behind_text : (front rest : List ℕ) → list_all (λ b. nat_lt b 128) front ≡ true → IsUtf8 (front ++ rest) → IsUtf8 rest

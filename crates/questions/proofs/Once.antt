@@ -2,10 +2,11 @@
 use Rattle.std.proofs.Common.{◌≡◌, ℕ, List, [], ◌∷◌, ◌++◌, get_or, refl, sym, ap, subst, ◌∙◌, arith}
 use Rattle.std.specs.Prelude.{◌≢◌, codes}
 use Rattle.std.proofs.lemmas.List.{append_cancel_left}
+use Rattle.quoting.specs.Quoting.{in_quotes}
 use Rattle.questions.specs.declared.question.Question.{Question}
 use Rattle.questions.specs.declared.question.Question.TheVariants.{SearchPath, DirectoryMode, InitialCopy, Publications, Tables, DropWhenFree}
-use Rattle.questions.specs.declared.quoted.TheConstants.{LITERAL_QUOTE, NAME_QUOTE}
-use Rattle.questions.specs.Questions.{quoted_name, further, SpellsDrop, SpellsNames, SpellsQuestion}
+use Rattle.questions.specs.declared.quoted.TheConstants.{LITERAL_QUOTE}
+use Rattle.questions.specs.Questions.{further, SpellsNames, SpellsQuestion}
 use Rattle.questions.specs.Reading.{quoted_front}
 use Rattle.questions.proofs.Lists.{ends, first_read, same_first}
 use Rattle.questions.proofs.Quotes.{quoted_reads}
@@ -19,7 +20,7 @@ further_once [] [] e = refl
 further_once [] (m ∷ ms) e = absurd (cc e)
 further_once (n ∷ ns) [] e = absurd (cc e)
 further_once (n ∷ ns) (m ∷ ms) e =
-    let inner : quoted_name LITERAL_QUOTE n ++ further ns ≡ quoted_name LITERAL_QUOTE m ++ further ms = cc e in
+    let inner : in_quotes LITERAL_QUOTE n ++ further ns ≡ in_quotes LITERAL_QUOTE m ++ further ms = cc e in
     let same = same_first n (further ns) m (further ms) (sym (quoted_reads LITERAL_QUOTE n (further ns) (ends ns)) ∙ ap (quoted_front LITERAL_QUOTE) inner ∙ quoted_reads LITERAL_QUOTE m (further ms) (ends ms)) in
     both n m ns ms same.0 (further_once ns ms same.1)
 

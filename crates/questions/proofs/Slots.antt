@@ -1,5 +1,5 @@
 -- A text that drops a slot is read.
-use Rattle.std.proofs.Common.{◌≡◌, ◌≤◌, ℕ, ◌<◌, ◌^◌, Bool, true, false, eqb, leb, List, [], ◌∷◌, ◌++◌, None, length, refl, sym, ap, subst, ◌∙◌, ⊎_elim, inl, inr, append-nil, arith}
+use Rattle.std.proofs.Common.{◌≡◌, ◌≤◌, ℕ, ◌<◌, Bool, true, false, eqb, leb, List, [], ◌∷◌, ◌++◌, None, length, refl, sym, ap, subst, ◌∙◌, ⊎_elim, inl, inr, append-nil, arith}
 use Rattle.std.specs.Prelude.{◌≢◌, ◌⊎◌, ◌&&◌, ◌||◌, codes, nat_le, nat_lt, Result, Ok, Err, IfOk, MatchOption, Option, Some}
 use Rattle.std.specs.declared.alloc.AllocError.{AllocError}
 use Rattle.std.specs.List.{list_all}
@@ -7,10 +7,11 @@ use Rattle.std.specs.Char.{is_ascii_digit, is_ascii_lowercase}
 use Rattle.std.specs.Str.{IsUtf8}
 use Rattle.std.proofs.lemmas.Bool.{eqb-true, leb-true}
 use Rattle.std.proofs.lemmas.List.{append_cancel_left, append_cancel_right}
+use Rattle.quoting.specs.Quoting.{in_quotes}
 use Rattle.replcmd.specs.Words.{is_slot_byte, is_slot_name}
-use Rattle.replcmd.proofs.Pieces.{found}
+use Rattle.quoting.proofs.Quoting.{found}
 use Rattle.replcmd.proofs.Texts.{cut_at_ascii, with_ascii}
-use Rattle.questions.specs.Questions.{SpellsDrop, SpellsSlot, quoted_name}
+use Rattle.questions.specs.Questions.{SpellsDrop, SpellsSlot}
 use Rattle.questions.specs.Reading.{quoted_front}
 use Rattle.questions.specs.declared.quoted.TheConstants.{NAME_QUOTE}
 use Rattle.questions.proofs.Quotes.{quoted_reads, quoted_spells}
@@ -29,16 +30,16 @@ no_quote slot rest short is =
     let all = (both (nat_le (length (NAME_QUOTE ∷ rest)) 63) (list_all is_slot_byte (NAME_QUOTE ∷ rest)) (both (nat_lt 0 (length (NAME_QUOTE ∷ rest))) _ named).1).1 in
     absurd cc
 
-pub quoted_once : (a b : List ℕ) → quoted_name NAME_QUOTE a ≡ quoted_name NAME_QUOTE b → a ≡ b
+pub quoted_once : (a b : List ℕ) → in_quotes NAME_QUOTE a ≡ in_quotes NAME_QUOTE b → a ≡ b
 quoted_once a b e =
-    (same_first a [] b [] (sym (quoted_reads NAME_QUOTE a [] refl) ∙ ap (quoted_front NAME_QUOTE) (append-nil (quoted_name NAME_QUOTE a) ∙ e ∙ sym (append-nil (quoted_name NAME_QUOTE b))) ∙ quoted_reads NAME_QUOTE b [] refl)).0
+    (same_first a [] b [] (sym (quoted_reads NAME_QUOTE a [] refl) ∙ ap (quoted_front NAME_QUOTE) (append-nil (in_quotes NAME_QUOTE a) ∙ e ∙ sym (append-nil (in_quotes NAME_QUOTE b))) ∙ quoted_reads NAME_QUOTE b [] refl)).0
 
 pub slot_is : (named a b : List ℕ) → is_slot_name a ≡ true → is_slot_name b ≡ true → SpellsSlot named a → SpellsSlot named b → a ≡ b
 slot_is named a b short_a short_b x y =
-    ⊎_elim (λ (p : named ≡ quoted_name NAME_QUOTE a).
-    ⊎_elim (λ (q : named ≡ quoted_name NAME_QUOTE b). quoted_once a b (sym p ∙ q)) (λ (q : named ≡ b). absurd (no_quote b _ short_b (sym q ∙ p))) y)
+    ⊎_elim (λ (p : named ≡ in_quotes NAME_QUOTE a).
+    ⊎_elim (λ (q : named ≡ in_quotes NAME_QUOTE b). quoted_once a b (sym p ∙ q)) (λ (q : named ≡ b). absurd (no_quote b _ short_b (sym q ∙ p))) y)
     (λ (p : named ≡ a).
-    ⊎_elim (λ (q : named ≡ quoted_name NAME_QUOTE b). absurd (no_quote a _ short_a (sym p ∙ q))) (λ (q : named ≡ b). sym p ∙ q) y) x
+    ⊎_elim (λ (q : named ≡ in_quotes NAME_QUOTE b). absurd (no_quote a _ short_a (sym p ∙ q))) (λ (q : named ≡ b). sym p ∙ q) y) x
 
 -- ---- the text round it
 
@@ -81,19 +82,19 @@ not_slot_name bytes none = by_test (is_slot_name bytes) (λ short. none (name_is
 
 -- ---- what is read
 
-pub not_named : (named : List ℕ) → quoted_front NAME_QUOTE named ≡ None → (slot : List ℕ) → is_slot_name slot ≡ true → named ≡ quoted_name NAME_QUOTE slot → ⊥
-not_named named read slot short is = cc (sym read ∙ ap (quoted_front NAME_QUOTE) (is ∙ sym (append-nil (quoted_name NAME_QUOTE slot))) ∙ quoted_reads NAME_QUOTE slot [] refl)
+pub not_named : (named : List ℕ) → quoted_front NAME_QUOTE named ≡ None → (slot : List ℕ) → is_slot_name slot ≡ true → named ≡ in_quotes NAME_QUOTE slot → ⊥
+not_named named read slot short is = cc (sym read ∙ ap (quoted_front NAME_QUOTE) (is ∙ sym (append-nil (in_quotes NAME_QUOTE slot))) ∙ quoted_reads NAME_QUOTE slot [] refl)
 
 pub nothing_left : (rest : List ℕ) → eqb (length rest) 0 ≡ true → rest ≡ []
 nothing_left [] e = refl
 nothing_left (b ∷ rest) e = absurd (omega (arith, eqb-true (length (b ∷ rest)) 0 e))
 
-pub name_read : (named slot rest : List ℕ) → quoted_front NAME_QUOTE named ≡ found slot rest → rest ≡ [] → named ≡ quoted_name NAME_QUOTE slot
-name_read named slot rest read end = quoted_spells NAME_QUOTE named slot rest read ∙ ap (λ (l : List ℕ). quoted_name NAME_QUOTE slot ++ l) end ∙ append-nil (quoted_name NAME_QUOTE slot)
+pub name_read : (named slot rest : List ℕ) → quoted_front NAME_QUOTE named ≡ found slot rest → rest ≡ [] → named ≡ in_quotes NAME_QUOTE slot
+name_read named slot rest read end = quoted_spells NAME_QUOTE named slot rest read ∙ ap (λ (l : List ℕ). in_quotes NAME_QUOTE slot ++ l) end ∙ append-nil (in_quotes NAME_QUOTE slot)
 
-pub the_name : (named other rest : List ℕ) → quoted_front NAME_QUOTE named ≡ found other rest → (slot : List ℕ) → is_slot_name slot ≡ true → named ≡ quoted_name NAME_QUOTE slot → (rest ≡ []) × (is_slot_name other ≡ true)
+pub the_name : (named other rest : List ℕ) → quoted_front NAME_QUOTE named ≡ found other rest → (slot : List ℕ) → is_slot_name slot ≡ true → named ≡ in_quotes NAME_QUOTE slot → (rest ≡ []) × (is_slot_name other ≡ true)
 the_name named other rest read slot short is =
-    let same = same_first other rest slot [] (sym read ∙ ap (quoted_front NAME_QUOTE) (is ∙ sym (append-nil (quoted_name NAME_QUOTE slot))) ∙ quoted_reads NAME_QUOTE slot [] refl) in
+    let same = same_first other rest slot [] (sym read ∙ ap (quoted_front NAME_QUOTE) (is ∙ sym (append-nil (in_quotes NAME_QUOTE slot))) ∙ quoted_reads NAME_QUOTE slot [] refl) in
     (same.1, ap is_slot_name same.0 ∙ short)
 
 -- what stands before the word at the end is a text
@@ -101,10 +102,10 @@ pub named_text : (text named : List ℕ) → text ≡ named ++ codes " WAIT" →
 named_text text named is valid = (cut_at_ascii named 32 (codes "WAIT") (omega arith) (subst IsUtf8 is valid)).0
 
 pub drops_quoted : (text rest named : List ℕ) (r : Result (Option (List ℕ)) AllocError) → text ≡ codes "DROP_REPLICATION_SLOT " ++ rest → rest ≡ named ++ codes " WAIT" → is_slot_name named ≡ false
-    → IfOk r (λ f. MatchOption f ((slot : List ℕ) → is_slot_name slot ≡ true → named ≢ quoted_name NAME_QUOTE slot) (λ slot. (is_slot_name slot ≡ true) × (named ≡ quoted_name NAME_QUOTE slot)))
+    → IfOk r (λ f. MatchOption f ((slot : List ℕ) → is_slot_name slot ≡ true → named ≢ in_quotes NAME_QUOTE slot) (λ slot. (is_slot_name slot ≡ true) × (named ≡ in_quotes NAME_QUOTE slot)))
     → IfOk r (λ f. MatchOption f ((slot : List ℕ) → SpellsDrop text slot → ⊥) (λ slot. SpellsDrop text slot))
 drops_quoted text rest named (Err e) front end bare fact = tt
 drops_quoted text rest named (Ok None) front end bare fact = λ slot spells.
     let same : named ≡ spells.1.0 = named_once text named spells.1.0 (front ∙ ap (λ (l : List ℕ). codes "DROP_REPLICATION_SLOT " ++ l) end) spells.1.1 in
-    ⊎_elim (λ (q : spells.1.0 ≡ quoted_name NAME_QUOTE slot). fact slot spells.0 (same ∙ q)) (λ (q : spells.1.0 ≡ slot). absurd (cc (sym bare ∙ ap is_slot_name (same ∙ q) ∙ spells.0))) spells.1.2
+    ⊎_elim (λ (q : spells.1.0 ≡ in_quotes NAME_QUOTE slot). fact slot spells.0 (same ∙ q)) (λ (q : spells.1.0 ≡ slot). absurd (cc (sym bare ∙ ap is_slot_name (same ∙ q) ∙ spells.0))) spells.1.2
 drops_quoted text rest named (Ok (Some slot)) front end bare fact = (fact.0, (named, front ∙ ap (λ (l : List ℕ). codes "DROP_REPLICATION_SLOT " ++ l) end, inl fact.1))

@@ -1,28 +1,25 @@
 -- The questions that the clients of PostgreSQL 15 ask beside the commands of the replication protocol, text by text: a subscriber (CREATE,
 -- ALTER and DROP SUBSCRIPTION, 31.2) and pg_recvlogical. Names stand as string literals (4.1.2.1), in which a quote that is meant stands twice.
 use Rattle.std.specs.Prelude.{◌≡◌, ◌⊎◌, ℕ, true, List, [], ◌∷◌, ◌++◌, codes}
-use Rattle.replcmd.specs.Tokens.{with_doubled_quotes}
+use Rattle.quoting.specs.Quoting.{in_quotes}
 use Rattle.replcmd.specs.Words.{is_slot_name}
 use Rattle.questions.specs.declared.question.Question.{Question}
 use Rattle.questions.specs.declared.question.Question.TheVariants.{SearchPath, DirectoryMode, InitialCopy, Publications, Tables, DropWhenFree}
 use Rattle.questions.specs.declared.quoted.TheConstants.{LITERAL_QUOTE, NAME_QUOTE}
 
-abbrev pub quoted_name : ℕ → List ℕ → List ℕ
-quoted_name quote name = quote ∷ (with_doubled_quotes quote name ++ quote ∷ [])
-
 -- the names of a list behind its first, up to the bracket that closes it
 abbrev pub further : List (List ℕ) → List ℕ
 further [] = codes ")"
-further (name ∷ names) = codes ", " ++ (quoted_name LITERAL_QUOTE name ++ further names)
+further (name ∷ names) = codes ", " ++ (in_quotes LITERAL_QUOTE name ++ further names)
 
 -- The text is a list of these names, one at least, from behind its opening bracket on.
 abbrev pub SpellsNames : List ℕ → List (List ℕ) → Type 0
 SpellsNames text [] = ⊥
-SpellsNames text (name ∷ names) = text ≡ quoted_name LITERAL_QUOTE name ++ further names
+SpellsNames text (name ∷ names) = text ≡ in_quotes LITERAL_QUOTE name ++ further names
 
 -- The name of a slot stands in quotes, or without: the first releases of PostgreSQL 15 write each in quotes, 15.18 only one that needs them.
 abbrev pub SpellsSlot : List ℕ → List ℕ → Type 0
-SpellsSlot named slot = (named ≡ quoted_name NAME_QUOTE slot) ⊎ (named ≡ slot)
+SpellsSlot named slot = (named ≡ in_quotes NAME_QUOTE slot) ⊎ (named ≡ slot)
 
 -- The text drops this slot once nobody holds it.
 abbrev pub SpellsDrop : List ℕ → List ℕ → Type 0

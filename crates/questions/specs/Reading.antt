@@ -1,6 +1,6 @@
 -- Reading a question: a text in quotes from the front, and the questions without names.
 use Rattle.std.specs.Prelude.{ℕ, ◌==◌, List, [], ◌∷◌, Option, None, false, if◌then◌else◌}
-use Rattle.replcmd.specs.Lexing.{quoted_at}
+use Rattle.quoting.specs.Quoting.{quoted_at}
 use Rattle.questions.specs.declared.question.Question.{Question}
 use Rattle.questions.specs.declared.question.Question.TheVariants.{Publications, Tables, DropWhenFree}
 

@@ -3,8 +3,9 @@
 ghost use Rattle.std.specs.Prelude.{◌≡◌, ◌≢◌, ◌++◌, ℕ, List, IfOk, MatchOption, false, nat_lt, true};
 ghost use Rattle.std.specs.List.{list_all};
 ghost use Rattle.std.specs.Str.{IsUtf8};
+ghost use Rattle.quoting.specs.Quoting.{in_quotes};
 ghost use Rattle.replcmd.specs.Words.{is_slot_name};
-ghost use Rattle.questions.specs.Questions.{SpellsDrop, SpellsNames, SpellsQuestion, quoted_name};
+ghost use Rattle.questions.specs.Questions.{SpellsDrop, SpellsNames, SpellsQuestion};
 ghost use Rattle.questions.specs.declared.quoted.TheConstants.{NAME_QUOTE};
 ghost use Rattle.questions.specs.Reading.{IsPlain};
 
@@ -120,8 +121,8 @@ fn quoted_slot_of(alloc: Global, named: &[u8]) -> Result<Option<Name>, AllocErro
     requires { IsUtf8 named.now }
     ensures { IfOk result
         (λ found. MatchOption found
-        ((slot : List ℕ) → is_slot_name slot ≡ true → named.now ≢ quoted_name NAME_QUOTE slot)
-        (λ slot. (is_slot_name slot ≡ true) × (named.now ≡ quoted_name NAME_QUOTE slot))) }
+        ((slot : List ℕ) → is_slot_name slot ≡ true → named.now ≢ in_quotes NAME_QUOTE slot)
+        (λ slot. (is_slot_name slot ≡ true) × (named.now ≡ in_quotes NAME_QUOTE slot))) }
 {
     let Some((slot, rest)) = quoted_of(alloc, NAME_QUOTE, named)? else {
         return Ok(None);

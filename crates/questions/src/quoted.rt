@@ -2,7 +2,7 @@
 
 ghost use Rattle.std.specs.Prelude.{◌≡◌, ◌<◌, IfOk};
 ghost use Rattle.std.specs.Str.{IsUtf8};
-ghost use Rattle.replcmd.specs.Lexing.{lent_text};
+ghost use Rattle.quoting.specs.Quoting.{lent_text};
 ghost use Rattle.questions.specs.Reading.{quoted_front};
 
 use replcmd::Name;

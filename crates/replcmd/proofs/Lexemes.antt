@@ -1,15 +1,16 @@
 -- The tokens that are read from a text are those that it spells.
-use Rattle.std.proofs.Common.{◌≡◌, ◌≢◌, ℕ, zero, suc, ◌<◌, Bool, true, false, cond, eqb, List, [], ◌∷◌, ◌++◌, length, Option, Some, None, refl, sym, ap, subst, ◌∙◌, append_assoc, arith}
+use Rattle.std.proofs.Common.{◌≡◌, ◌≢◌, ℕ, zero, suc, ◌<◌, Bool, true, false, cond, eqb, List, [], ◌∷◌, ◌++◌, length, Option, Some, None, refl, sym, ap, subst, ◌∙◌, arith}
 use Rattle.std.specs.Prelude.{◌||◌, not}
-use Rattle.std.proofs.lemmas.Bool.{eqb-true}
 use Rattle.std.proofs.lemmas.Bool.Decides.{nat_tests}
 use Rattle.std.proofs.lemmas.List.{append-nil, length-append}
 use Rattle.replcmd.specs.declared.token.Token.{Token}
 use Rattle.replcmd.specs.declared.token.Token.TheVariants.{Word, Quoted, Value, Mark, Unclosed}
 use Rattle.replcmd.specs.declared.token.TheConstants.{NAME_QUOTE, VALUE_QUOTE}
-use Rattle.replcmd.specs.Tokens.{is_blank, is_mark, is_plain, with_doubled_quotes, spelling_of_token, Each, begins, IsWhole, StartsWith, Spells}
-use Rattle.replcmd.specs.Lexing.{after_blanks, word_of, after_word, quoted_at, closed_token, token_from, token_at, Lexes}
-use Rattle.replcmd.proofs.Pieces.{if_true, if_false, BlanksTaken, blanks_take, blanks_end, blanks_again, word_takes, word_again, found, quoted_takes, quoted_again}
+use Rattle.replcmd.specs.Tokens.{is_blank, is_mark, is_plain, spelling_of_token, Each, IsWhole, StartsWith, Spells}
+use Rattle.quoting.specs.Quoting.{begins, quoted_at}
+use Rattle.replcmd.specs.Lexing.{after_blanks, word_of, after_word, closed_token, token_from, token_at, Lexes}
+use Rattle.replcmd.proofs.Pieces.{BlanksTaken, blanks_take, blanks_end, blanks_again, word_takes, word_again}
+use Rattle.quoting.proofs.Quoting.{if_true, if_false, found, whole_takes, whole_again}
 
 -- ---- tokens
 
@@ -43,14 +44,6 @@ was_closed make (Some x) token rest e some =
     let same = same_token (make x.0) x.1 token rest e in
     (x.0, ap (λ (y : List ℕ). found x.0 y) same.1, same.0)
 
-quoted_front : (b quote : ℕ) (bytes n rest : List ℕ) → b ≡ quote → quoted_at false quote bytes ≡ found n rest
-    → (b ∷ bytes ≡ (quote ∷ (with_doubled_quotes quote n ++ quote ∷ [])) ++ rest) × (begins (λ c. eqb c quote) rest ≡ false)
-quoted_front b quote bytes n rest same e =
-    let taken = quoted_takes false quote bytes n rest e in (
-      ap (λ (c : ℕ). c ∷ bytes) same ∙ ap (λ (l : List ℕ). quote ∷ l) (taken.parts ∙ sym (append_assoc (with_doubled_quotes quote n) (quote ∷ []) rest)),
-      taken.end,
-    )
-
 plain_is : (p q r s : Bool) → p ≡ false → q ≡ false → r ≡ false → s ≡ false → not (p || (q || (r || s))) ≡ true
 plain_is false false false false a b c d = refl
 plain_is true q r s a b c d = absurd cc
@@ -72,8 +65,8 @@ by_value : (b : ℕ) (bytes : List ℕ) (token : Token) (rest : List ℕ) → to
     → Front (b ∷ bytes) token rest
 by_value b bytes token rest some no_blank no_name true is e =
     let x = was_closed (λ v. Value v) (quoted_at false VALUE_QUOTE bytes) token rest e some in
-    let front = quoted_front b VALUE_QUOTE bytes x.0 rest (eqb-true b VALUE_QUOTE is) x.1 in
-    subst (λ (t : Token). Front (b ∷ bytes) t rest) x.2 (record { parts = front.0; whole = front.1 })
+    let front = whole_takes b VALUE_QUOTE bytes x.0 rest is x.1 in
+    subst (λ (t : Token). Front (b ∷ bytes) t rest) x.2 (record { parts = front.parts; whole = front.end })
 by_value b bytes token rest some no_blank no_name false is e = by_mark b bytes token rest no_blank no_name is (is_mark b) refl e
 
 by_name : (b : ℕ) (bytes : List ℕ) (token : Token) (rest : List ℕ) → token ≢ Unclosed → is_blank b ≡ false → (t : Bool) → eqb b NAME_QUOTE ≡ t
@@ -81,8 +74,8 @@ by_name : (b : ℕ) (bytes : List ℕ) (token : Token) (rest : List ℕ) → tok
     → Front (b ∷ bytes) token rest
 by_name b bytes token rest some no_blank true is e =
     let x = was_closed (λ n. Quoted n) (quoted_at false NAME_QUOTE bytes) token rest e some in
-    let front = quoted_front b NAME_QUOTE bytes x.0 rest (eqb-true b NAME_QUOTE is) x.1 in
-    subst (λ (t : Token). Front (b ∷ bytes) t rest) x.2 (record { parts = front.0; whole = front.1 })
+    let front = whole_takes b NAME_QUOTE bytes x.0 rest is x.1 in
+    subst (λ (t : Token). Front (b ∷ bytes) t rest) x.2 (record { parts = front.parts; whole = front.end })
 by_name b bytes token rest some no_blank false is e = by_value b bytes token rest some no_blank is (eqb b VALUE_QUOTE) refl e
 
 pub front_takes : (bytes : List ℕ) (token : Token) (rest : List ℕ) → begins is_blank bytes ≡ false → token_from bytes ≡ token_found token rest → token ≢ Unclosed → Front bytes token rest
@@ -136,15 +129,11 @@ mark_reads b rest is =
 
 quoted_reads : (n rest : List ℕ) → IsWhole (Quoted n) rest → Reads (spelling_of_token (Quoted n) ++ rest) (Quoted n) rest
 quoted_reads n rest whole =
-    let behind : quoted_at false NAME_QUOTE ((with_doubled_quotes NAME_QUOTE n ++ NAME_QUOTE ∷ []) ++ rest) ≡ found n rest =
-    ap (quoted_at false NAME_QUOTE) (append_assoc (with_doubled_quotes NAME_QUOTE n) (NAME_QUOTE ∷ []) rest) ∙ quoted_again NAME_QUOTE n rest whole in
-    record { begins_so = refl; read = ap (λ (o : Option (List ℕ × List ℕ)). Some (closed_token (λ m. Quoted m) o)) behind }
+    record { begins_so = refl; read = ap (λ (o : Option (List ℕ × List ℕ)). Some (closed_token (λ m. Quoted m) o)) (whole_again NAME_QUOTE n rest whole) }
 
 value_reads : (v rest : List ℕ) → IsWhole (Value v) rest → Reads (spelling_of_token (Value v) ++ rest) (Value v) rest
 value_reads v rest whole =
-    let behind : quoted_at false VALUE_QUOTE ((with_doubled_quotes VALUE_QUOTE v ++ VALUE_QUOTE ∷ []) ++ rest) ≡ found v rest =
-    ap (quoted_at false VALUE_QUOTE) (append_assoc (with_doubled_quotes VALUE_QUOTE v) (VALUE_QUOTE ∷ []) rest) ∙ quoted_again VALUE_QUOTE v rest whole in
-    record { begins_so = refl; read = ap (λ (o : Option (List ℕ × List ℕ)). Some (closed_token (λ m. Value m) o)) behind }
+    record { begins_so = refl; read = ap (λ (o : Option (List ℕ × List ℕ)). Some (closed_token (λ m. Value m) o)) (whole_again VALUE_QUOTE v rest whole) }
 
 pub token_reads : (token : Token) (rest : List ℕ) → IsWhole token rest → Reads (spelling_of_token token ++ rest) token rest
 token_reads (Word w) rest whole = word_reads w rest whole

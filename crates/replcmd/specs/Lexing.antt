@@ -1,6 +1,7 @@
 -- Reading tokens from the front of a text. A quote that is never closed is a last token of its own, which no command has.
-use Rattle.std.specs.Prelude.{◌≡◌, ℕ, ◌==◌, List, [], ◌∷◌, ◌++◌, Option, Some, None, option_map, Bool, true, false, if◌then◌else◌}
+use Rattle.std.specs.Prelude.{◌≡◌, ℕ, ◌==◌, List, [], ◌∷◌, Option, Some, None, option_map, false, if◌then◌else◌}
 use Rattle.std.specs.Borrow.{Bor}
+use Rattle.quoting.specs.Quoting.{quoted_at}
 use Rattle.replcmd.specs.declared.token.Token.{Token}
 use Rattle.replcmd.specs.declared.token.Token.TheVariants.{Word, Quoted, Value, Mark, Unclosed}
 use Rattle.replcmd.specs.declared.token.TheConstants.{NAME_QUOTE, VALUE_QUOTE}
@@ -17,16 +18,6 @@ word_of (b ∷ bytes) = if is_plain b then b ∷ word_of bytes else []
 abbrev pub after_word : List ℕ → List ℕ
 after_word [] = []
 after_word (b ∷ bytes) = if is_plain b then after_word bytes else b ∷ bytes
-
-abbrev pub in_front : List ℕ → Option (List ℕ × List ℕ) → Option (List ℕ × List ℕ)
-in_front front found = option_map (λ x. (front ++ x.0, x.1)) found
-
--- the text up to the closing quote, and what follows it; the flag says that a quote was just read
-abbrev pub quoted_at : Bool → ℕ → List ℕ → Option (List ℕ × List ℕ)
-quoted_at false quote [] = None
-quoted_at true quote [] = Some ([], [])
-quoted_at false quote (b ∷ bytes) = if b == quote then quoted_at true quote bytes else in_front (b ∷ []) (quoted_at false quote bytes)
-quoted_at true quote (b ∷ bytes) = if b == quote then in_front (b ∷ []) (quoted_at false quote bytes) else Some ([], b ∷ bytes)
 
 abbrev pub closed_token : (List ℕ → Token) → Option (List ℕ × List ℕ) → Token × List ℕ
 closed_token make None = (Unclosed, [])
@@ -52,6 +43,3 @@ Lexes text (token ∷ tokens) = (rest : List ℕ) × (token_at text ≡ Some (to
 -- a token, and the text behind it that a reader lends
 abbrev pub lent : Option (Token × Bor (List ℕ)) → Option (Token × List ℕ)
 lent found = option_map (λ x. (x.0, x.1.now)) found
-
-abbrev pub lent_text : Option (List ℕ × Bor (List ℕ)) → Option (List ℕ × List ℕ)
-lent_text found = option_map (λ x. (x.0, x.1.now)) found

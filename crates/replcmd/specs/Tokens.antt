@@ -1,7 +1,8 @@
 -- The tokens of a command: words, names in double quotes, values in single quotes, and marks. Between them stand any
 -- blanks. Which token follows is told of the whole text that is left, so a text spells one list of tokens at most.
-use Rattle.std.specs.Prelude.{◌≡◌, ℕ, ◌==◌, List, [], ◌∷◌, ◌++◌, Bool, true, false, ◌||◌, not, if◌then◌else◌}
+use Rattle.std.specs.Prelude.{◌≡◌, ℕ, ◌==◌, List, [], ◌∷◌, ◌++◌, Bool, true, false, ◌||◌, not}
 use Rattle.std.specs.List.{AllByRecursion}
+use Rattle.quoting.specs.Quoting.{begins, in_quotes}
 use Rattle.replcmd.specs.declared.token.Token.{Token}
 use Rattle.replcmd.specs.declared.token.Token.TheVariants.{Word, Quoted, Value, Mark, Unclosed}
 use Rattle.replcmd.specs.declared.token.TheConstants.{NAME_QUOTE, VALUE_QUOTE, OPEN, CLOSE, COMMA, SEMICOLON}
@@ -18,24 +19,15 @@ is_mark b = b == OPEN || (b == CLOSE || (b == COMMA || b == SEMICOLON))
 abbrev pub is_plain : ℕ → Bool
 is_plain b = not (is_blank b || (is_mark b || (b == NAME_QUOTE || b == VALUE_QUOTE)))
 
--- the text between quotes: a quote that is meant stands twice
-abbrev pub with_doubled_quotes : ℕ → List ℕ → List ℕ
-with_doubled_quotes quote [] = []
-with_doubled_quotes quote (b ∷ bytes) = if b == quote then b ∷ b ∷ with_doubled_quotes quote bytes else b ∷ with_doubled_quotes quote bytes
-
 abbrev pub spelling_of_token : Token → List ℕ
 spelling_of_token (Word w) = w
-spelling_of_token (Quoted n) = NAME_QUOTE ∷ (with_doubled_quotes NAME_QUOTE n ++ NAME_QUOTE ∷ [])
-spelling_of_token (Value v) = VALUE_QUOTE ∷ (with_doubled_quotes VALUE_QUOTE v ++ VALUE_QUOTE ∷ [])
+spelling_of_token (Quoted n) = in_quotes NAME_QUOTE n
+spelling_of_token (Value v) = in_quotes VALUE_QUOTE v
 spelling_of_token (Mark b) = b ∷ []
 spelling_of_token Unclosed = []
 
 abbrev pub Each : (ℕ → Bool) → List ℕ → Type 0
 Each is bytes = AllByRecursion (λ b. is b ≡ true) bytes
-
-abbrev pub begins : (ℕ → Bool) → List ℕ → Bool
-begins is [] = false
-begins is (b ∷ bytes) = is b
 
 -- The token is one, and ends where this text follows: a word isn't followed by more of it, nor a closing quote by another.
 abbrev pub IsWhole : Token → List ℕ → Type 0

@@ -1,13 +1,15 @@
 //! From the text of a command to its tokens.
 
-ghost use Rattle.std.specs.Prelude.{◌≡◌, ◌<◌, ◌≤◌, ◌∷◌, [], IfOk, IfSome, Some, MatchOption, option_map, length, false};
+ghost use Rattle.std.specs.Prelude.{◌≡◌, ◌<◌, IfOk, Some, false};
 ghost use Rattle.replcmd.specs.declared.token.Token.TheVariants.{Quoted, Value};
 ghost use Rattle.replcmd.specs.Tokens.{is_blank, is_mark, is_plain};
 ghost use Rattle.std.specs.Str.{IsUtf8};
-ghost use Rattle.replcmd.specs.Lexing.{after_blanks, word_of, after_word, in_front, quoted_at, closed_token, token_from, token_at, Lexes, lent, lent_text};
+ghost use Rattle.replcmd.specs.Lexing.{after_blanks, word_of, after_word, closed_token, token_from, token_at, Lexes, lent};
+ghost use Rattle.quoting.specs.Quoting.{quoted_at, lent_text};
 
 use crate::name::Name;
 use crate::token::{CLOSE, COMMA, NAME_QUOTE, OPEN, SEMICOLON, Token, VALUE_QUOTE};
+use quoting::{nothing_of, quoted_bytes};
 use std::alloc::{AllocError, Global};
 
 fn is_blank(b: u8) -> bool
@@ -73,20 +75,6 @@ fn word_bytes(alloc: Global, text: &[u8]) -> Result<(Vec<u8>, &[u8]), AllocError
     Ok((found, rest))
 }
 
-/// Where a quoted text goes on behind this byte: a quote goes on behind the second of two, and else closes the text.
-fn goes_on(quote: u8, b: u8, tail: &[u8]) -> Option<&[u8]>
-    ensures goes { MatchOption result (quoted_at false quote (b ∷ tail.now) ≡ Some ([], tail.now))
-        (λ more. quoted_at false quote (b ∷ tail.now)
-        ≡ in_front (b ∷ []) (quoted_at false quote more.now)) }
-    ensures shorter { IfSome result (λ more. length more.now ≤ length tail.now) }
-{
-    if b != quote {
-        return Some(tail);
-    }
-    let (c, more) = tail.split_first()?;
-    if *c == quote { Some(more) } else { None }
-}
-
 /// The text up to the closing quote, behind the opening one, and what follows that; None where no quote closes it. A quote
 /// that is meant stands twice.
 pub fn quoted_of(alloc: Global, quote: u8, text: &[u8]) -> Result<Option<(Name, &[u8])>, AllocError>
@@ -98,26 +86,6 @@ pub fn quoted_of(alloc: Global, quote: u8, text: &[u8]) -> Result<Option<(Name, 
         return Ok(None);
     };
     Ok(Some((name_of(bytes), rest)))
-}
-
-fn quoted_bytes(
-    alloc: Global,
-    quote: u8,
-    text: &[u8],
-) -> Result<Option<(Vec<u8>, &[u8])>, AllocError>
-    ensures { IfOk result
-        (λ x. option_map (λ y. (y.0.items, y.1.now)) x ≡ quoted_at false quote text.now) }
-{
-    let mut found = Vec::new(alloc);
-    let mut rest = text;
-    while let Some((b, tail)) = rest.split_first() {
-        let Some(more) = goes_on(quote, *b, tail) else {
-            return Ok(Some((found, tail)));
-        };
-        found.push(*b)?;
-        rest = more;
-    }
-    Ok(None)
 }
 
 /// The token of a name in quotes, where its first quote was read.
@@ -142,13 +110,6 @@ fn quoted_value(alloc: Global, text: &[u8]) -> Result<(Token, &[u8]), AllocError
         return Ok((Token::Unclosed, nothing_of(text)));
     };
     Ok((Token::Value(value), rest))
-}
-
-fn nothing_of(text: &[u8]) -> &[u8]
-    ensures { result.now ≡ [] }
-{
-    let (_, end) = text.split_at(text.len());
-    end
 }
 
 /// The first token, and what follows it; None where only blanks are left.

@@ -1,7 +1,7 @@
 use Rattle.std.proofs.Common.{◌≡◌, refl, subst, rules, arith}
 use Rattle.std.specs.Prelude.{◌≢◌, codes, None}
 use Rattle.std.specs.Str.{IsUtf8}
-use Rattle.replcmd.proofs.Pieces.{found}
+use Rattle.quoting.proofs.Quoting.{found}
 use Rattle.questions.specs.Reading.{quoted_front}
 use Rattle.questions.specs.declared.quoted.TheConstants.{LITERAL_QUOTE}
 use Rattle.questions.proofs.Quotes.{quoted_leaves_text}

@@ -1,6 +1,6 @@
 use Rattle.std.proofs.Common.{◌≡◌, [], sym, rules, ◌∙◌}
 use Rattle.std.specs.Prelude.{None}
-use Rattle.replcmd.proofs.Pieces.{found}
+use Rattle.quoting.proofs.Quoting.{found}
 use Rattle.questions.specs.Reading.{quoted_front}
 use Rattle.questions.specs.declared.quoted.TheConstants.{NAME_QUOTE}
 use Rattle.questions.proofs.Slots.{name_read, not_named, nothing_left, the_name}

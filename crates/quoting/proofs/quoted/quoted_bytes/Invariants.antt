@@ -1,6 +1,6 @@
 use Rattle.std.proofs.Common.{◌≡◌, length, false}
-use Rattle.conditions.specs.Lexing.{in_front, quoted_at}
-use Rattle.conditions.proofs.lexer.quoted_bytes.Given as goal
+use Rattle.quoting.specs.Quoting.{in_front, quoted_at}
+use Rattle.quoting.proofs.quoted.quoted_bytes.Given as goal
 
 abbrev pub invariant-loop-b : goal.invariant-loop-b
 invariant-loop-b l = in_front l.found.items (quoted_at false l.quote l.rest) ≡ quoted_at false l.quote l.text
