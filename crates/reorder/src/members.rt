@@ -1,7 +1,7 @@
 //! The xids of one transaction.
 
 ghost use Rattle.std.specs.Prelude.{◌≡◌, ◌++◌, ◌∷◌, [], IfOk, OnOk};
-ghost use Rattle.reorder.specs.Lents.{xids_in};
+ghost use Rattle.reorder.specs.Members.{xids_in};
 
 use std::alloc::{AllocError, Global};
 use std::marker::Model;
@@ -22,7 +22,7 @@ pub(crate) enum Xids {
 
 impl Model for Members {
     ghost use Rattle.std.specs.Prelude.{List, ℕ};
-    ghost use Rattle.reorder.specs.Lents.{xids_in};
+    ghost use Rattle.reorder.specs.Members.{xids_in};
 
     ghost Value = { List ℕ };
 
