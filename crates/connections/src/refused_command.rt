@@ -1,6 +1,7 @@
 //! A command that was refused, for whoever runs the server.
 
-use replcmd::{CmdFault, Name};
+use pqformat::Text;
+use replcmd::CmdFault;
 use server::DeskFault;
 use std::fmt;
 
@@ -20,7 +21,7 @@ pub enum RefusedCommand<'a> {
     /// A command, by its first word, of a slot.
     OfSlot(&'static str, &'a str, DeskFault),
     /// A START of a slot and of publications.
-    Start(&'a str, &'a [Name], DeskFault),
+    Start(&'a str, &'a [Text], DeskFault),
 }
 
 impl<'a> fmt::Display for RefusedCommand<'a> {
@@ -44,7 +45,7 @@ impl<'a> fmt::Display for RefusedCommand<'a> {
     }
 }
 
-fn write_names<W: fmt::Write>(f: &mut fmt::Formatter<W>, names: &[Name]) -> fmt::Result {
+fn write_names<W: fmt::Write>(f: &mut fmt::Formatter<W>, names: &[Text]) -> fmt::Result {
     for name in names.iter().take(MOST_NAMES) {
         let name = name.as_str();
         if name.len() <= MOST_BYTES {

@@ -1,7 +1,7 @@
 //! The desk of a server without slots.
 
-use pqformat::Items;
-use replcmd::{Names, StreamOptions};
+use pqformat::{Items, Text};
+use replcmd::StreamOptions;
 use server::{Desk, DeskFault, TableName};
 
 /// What a connection asks of its server: where the log ends, and for slots, of which this one has none.
@@ -30,11 +30,11 @@ impl Desk for EmptyDesk {
         Err(DeskFault::SlotMissing)
     }
 
-    fn publications(&mut self, _names: &Names) -> Result<Names, DeskFault> {
+    fn publications(&mut self, _names: &Items<Text>) -> Result<Items<Text>, DeskFault> {
         Err(DeskFault::UnknownPublication)
     }
 
-    fn tables(&mut self, _names: &Names) -> Result<Items<TableName>, DeskFault> {
+    fn tables(&mut self, _names: &Items<Text>) -> Result<Items<TableName>, DeskFault> {
         Err(DeskFault::UnknownPublication)
     }
 

@@ -4,8 +4,8 @@ use crate::hub::Hub;
 use crate::line::Line;
 use crate::published::{known_names, tables_of};
 use connections::{Gate, RefusedCommand};
-use pqformat::Items;
-use replcmd::{CmdFault, Names, StreamOptions};
+use pqformat::{Items, Text};
+use replcmd::{CmdFault, StreamOptions};
 use server::{Desk, DeskFault, TableName};
 use shared_log::LogName;
 use slots::SlotName;
@@ -62,14 +62,14 @@ impl<'h, L: LogName + SlotName, R: Wait, G: Gate> Desk for HubDesk<'h, L, R, G> 
         dropped
     }
 
-    fn publications(&mut self, names: &Names) -> Result<Names, DeskFault> {
+    fn publications(&mut self, names: &Items<Text>) -> Result<Items<Text>, DeskFault> {
         match known_names(self.hub.alloc, &self.hub.publications, names.as_slice()) {
             Ok(known) => Ok(known),
             Err(_) => Err(DeskFault::Memory),
         }
     }
 
-    fn tables(&mut self, names: &Names) -> Result<Items<TableName>, DeskFault> {
+    fn tables(&mut self, names: &Items<Text>) -> Result<Items<TableName>, DeskFault> {
         tables_of(self.hub.alloc, &self.hub.publications, names.as_slice())
     }
 

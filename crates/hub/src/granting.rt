@@ -1,6 +1,6 @@
 //! What commands ask of a hub: the end of its log, slots, and streams.
 
-ghost use Rattle.std.specs.Prelude.{◌≡◌, ◌<◌, IfOk, IfSome};
+ghost use Rattle.std.specs.Prelude.{◌<◌, IfSome};
 
 use crate::grant::StreamGrant;
 use crate::hub::Hub;
@@ -10,11 +10,10 @@ use crate::starting::HubStart;
 use crate::streaming::Stream;
 use connections::SlotPost;
 use pqformat::Text;
-use replcmd::{Name, StreamOptions};
+use replcmd::StreamOptions;
 use server::DeskFault;
 use shared_log::LogName;
 use slots::SlotName;
-use std::alloc::{AllocError, Global};
 use std::sync::atomic::Ordering;
 use std::sync::{MutexGuard, Wait};
 use walsender::begin;
@@ -92,14 +91,10 @@ impl<L: LogName + SlotName> Hub<L> {
         position: u64,
         options: &StreamOptions,
     ) -> Result<StreamGrant<L>, DeskFault> {
-        let Ok(names) = texts_of(self.alloc, options.publications.as_slice()) else {
-            return Err(DeskFault::Memory);
-        };
         let mut start = HubStart {
             rt,
             hub: self,
             slot,
-            names: names.as_slice(),
             options,
             position,
         };
@@ -134,14 +129,4 @@ impl<L: LogName + SlotName> Hub<L> {
     pub(crate) fn give_back<R: Wait>(&self, rt: &R, pair: Pair<L>) {
         let _ = self.pool.lock(rt).give_back(pair);
     }
-}
-
-pub(crate) fn texts_of(alloc: Global, names: &[Name]) -> Result<Vec<Text>, AllocError>
-    ensures { IfOk result (λ texts. texts.items ≡ names.now) }
-{
-    let mut texts = Vec::with_capacity(alloc, names.len())?;
-    for name in names {
-        texts.push(Text::copy_of(alloc, name.as_str())?)?;
-    }
-    Ok(texts)
 }

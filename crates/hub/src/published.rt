@@ -5,12 +5,10 @@ ghost use Rattle.std.specs.List.{AllByRecursion};
 ghost use Rattle.server.specs.Calls.{IsShort, IsShortName};
 ghost use Rattle.hub.specs.Published.{is_publication, tables_in, tables_told, told_table};
 
-use crate::granting::texts_of;
 use crate::refusals::of_publications;
 use pgoutput::Logical;
 use pqformat::{Items, Text};
 use publication::{PubFault, Publications, Selection};
-use replcmd::{Name, Names};
 use server::{DeskFault, TableName};
 use std::alloc::{AllocError, Global};
 use std::slice;
@@ -22,49 +20,44 @@ const MOST_NAME_BYTES: usize = 63;
 pub(crate) fn known_names(
     alloc: Global,
     publications: &Publications,
-    names: &[Name],
-) -> Result<Names, AllocError>
+    names: &[Text],
+) -> Result<Items<Text>, AllocError>
     ensures known { IfOk result
         (λ known. known ≡ filter (is_publication publications.now) names.now) }
     ensures short { IfOk result (λ known. AllByRecursion IsShort known) }
 {
     let mut known = Vec::new(alloc);
     for name in names {
-        if is_publication(alloc, publications, name)? {
+        if is_publication(publications, name) {
             known.push(name.copy(alloc)?)?;
         }
     }
-    Ok(Names::new(known))
+    Ok(Items::new(known))
 }
 
 /// Whether a publication has this name.
-fn is_publication(
-    alloc: Global,
-    publications: &Publications,
-    name: &Name,
-) -> Result<bool, AllocError>
-    ensures { IfOk result (λ is. is ≡ is_publication publications.now name.now) }
+fn is_publication(publications: &Publications, name: &Text) -> bool
+    ensures { result ≡ is_publication publications.now name.now }
 {
     if name.as_str().len() > MOST_NAME_BYTES {
-        return Ok(false);
+        return false;
     }
-    let name = Text::copy_of(alloc, name.as_str())?;
-    match publications.judge(slice::from_ref(&name)) {
-        Err(PubFault::Unknown) => Ok(false),
-        _ => Ok(true),
-    }
+    !matches!(
+        publications.judge(slice::from_ref(name)),
+        Err(PubFault::Unknown)
+    )
 }
 
 /// The tables of the publications of these names, each once. P2 where two of those have different column lists for one of them.
 pub(crate) fn tables_of(
     alloc: Global,
     publications: &Publications,
-    names: &[Name],
+    names: &[Text],
 ) -> Result<Items<TableName>, DeskFault>
     ensures told { IfOk result (λ tables. tables ≡ tables_told publications.now names.now) }
     ensures short { IfOk result (λ tables. AllByRecursion IsShortName tables) }
 {
-    let Ok(known) = known_texts(alloc, publications, names) else {
+    let Ok(known) = known_names(alloc, publications, names) else {
         return Err(DeskFault::Memory);
     };
     let selection = publications
@@ -74,18 +67,6 @@ pub(crate) fn tables_of(
         Ok(tables) => Ok(tables),
         Err(_) => Err(DeskFault::Memory),
     }
-}
-
-fn known_texts(
-    alloc: Global,
-    publications: &Publications,
-    names: &[Name],
-) -> Result<Vec<Text>, AllocError>
-    ensures { IfOk result
-        (λ known. known.items ≡ filter (is_publication publications.now) names.now) }
-{
-    let known = known_names(alloc, publications, names)?;
-    texts_of(alloc, known.as_slice())
 }
 
 /// The tables of a selection.
@@ -111,8 +92,7 @@ fn table_told(selection: &Selection, oid: u32) -> Result<Option<TableName>, Allo
     let Some(Logical::Relation(relation)) = selection.relation(oid)? else {
         return Ok(None);
     };
-    let schema = Name::new(relation.namespace.into_string());
-    let name = Name::new(relation.name.into_string());
+    let (schema, name) = (relation.namespace, relation.name);
     if schema.as_str().len() > MOST_NAME_BYTES || name.as_str().len() > MOST_NAME_BYTES {
         return Err(AllocError);
     }

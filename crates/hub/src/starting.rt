@@ -5,7 +5,6 @@ ghost use Rattle.std.specs.Prelude.{◌<◌};
 use crate::grant::{Means, StreamGrant};
 use crate::hub::Hub;
 use crate::pool::Pair;
-use pqformat::Text;
 use publication::PubFault;
 use replcmd::StreamOptions;
 use shared_log::LogName;
@@ -19,7 +18,6 @@ pub(crate) struct HubStart<'h, L: LogName + SlotName, R: Wait> {
     pub rt: &'h R,
     pub hub: &'h Hub<L>,
     pub slot: &'h str,
-    pub names: &'h [Text],
     pub options: &'h StreamOptions,
     pub position: u64,
 }
@@ -49,7 +47,9 @@ impl<'h, L: LogName + SlotName, R: Wait> StartDesk for HubStart<'h, L, R> {
     }
 
     fn judge(&mut self) -> Result<(), PubFault> {
-        self.hub.publications.judge(self.names)
+        self.hub
+            .publications
+            .judge(self.options.publications.as_slice())
     }
 
     fn take_reader(&mut self) -> Option<Pair<L>> {
@@ -61,7 +61,7 @@ impl<'h, L: LogName + SlotName, R: Wait> StartDesk for HubStart<'h, L, R> {
         let means = Means {
             alloc: hub.alloc,
             publications: &hub.publications,
-            names: self.names,
+            names: self.options.publications.as_slice(),
             options: self.options,
             chunks: hub.settings.chunks,
         };

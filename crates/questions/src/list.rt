@@ -5,7 +5,7 @@ ghost use Rattle.std.specs.Str.{IsUtf8};
 ghost use Rattle.questions.specs.Questions.{SpellsNames};
 
 use crate::quoted::{LITERAL_QUOTE, quoted_of};
-use replcmd::Names;
+use pqformat::{Items, Text};
 use std::alloc::{AllocError, Global};
 
 /// What follows this text, where it stands at the front.
@@ -27,7 +27,7 @@ pub(crate) fn before<'a>(text: &'a [u8], end: &str) -> Option<&'a [u8]>
 }
 
 /// The names of a list of which the opening bracket was read, up to the closing one, with which the text ends.
-pub(crate) fn names_of(alloc: Global, text: &[u8]) -> Result<Option<Names>, AllocError>
+pub(crate) fn names_of(alloc: Global, text: &[u8]) -> Result<Option<Items<Text>>, AllocError>
     requires { IsUtf8 text.now }
     ensures { IfOk result
         (λ found. MatchOption found ((names : List (List ℕ)) → SpellsNames text.now names → ⊥)
@@ -41,7 +41,7 @@ pub(crate) fn names_of(alloc: Global, text: &[u8]) -> Result<Option<Names>, Allo
         };
         names.push(name)?;
         if rest == b")".as_slice() {
-            return Ok(Some(Names::new(names)));
+            return Ok(Some(Items::new(names)));
         }
         let Some(more) = behind(rest, ", ") else {
             return Ok(None);

@@ -11,7 +11,8 @@ ghost use Rattle.questions.specs.Reading.{IsPlain};
 
 use crate::list::{before, behind, names_of};
 use crate::quoted::{NAME_QUOTE, quoted_of};
-use replcmd::{Name, Names, is_slot_name};
+use pqformat::{Items, Text};
+use replcmd::is_slot_name;
 use std::alloc::{AllocError, Global};
 
 /// A question of a client of PostgreSQL 15. Each has one text, but that a slot may be named with quotes or without.
@@ -24,11 +25,11 @@ pub enum Question {
     /// That the initial copy of a table begins.
     InitialCopy,
     /// Which of these names are publications.
-    Publications(Names),
+    Publications(Items<Text>),
     /// The tables of the publications of these names.
-    Tables(Names),
+    Tables(Items<Text>),
     /// That a slot is dropped as soon as nobody holds it.
-    DropWhenFree(Name),
+    DropWhenFree(Text),
 }
 
 /// The question that the text asks, all of it.
@@ -71,7 +72,7 @@ fn plain_of(text: &str) -> Option<Question>
 }
 
 /// The names of the list behind this text, where it stands at the front.
-fn names_behind(alloc: Global, text: &str, front: &str) -> Result<Option<Names>, AllocError>
+fn names_behind(alloc: Global, text: &str, front: &str) -> Result<Option<Items<Text>>, AllocError>
     requires { list_all (λ b. nat_lt b 128) front.now ≡ true }
     ensures { IfOk result
         (λ found. MatchOption found
@@ -86,7 +87,7 @@ fn names_behind(alloc: Global, text: &str, front: &str) -> Result<Option<Names>,
 }
 
 /// The slot that is dropped once nobody holds it.
-fn slot_of(alloc: Global, text: &[u8]) -> Result<Option<Name>, AllocError>
+fn slot_of(alloc: Global, text: &[u8]) -> Result<Option<Text>, AllocError>
     requires { IsUtf8 text.now }
     ensures { IfOk result
         (λ found. MatchOption found ((slot : List ℕ) → SpellsDrop text.now slot → ⊥)
@@ -105,19 +106,19 @@ fn slot_of(alloc: Global, text: &[u8]) -> Result<Option<Name>, AllocError>
 }
 
 /// The name of a slot that stands there without quotes.
-fn bare_of(alloc: Global, named: &[u8]) -> Result<Option<Name>, AllocError>
+fn bare_of(alloc: Global, named: &[u8]) -> Result<Option<Text>, AllocError>
     ensures { IfOk result
         (λ found. MatchOption found (is_slot_name named.now ≡ false)
         (λ slot. (slot ≡ named.now) × (is_slot_name named.now ≡ true))) }
 {
     match std::str::from_utf8(named) {
-        Ok(slot) if is_slot_name(slot) => Ok(Some(Name::new(String::from_str(alloc, slot)?))),
+        Ok(slot) if is_slot_name(slot) => Ok(Some(Text::new(String::from_str(alloc, slot)?))),
         _ => Ok(None),
     }
 }
 
 /// The name of a slot that stands there in quotes.
-fn quoted_slot_of(alloc: Global, named: &[u8]) -> Result<Option<Name>, AllocError>
+fn quoted_slot_of(alloc: Global, named: &[u8]) -> Result<Option<Text>, AllocError>
     requires { IsUtf8 named.now }
     ensures { IfOk result
         (λ found. MatchOption found

@@ -5,7 +5,7 @@ ghost use Rattle.std.specs.Str.{IsUtf8};
 ghost use Rattle.quoting.specs.Quoting.{lent_text};
 ghost use Rattle.questions.specs.Reading.{quoted_front};
 
-use replcmd::Name;
+use pqformat::Text;
 use std::alloc::{AllocError, Global};
 
 /// The quote round string literals. One that is meant stands twice.
@@ -19,7 +19,7 @@ pub(crate) fn quoted_of(
     alloc: Global,
     quote: u8,
     text: &[u8],
-) -> Result<Option<(Name, &[u8])>, AllocError>
+) -> Result<Option<(Text, &[u8])>, AllocError>
     requires ascii { quote < 128 }
     requires utf8 { IsUtf8 text.now }
     ensures { IfOk result (λ found. lent_text found ≡ quoted_front quote text.now) }

@@ -10,11 +10,11 @@ use crate::drop_slot::drop_of;
 use crate::fault::CmdFault;
 use crate::identify::identify_of;
 use crate::lexer::tokens_of;
-use crate::name::Name;
 use crate::setting::StreamOptions;
 use crate::start::start_of;
 use crate::tokens::Tokens;
 use crate::verb::Verb;
+use pqformat::Text;
 use std::alloc::Global;
 
 /// A command of the streaming replication protocol (PostgreSQL 15, 55.4).
@@ -24,17 +24,17 @@ pub enum Command {
     Identify,
     /// `CREATE_REPLICATION_SLOT slot LOGICAL pgoutput`
     Create {
-        slot: Name,
+        slot: Text,
     },
     /// `START_REPLICATION SLOT slot LOGICAL at (proto_version '1', publication_names 'publications', messages 'messages')`
     Start {
-        slot: Name,
+        slot: Text,
         at: u64,
         options: StreamOptions,
     },
     /// `DROP_REPLICATION_SLOT slot`
     Drop {
-        slot: Name,
+        slot: Text,
     },
 }
 

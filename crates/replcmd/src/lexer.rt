@@ -7,8 +7,8 @@ ghost use Rattle.std.specs.Str.{IsUtf8};
 ghost use Rattle.replcmd.specs.Lexing.{after_blanks, word_of, after_word, closed_token, token_from, token_at, Lexes, lent};
 ghost use Rattle.quoting.specs.Quoting.{quoted_at, lent_text};
 
-use crate::name::Name;
 use crate::token::{CLOSE, COMMA, NAME_QUOTE, OPEN, SEMICOLON, Token, VALUE_QUOTE};
+use pqformat::Text;
 use quoting::{nothing_of, quoted_bytes};
 use std::alloc::{AllocError, Global};
 
@@ -44,15 +44,15 @@ pub(crate) fn after_blanks(text: &[u8]) -> &[u8]
 }
 
 /// The name of bytes that are text, as the pieces of a text between quotes, marks and blanks are.
-fn name_of(bytes: Vec<u8>) -> Name
+fn name_of(bytes: Vec<u8>) -> Text
     requires { IsUtf8 bytes.items }
     ensures { result ≡ bytes.items }
 {
-    Name::new(String::from_utf8(bytes).unwrap())
+    Text::new(String::from_utf8(bytes).unwrap())
 }
 
 /// The word at the front, and what follows it.
-fn word_of(alloc: Global, text: &[u8]) -> Result<(Name, &[u8]), AllocError>
+fn word_of(alloc: Global, text: &[u8]) -> Result<(Text, &[u8]), AllocError>
     requires { IsUtf8 text.now }
     ensures { IfOk result (λ x. (x.0 ≡ word_of text.now) × (x.1.now ≡ after_word text.now)) }
 {
@@ -77,7 +77,7 @@ fn word_bytes(alloc: Global, text: &[u8]) -> Result<(Vec<u8>, &[u8]), AllocError
 
 /// The text up to the closing quote, behind the opening one, and what follows that; None where no quote closes it. A quote
 /// that is meant stands twice.
-pub fn quoted_of(alloc: Global, quote: u8, text: &[u8]) -> Result<Option<(Name, &[u8])>, AllocError>
+pub fn quoted_of(alloc: Global, quote: u8, text: &[u8]) -> Result<Option<(Text, &[u8])>, AllocError>
     requires ascii { quote < 128 }
     requires utf8 { IsUtf8 text.now }
     ensures { IfOk result (λ x. lent_text x ≡ quoted_at false quote text.now) }

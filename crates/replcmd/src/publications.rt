@@ -5,15 +5,14 @@ ghost use Rattle.replcmd.specs.Reading.{Answers, LendsName, front_name, names_of
 
 use crate::fault::CmdFault;
 use crate::lexer::{after_blanks, token_of};
-use crate::name::Name;
-use crate::names::Names;
 use crate::token::COMMA;
 use crate::tokens::name_of;
+use pqformat::{Items, Text};
 use std::alloc::Global;
 
 /// The names that the text spells, one at least; C5 where it spells none.
 #[tactic(auto, unfolding(crate::specs::Reading::names_of))]
-pub(crate) fn names_of(alloc: Global, text: &str) -> Result<Names, CmdFault>
+pub(crate) fn names_of(alloc: Global, text: &str) -> Result<Items<Text>, CmdFault>
     ensures { Answers result (names_of text.now) }
 {
     let mut names = Vec::new(alloc);
@@ -22,7 +21,7 @@ pub(crate) fn names_of(alloc: Global, text: &str) -> Result<Names, CmdFault>
         let (name, behind) = front_name(alloc, place)?;
         names.push(name)?;
         let Some((b, rest)) = after_blanks(behind).split_first() else {
-            return Ok(Names::new(names));
+            return Ok(Items::new(names));
         };
         if *b != COMMA {
             return Err(CmdFault::BadOption);
@@ -33,7 +32,7 @@ pub(crate) fn names_of(alloc: Global, text: &str) -> Result<Names, CmdFault>
 
 /// The name at the front, and what follows it.
 #[tactic(auto, unfolding(crate::specs::Reading::front_name))]
-fn front_name(alloc: Global, text: &[u8]) -> Result<(Name, &[u8]), CmdFault>
+fn front_name(alloc: Global, text: &[u8]) -> Result<(Text, &[u8]), CmdFault>
     requires { IsUtf8 text.now }
     ensures { LendsName result (front_name text.now) }
 {

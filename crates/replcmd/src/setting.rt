@@ -6,18 +6,18 @@ ghost use Rattle.replcmd.specs.Reading.{Gives, GivesItems};
 ghost use Rattle.replcmd.specs.Settings.{told_options, messages_at, publications_at, setting_at, version_at};
 
 use crate::fault::CmdFault;
-use crate::names::Names;
 use crate::publications::names_of;
 use crate::token::{CLOSE, COMMA, OPEN};
 use crate::tokens::Tokens;
 use crate::words::truth_of;
+use pqformat::{Items, Text};
 use std::alloc::Global;
 
 /// The options of START_REPLICATION that say what its stream tells (PostgreSQL 15, 55.5).
 #[derive(Debug, Drop)]
 pub struct StreamOptions {
     /// `publication_names`: the publications that are asked for.
-    pub publications: Names,
+    pub publications: Items<Text>,
     /// `messages`: whether the messages that sessions put into the log are told too, as those of pg_logical_emit_message
     /// in PostgreSQL; false where nothing is said of them.
     pub messages: bool,
@@ -29,7 +29,7 @@ pub(crate) enum Setting {
     /// Version 1 of the protocol.
     Version,
     /// The publications that are asked for.
-    Publications(Names),
+    Publications(Items<Text>),
     /// Whether the messages in the log are asked for.
     Messages(bool),
 }

@@ -1,6 +1,6 @@
 //! The tokens of a command.
 
-use crate::name::Name;
+use pqformat::Text;
 
 /// The quote round names, and the one round values. One that is meant stands twice.
 pub(crate) const NAME_QUOTE: u8 = b'"';
@@ -20,11 +20,11 @@ pub(crate) const SEMICOLON: u8 = b';';
 #[derive(Drop)]
 pub(crate) enum Token {
     /// A keyword, a bare name or a position.
-    Word(Name),
+    Word(Text),
     /// A name in double quotes.
-    Quoted(Name),
+    Quoted(Text),
     /// A value in single quotes.
-    Value(Name),
+    Value(Text),
     /// A bracket, a comma or a semicolon.
     Mark(u8),
     /// A quote that is never closed, up to the end of the text.

@@ -4,11 +4,11 @@ ghost use Rattle.std.specs.Prelude.{◌≡◌, IfOk};
 ghost use Rattle.replcmd.specs.Reading.{Gives, Moves, Answers, name_of, name_at, slot_at, past_mark, past_word, begins_with_name, GivesLent, verb_at, unexpected, keyword_at, end_at, position_at, value_at};
 
 use crate::fault::CmdFault;
-use crate::name::Name;
 use crate::position::position_of;
 use crate::token::{SEMICOLON, Token};
 use crate::verb::Verb;
-use crate::words::{is_bare, is_keyword, is_slot_name};
+use crate::words::{folded, is_bare, is_keyword, is_slot_name};
+use pqformat::Text;
 use std::alloc::{AllocError, Global};
 use std::marker::Model;
 
@@ -71,7 +71,7 @@ impl<'a> Tokens<'a> {
     }
 
     /// A name, bare or in double quotes.
-    pub(crate) fn name(&mut self, alloc: Global) -> Result<Name, CmdFault>
+    pub(crate) fn name(&mut self, alloc: Global) -> Result<Text, CmdFault>
         ensures { Gives result self.new (name_at self.old) }
     {
         let (token, rest) = self.rest.split_first().ok_or(CmdFault::Syntax)?;
@@ -82,7 +82,7 @@ impl<'a> Tokens<'a> {
 
     /// The name of a slot; another name is C2.
     #[tactic(auto, unfolding(crate::specs::Reading::slot_at))]
-    pub(crate) fn slot(&mut self, alloc: Global) -> Result<Name, CmdFault>
+    pub(crate) fn slot(&mut self, alloc: Global) -> Result<Text, CmdFault>
         ensures { Gives result self.new (slot_at self.old) }
     {
         let name = self.name(alloc)?;
@@ -143,7 +143,7 @@ impl<'a> Tokens<'a> {
     }
 
     /// A value in single quotes.
-    pub(crate) fn value(&mut self) -> Result<&'a Name, CmdFault>
+    pub(crate) fn value(&mut self) -> Result<&'a Text, CmdFault>
         ensures { GivesLent result self.new (value_at self.old) }
     {
         let Some((Token::Value(value), rest)) = self.rest.split_first() else {
@@ -167,11 +167,11 @@ impl<'a> Tokens<'a> {
 }
 
 /// The name that a token spells.
-pub(crate) fn name_of(alloc: Global, token: &Token) -> Result<Option<Name>, AllocError>
+pub(crate) fn name_of(alloc: Global, token: &Token) -> Result<Option<Text>, AllocError>
     ensures { IfOk result (λ name. name ≡ name_of token.now) }
 {
     match token {
-        Token::Word(word) if is_bare(word.as_str()) => Ok(Some(word.folded(alloc)?)),
+        Token::Word(word) if is_bare(word.as_str()) => Ok(Some(folded(alloc, word.as_str())?)),
         Token::Quoted(name) => Ok(Some(name.copy(alloc)?)),
         _ => Ok(None),
     }

@@ -1,9 +1,13 @@
 //! What a word or a name may be.
 
-ghost use Rattle.std.specs.Prelude.{◌≡◌};
+ghost use Rattle.std.specs.Prelude.{◌≡◌, IfOk, map};
+ghost use Rattle.std.specs.Char.{to_ascii_lowercase};
 ghost use Rattle.std.specs.List.{list_all};
 ghost use Rattle.replcmd.specs.Words.{is_keyword, is_later, is_bare, is_slot_byte, is_slot_name};
 ghost use Rattle.replcmd.specs.Reading.{truth_of};
+
+use pqformat::Text;
+use std::alloc::{AllocError, Global};
 
 /// The longest name of a slot, in bytes.
 pub const MOST_SLOT_NAME_BYTES: usize = 63;
@@ -46,6 +50,15 @@ fn are_later(bytes: &[u8]) -> bool
     bytes
         .iter()
         .all(|b| b.is_ascii_alphanumeric() || *b == b'_' || *b == b'$')
+}
+
+/// The word in lower case, as bare names are meant.
+pub(crate) fn folded(alloc: Global, word: &str) -> Result<Text, AllocError>
+    ensures { IfOk result (λ name. name ≡ map to_ascii_lowercase word.now) }
+{
+    let mut string = String::from_str(alloc, word)?;
+    string.make_ascii_lowercase();
+    Ok(Text::new(string))
 }
 
 /// Whether the name is one of a slot: 1 to 63 lower-case letters, digits and underscores.

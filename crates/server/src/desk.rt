@@ -6,8 +6,8 @@ ghost use Rattle.server.specs.Calls.{IsShort, IsShortName};
 
 use crate::fault::DeskFault;
 use crate::table_name::TableName;
-use pqformat::Items;
-use replcmd::{CmdFault, Names, StreamOptions};
+use pqformat::{Items, Text};
+use replcmd::{CmdFault, StreamOptions};
 
 /// The desk of a connection. `told` is what one call with its answer says of a desk before and after it; a desk that
 /// tells nothing says `Unit`, one that keeps a record of its calls says that it grew by this one.
@@ -38,12 +38,12 @@ pub trait Desk {
         ensures { told self.old (StartStream slot.now position options.now result) self.new };
 
     /// Which of these names are publications.
-    fn publications(&mut self, names: &Names) -> Result<Names, DeskFault>
+    fn publications(&mut self, names: &Items<Text>) -> Result<Items<Text>, DeskFault>
         ensures told { told self.old (Publications names.now result) self.new }
         ensures short { IfOk result (λ found. AllByRecursion IsShort found) };
 
     /// The tables of the publications of these names, each once. A name that no publication has adds none.
-    fn tables(&mut self, names: &Names) -> Result<Items<TableName>, DeskFault>
+    fn tables(&mut self, names: &Items<Text>) -> Result<Items<TableName>, DeskFault>
         ensures told { told self.old (Tables names.now result) self.new }
         ensures short { IfOk result (λ tables. AllByRecursion IsShortName tables) };
 

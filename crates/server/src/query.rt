@@ -10,7 +10,8 @@ use crate::fault::DeskFault;
 use crate::refusal::Refusal;
 use crate::say::{say_created, say_dropped, say_identified, say_refused_ready, say_started};
 use bytes::BytesMut;
-use replcmd::{Command, Name, StreamOptions, parse_command};
+use pqformat::Text;
+use replcmd::{Command, StreamOptions, parse_command};
 use std::alloc::{AllocError, Global};
 
 fn identify<D: Desk>(
@@ -29,7 +30,7 @@ fn identify<D: Desk>(
 fn create<D: Desk>(
     alloc: Global,
     database: &Database,
-    slot: &Name,
+    slot: &Text,
     desk: &mut D,
     out: &mut BytesMut,
 ) -> Result<(), AllocError>
@@ -44,7 +45,7 @@ fn create<D: Desk>(
 fn drop_slot<D: Desk>(
     alloc: Global,
     database: &Database,
-    slot: &Name,
+    slot: &Text,
     desk: &mut D,
     out: &mut BytesMut,
 ) -> Result<(), AllocError>
@@ -59,7 +60,7 @@ fn drop_slot<D: Desk>(
 fn start<D: Desk>(
     alloc: Global,
     database: &Database,
-    slot: &Name,
+    slot: &Text,
     position: u64,
     options: &StreamOptions,
     desk: &mut D,

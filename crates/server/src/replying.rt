@@ -12,13 +12,13 @@ use crate::say::{say_dropped, say_refused_ready};
 use crate::say_answers::{say_found_tables, say_mode, say_path_set, say_publications};
 use crate::service::Dialect;
 use bytes::BytesMut;
+use pqformat::{Items, Text};
 use questions::{Question, question_of};
-use replcmd::{Name, Names};
 use std::alloc::{AllocError, Global};
 
 fn tell_publications<D: Desk>(
     alloc: Global,
-    names: &Names,
+    names: &Items<Text>,
     desk: &mut D,
     out: &mut BytesMut,
 ) -> Result<(), AllocError>
@@ -31,7 +31,7 @@ fn tell_publications<D: Desk>(
 
 fn tell_tables<D: Desk>(
     alloc: Global,
-    names: &Names,
+    names: &Items<Text>,
     desk: &mut D,
     out: &mut BytesMut,
 ) -> Result<(), AllocError>
@@ -44,7 +44,7 @@ fn tell_tables<D: Desk>(
 
 fn drop_when_free<D: Desk>(
     alloc: Global,
-    slot: &Name,
+    slot: &Text,
     desk: &mut D,
     out: &mut BytesMut,
 ) -> Result<(), AllocError>

@@ -16,8 +16,7 @@ use crate::say::{
 };
 use crate::table_name::TableName;
 use bytes::BytesMut;
-use pqformat::Items;
-use replcmd::{Name, Names};
+use pqformat::{Items, Text};
 use std::alloc::{AllocError, Global};
 
 /// The beginning of a session that may ask questions.
@@ -58,7 +57,7 @@ fn say_single_row(alloc: Global, out: &mut BytesMut, text: &str) -> Result<(), A
 }
 
 #[tactic(auto, using(pqformat::proofs::Putting::in_place))]
-fn say_names(alloc: Global, out: &mut BytesMut, names: &[Name]) -> Result<(), AllocError>
+fn say_names(alloc: Global, out: &mut BytesMut, names: &[Text]) -> Result<(), AllocError>
     requires { AllByRecursion IsShort names.now }
     ensures { Puts result out.old.items out.new.items (flat_map single_row names.now) }
 {
@@ -142,7 +141,7 @@ pub(crate) fn say_mode(alloc: Global, out: &mut BytesMut) -> Result<(), AllocErr
 pub(crate) fn say_publications(
     alloc: Global,
     out: &mut BytesMut,
-    answer: Result<Names, DeskFault>,
+    answer: Result<Items<Text>, DeskFault>,
 ) -> Result<(), AllocError>
     requires { IfOk answer (λ names. AllByRecursion IsShort names) }
     ensures { Puts result out.old.items out.new.items (publications_told answer) }

@@ -1,10 +1,10 @@
 //! The name of a table.
 
-use replcmd::Name;
+use pqformat::Text;
 
 /// The name of a table, with that of its schema.
 #[derive(Debug, Drop)]
 pub struct TableName {
-    pub schema: Name,
-    pub name: Name,
+    pub schema: Text,
+    pub name: Text,
 }

@@ -1,7 +1,7 @@
 //! A desk that does as the names of slots say, and writes down what it is asked.
 
-use pqformat::Items;
-use replcmd::{Names, StreamOptions};
+use pqformat::{Items, Text};
+use replcmd::StreamOptions;
 use server::{Desk, DeskFault, TableName};
 use std::alloc::{AllocError, Global};
 
@@ -75,11 +75,11 @@ impl Desk for ScriptedDesk {
     }
 
     // Its connections answer no questions.
-    fn publications(&mut self, _names: &Names) -> Result<Names, DeskFault> {
+    fn publications(&mut self, _names: &Items<Text>) -> Result<Items<Text>, DeskFault> {
         Err(DeskFault::UnknownPublication)
     }
 
-    fn tables(&mut self, _names: &Names) -> Result<Items<TableName>, DeskFault> {
+    fn tables(&mut self, _names: &Items<Text>) -> Result<Items<TableName>, DeskFault> {
         Err(DeskFault::UnknownPublication)
     }
 
