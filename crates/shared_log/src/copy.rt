@@ -1,6 +1,6 @@
 //! The two copies of a log: readers see one, and the writer brings up the other.
 
-ghost use Rattle.std.specs.Prelude.{◌≡◌, ◌++◌, ◌∷◌, [], take};
+ghost use Rattle.std.specs.Prelude.{◌≡◌, ◌++◌, ◌∷◌, [], take, IfOk};
 ghost use Rattle.std.specs.Arc.{arc_value};
 
 use crate::entry::Entry;
@@ -8,7 +8,7 @@ use crate::law::Law;
 use crate::mark::Mark;
 use left_right::Absorb;
 use logbook::Seen;
-use std::alloc::AllocError;
+use std::alloc::{AllocError, Global};
 use std::sync::Arc;
 use wal::Record;
 
@@ -34,6 +34,19 @@ pub struct Put {
     pub(crate) entry: Arc<Record>,
     pub(crate) restart: usize,
     pub(crate) mark: Mark,
+}
+
+impl LogCopy {
+    /// Of an empty log, with room for so many records.
+    pub(crate) fn empty(alloc: Global, records: usize, mark: &Mark) -> Result<Self, AllocError>
+        ensures { IfOk result
+            (λ copy. (copy.records.items ≡ []) × (copy.mark.seen ≡ mark.now.seen)) }
+    {
+        Ok(LogCopy {
+            records: Vec::with_capacity(alloc, records)?,
+            mark: mark.again(),
+        })
+    }
 }
 
 impl Absorb<Put> for LogCopy {

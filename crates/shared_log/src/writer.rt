@@ -1,6 +1,6 @@
 //! The writer of the log.
 
-ghost use Rattle.std.specs.Prelude.{◌≡◌, ◌+◌, ◌<◌, ◌≤◌, ◌^◌, ◌++◌, ◌∷◌, [], length, false, true, vec_len, IfOk, OnErr};
+ghost use Rattle.std.specs.Prelude.{◌≡◌, ◌+◌, ◌<◌, ◌≤◌, ◌^◌, ◌++◌, ◌∷◌, [], drop, length, false, true, vec_len, IfOk, OnErr};
 ghost use mathlib.Core.List.{IsPrefix};
 ghost use Rattle.wal.specs.Log.{IsWellFormedLog, end_of, is_note, size_of, top_of, xid_in};
 ghost use Rattle.wal.specs.Records.{record_after};
@@ -14,6 +14,7 @@ ghost use Rattle.shared_log.specs.Writing.{IsOutline};
 
 use crate::copy::{LogCopy, Put};
 use crate::front::Front;
+use crate::mark::Mark;
 use crate::name::LogName;
 use crate::opened::Opened;
 use crate::outline::Outline;
@@ -71,21 +72,11 @@ impl<L: LogName> LogWriter<L> {
             (λ r. (vec_len r.1 ≡ readers) × AllByRecursion (λ reader. reader.place ≡ 0) r.1.items) }
     {
         let state = LogState::<L>::open(alloc, opened)?;
-        let mark = state.front().mark();
-        let first = LogCopy {
-            records: Vec::with_capacity(alloc, records)?,
-            mark: mark.again(),
-        };
-        let second = LogCopy {
-            records: Vec::with_capacity(alloc, records)?,
-            mark,
-        };
-        let writer = Writer::new(alloc, first, second, readers)?;
-        match readers_of(alloc, &writer, state.front(), readers) {
-            Ok(made) => Ok((LogWriter { writer, state }, made)),
-            Err(_) => {
-                drop(writer.take(rt));
-                Err(AllocError)
+        match copies_of(rt, alloc, state.front(), records, readers) {
+            Ok((writer, made)) => Ok((LogWriter { writer, state }, made)),
+            Err(fault) => {
+                drop(state);
+                Err(fault)
             }
         }
     }
@@ -218,6 +209,51 @@ impl<L: LogName> LogWriter<L> {
             Err(fault) => (LogWriter { writer, state }, Err(fault)),
         }
     }
+}
+
+/// The copies of a new log, of which nothing is left where memory is refused, and as many readers.
+fn copies_of<L: LogName, R: Wait>(
+    rt: &R,
+    alloc: Global,
+    front: &Front<L>,
+    records: usize,
+    readers: usize,
+) -> Result<(Writer<LogCopy, Put, View, Published<L>>, Vec<LogReader<L>>), AllocError>
+    requires fresh { front.now ≡ [] }
+    requires some { 0 < readers }
+    requires few { readers ≤ 32 }
+    ensures shown { IfOk result (λ made. made.0.desk.shown.value.records.items ≡ []) }
+    ensures waits { IfOk result (λ made. drop made.0.behind made.0.log.items ≡ []) }
+    ensures readers { IfOk result
+        (λ made. (vec_len made.1 ≡ readers)
+        × AllByRecursion (λ reader. reader.place ≡ 0) made.1.items) }
+{
+    let writer = writer_of::<L>(alloc, records, &front.mark(), readers)?;
+    match readers_of(alloc, &writer, front, readers) {
+        Ok(made) => Ok((writer, made)),
+        Err(fault) => {
+            drop(writer.take(rt));
+            Err(fault)
+        }
+    }
+}
+
+/// A writer of two empty copies.
+fn writer_of<L: LogName>(
+    alloc: Global,
+    records: usize,
+    mark: &Mark,
+    readers: usize,
+) -> Result<Writer<LogCopy, Put, View, Published<L>>, AllocError>
+    requires fresh { (mark.now.seen.log ≡ []) × (mark.now.seen.book ≡ L.book) }
+    requires some { 0 < readers }
+    requires few { readers ≤ 32 }
+    ensures shown { IfOk result (λ writer. writer.desk.shown.value.records.items ≡ []) }
+    ensures waits { IfOk result (λ writer. drop writer.behind writer.log.items ≡ []) }
+{
+    let first = LogCopy::empty(alloc, records, mark)?;
+    let second = LogCopy::empty(alloc, records, mark)?;
+    Writer::new(alloc, first, second, readers)
 }
 
 /// As many readers of a new log.
