@@ -3,6 +3,7 @@
 
 mod ending;
 mod fault;
+mod help;
 mod words;
 
 pub use ending::{Ending, ended};

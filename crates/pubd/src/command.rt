@@ -4,7 +4,7 @@ use crate::fault::Fault;
 use crate::numbers::timeout_of;
 use crate::reports::Level;
 use clap::{Arg, ArgAction, ArgMatches, Command, Error};
-use command_line::{address_of, count_of, with_required};
+use command_line::{address_of, count_of, help_text, with_required};
 use std::alloc::{AllocError, Global};
 use std::net::SocketAddr;
 use std::time::Duration;
@@ -18,46 +18,16 @@ const FOREVER: &str = "forever";
 const ABOUT: &str =
     "Serves logical replication of tables in memory to clients of PostgreSQL's streaming replication protocol";
 
-const AFTER_HELP: &str = "\
-A configuration names the server, the tables and their publications, as in
-
-  [server]
-  systemid = '42'
-  records = 65536
-  chunks = 64
-
-  [[table]]
-  oid = 16384
-  schema = 'public'
-  name = 'item'
-  identity = 'default'
-  key = ['id']
-  columns = [['id', 'int4'], ['name', 'text'], ['qty', 'int8']]
-
-  [[publication]]
-  name = 'p'
-  tables = [{ name = 'public.item' }]
+const AFTER_HELP: &str = help_text!(
+    "  tables = [{ name = 'public.item' }]
 
 The log has room for that number of records. Each stream keeps the changes of transactions in
 progress in that number of chunks, each of 16,384 bytes; where they are full it ends (53400).
 
 A script has one line for each step. T is a name for a transaction.
 
-  begin T                  a transaction begins
-  insert T TABLE (ROW)     it inserts a row, as in (1,'ab',7)
-  update T TABLE (KEY) (ROW)
-                           the row of this key becomes this one, as in (1) (2,'ab',7)
-  delete T TABLE (KEY)     it deletes the row of this key
-  truncate T TABLE ..      it empties tables
-  message T 'PREFIX' 'CONTENT'
-                           it puts a message into the log
-  savepoint T              it sets a savepoint
-  rollback T N             it rolls back to its Nth savepoint, counted from the outermost
-  release T N              it releases its Nth savepoint and those inside it
-  commit T TIME            it commits, at TIME microseconds since 2000-01-01
-  abort T                  it aborts
-  note 'PREFIX' 'CONTENT'  a message of no transaction goes into the log
-
+",
+    "
 These steer the stream of the slot S, or its next one, for tests of clients:
 
   await S POSITION         the lines behind wait until S is confirmed at POSITION, as in 0/1000050
@@ -90,7 +60,8 @@ the server through a pipe:
 serves until it is told end, or ended by a signal, and writes what it is told.
 
 It ends with 0 where that is done, with 2 where the arguments, the configuration or a script are
-refused, and with 1 where a file, the socket or memory fails.";
+refused, and with 1 where a file, the socket or memory fails."
+);
 
 /// What the program is asked to serve.
 #[derive(Drop)]
@@ -264,15 +235,24 @@ pub fn words_of<'a>(alloc: Global, words: &'a [String]) -> Result<Words<'a>, Err
 }
 
 fn command_of<'a>(alloc: Global) -> Result<Command<'a>, AllocError> {
-    let mut command = Command::new(alloc, "pubd")
+    let command = with_required(alloc, with_options(alloc, bare(alloc)?)?, &REQUIRED)?;
+    command.arg(scripts(alloc))
+}
+
+/// The command without its words.
+fn bare<'a>(alloc: Global) -> Result<Command<'a>, AllocError> {
+    Command::new(alloc, "pubd")
         .about(ABOUT)
         .after_help(AFTER_HELP)
-        .bin_name("pubd")?;
+        .bin_name("pubd")
+}
+
+fn with_options<'a>(alloc: Global, command: Command<'a>) -> Result<Command<'a>, AllocError> {
+    let mut command = command;
     for (name, value, help) in &OPTIONAL {
         command = command.arg(optional(alloc, *name, *value, *help))?;
     }
-    command = command.arg(answer_postgresql(alloc))?;
-    with_required(alloc, command, &REQUIRED)?.arg(scripts(alloc))
+    command.arg(answer_postgresql(alloc))
 }
 
 fn optional<'a>(alloc: Global, name: &'a str, value: &'a str, help: &'a str) -> Arg<'a> {

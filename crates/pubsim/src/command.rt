@@ -2,7 +2,7 @@
 
 use crate::simulation::Form;
 use clap::{Arg, ArgAction, ArgMatches, Command, Error};
-use command_line::with_required;
+use command_line::{help_text, with_required};
 use std::alloc::{AllocError, Global};
 
 const ABOUT: &str =
@@ -17,25 +17,8 @@ const REQUIRED: [(&str, &str); 2] = [
     ("SCHEDULE", "A text file with one event a line"),
 ];
 
-const AFTER_HELP: &str = "\
-A configuration names the server, the tables and their publications, as in
-
-  [server]
-  systemid = '42'
-  records = 65536
-  chunks = 64
-
-  [[table]]
-  oid = 16384
-  schema = 'public'
-  name = 'item'
-  identity = 'default'
-  key = ['id']
-  columns = [['id', 'int4'], ['name', 'text'], ['qty', 'int8']]
-
-  [[publication]]
-  name = 'p'
-  tables = [{ name = 'public.item', where = 'id > 0', columns = ['id', 'qty'] }]
+const AFTER_HELP: &str = help_text!(
+    "  tables = [{ name = 'public.item', where = 'id > 0', columns = ['id', 'qty'] }]
 
 The log has room for that number of records, and a sender for changes of transactions in
 progress in that number of chunks, each of 16,384 bytes. The types are bool, int2, int4, int8,
@@ -47,21 +30,8 @@ truncate, or all of them.
 A schedule has one event a line, and fields separated by single spaces. Empty lines and
 lines that begin with # are passed over. T is a transaction's name and C a connection's.
 
-  begin T                  a transaction begins
-  insert T TABLE (ROW)     it inserts a row, as in (1,'ab',7)
-  update T TABLE (KEY) (ROW)
-                           the row of this key becomes this one, as in (1) (2,'ab',7)
-  delete T TABLE (KEY)     it deletes the row of this key
-  truncate T TABLE ..      it empties tables
-  message T 'PREFIX' 'CONTENT'
-                           it puts a message into the log
-  savepoint T              it sets a savepoint
-  rollback T N             it rolls back to its Nth savepoint, counted from the outermost
-  release T N              it releases its Nth savepoint and those inside it
-  commit T TIME            it commits, at TIME microseconds since 2000-01-01
-  abort T                  it aborts
-  note 'PREFIX' 'CONTENT'  a message of no transaction goes into the log
-  slot NAME                a slot is created at the end of the log
+",
+    "  slot NAME                a slot is created at the end of the log
   start C SLOT POSITION P,..
   start C SLOT POSITION P,.. messages
                            a sender of publications starts, as in start c - 0/0 p, where - is
@@ -94,7 +64,8 @@ position, and how many transactions it has applied.
 
 It ends with 0 where that is done, with 2 where the arguments, the configuration or the
 schedule are refused, and with 1 where a file cannot be read, the report cannot be printed
-or memory runs out.";
+or memory runs out."
+);
 
 /// What the program is asked to run.
 #[derive(Clone, Copy)]
