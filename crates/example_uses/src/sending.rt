@@ -2,7 +2,7 @@
 
 ghost use Rattle.std.specs.Prelude.{◌≡◌};
 
-use anyhow::Result;
+use anyhow::{Result, bail};
 use bytes::BytesMut;
 use chgarena::Arena;
 use pqformat::Text;
@@ -56,9 +56,20 @@ fn session_sent<L: LogName, R: Wait>(
     publisher: &mut Publisher<L>,
     mut readers: Vec<LogReader<L>>,
 ) -> Result<BytesMut> {
+    match readers.pop() {
+        Some(mut reader) => reader_sent(rt, alloc, publisher, &mut reader),
+        None => bail!("a log has a reader"),
+    }
+}
+
+fn reader_sent<L: LogName, R: Wait>(
+    rt: &R,
+    alloc: Global,
+    publisher: &mut Publisher<L>,
+    reader: &mut LogReader<L>,
+) -> Result<BytesMut> {
     run_session(rt, alloc, publisher)?;
-    let mut reader = readers.pop().ok_or(SessionFault::NoReader)?;
-    sent(alloc, publisher, &mut reader)
+    sent(alloc, publisher, reader)
 }
 
 /// A sender of what the publication `p` publishes, from the beginning of the log on.
@@ -69,8 +80,12 @@ pub fn sender_of_p(alloc: Global, catalog: &Catalog) -> Result<Sender> {
 }
 
 pub fn selection_of_p(alloc: Global, catalog: &Catalog) -> Result<Selection> {
-    let name = Text::copy_of(alloc, "p")?;
     let publications = Publications::from_toml(alloc, CONFIGURATION, catalog)?;
+    p_of(alloc, &publications)
+}
+
+fn p_of(alloc: Global, publications: &Publications) -> Result<Selection> {
+    let name = Text::copy_of(alloc, "p")?;
     Ok(publications.select(&[name])?)
 }
 
@@ -93,13 +108,21 @@ fn send<L: LogName>(
     reader: &mut LogReader<L>,
     sender: &mut Sender,
 ) -> Result<BytesMut> {
-    let records = reader.fetch(alloc, 100)?;
-    sender.feed(records.as_slice(), 9)?;
+    feed(alloc, reader, sender)?;
     sender.keepalive(9, false)?;
     // All that is held; for a socket, `drain` takes as much as a buffer has room for.
     let mut bytes = BytesMut::new(alloc);
     sender.drain_into(usize::MAX, &mut bytes)?;
     Ok(bytes)
+}
+
+pub fn feed<L: LogName>(
+    alloc: Global,
+    reader: &mut LogReader<L>,
+    sender: &mut Sender,
+) -> Result<()> {
+    let records = reader.fetch(alloc, 100)?;
+    Ok(sender.feed(records.as_slice(), 9)?)
 }
 
 /// One transaction. What it did behind its savepoint is rolled back, and no subscriber gets it.

@@ -1,11 +1,11 @@
 //! What runs, for whoever looks.
 
 use crate::hub::Hub;
-use connections::KnownSlot;
+use connections::{KnownSlot, SlotPost};
 use pqformat::Text;
 use shared_log::LogName;
 use slots::SlotName;
-use std::alloc::AllocError;
+use std::alloc::{AllocError, Global};
 use std::sync::atomic::Ordering;
 use std::sync::{MutexGuard, Wait};
 use std::time::{Clock, Duration};
@@ -76,12 +76,24 @@ impl<L: LogName + SlotName> Hub<L> {
         let now = rt.monotonic().ok();
         let mut slots = Vec::new(self.alloc);
         for post in &self.posts {
-            if let Some(known) = post.look(rt, self.alloc)? {
-                slots.push(status_of(known, now))?;
-            }
+            add_status(rt, self.alloc, post, now, &mut slots)?;
         }
         Ok(slots)
     }
+}
+
+/// Adds the slot of this post, if it has one.
+fn add_status<R: Wait>(
+    rt: &R,
+    alloc: Global,
+    post: &SlotPost,
+    now: Option<Duration>,
+    slots: &mut Vec<SlotStatus>,
+) -> Result<(), AllocError> {
+    if let Some(known) = post.look(rt, alloc)? {
+        slots.push(status_of(known, now))?;
+    }
+    Ok(())
 }
 
 fn status_of(known: KnownSlot, now: Option<Duration>) -> SlotStatus {

@@ -12,6 +12,7 @@ use shared_log::LogName;
 use slots::SlotName;
 use std::alloc::Global;
 use std::sync::Wait;
+use tables::Row;
 
 /// Fills the stock and takes all orders, once both followers have their streams: what is committed before reaches nobody. Of an
 /// order that isn't placed nothing is left but a note.
@@ -99,14 +100,31 @@ fn place_one<L: LogName + SlotName, R: Wait>(
 ) -> Result<i64, OrderFault> {
     tx.insert(LINE_TABLE, line_row(alloc, order, article)?)?;
     let key = stock_key(alloc, article)?;
-    let (pieces, price) = tx
-        .get(STOCK_TABLE, &key)
-        .and_then(pieces_and_price)
-        .ok_or(OrderFault::SoldOut)?;
+    take_piece(alloc, tx, article, &key)
+}
+
+fn take_piece<L: LogName + SlotName, R: Wait>(
+    alloc: Global,
+    tx: &mut Transaction<'_, L, R>,
+    article: &str,
+    key: &Row,
+) -> Result<i64, OrderFault> {
+    let (left, price) = left_and_price(tx, key)?;
+    let row = stock_row(alloc, article, left, price)?;
+    tx.update(STOCK_TABLE, key, row)?;
+    Ok(price)
+}
+
+/// How many pieces are left of an article once one is taken, and what one costs.
+fn left_and_price<L: LogName + SlotName, R: Wait>(
+    tx: &Transaction<'_, L, R>,
+    key: &Row,
+) -> Result<(i32, i64), OrderFault> {
+    let Some((pieces, price)) = tx.get(STOCK_TABLE, key).and_then(pieces_and_price) else {
+        return Err(OrderFault::SoldOut);
+    };
     if pieces <= 0 {
         return Err(OrderFault::SoldOut);
     }
-    let row = stock_row(alloc, article, pieces - 1, price)?;
-    tx.update(STOCK_TABLE, &key, row)?;
-    Ok(price)
+    Ok((pieces - 1, price))
 }

@@ -223,22 +223,18 @@ where
     O: Print,
     E: Print + Sync,
 {
-    let doors = service.doors;
-    println!(streams.output; "listening {}", doors.connections.address).map_err(Fault::Output)?;
-    if let Some(door) = &doors.status {
-        println!(streams.output; "status {}", door.address).map_err(Fault::Output)?;
-    }
+    tell_doors(service.doors, streams.output).map_err(Fault::Output)?;
     let ended_early = AtomicBool::new(false);
     let early = &ended_early;
     let errors = streams.errors;
     thread::scope(thread::scope_env(), rt, |scope| {
         let scripted = scope.spawn(move || run_awaited(rt, hub, service, errors, early));
-        if scripted.is_err() {
+        if !was_spawned(scripted) {
             return give_up(rt, hub, service);
         }
         if service.page.is_some() {
             let shown = scope.spawn(move || show(rt, hub, service));
-            if shown.is_err() {
+            if !was_spawned(shown) {
                 return give_up(rt, hub, service);
             }
         }
@@ -247,7 +243,7 @@ where
             return Ok(());
         }
         let served = scope.spawn(move || serve_all(rt, hub, service, errors, early));
-        if served.is_err() {
+        if !was_spawned(served) {
             return give_up(rt, hub, service);
         }
         run_lines(rt, hub, service, streams, early);
@@ -257,6 +253,20 @@ where
         return Err(Fault::EndedEarly);
     }
     Ok(())
+}
+
+/// Tells where connections are taken, and where it is told what runs.
+fn tell_doors<O: Print>(doors: &Doors, output: &O) -> io::Result<()> {
+    println!(output; "listening {}", doors.connections.address)?;
+    match &doors.status {
+        Some(door) => println!(output; "status {}", door.address),
+        None => Ok(()),
+    }
+}
+
+/// Whether a thread was spawned. It is joined where its scope ends.
+fn was_spawned<T: Drop, E: Drop>(spawned: Result<T, E>) -> bool {
+    spawned.is_ok()
 }
 
 /// A thread can't be had: those that run are ended.

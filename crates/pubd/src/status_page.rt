@@ -42,7 +42,7 @@ where
 }
 
 /// What a request asks for.
-#[derive(Clone, Copy, PartialEq, Eq)]
+#[derive(Clone, Copy)]
 enum Asked {
     Page,
     OtherPage,
@@ -98,16 +98,32 @@ where
     socket.set_write_timeout(patience)?;
     let asked = read_request(socket)?;
     let mut page = Vec::new(hub.alloc());
+    write_page(rt, hub, asked, &mut page)?;
+    let mut to = socket;
+    to.write_all(page.as_slice())
+}
+
+fn write_page<L, R>(rt: &R, hub: &Hub<L>, asked: Asked, page: &mut Vec<u8>) -> io::Result<()>
+where
+    L: LogName + SlotName,
+    R: Wait + Clock,
+{
     write!(
         page,
         "HTTP/1.1 {}\r\nContent-Type: text/plain; version=0.0.4\r\nConnection: close\r\n\r\n",
         asked.status_line()
     )?;
-    if asked == Asked::Page {
-        write_status(&hub.status(rt)?, &mut page)?;
-    } else {
-        writeln!(page, "what runs is told at /metrics")?;
+    match asked {
+        Asked::Page => write_hub(rt, hub, page),
+        Asked::OtherPage | Asked::OtherMethod => writeln!(page, "what runs is told at /metrics"),
     }
-    let mut to = socket;
-    to.write_all(page.as_slice())
+}
+
+fn write_hub<L, R>(rt: &R, hub: &Hub<L>, page: &mut Vec<u8>) -> io::Result<()>
+where
+    L: LogName + SlotName,
+    R: Wait + Clock,
+{
+    let status = hub.status(rt)?;
+    write_status(&status, page)
 }

@@ -4,40 +4,44 @@ use hub::{HubStatus, SlotStatus};
 use std::io;
 use std::io::Write;
 
-/// A line for each value, and two before each family.
-pub fn write_status<W: Write>(status: &HubStatus, to: &mut W) -> io::Result<()> {
-    family(
-        to,
-        "pubd_connections",
-        "gauge",
-        "Connections that are served",
-    )?;
-    writeln!(to, "pubd_connections {}", status.connections)?;
-    family(
-        to,
+/// What is told of the server: the name of the family, its kind, and what it is.
+const SERVER_FAMILIES: [(&str, &str, &str); 5] = [
+    ("pubd_connections", "gauge", "Connections that are served"),
+    (
         "pubd_streams_begun_total",
         "counter",
         "Streams that have begun",
-    )?;
-    writeln!(to, "pubd_streams_begun_total {}", status.streams_begun)?;
-    family(
-        to,
+    ),
+    (
         "pubd_log_end_position",
         "gauge",
         "The position where the log ends",
-    )?;
-    writeln!(to, "pubd_log_end_position {}", status.log_end)?;
-    family(to, "pubd_log_records", "gauge", "Records of the log")?;
-    writeln!(to, "pubd_log_records {}", status.records)?;
-    let free = status.capacity.saturating_sub(status.records);
-    family(
-        to,
+    ),
+    ("pubd_log_records", "gauge", "Records of the log"),
+    (
         "pubd_log_records_free",
         "gauge",
         "Records that the log has room for yet",
-    )?;
-    writeln!(to, "pubd_log_records_free {free}")?;
+    ),
+];
+
+/// A line for each value, and two before each family.
+pub fn write_status<W: Write>(status: &HubStatus, to: &mut W) -> io::Result<()> {
+    for (name, kind, help) in &SERVER_FAMILIES {
+        family(to, name, kind, help)?;
+        writeln!(to, "{name} {}", server_value_of(name, status))?;
+    }
     write_slots(status, to)
+}
+
+fn server_value_of(family: &str, status: &HubStatus) -> u64 {
+    match family {
+        "pubd_connections" => u64::from(status.connections),
+        "pubd_streams_begun_total" => status.streams_begun,
+        "pubd_log_end_position" => status.log_end,
+        "pubd_log_records" => status.records as u64,
+        _ => status.capacity.saturating_sub(status.records) as u64,
+    }
 }
 
 /// What is told of each slot: the name of the family, its kind, and what it is.

@@ -6,6 +6,7 @@ use schedule::{Answer, Event, Schedule, WorldFault};
 use sessions::Sessions;
 use shared_log::LogName;
 use slots::SlotName;
+use std::alloc::Global;
 use std::io::Write;
 use std::sync::{MutexGuard, Wait};
 
@@ -45,11 +46,21 @@ fn do_lines<L: LogName + SlotName, R: Wait, W: Write>(
 ) -> Result<(), ScriptFault> {
     for (line, event) in script.lines().iter().zip(script.events()) {
         if let Some(code) = do_line(rt, hub, sessions, event)? {
-            let refusal = format!(in hub.alloc(); "{name} {line} {code}\n")?;
-            refusals.write_all(refusal.as_bytes())?;
+            write_refusal(hub.alloc(), name, *line, code, refusals)?;
         }
     }
     Ok(())
+}
+
+fn write_refusal<W: Write>(
+    alloc: Global,
+    name: &str,
+    line: usize,
+    code: &str,
+    refusals: &mut W,
+) -> Result<(), ScriptFault> {
+    let refusal = format!(in alloc; "{name} {line} {code}\n")?;
+    Ok(refusals.write_all(refusal.as_bytes())?)
 }
 
 /// The code of a refusal, if the line is refused.

@@ -88,9 +88,26 @@ fn add_message(
     answer: &mut String,
 ) -> Result<()> {
     let bytes = bytes_of(alloc, body)?;
-    let change = read_body(alloc, bytes.as_slice())?;
-    let projected = projected(alloc, selection, &change)?;
-    let put = put(alloc, selection, bytes.as_slice())?;
+    add_both(alloc, selection, bytes.as_slice(), answer)
+}
+
+fn add_both(alloc: Global, selection: &Selection, body: &[u8], answer: &mut String) -> Result<()> {
+    let projected = projected(alloc, selection, body)?;
+    add_put(alloc, selection, body, projected.as_str(), answer)
+}
+
+fn add_put(
+    alloc: Global,
+    selection: &Selection,
+    body: &[u8],
+    projected: &str,
+    answer: &mut String,
+) -> Result<()> {
+    let put = put(alloc, selection, body)?;
+    Ok(add_texts(projected, put.as_str(), answer)?)
+}
+
+fn add_texts(projected: &str, put: &str, answer: &mut String) -> Result<(), AllocError> {
     write!(answer, " {projected}")?;
     if put != projected {
         write!(answer, " but is put as {put}")?;
@@ -99,7 +116,16 @@ fn add_message(
 }
 
 /// The message that is made of a change.
-fn projected(alloc: Global, selection: &Selection, change: &Change) -> Result<String, AllocError> {
+fn projected(alloc: Global, selection: &Selection, body: &[u8]) -> Result<String> {
+    let change = read_body(alloc, body)?;
+    Ok(projected_of(alloc, selection, &change)?)
+}
+
+fn projected_of(
+    alloc: Global,
+    selection: &Selection,
+    change: &Change,
+) -> Result<String, AllocError> {
     let message = selection.project(POSITION, change)?;
     told(alloc, &message)
 }
@@ -111,6 +137,10 @@ fn put(alloc: Global, selection: &Selection, body: &[u8]) -> Result<String> {
         return Ok(told(alloc, &Projected::Nothing)?);
     };
     let (message, _) = out.split_at_checked(count).context("is put past its room")?;
+    read_put(alloc, message)
+}
+
+fn read_put(alloc: Global, message: &[u8]) -> Result<String> {
     let message = Projected::Message(read_logical(alloc, message)?);
     Ok(told(alloc, &message)?)
 }

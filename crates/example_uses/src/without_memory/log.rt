@@ -2,7 +2,7 @@
 
 ghost use Rattle.std.specs.Prelude.{◌≡◌};
 
-use crate::sending::{CONFIGURATION, item, sender_of_p};
+use crate::sending::{CONFIGURATION, feed, item, sender_of_p};
 use anyhow::{Result, bail, ensure};
 use sender::Sender;
 use shared_log::{LogName, LogReader, ReadFault};
@@ -87,7 +87,8 @@ fn are_answered<L: LogName>(
     is_called: bool,
     sender: &mut Sender,
 ) -> Result<bool> {
-    feed(alloc, publisher, reader, sender)?;
+    publisher.tell(reader);
+    feed(alloc, reader, sender)?;
     Ok(!is_called || is_read(publisher, reader, receipt)? && is_drained(sender))
 }
 
@@ -107,18 +108,6 @@ fn commit_one<L: LogName, R: Wait>(
             Err(fault)
         }
     }
-}
-
-fn feed<L: LogName>(
-    alloc: Global,
-    publisher: &mut Publisher<L>,
-    reader: &mut LogReader<L>,
-    sender: &mut Sender,
-) -> Result<()> {
-    publisher.tell(reader);
-    let records = reader.fetch(alloc, 100)?;
-    sender.feed(records.as_slice(), 9)?;
-    Ok(())
 }
 
 fn is_read<L: LogName>(
