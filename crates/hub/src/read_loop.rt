@@ -144,6 +144,8 @@ fn left_until<R: Clock>(rt: &R, until: Duration) -> Result<Duration, ConnectionE
     }
 }
 
+// The buffer isn't on the stack while a command is answered.
+#[inline(never)]
 fn read_more(connection: &mut Connection, socket: &TcpStream) -> Result<Came, ConnectionEnd> {
     let mut bytes = [0; MOST_READ];
     let mut from = socket;

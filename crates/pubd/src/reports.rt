@@ -64,6 +64,8 @@ impl<'e, E: Print> Gate for Reports<'e, E> {
         };
     }
 
+    // What prints takes 3,400 bytes of stack, and so would each connection, from its beginning on.
+    #[inline(never)]
     fn ended(&self, connection: u32, why: ConnectionEnd) {
         if self.level.tells(why) {
             let _ = self
