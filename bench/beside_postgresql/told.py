@@ -1,4 +1,5 @@
 """A pubd that is told its lines one by one."""
+import os
 import pathlib
 import re
 import subprocess
@@ -7,13 +8,15 @@ from .servers import Failed, Pubd
 
 
 class Told:
-    """A pubd whose script is its standard input."""
+    """A pubd whose script is its standard input. With `heaps` the C library's threads share so many heaps."""
 
-    def __init__(self, program, folder, connections, configuration=Pubd.CONFIGURATION):
+    def __init__(self, program, folder, connections, configuration=Pubd.CONFIGURATION, heaps=None):
         (pathlib.Path(folder) / "pubd.toml").write_text(configuration)
         limits = ["--wal-sender-timeout", "0", "--log-min-messages", "error"]
         words = [program, *limits, "pubd.toml", "127.0.0.1:0", str(connections), "-"]
-        self.process = subprocess.Popen(words, cwd=folder, stdin=subprocess.PIPE, stdout=subprocess.PIPE, text=True)
+        shared = {"MALLOC_ARENA_MAX": str(heaps)} if heaps else {}
+        pipes = {"stdin": subprocess.PIPE, "stdout": subprocess.PIPE, "text": True}
+        self.process = subprocess.Popen(words, cwd=folder, env=os.environ | shared, **pipes)
         self.port = int(self.process.stdout.readline().rpartition(":")[2])
 
     def tell(self, *lines):
@@ -31,9 +34,9 @@ class Told:
             some = numbers[first : first + 500]
             self.tell(*(f"insert {transaction} public.item ({n},'n{n:06}',{10 * n})" for n in some))
 
-    def resident(self):
-        """The bytes of memory that it has."""
-        return 1024 * int(re.search(r"VmRSS:\s+(\d+)", pathlib.Path(f"/proc/{self.process.pid}/status").read_text())[1])
+    def own_memory(self):
+        """The bytes of memory that it has for itself: the pages of its code and of the C library's aren't counted."""
+        return 1024 * int(re.search(r"RssAnon:\s+(\d+)", pathlib.Path(f"/proc/{self.process.pid}/status").read_text())[1])
 
     def stop(self):
         self.process.kill()
