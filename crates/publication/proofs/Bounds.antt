@@ -56,15 +56,15 @@ key_near (c ∷ columns) (v ∷ row) all =
 coded : (row : List Value) → row_length row ≡ 2 + length (flat_map spell_value row)
 coded row = length-append (int16 (length row)) (flat_map spell_value row) ∙ ap (λ (n : ℕ). n + length (flat_map spell_value row)) (length-int16 (length row))
 
--- so a tuple of at most 64 columns and 8,000 bytes has at most 9,536
-bounded : (cs : List Cell) (row : List Value) → length (flat_map cell cs) ≤ 24 * length row + length (flat_map spell_value row) → length row ≤ 64 → row_length row ≤ 8000 → length (tuple cs) ≤ 9536
-bounded cs row near few short = omega (arith, near, few, short, coded row, length-append (int16 (length cs)) (flat_map cell cs), length-int16 (length cs))
+-- so a tuple of at most 64 columns is at most 1,536 bytes longer than its row in the log
+bounded : (cs : List Cell) (row : List Value) → length (flat_map cell cs) ≤ 24 * length row + length (flat_map spell_value row) → length row ≤ 64 → length (tuple cs) ≤ 1536 + row_length row
+bounded cs row near few = omega (arith, near, few, coded row, length-append (int16 (length cs)) (flat_map cell cs), length-int16 (length cs))
 
-pub tuple_bound : (row : List Value) → AllByRecursion IsValue row → length row ≤ 64 → row_length row ≤ 8000 → length (tuple (tuple_of row)) ≤ 9536
-tuple_bound row all few short = bounded (tuple_of row) row (row_near row all) few short
+pub tuple_bound : (row : List Value) → AllByRecursion IsValue row → length row ≤ 64 → length (tuple (tuple_of row)) ≤ 1536 + row_length row
+tuple_bound row all few = bounded (tuple_of row) row (row_near row all) few
 
-pub behind_bound : (old new : List Value) → length old ≡ length new → AllByRecursion IsValue new → length new ≤ 64 → row_length new ≤ 8000 → length (tuple (tuple_behind old new)) ≤ 9536
-behind_bound old new same all few short = bounded (tuple_behind old new) new (behind_near old new same all) few short
+pub behind_bound : (old new : List Value) → length old ≡ length new → AllByRecursion IsValue new → length new ≤ 64 → length (tuple (tuple_behind old new)) ≤ 1536 + row_length new
+behind_bound old new same all few = bounded (tuple_behind old new) new (behind_near old new same all) few
 
-pub key_bound : (columns : List Column) (row : List Value) → AllByRecursion IsValue row → length row ≤ 64 → row_length row ≤ 8000 → length (tuple (key_tuple_of columns row)) ≤ 9536
-key_bound columns row all few short = bounded (key_tuple_of columns row) row (key_near columns row all) few short
+pub key_bound : (columns : List Column) (row : List Value) → AllByRecursion IsValue row → length row ≤ 64 → length (tuple (key_tuple_of columns row)) ≤ 1536 + row_length row
+key_bound columns row all few = bounded (key_tuple_of columns row) row (key_near columns row all) few

@@ -179,6 +179,13 @@ stays (false ∷ flags) (c ∷ columns) (v ∷ row) counts fits =
 coded : (row : List Value) → row_length row ≡ 2 + length (flat_map spell_value row)
 coded row = length-append (int16 (length row)) (flat_map spell_value row) ∙ ap (λ (n : ℕ). n + length (flat_map spell_value row)) (length-int16 (length row))
 
+-- what is listed of a row is no longer than the row
+pub narrowed_shorter : (flags : List Bool) (t : Table) (row : List Value) → fits_table t row ≡ true → row_length (listed_items flags row) ≤ row_length row
+narrowed_shorter flags t row is =
+    let fits = both_true (eqb (length t.columns) (length row)) (list_all (λ p. fits_column p.0 p.1) (zip t.columns row)) is in
+    let s = stays flags t.columns row (eqb-true (length t.columns) (length row) fits.0) fits.1 in
+    omega (arith, coded row, coded (listed_items flags row), s.short)
+
 pub narrowed_stands : (flags : List Bool) (t : Table) (row : List Value) → stands_in t row ≡ true → stands_in (table_as_published flags t) (listed_items flags row) ≡ true
 narrowed_stands flags t row stands =
     let tests = both_true (fits_table t row) (leb (row_length row) MAX_ROW_LENGTH) stands in

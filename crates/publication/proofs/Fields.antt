@@ -1,5 +1,5 @@
 -- What is read of the fields of a change's body, part by part.
-use Rattle.std.proofs.Common.{◌≡◌, ℕ, cond, eqb, List, [], ◌∷◌, Option, Some, None, Result, Ok, Err, length, refl, sym, ap, subst, ◌∙◌}
+use Rattle.std.proofs.Common.{◌≡◌, ◌<◌, ◌+◌, ℕ, zero, suc, arith, cond, eqb, List, [], ◌∷◌, Option, Some, None, Result, Ok, Err, length, refl, sym, ap, subst, ◌∙◌}
 use Rattle.std.specs.Int.{w32}
 use Rattle.pqformat.specs.Fields.{number_at}
 use Rattle.pqformat.specs.Steps.{◌>>=◌}
@@ -12,6 +12,9 @@ use Rattle.tables.specs.declared.change.Change.TheVariants as changes
 use Rattle.tables.specs.declared.change_body.TheConstants.{DELETE_TAG, INSERT_TAG, MESSAGE_TAG, TRUNCATE_TAG, UPDATE_TAG}
 use Rattle.pqformat.proofs.Codec.{IsBytes, bind_ok, passed}
 use Rattle.tables.proofs.ChangeBodies.{body_again, is_found}
+use Rattle.tables.proofs.Lengths.{insert_length, message_length, two_rows_length}
+use Rattle.tables.specs.Spelling.{body_length, row_length}
+use Rattle.tables.specs.declared.message.Message.{Message}
 use Rattle.tables.specs.Reading.{SpellsBody, body_at, change_at, change_tagged, insert_at, message_at, oids_at, row_at, update_at}
 use Rattle.publication.specs.Spelling.{IsReadWhole}
 
@@ -113,3 +116,26 @@ told_of body tag fields c same is = tagged tag fields c (subst (λ b. SpellsBody
 pub found_of : (body : List ℕ) (tag : ℕ) (fields : List ℕ) (r : Option ℕ) → IsBytes body → body ≡ tag ∷ fields → IfSome r (λ _. IsReadWhole (change_tagged tag fields)) → IfSome r (λ _. (c : Change) × SpellsBody body c)
 found_of body tag fields None fits same is = is
 found_of body tag fields (Some n) fits same is = let s = spelled tag fields (subst IsBytes same fits) is in (s.0, subst (λ b. SpellsBody b s.0) (sym same) s.1)
+
+-- ---- how long the fields are
+
+bytes_with : (b : ℕ) (bytes : List ℕ) → b < 256 → IsBytes bytes → IsBytes (b ∷ bytes)
+bytes_with b bytes low fits zero = low
+bytes_with b bytes low fits (suc i) = fits i
+
+spells : (tag : ℕ) (fields : List ℕ) (c : Change) → IsBytes (tag ∷ fields) → change_tagged tag fields ≡ Ok (c, []) → SpellsBody (tag ∷ fields) c
+unfolding body_at change_at
+spells tag fields c fits is = is_found (tag ∷ fields) (Ok c) fits (rw is refl)
+
+module _ (fields : List ℕ) (fits : IsBytes fields) where
+  whole_size : (tag : ℕ) (c : Change) → tag < 256 → change_tagged tag fields ≡ Ok (c, []) → length fields + 1 ≡ body_length c
+  whole_size tag c low is = let text = (spells tag fields c (bytes_with tag fields low fits) is).text in omega (arith, ap (length {A = ℕ}) text)
+
+  pub row_size : (m : ℕ × List Value) → insert_at fields ≡ Ok (m, []) → length fields + 1 ≡ 5 + row_length m.1
+  row_size m e = let size = whole_size INSERT_TAG (changes.Insert m.0 m.1) (omega arith) (rw e refl) in omega (arith, size, insert_length m.0 m.1)
+
+  pub rows_size : (m : (ℕ × List Value) × List Value) → update_at fields ≡ Ok (m, []) → length fields + 1 ≡ 5 + row_length m.0.1 + row_length m.1
+  rows_size m e = let size = whole_size UPDATE_TAG (changes.Update m.0.0 m.0.1 m.1) (omega arith) (rw e refl) in omega (arith, size, two_rows_length m.0.0 m.0.1 m.1)
+
+  pub message_size : (m : Message) → message_at fields ≡ Ok (m, []) → length fields + 1 ≡ 7 + length m.prefix + length m.content
+  message_size m e = let size = whole_size MESSAGE_TAG (changes.Message m) (omega arith) (rw e refl) in omega (arith, size, message_length m)

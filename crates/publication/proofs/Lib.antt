@@ -8,6 +8,7 @@ pub mod LoggedMessages
 pub mod Oids
 pub mod Relations
 pub mod Repeats
+pub mod Room
 pub mod Rows
 pub mod Standing
 pub mod Values

@@ -21,10 +21,11 @@ use Rattle.publication.specs.Logged.{IsNoteAt, change_message, fits_log, logged_
 use Rattle.publication.specs.Projection.{AreValues, MessageFits}
 use Rattle.publication.specs.Selection.{FitTables}
 use Rattle.pqformat.specs.Writing.{FitsRoom}
-use Rattle.publication.specs.Spelling.{HasRoom}
+use Rattle.publication.specs.Spelling.{HasRoomFor}
 use Rattle.publication.specs.declared.putting.TheConstants.{MAX_MESSAGE_LENGTH}
 use Rattle.publication.proofs.Catalogued.{no_zero}
 use Rattle.publication.proofs.Fitting.{message_fits}
+use Rattle.publication.proofs.Room.{has_room}
 use Rattle.publication.proofs.Rows.{both_true}
 
 -- what of a message is known that may stand in the log
@@ -59,8 +60,12 @@ pub told_short : (is_transactional : Bool) (position : ℕ) (m : Message) → fi
 told_short is_transactional position m is = let s = short m is in omega (arith, told_length is_transactional position m, s.prefix, s.content)
 
 -- there is room for it
-pub told_room : (is_transactional : Bool) (position : ℕ) (m : Message) (out : List ℕ) → fits_log m ≡ true → HasRoom out → FitsRoom 0 out (spell_logical (told_of is_transactional position m))
-told_room is_transactional position m out is room = let s = short m is in (omega (arith, told_length is_transactional position m, s.prefix, s.content, room.0), room.1)
+pub told_room : (is_transactional : Bool) (position : ℕ) (m : Message) (out : List ℕ) → fits_log m ≡ true → HasRoomFor (7 + length m.prefix + length m.content) out
+    → FitsRoom 0 out (spell_logical (told_of is_transactional position m))
+told_room is_transactional position m out is room =
+    let s = short m is in
+    let size = told_length is_transactional position m in
+    (has_room (7 + length m.prefix + length m.content) _ out (omega (arith, size, s.prefix, s.content)) (omega (arith, size)) room, room.1)
 
 pub told_within : (is_transactional : Bool) (position : ℕ) (m : Message) → fits_log m ≡ true → length (spell_logical (told_of is_transactional position m)) ≤ MAX_MESSAGE_LENGTH
 told_within is_transactional position m is = let s = short m is in omega (arith, told_length is_transactional position m, s.prefix, s.content)

@@ -1,5 +1,5 @@
 -- A row that is larger than any of a table stands in none, and the message of one that stands in one has room.
-use Rattle.std.proofs.Common.{◌≡◌, ◌⊎◌, ℕ, suc, ◌≤◌, ◌<◌, ◌^◌, Bool, true, false, cond, eqb, leb, List, [], ◌∷◌, ◌++◌, Option, Some, None, length, inl, inr, refl, sym, ap, subst, ◌∙◌, arith}
+use Rattle.std.proofs.Common.{◌≡◌, ◌⊎◌, ℕ, suc, ◌+◌, ◌≤◌, ◌<◌, ◌^◌, Bool, true, false, cond, eqb, leb, List, [], ◌∷◌, ◌++◌, Option, Some, None, length, inl, inr, refl, sym, ap, subst, ◌∙◌, arith}
 use Rattle.std.specs.Prelude.{◌&&◌}
 use Rattle.std.specs.List.{AllByRecursion}
 use Rattle.std.proofs.lemmas.Bool.{eqb-true, leb-true, le-leb}
@@ -31,10 +31,11 @@ use Rattle.publication_config.specs.Published.{PublicationSet}
 use Rattle.publication.specs.Projection.{delete_message, insert_message, message_of_update, only_if, stands, stands_in, update_message, AreValues, MessageFits}
 use Rattle.publication.specs.Selection.{FitTables, FitsTable, listed_items, table_as_published}
 use Rattle.pqformat.specs.Writing.{FitsRoom}
-use Rattle.publication.specs.Spelling.{HasRoom, IsShortRow, IsWritten}
+use Rattle.publication.specs.Spelling.{HasRoomFor, IsShortRow, IsWritten}
 use Rattle.publication.specs.Tuples.{changes_key, key_tuple_of, old_by, old_row_of_update, tuple_behind, tuple_of}
 use Rattle.publication.proofs.Bounds.{behind_bound, key_bound, tuple_bound}
-use Rattle.publication.proofs.Choosing.{all_chosen, narrowed_stands}
+use Rattle.publication.proofs.Choosing.{all_chosen, narrowed_shorter}
+use Rattle.publication.proofs.Room.{has_room, less_room}
 use Rattle.publication.proofs.Relations.{found_table}
 use Rattle.publication.specs.Logged.{change_message}
 use Rattle.publication.proofs.LoggedMessages.{change_fits}
@@ -113,18 +114,17 @@ module _ (flags : List Bool) (t : Table) (row : List Value) (fits : FitsTable t)
   pub few : length (listed_items flags row) ≤ 64
   few = omega (arith, chosen_short flags row, columns_are t row is, fits.count)
 
-  pub still_short : row_length (listed_items flags row) ≤ 8000
-  still_short =
-      let whole : stands_in t row ≡ true = both_are (fits_table t row) (leb (row_length row) MAX_ROW_LENGTH) is (le-leb (row_length row) MAX_ROW_LENGTH short.1) in
-      leb-true (row_length (listed_items flags row)) MAX_ROW_LENGTH (both_true (fits_table (table_as_published flags t) (listed_items flags row)) _ (narrowed_stands flags t row whole)).1
+  pub shorter : row_length (listed_items flags row) ≤ row_length row
+  shorter = narrowed_shorter flags t row is
 
-  pub insertion_room : (out : List ℕ) → HasRoom out → FitsRoom 0 out (spell_logical (insert_message (listed_items flags row) (table_as_published flags t)))
+  pub insertion_room : (out : List ℕ) → HasRoomFor (5 + row_length row) out → FitsRoom 0 out (spell_logical (insert_message (listed_items flags row) (table_as_published flags t)))
   insertion_room out room =
-      let bound = tuple_bound (listed_items flags row) values_chosen few still_short in
-      (omega (arith, bound, room.0, length-int32 t.oid, length-append (int32 t.oid) ((78 ∷ []) ++ tuple (tuple_of (listed_items flags row)))), room.1)
+      let bound = tuple_bound (listed_items flags row) values_chosen few in
+      let size = length-append (int32 t.oid) ((78 ∷ []) ++ tuple (tuple_of (listed_items flags row))) in
+      (has_room (5 + row_length row) _ out (omega (arith, bound, shorter, short.1, length-int32 t.oid, size)) (omega (arith, bound, shorter, length-int32 t.oid, size)) room, room.1)
 
-letter_and : (letter : ℕ) (cells : List ℕ) → length cells ≤ 9536 → length (letter ∷ cells) ≤ 9537
-letter_and letter cells bound = omega (arith, bound)
+letter_and : (letter n : ℕ) (cells : List ℕ) → length cells ≤ 1536 + n → length (letter ∷ cells) ≤ 1537 + n
+letter_and letter n cells bound = omega (arith, bound)
 
 -- what is told of a row that is gone or replaced
 module _ (flags : List Bool) (t : Table) (old : List Value) (fits : FitsTable t) (is_old : fits_table t old ≡ true) (short_old : IsShortRow old) where
@@ -134,16 +134,19 @@ module _ (flags : List Bool) (t : Table) (old : List Value) (fits : FitsTable t)
   abbrev seen : Table
   seen = table_as_published flags t
 
-  key_told : length (tuple (key_tuple_of seen.columns row)) ≤ 9536
-  key_told = key_bound seen.columns row (values_chosen flags t old fits is_old short_old) (few flags t old fits is_old short_old) (still_short flags t old fits is_old short_old)
+  key_told : length (tuple (key_tuple_of seen.columns row)) ≤ 1536 + row_length row
+  key_told = key_bound seen.columns row (values_chosen flags t old fits is_old short_old) (few flags t old fits is_old short_old)
 
-  all_told : length (tuple (tuple_of row)) ≤ 9536
-  all_told = tuple_bound row (values_chosen flags t old fits is_old short_old) (few flags t old fits is_old short_old) (still_short flags t old fits is_old short_old)
+  all_told : length (tuple (tuple_of row)) ≤ 1536 + row_length row
+  all_told = tuple_bound row (values_chosen flags t old fits is_old short_old) (few flags t old fits is_old short_old)
 
-  if_any : (o : Option OldTuple) → o ≡ None ⊎ ((o ≡ Some (Key (key_tuple_of seen.columns row))) ⊎ (o ≡ Some (Full (tuple_of row)))) → length (old_if_any o) ≤ 9537
-  if_any o (inl none) = subst (λ x. length (old_if_any x) ≤ 9537) (sym none) (omega arith)
-  if_any o (inr (inl key)) = subst (λ x. length (old_if_any x) ≤ 9537) (sym key) (letter_and 75 (tuple (key_tuple_of seen.columns row)) key_told)
-  if_any o (inr (inr full)) = subst (λ x. length (old_if_any x) ≤ 9537) (sym full) (letter_and 79 (tuple (tuple_of row)) all_told)
+  no_longer : row_length row ≤ row_length old
+  no_longer = shorter flags t old fits is_old short_old
+
+  if_any : (o : Option OldTuple) → o ≡ None ⊎ ((o ≡ Some (Key (key_tuple_of seen.columns row))) ⊎ (o ≡ Some (Full (tuple_of row)))) → length (old_if_any o) ≤ 1537 + row_length row
+  if_any o (inl none) = subst (λ x. length (old_if_any x) ≤ 1537 + row_length row) (sym none) (omega arith)
+  if_any o (inr (inl key)) = subst (λ x. length (old_if_any x) ≤ 1537 + row_length row) (sym key) (letter_and 75 (row_length row) (tuple (key_tuple_of seen.columns row)) key_told)
+  if_any o (inr (inr full)) = subst (λ x. length (old_if_any x) ≤ 1537 + row_length row) (sym full) (letter_and 79 (row_length row) (tuple (tuple_of row)) all_told)
 
   replaced : (i : Identity) (new : List Value) → old_row_of_update i seen row new ≡ None ⊎ ((old_row_of_update i seen row new ≡ Some (Key (key_tuple_of seen.columns row))) ⊎ (old_row_of_update i seen row new ≡ Some (Full (tuple_of row))))
   replaced identities.Default new = by_test (changes_key seen.columns row new)
@@ -154,36 +157,46 @@ module _ (flags : List Bool) (t : Table) (old : List Value) (fits : FitsTable t)
   replaced identities.Nothing new = inl refl
   replaced identities.Full new = inr (inr refl)
 
-  pub gone_room : (out : List ℕ) → HasRoom out → (m : Logical) → delete_message row seen ≡ Some m → FitsRoom 0 out (spell_logical m)
+  pub gone_room : (out : List ℕ) → HasRoomFor (5 + row_length old) out → (m : Logical) → delete_message row seen ≡ Some m → FitsRoom 0 out (spell_logical m)
   gone_room out room m e = by_identity t.identity e
     where
-      told : (old : OldTuple) → length (old_tuple old) ≤ 9537 → ◌≡◌ {A = Option Logical} (Some (logical.Delete (record { oid = t.oid; old = old }))) (Some m) → FitsRoom 0 out (spell_logical m)
-      told old bound is =
-          subst (λ (n : Logical). FitsRoom 0 out (spell_logical n)) (some_is (logical.Delete (record { oid = t.oid; old = old })) m is)
-          (omega (arith, bound, room.0, length-int32 t.oid, length-append (int32 t.oid) (old_tuple old)), room.1)
+      told : (o : OldTuple) → length (old_tuple o) ≤ 1537 + row_length row → ◌≡◌ {A = Option Logical} (Some (logical.Delete (record { oid = t.oid; old = o }))) (Some m) → FitsRoom 0 out (spell_logical m)
+      told o bound is =
+          let size = length-append (int32 t.oid) (old_tuple o) in
+          subst (λ (n : Logical). FitsRoom 0 out (spell_logical n)) (some_is (logical.Delete (record { oid = t.oid; old = o })) m is)
+          (has_room (5 + row_length old) _ out (omega (arith, bound, no_longer, short_old.1, length-int32 t.oid, size)) (omega (arith, bound, no_longer, length-int32 t.oid, size)) room, room.1)
 
       by_identity : (i : Identity) → option_map (λ o. logical.Delete (record { oid = t.oid; old = o })) (old_by i seen row) ≡ Some m → FitsRoom 0 out (spell_logical m)
-      by_identity identities.Default is = told (Key (key_tuple_of seen.columns row)) (letter_and 75 (tuple (key_tuple_of seen.columns row)) key_told) is
+      by_identity identities.Default is = told (Key (key_tuple_of seen.columns row)) (letter_and 75 (row_length row) (tuple (key_tuple_of seen.columns row)) key_told) is
       by_identity identities.Nothing is = absurd cc
-      by_identity identities.Full is = told (Full (tuple_of row)) (letter_and 79 (tuple (tuple_of row)) all_told) is
+      by_identity identities.Full is = told (Full (tuple_of row)) (letter_and 79 (row_length row) (tuple (tuple_of row)) all_told) is
 
-  pub replacement_room : (new : List Value) → fits_table t new ≡ true → IsShortRow new → (out : List ℕ) → HasRoom out → FitsRoom 0 out (spell_logical (update_message row (listed_items flags new) seen))
+  pub replacement_room : (new : List Value) → fits_table t new ≡ true → IsShortRow new → (out : List ℕ) → HasRoomFor (5 + row_length old + row_length new) out
+      → FitsRoom 0 out (spell_logical (update_message row (listed_items flags new) seen))
   replacement_room new is_new short_new out room =
       let same : length row ≡ length (listed_items flags new) = alike flags old new (sym (columns_are t old is_old) ∙ columns_are t new is_new) in
-      let bound = behind_bound row (listed_items flags new) same (values_chosen flags t new fits is_new short_new) (few flags t new fits is_new short_new) (still_short flags t new fits is_new short_new) in
+      let bound = behind_bound row (listed_items flags new) same (values_chosen flags t new fits is_new short_new) (few flags t new fits is_new short_new) in
       let told = old_if_any (old_row_of_update t.identity seen row (listed_items flags new)) in
-      let first : length told ≤ 9537 = if_any _ (replaced t.identity (listed_items flags new)) in
+      let first : length told ≤ 1537 + row_length row = if_any _ (replaced t.identity (listed_items flags new)) in
       let last = tuple (tuple_behind row (listed_items flags new)) in
-      (omega (arith, bound, first, room.0, length-int32 t.oid, length-append (int32 t.oid) (told ++ ((78 ∷ []) ++ last)), length-append told ((78 ∷ []) ++ last)), room.1)
+      let new_shorter = shorter flags t new fits is_new short_new in
+      let size = length-append (int32 t.oid) (told ++ ((78 ∷ []) ++ last)) in
+      let parts = length-append told ((78 ∷ []) ++ last) in (
+        has_room (5 + row_length old + row_length new) _ out
+            (omega (arith, bound, first, no_longer, new_shorter, short_old.1, short_new.1, length-int32 t.oid, size, parts))
+            (omega (arith, bound, first, no_longer, new_shorter, length-int32 t.oid, size, parts)) room,
+        room.1,
+      )
 
   -- what an update has become, by whether the old row passed and the new one passes
-  pub update_room : (new : List Value) → fits_table t new ≡ true → IsShortRow new → (out : List ℕ) → HasRoom out → (before after : Bool) (m : Logical)
+  pub update_room : (new : List Value) → fits_table t new ≡ true → IsShortRow new → (out : List ℕ) → HasRoomFor (5 + row_length old + row_length new) out → (before after : Bool) (m : Logical)
       → message_of_update before after (Some seen) row (listed_items flags new) ≡ Some m → FitsRoom 0 out (spell_logical m)
   update_room new is_new short_new out room true true m is =
       subst (λ (n : Logical). FitsRoom 0 out (spell_logical n)) (some_is (update_message row (listed_items flags new) seen) m is) (replacement_room new is_new short_new out room)
   update_room new is_new short_new out room false true m is =
-      subst (λ (n : Logical). FitsRoom 0 out (spell_logical n)) (some_is (insert_message (listed_items flags new) seen) m is) (insertion_room flags t new fits is_new short_new out room)
-  update_room new is_new short_new out room true false m is = gone_room out room m is
+      subst (λ (n : Logical). FitsRoom 0 out (spell_logical n)) (some_is (insert_message (listed_items flags new) seen) m is)
+      (insertion_room flags t new fits is_new short_new out (less_room (5 + row_length new) (5 + row_length old + row_length new) out (omega arith) room))
+  update_room new is_new short_new out room true false m is = gone_room out (less_room (5 + row_length old) (5 + row_length old + row_length new) out (omega arith) room) m is
   update_room new is_new short_new out room false false m is = absurd cc
 
 either_false : (a b : Bool) → (a ≡ false) ⊎ (b ≡ false) → (a && b) ≡ false

@@ -67,6 +67,8 @@ impl Selection {
     }
 
     /// Whether an update has one, of which these are the OID, the old row and the new one.
+    // Its row isn't on the stack while another kind of change is judged.
+    #[inline(never)]
     fn tells_update(&self, fields: &[u8]) -> bool
         ensures told { (m : (ℕ × List Datum) × List Datum) → update_at fields.now ≡ Ok (m, []) →
             result ≡ is_some (message self.now (Changed.Update m.0.0 m.0.1 m.1)) }
@@ -165,6 +167,7 @@ impl Selection {
     }
 
     /// Whether a truncate has one, of which these are the count and the OIDs.
+    #[inline(never)]
     fn tells_truncate(&self, fields: &[u8]) -> bool
         ensures told { (oids : List ℕ) → oids_at fields.now ≡ Ok (oids, []) →
             result ≡ is_some (message self.now (Changed.Truncate oids)) }

@@ -21,6 +21,6 @@ mod tuples;
 pub use projection::Projected;
 pub use publication_config::{Member, Misfit, Place, PubFault, TableMember, explained};
 pub use publications::Publications;
-pub use putting::MAX_MESSAGE_LENGTH;
+pub use putting::{MAX_MESSAGE_LENGTH, room_for};
 pub use relation::NO_MODIFIER;
 pub use selection::Selection;

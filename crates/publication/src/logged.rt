@@ -1,7 +1,7 @@
 //! Messages of the log, sent to streams that ask for them.
 #![tactic(auto, using(crate::proofs::Written::sizes))]
 
-ghost use Rattle.std.specs.Prelude.{◌≡◌, ◌≤◌, [], IfOk, IfSome, Ok, OnSome, Some, length, true};
+ghost use Rattle.std.specs.Prelude.{◌≡◌, ◌+◌, ◌≤◌, [], IfOk, IfSome, Ok, OnSome, Some, length, true};
 ghost use Rattle.std.specs.Str.{is_utf8};
 ghost use Rattle.pgoutput.specs.Logical.{spell_logical};
 ghost use Rattle.pgoutput.specs.Message.{message_flags};
@@ -12,7 +12,7 @@ ghost use Rattle.tables.specs.declared.change.Change.{Change as Changed};
 ghost use Rattle.tables.specs.declared.message.Message.{Message as Held};
 ghost use Rattle.publication.specs.Logged.{IsNoteAt, change_message, fits_log, note_message, logged_message, told_of};
 ghost use Rattle.pqformat.specs.Writing.{FitsRoom, Writes};
-ghost use Rattle.publication.specs.Spelling.{HasRoom, IsPut, IsReadWhole, IsWritten};
+ghost use Rattle.publication.specs.Spelling.{HasRoomFor, IsPut, IsReadWhole, IsWritten};
 
 use crate::putting::MAX_MESSAGE_LENGTH;
 use crate::selection::Selection;
@@ -44,7 +44,7 @@ impl Selection {
         fields: &[u8],
         out: &mut [u8],
     ) -> Option<usize>
-        requires { HasRoom out.old }
+        requires { HasRoomFor (length fields.now + 1) out.old }
         ensures told { (c : Changed) → change_tagged tag fields.now ≡ Ok (c, []) →
             IsWritten result out.old out.new (note_message self.now position c) }
         ensures short { IfSome result (λ n. n ≤ MAX_MESSAGE_LENGTH) }
@@ -64,7 +64,7 @@ impl Selection {
         fields: &[u8],
         out: &mut [u8],
     ) -> Option<usize>
-        requires { HasRoom out.old }
+        requires { HasRoomFor (length fields.now + 1) out.old }
         ensures told { (m : Held) → message_at fields.now ≡ Ok (m, []) →
             IsWritten result out.old out.new (logged_message is_transactional self.now position m) }
         ensures found { IfSome result (λ _. IsReadWhole (message_at fields.now)) }

@@ -1,13 +1,14 @@
 //! The message of a change, written straight from the body that the log keeps.
 
-ghost use Rattle.std.specs.Prelude.{◌≡◌, ◌<◌, ◌≤◌, ◌^◌, [], ℕ, List, IfSome, Ok, Some, length};
+ghost use Rattle.std.specs.Prelude.{◌≡◌, ◌+◌, ◌<◌, ◌≤◌, ◌^◌, [], ℕ, List, IfSome, Ok, Some, length};
 ghost use Rattle.tables.specs.Reading.{SpellsBody, change_tagged, insert_at, update_at};
 ghost use Rattle.tables.specs.declared.change.Change.{Change as Changed};
 ghost use Rattle.tables.specs.declared.kinds.Value.{Value as Datum};
 ghost use Rattle.pgoutput.specs.declared.logical.Logical.{Logical};
 ghost use Rattle.publication.specs.Logged.{change_message};
 ghost use Rattle.publication.specs.Projection.{MessageFits, message};
-ghost use Rattle.publication.specs.Spelling.{HasRoom, IsPut, IsReadWhole, IsShortRow, IsWritten};
+ghost use Rattle.publication.specs.Spelling.{HasRoomFor, IsPut, IsReadWhole, IsShortRow, IsWritten, room_for};
+ghost use Rattle.tables.specs.Spelling.{row_length};
 
 use crate::put_messages::{put_deletion, put_insertion, put_update};
 use crate::row_reading::{one_row, two_rows};
@@ -19,12 +20,25 @@ use tables::{DELETE_TAG, INSERT_TAG, MESSAGE_TAG, RowRef, TRUNCATE_TAG, UPDATE_T
 /// them.
 pub const MAX_MESSAGE_LENGTH: usize = 19_200;
 
+/// A message of a change is at most so many bytes longer than its body: each value of its two rows by 24 at most, and 2 before them.
+pub const MAX_ADDED_LENGTH: usize = 3_100;
+
+/// How many bytes are room for the message of a change whose body has so many.
+pub fn room_for(size: usize) -> usize
+    ensures { result ≡ room_for size }
+{
+    if size > MAX_MESSAGE_LENGTH - MAX_ADDED_LENGTH {
+        return MAX_MESSAGE_LENGTH;
+    }
+    size + MAX_ADDED_LENGTH
+}
+
 impl Selection {
     /// Writes the message of the change whose body these bytes are, and whose record starts at the position, to the front of `out`, and
     /// answers how long it is. None where the change has no message, and where the bytes are the body of none that the catalogue's tables
-    /// have. It takes no memory.
+    /// have. It takes no memory. `room_for` tells how much room it asks for.
     pub fn put(&self, position: u64, body: &[u8], out: &mut [u8]) -> Option<usize>
-        requires { MAX_MESSAGE_LENGTH ≤ length out.old }
+        requires { room_for (length body.now) ≤ length out.old }
         ensures message { (c : Changed) → SpellsBody body.now c →
             IsPut result out.new (change_message self.now position c) }
         ensures fits { (c : Changed) (m : Logical) → SpellsBody body.now c →
@@ -35,7 +49,7 @@ impl Selection {
         // All tables fit: here the prover learns it.
         let _ = &self.tables;
         let (tag, fields) = body.split_first()?;
-        self.put_tagged(position, *tag, fields, &mut out[..MAX_MESSAGE_LENGTH])
+        self.put_tagged(position, *tag, fields, &mut out[..room_for(body.len())])
     }
 
     /// A law: the message of each change whose record starts at a position of 64 bits fits its fields and a frame, and names tables of
@@ -50,7 +64,7 @@ impl Selection {
     }
 
     fn put_tagged(&self, position: u64, tag: u8, fields: &[u8], out: &mut [u8]) -> Option<usize>
-        requires { HasRoom out.old }
+        requires { HasRoomFor (length fields.now + 1) out.old }
         ensures told { (c : Changed) → change_tagged tag fields.now ≡ Ok (c, []) →
             IsWritten result out.old out.new (change_message self.now position c) }
         ensures found { IfSome result (λ _. IsReadWhole (change_tagged tag fields.now)) }
@@ -67,8 +81,10 @@ impl Selection {
     }
 
     /// The message of an insert, of which these are the OID and the row.
+    // What a kind of change needs is on the stack for that kind alone: a row takes 1,552 bytes there.
+    #[inline(never)]
     pub(crate) fn put_inserted(&self, fields: &[u8], out: &mut [u8]) -> Option<usize>
-        requires { HasRoom out.old }
+        requires { HasRoomFor (length fields.now + 1) out.old }
         ensures told { (m : ℕ × List Datum) → insert_at fields.now ≡ Ok (m, []) →
             IsWritten result out.old out.new (message self.now (Changed.Insert m.0 m.1)) }
         ensures found { IfSome result (λ _. IsReadWhole (insert_at fields.now)) }
@@ -82,7 +98,7 @@ impl Selection {
     }
 
     fn put_insert(&self, oid: u32, row: &RowRef<'_>, out: &mut [u8]) -> Option<usize>
-        requires room { HasRoom out.old }
+        requires room { HasRoomFor (5 + row_length row.now) out.old }
         requires short { IsShortRow row.now }
         ensures told { IsWritten result out.old out.new
             (message self.now (Changed.Insert oid row.now)) }
@@ -96,8 +112,9 @@ impl Selection {
     }
 
     /// The message of an update, of which these are the OID, the old row and the new one.
+    #[inline(never)]
     pub(crate) fn put_updated(&self, fields: &[u8], out: &mut [u8]) -> Option<usize>
-        requires { HasRoom out.old }
+        requires { HasRoomFor (length fields.now + 1) out.old }
         ensures told { (m : (ℕ × List Datum) × List Datum) → update_at fields.now ≡ Ok (m, []) →
             IsWritten result out.old out.new (message self.now (Changed.Update m.0.0 m.0.1 m.1)) }
         ensures found { IfSome result (λ _. IsReadWhole (update_at fields.now)) }
@@ -117,7 +134,7 @@ impl Selection {
         new: &RowRef<'_>,
         out: &mut [u8],
     ) -> Option<usize>
-        requires room { HasRoom out.old }
+        requires room { HasRoomFor (5 + row_length old.now + row_length new.now) out.old }
         requires old { IsShortRow old.now }
         requires new { IsShortRow new.now }
         ensures told { IsWritten result out.old out.new
@@ -135,8 +152,9 @@ impl Selection {
     }
 
     /// The message of a delete, of which these are the OID and the old row.
+    #[inline(never)]
     pub(crate) fn put_deleted(&self, fields: &[u8], out: &mut [u8]) -> Option<usize>
-        requires { HasRoom out.old }
+        requires { HasRoomFor (length fields.now + 1) out.old }
         ensures told { (m : ℕ × List Datum) → insert_at fields.now ≡ Ok (m, []) →
             IsWritten result out.old out.new (message self.now (Changed.Delete m.0 m.1)) }
         ensures found { IfSome result (λ _. IsReadWhole (insert_at fields.now)) }
@@ -149,7 +167,7 @@ impl Selection {
     }
 
     fn put_delete(&self, oid: u32, old: &RowRef<'_>, out: &mut [u8]) -> Option<usize>
-        requires room { HasRoom out.old }
+        requires room { HasRoomFor (5 + row_length old.now) out.old }
         requires short { IsShortRow old.now }
         ensures told { IsWritten result out.old out.new
             (message self.now (Changed.Delete oid old.now)) }

@@ -11,7 +11,7 @@ ghost use Rattle.tables.specs.declared.change.Change.{Change as Changed};
 ghost use Rattle.publication_config.specs.declared.operations.Operation.{Operation};
 ghost use Rattle.publication.specs.Projection.{is_published, message};
 ghost use Rattle.pqformat.specs.Writing.{FitsRoom, Writes};
-ghost use Rattle.publication.specs.Spelling.{HasRoom, IsReadWhole, IsWritten};
+ghost use Rattle.publication.specs.Spelling.{HasRoomFor, IsReadWhole, IsWritten};
 
 use crate::selection::{Selection, may_be_emptied};
 use pgoutput::{NO_OPTIONS, TRUNCATE};
@@ -21,8 +21,10 @@ use tables::{MAX_TRUNCATED, lend_oids};
 
 impl Selection {
     /// The message of a truncate, of which these are the count and the OIDs.
+    // Its OIDs, 2,048 bytes, are on the stack for truncates alone.
+    #[inline(never)]
     pub(crate) fn put_truncated(&self, fields: &[u8], out: &mut [u8]) -> Option<usize>
-        requires { HasRoom out.old }
+        requires { HasRoomFor (length fields.now + 1) out.old }
         ensures told { (oids : List ℕ) → oids_at fields.now ≡ Ok (oids, []) →
             IsWritten result out.old out.new (message self.now (Changed.Truncate oids)) }
         ensures found { IfSome result (λ _. IsReadWhole (oids_at fields.now)) }
@@ -34,7 +36,7 @@ impl Selection {
     }
 
     fn put_emptied(&self, oids: &[u32], out: &mut [u8]) -> Option<usize>
-        requires { HasRoom out.old }
+        requires { HasRoomFor 0 out.old }
         ensures told { IsWritten result out.old out.new
             (message self.now (Changed.Truncate oids.now)) }
         ensures same { length out.new ≡ length out.old }

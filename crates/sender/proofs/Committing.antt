@@ -17,7 +17,7 @@ use Rattle.stream.specs.Items.{Block, bytes_of_items, relations_sent_through, tr
 use Rattle.sender.specs.Published.{published_with}
 use Rattle.sender.specs.Waiting.{AreSelected, AreWithin, begin_bytes, bytes_behind, changes_bytes, commit_bytes, places, ready_states, sent_behind}
 use Rattle.sender.specs.Outgoing.{Grows, IsOutgoing, Queues, StaysQueued, frames_left, held_behind, held_of, lent_in, lent_of, sent_of, settled_of}
-use Rattle.sender.specs.Lent.{LentTransaction, lent_with}
+use Rattle.sender.specs.Lent.{lent_with}
 use Rattle.sender.specs.declared.header.Header.{Header}
 use Rattle.sender.specs.declared.outgoing.Outgoing.{Outgoing}
 use Rattle.sender.specs.declared.waiting.Waiting.{Waiting}

@@ -1,6 +1,6 @@
 -- What the fields of what is on its way out do to all that is held.
 use Rattle.std.proofs.Common.{◌≡◌, ◌<◌, ◌≤◌, ℕ, ◌+◌, ◌-◌, List, [], ◌++◌, Result, Ok, Err, OnOk, drop, length, map, take, sym, ap, subst, ◌∙◌, append_assoc, arith}
-use Rattle.std.specs.Prelude.{◌⊎◌, OnErr, reverse}
+use Rattle.std.specs.Prelude.{OnErr, reverse}
 use Rattle.std.specs.declared.alloc.AllocError.{AllocError}
 use Rattle.std.proofs.Common.{⊎_elim, inl, inr}
 use Rattle.std.proofs.lemmas.List.{length-append}

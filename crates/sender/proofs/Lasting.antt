@@ -1,6 +1,6 @@
 -- Transactions that are lent: those that are left are the last ones, and their Commits are held.
-use Rattle.std.proofs.Common.{◌≡◌, ℕ, ℤ, ◌+◌, Bool, true, false, cond, List, [], ◌∷◌, ◌++◌, Some, None, Option, drop, length, map, take, filter, reverse, refl, sym, ap, subst, ◌∙◌, append_assoc, append-nil, arith}
-use Rattle.std.specs.Prelude.{nat_le, not, sum_by}
+use Rattle.std.proofs.Common.{◌≡◌, ℕ, ℤ, Bool, true, false, cond, List, [], ◌∷◌, ◌++◌, drop, map, take, filter, reverse, refl, sym, ap, subst, ◌∙◌, append_assoc, arith}
+use Rattle.std.specs.Prelude.{nat_le, sum_by}
 use Rattle.std.specs.List.{flat_map}
 use Rattle.std.proofs.lemmas.Grind.{flat_map-append}
 use Rattle.std.proofs.lemmas.List.Sums.{sum_by-cons}
@@ -10,10 +10,9 @@ use Rattle.tables.specs.declared.change.Change.{Change}
 use Rattle.wal.specs.declared.record.Record.{Record}
 use Rattle.wal.specs.declared.record.Body.{Body}
 use Rattle.wal.specs.declared.record.Body.TheVariants.{Assign, Change as Changed, AbortSub, Abort, Commit, Note}
-use Rattle.wal.specs.Log.{Entry, Transaction, committed_at, committed_from, kept_changes}
+use Rattle.wal.specs.Log.{Transaction, committed_at, committed_from, kept_changes}
 use Rattle.wal.proofs.Laws.{committed_from-append}
 use Rattle.stream.specs.Items.{relations_sent_by_all}
-use Rattle.stream.specs.declared.published.Published.{Published}
 use Rattle.reorder.specs.Chunks.{transaction_chunks}
 use Rattle.reorder.specs.Pool.{PoolState}
 use Rattle.reorder.specs.Ready.{ReadyState}

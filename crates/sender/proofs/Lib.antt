@@ -10,6 +10,7 @@ pub mod Spelled
 pub mod Queueing
 pub mod Lasting
 pub mod Frames
+pub mod Placing
 pub mod Moving
 pub mod GivingWay
 pub mod Growing

@@ -1,5 +1,5 @@
 -- Committed transactions whose changes still lie in the arena.
-use Rattle.std.specs.Prelude.{◌≡◌, ◌&&◌, ℕ, ℤ, not, List, [], ◌∷◌, ◌++◌, Option, Some, None, map, if◌then◌else◌}
+use Rattle.std.specs.Prelude.{◌≡◌, ◌&&◌, ℕ, ℤ, not, List, [], ◌∷◌, ◌++◌, if◌then◌else◌}
 use Rattle.std.specs.List.{flat_map}
 use Rattle.pgoutput.specs.declared.commit.Commit.{Commit}
 use Rattle.pgoutput.specs.declared.logical.Logical.TheVariants as logical

@@ -5,7 +5,7 @@ ghost use Rattle.sender.specs.declared.waiting.Waiting.{Waiting};
 ghost use Rattle.sender.specs.Outgoing.{HoldsSame, IsFilled, IsOutgoing, held_of};
 
 use crate::bounds::put_commit_of;
-use crate::making::{MAX_FRAME_LENGTH, next_frame};
+use crate::making::{LEAST_ROOM, MAX_FRAME_LENGTH, next_frame};
 use crate::outgoing::Outgoing;
 use publication::Selection;
 use reorder::Reorder;
@@ -41,49 +41,52 @@ impl Outgoing {
         if !self.fill(selection, reorder) {
             return false;
         }
-        while self.to + MAX_FRAME_LENGTH <= self.frames.len() && self.make(selection, reorder) {}
+        while self.to + LEAST_ROOM <= self.frames.len() && self.make(selection, reorder) {}
         true
     }
 
-    /// Makes frames behind those that are left, and answers whether there were any to make.
+    /// Makes frames behind those that are left, and answers whether there were any to make that surely had room.
     fn make(&mut self, selection: &Selection, reorder: &mut Reorder) -> bool
         requires good { IsOutgoing selection.now reorder.old self.old }
-        requires room { self.old.to + MAX_FRAME_LENGTH ≤ length self.old.frames.items }
+        requires room { self.old.to + LEAST_ROOM ≤ length self.old.frames.items }
         ensures same { HoldsSame selection.now reorder.old reorder.new self.old self.new }
         ensures frames { IsFilled self.old self.new }
         ensures more { MatchBool result (self.old.to < self.new.to)
-            ((self.new.to ≡ self.old.to) × (self.new.made.items ≡ [])
-            × (self.new.waiting.items ≡ [])) }
+            ((self.new.to ≡ self.old.to)
+            × (self.old.to + MAX_FRAME_LENGTH ≤ length self.old.frames.items →
+            (self.new.made.items ≡ []) × (self.new.waiting.items ≡ []))) }
     {
         if !self.waiting.is_empty() {
-            self.make_first(selection, reorder);
-            return true;
+            return self.make_first(selection, reorder);
         }
-        let count = self.made.len().min(MAX_FRAME_LENGTH);
+        let count = self.made.len().min(self.frames.len() - self.to);
         self.move_made(count);
         count > 0
     }
 
-    /// Makes a frame of the first transaction that waits, or moves bytes that are made before it.
-    fn make_first(&mut self, selection: &Selection, reorder: &mut Reorder)
+    /// Makes a frame of the first transaction that waits, or moves bytes that are made before it. False: it may not have room.
+    fn make_first(&mut self, selection: &Selection, reorder: &mut Reorder) -> bool
         requires good { IsOutgoing selection.now reorder.old self.old }
-        requires room { self.old.to + MAX_FRAME_LENGTH ≤ length self.old.frames.items }
+        requires room { self.old.to + LEAST_ROOM ≤ length self.old.frames.items }
         requires waits { 0 < length self.old.waiting.items }
         ensures same { HoldsSame selection.now reorder.old reorder.new self.old self.new }
         ensures frames { IsFilled self.old self.new }
-        ensures more { self.old.to < self.new.to }
+        ensures more { MatchBool result (self.old.to < self.new.to)
+            ((self.new.to ≡ self.old.to)
+            × (length self.old.frames.items < self.old.to + MAX_FRAME_LENGTH)) }
     {
+        let room = self.frames.len() - self.to;
         let Some(waiting) = self.waiting.front_mut() else {
-            return;
+            return false;
         };
         if waiting.before > 0 {
-            let count = waiting.before.min(MAX_FRAME_LENGTH);
+            let count = waiting.before.min(room);
             waiting.before -= count;
             self.placed -= count;
             self.move_made(count);
-            return;
+            return true;
         }
-        let end = self.to + MAX_FRAME_LENGTH;
+        let end = self.to + room.min(MAX_FRAME_LENGTH);
         let count = next_frame(
             selection,
             reorder,
@@ -92,15 +95,20 @@ impl Outgoing {
             &mut self.frames[self.to..end],
         );
         self.to += count;
-        if count == 0 {
-            self.finish_first(selection, reorder);
+        if count > 0 {
+            return true;
         }
+        if waiting.next < waiting.ready.count() {
+            return false;
+        }
+        self.finish_first(selection, reorder);
+        true
     }
 
     /// Makes the Commit of the first transaction that waits, of which no change is left. What was ready goes back, and it waits no more.
     fn finish_first(&mut self, selection: &Selection, reorder: &mut Reorder)
         requires good { IsOutgoing selection.now reorder.old self.old }
-        requires room { self.old.to + MAX_FRAME_LENGTH ≤ length self.old.frames.items }
+        requires room { self.old.to + LEAST_ROOM ≤ length self.old.frames.items }
         requires over { (w : Waiting) (ws : List Waiting) → self.old.waiting.items ≡ w ∷ ws →
             (w.before ≡ 0) × (length w.ready.places ≤ w.next) }
         requires waits { 0 < length self.old.waiting.items }
@@ -109,7 +117,7 @@ impl Outgoing {
         ensures more { self.old.to < self.new.to }
     {
         if let Some(waiting) = self.waiting.pop_front() {
-            let end = self.to + MAX_FRAME_LENGTH;
+            let end = self.to + LEAST_ROOM;
             self.to += put_commit_of(&waiting, &mut self.frames[self.to..end]);
             reorder.finish(waiting.ready);
         }

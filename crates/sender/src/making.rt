@@ -1,7 +1,7 @@
 //! The frames of changes, made one by one into a slice that has room for them (PostgreSQL 15, 55.4).
 #![tactic(auto, using(publication::proofs::Written::sizes))]
 
-ghost use Rattle.std.specs.Prelude.{◌≡◌, ◌==◌, ℕ, true, ◌+◌, ◌<◌, ◌≤◌, ◌^◌, [], ◌∷◌, List, None, IfSome, IsSome, false, length, reverse, take, vec_capacity};
+ghost use Rattle.std.specs.Prelude.{◌≡◌, ◌⊎◌, ◌==◌, ℕ, true, ◌+◌, ◌<◌, ◌≤◌, ◌^◌, [], ◌∷◌, List, None, IfSome, IsSome, false, length, reverse, take, vec_capacity};
 ghost use Rattle.std.specs.List.{list_any};
 ghost use Rattle.pgoutput.specs.Logical.{spell_logical};
 ghost use Rattle.pgoutput.specs.declared.logical.Logical.TheVariants as logical;
@@ -26,8 +26,12 @@ pub(crate) const HEAD_LENGTH: usize = 30;
 /// The longest frame of a change or of a Relation.
 pub(crate) const MAX_FRAME_LENGTH: usize = HEAD_LENGTH + MAX_MESSAGE_LENGTH;
 
+/// Where there is less room no frame is made: a Commit's and the head of any other have this much.
+pub(crate) const LEAST_ROOM: usize = 64;
+
 /// Makes the next frame of a transaction's changes at the front of `out`, and answers how long it is: the Relation of a table that is
-/// due, or else the message of the next change that has one. 0 where no change that has one is left. It takes no memory.
+/// due, or else the message of the next change that has one. 0 where no change that has one is left, and where its frame may not have
+/// room. It takes no memory.
 pub(crate) fn next_frame(
     selection: &Selection,
     reorder: &Reorder,
@@ -36,7 +40,8 @@ pub(crate) fn next_frame(
     out: &mut [u8],
 ) -> usize
     requires held { IsReadyIn reorder.now.strands.pool waiting.old.ready }
-    requires room { length out.old ≡ MAX_FRAME_LENGTH }
+    requires room { LEAST_ROOM ≤ length out.old }
+    requires bounded { length out.old ≤ MAX_FRAME_LENGTH }
     requires sent { AreSelected selection.now (reverse relations_sent.old.items) }
     requires capacity { length (selected_oids selection.now) ≤ vec_capacity relations_sent.old }
     ensures makes { Makes selection.now waiting.old.clock
@@ -44,23 +49,25 @@ pub(crate) fn next_frame(
         (left_of selection.now reorder.now.strands.pool waiting.new)
         (reverse relations_sent.old.items) (reverse relations_sent.new.items)
         (take result out.new) }
-    ensures within { result ≤ MAX_FRAME_LENGTH }
-    ensures over { result ≡ 0 → length waiting.new.ready.places ≤ waiting.new.next }
+    ensures within { result ≤ length out.new }
+    ensures over { result ≡ 0 → MAX_FRAME_LENGTH ≤ length out.new →
+        length waiting.new.ready.places ≤ waiting.new.next }
     ensures same { length out.new ≡ length out.old }
     ensures waiting { waiting.new ≡ record waiting.old { next = waiting.new.next } }
     ensures sent { AreSelected selection.now (reverse relations_sent.new.items) }
     ensures capacity { vec_capacity relations_sent.new ≡ vec_capacity relations_sent.old }
 {
     while waiting.next < waiting.ready.count() {
+        let next = waiting.next;
         let length = frame_at_next(selection, reorder, waiting, relations_sent, out);
-        if length > 0 {
+        if length > 0 || waiting.next == next {
             return length;
         }
     }
     0
 }
 
-/// Makes a frame for the change that is next: none where it has no message.
+/// Makes a frame for the change that is next: none where it has no message, or may not have room.
 fn frame_at_next(
     selection: &Selection,
     reorder: &Reorder,
@@ -71,7 +78,8 @@ fn frame_at_next(
     requires held { IsReadyIn reorder.now.strands.pool waiting.old.ready }
     requires next { waiting.old.next < length waiting.old.ready.places }
     requires counted { length waiting.old.ready.places < 2 ^ 64 }
-    requires room { length out.old ≡ MAX_FRAME_LENGTH }
+    requires room { LEAST_ROOM ≤ length out.old }
+    requires bounded { length out.old ≤ MAX_FRAME_LENGTH }
     requires sent { AreSelected selection.now (reverse relations_sent.old.items) }
     requires capacity { length (selected_oids selection.now) ≤ vec_capacity relations_sent.old }
     ensures makes { Makes selection.now waiting.old.clock
@@ -79,8 +87,9 @@ fn frame_at_next(
         (left_of selection.now reorder.now.strands.pool waiting.new)
         (reverse relations_sent.old.items) (reverse relations_sent.new.items)
         (take result out.new) }
-    ensures within { result ≤ MAX_FRAME_LENGTH }
-    ensures moves { result ≡ 0 → waiting.new.next ≡ waiting.old.next + 1 }
+    ensures within { result ≤ length out.new }
+    ensures moves { result ≡ 0 → (waiting.new.next ≡ waiting.old.next + 1)
+        ⊎ ((waiting.new.next ≡ waiting.old.next) × (length out.new < MAX_FRAME_LENGTH)) }
     ensures next { waiting.new.next ≤ length waiting.new.ready.places }
     ensures same { length out.new ≡ length out.old }
     ensures waiting { waiting.new ≡ record waiting.old { next = waiting.new.next } }
@@ -88,19 +97,21 @@ fn frame_at_next(
     ensures capacity { vec_capacity relations_sent.new ≡ vec_capacity relations_sent.old }
 {
     let (head, room) = out.split_at_mut(HEAD_LENGTH);
-    let Some((position, length)) = put_entry(
-        selection,
-        reorder,
-        &mut waiting.ready,
-        waiting.next,
-        room,
-    ) else {
+    let Ok(put) = put_entry(selection, reorder, &mut waiting.ready, waiting.next, room) else {
+        return 0;
+    };
+    let Some((position, length)) = put else {
         waiting.next += 1;
         return 0;
     };
     let named = named_in(&room[..length]);
     let length = match first_due(relations_sent.as_slice(), named) {
-        Some(oid) => put_due(selection, oid, relations_sent, room),
+        Some(oid) => {
+            if room.len() < MAX_MESSAGE_LENGTH {
+                return 0;
+            }
+            put_due(selection, oid, relations_sent, room)
+        }
         None => {
             waiting.next += 1;
             length

@@ -22,8 +22,8 @@ use reorder::Ready;
 use std::alloc::{AllocError, Global};
 use std::collections::VecDeque;
 
-/// How many bytes of frames are made ahead at most: so a writer gets many frames at once.
-pub(crate) const FRAMES_LENGTH: usize = 22_528;
+/// How many bytes of frames are made ahead at most: the longest frame, or as many of others as have room.
+pub(crate) const FRAMES_LENGTH: usize = 19_456;
 
 /// Bytes on their way out, in this order: those at the front, the frames that are made, and then the rest: Begins, keepalives and notes,
 /// which are made already, and between them the changes and Commits of the transactions that wait, of which frames are made when they

@@ -1,6 +1,6 @@
 //! What a commit publishes, change by change, straight from where the changes lie.
 
-ghost use Rattle.std.specs.Prelude.{◌≡◌, ℕ, ◌+◌, ◌<◌, ◌≤◌, ◌==◌, ◌^◌, ◌++◌, ◌∷◌, [], List, None, FitsSigned, IfSome, MatchBool, OnOk, Some, drop, length, map, not, option_map, option_to_list, vec_len};
+ghost use Rattle.std.specs.Prelude.{◌≡◌, ℕ, ◌+◌, ◌<◌, ◌≤◌, ◌==◌, ◌^◌, ◌++◌, ◌∷◌, [], List, None, FitsSigned, IfOk, IfSome, MatchBool, OnErr, OnOk, Some, drop, length, map, not, option_map, option_to_list, vec_len};
 ghost use Rattle.std.specs.Int.{w64};
 ghost use Rattle.std.specs.List.{AllByRecursion};
 ghost use Rattle.wal.specs.declared.record.Record.{Record as Logged};
@@ -19,7 +19,7 @@ ghost use Rattle.sender.specs.Outgoing.{Grows, IsOutgoing, lent_by_step, lent_of
 
 use crate::header::Header;
 use crate::outgoing::Outgoing;
-use publication::{MAX_MESSAGE_LENGTH, Selection};
+use publication::{MAX_MESSAGE_LENGTH, Selection, room_for};
 use reorder::{Ready, Reorder, Step};
 use std::alloc::AllocError;
 use wal::{Body, LoggedChange, Record};
@@ -292,6 +292,10 @@ fn tells_entry(selection: &Selection, reorder: &Reorder, ready: &mut Ready, k: u
     selection.has_message(body)
 }
 
+/// A message may not have room.
+#[derive(Clone, Copy)]
+pub(crate) struct NoRoom;
+
 /// Room for the message of any note.
 fn make_room(room: &mut Vec<u8>) -> Result<(), AllocError>
     ensures { OnOk result (MAX_MESSAGE_LENGTH ≤ vec_len room.new) }
@@ -303,27 +307,33 @@ fn make_room(room: &mut Vec<u8>) -> Result<(), AllocError>
 }
 
 /// Writes the message of the k-th change that is ready to the front of the room, and answers the change's position and how long the
-/// message is. None where the change has no message.
+/// message is. None where the change has no message, and an error where the room may not be enough for one.
 pub(crate) fn put_entry(
     selection: &Selection,
     reorder: &Reorder,
     ready: &mut Ready,
     k: usize,
     room: &mut [u8],
-) -> Option<(u64, usize)>
+) -> Result<Option<(u64, usize)>, NoRoom>
     requires held { IsReadyIn reorder.now.strands.pool ready.old }
     requires within { k < length ready.old.places }
-    requires room { MAX_MESSAGE_LENGTH ≤ length room.old }
-    ensures yields { Yields selection.now
+    ensures yields { IfOk result
+        (λ put. Yields selection.now
         (published_changes selection.now
         (drop k (ready_entries reorder.now.strands.pool ready.old)))
         (published_changes selection.now
         (drop (k + 1) (ready_entries reorder.now.strands.pool ready.old)))
-        result room.new }
+        put room.new) }
+    ensures full { OnErr result (length room.new < MAX_MESSAGE_LENGTH) }
     ensures ready { ready.new ≡ ready.old }
     ensures same { length room.new ≡ length room.old }
 {
     let (position, body) = reorder.entry(ready, k);
-    let length = selection.put(position, body, room)?;
-    Some((position, length))
+    if room.len() < room_for(body.len()) {
+        return Err(NoRoom);
+    }
+    match selection.put(position, body, room) {
+        Some(length) => Ok(Some((position, length))),
+        None => Ok(None),
+    }
 }

@@ -1,4 +1,4 @@
-use Rattle.std.proofs.Common.{◌∷◌, [], ◌++◌, ap, arith, subst}
+use Rattle.std.proofs.Common.{◌∷◌, [], ap, arith, subst}
 use Rattle.std.specs.Int.{w64, cast_unsigned}
 use Rattle.pgoutput.specs.declared.begin.TheConstants.{BEGIN}
 use Rattle.pqformat.specs.Fields.{int32, int64}

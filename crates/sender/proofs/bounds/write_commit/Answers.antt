@@ -1,4 +1,4 @@
-use Rattle.std.proofs.Common.{◌∷◌, [], ◌++◌, ap, arith, subst}
+use Rattle.std.proofs.Common.{◌∷◌, [], ap, arith, subst}
 use Rattle.std.specs.Int.{w64, cast_unsigned}
 use Rattle.pgoutput.specs.declared.commit.TheConstants.{COMMIT, COMMIT_FLAGS}
 use Rattle.pqformat.specs.Fields.{int64}

@@ -13,18 +13,18 @@ use Rattle.sender.specs.Waiting.{Makes, frame_head, left_of}
 use Rattle.sender.proofs.Framed.{all_any, frame_made, makes_change, makes_relation}
 use Rattle.sender.proofs.Spelled.{long_enough, named_is}
 use Rattle.sender.proofs.making.frame_at_next.Goals as goal
-use Rattle.sender.proofs.making.frame_at_next.Goals.{in-Some-first_due, in-None}
+use Rattle.sender.proofs.making.frame_at_next.Goals.{in-Some-first_due+else-room-lt-MAX_MESSAGE_LENGTH, in-None}
 
 pub named_in-named-requires : goal.named_in-named-requires
 named_in-named-requires c =
     let bytes = take c.in-Some.length c.put_entry.new.room in
-    let t = c.in-Some.ensures.yields.1 in
+    let t = (rw c.in-Some.is at c.in-Ok.ensures.yields).1 in
     omega (arith, ap (length {A = ℕ}) t.text, long_enough (relation c.args.selection.now) (message_in bytes) t.told.1.of_change)
 
 pub put_due-length-requires-clause-known : goal.put_due-length-requires-clause-known
 put_due-length-requires-clause-known c =
     let m = message_in (take c.in-Some.length c.put_entry.new.room) in
-    let t = c.in-Some.ensures.yields.1 in
+    let t = (rw c.in-Some.is at c.in-Ok.ensures.yields).1 in
     let oid = c.in-Some-first_due.oid in
     let named : oids_in c.named_in-named.result ≡ tables_of m = c.named_in-named.ensures ∙ ap named_in t.text ∙ named_is (relation c.args.selection.now) m t.told.1.of_change t.told.1.fits in
     all_any (λ o. IsSome (selected_table c.args.selection.now o)) (tables_of m) oid t.told.1.known (ap (list_any (λ n. n == oid)) (sym named) ∙ c.in-Some-first_due.ensures.among)
@@ -36,7 +36,7 @@ returns-clause-makes c =
     let here = left_of selection c.args.reorder.now.strands.pool c.args.waiting.now in
     let next = published_changes selection (drop (c.args.waiting.now.next + 1) (ready_entries c.args.reorder.now.strands.pool c.args.waiting.now.ready)) in
     let sent = reverse c.args.relations_sent.now.items in
-    let y = c.in-Some.ensures.yields in
+    let y = rw c.in-Some.is at c.in-Ok.ensures.yields in
     let t = y.1 in
     let bytes = take c.in-Some.length c.put_entry.new.room in
     let m = message_in bytes in
@@ -49,7 +49,7 @@ returns-clause-makes c =
     let due_as = ap (relations_due sent) (sym named) ∙ ap (λ (l : List ℕ). relations_due (reverse l) (oids_in c.named_in-named.result)) (sym c.as_slice.ensures.value) in
     let clock_fits = to_z-of_z w64 clock (record { sfits = c.fits-waiting.1.1.0.1 }) in
     elim c.match-first_due.branch [
-      | in-Some-first_due w ↦
+      | in-Some-first_due+else-room-lt-MAX_MESSAGE_LENGTH w ↦
           let oid = w.in-Some-first_due.oid in
           let put = w.put_due-length.ensures in
           let due = w.in-Some-first_due.ensures.due in

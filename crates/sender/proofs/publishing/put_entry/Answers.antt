@@ -1,4 +1,4 @@
-use Rattle.std.proofs.Common.{◌≡◌, ◌<◌, ◌+◌, ℕ, Option, Some, None, drop, length, sym, subst, arith}
+use Rattle.std.proofs.Common.{◌≡◌, ◌<◌, ◌+◌, ℕ, Option, Some, None, drop, length, subst, arith}
 use Rattle.std.specs.Option.{option_map}
 use Rattle.sender.specs.Published.{published_changes}
 use Rattle.sender.specs.Spelled.{Yields}
@@ -7,19 +7,19 @@ use Rattle.reorder.specs.Ready.{entry_at, lent_from, ready_entries}
 use Rattle.sender.proofs.Spelled.{put_yields}
 use Rattle.sender.proofs.publishing.put_entry.Goals as goal
 
-pub returns-clause-yields : goal.returns-clause-yields
-returns-clause-yields c =
+pub returns-in-Some-clause-yields : goal.returns-in-Some-clause-yields
+returns-in-Some-clause-yields c =
     let pool = c.args.reorder.now.strands.pool in
     let entries = ready_entries pool c.args.ready.now in
     let lt : c.args.k < length entries = omega (arith, length-map c.args.ready.now.places (entry_at (lent_from pool c.args.ready.now))) in
     let puts = c.put.ensures in
-    let found : c.put.result ≡ Some c.in_ok-length.length = cc in
+    let found : c.put.result ≡ Some c.in-Some.length = cc in
     let P : Option ℕ → Type 0 = λ o. Yields c.args.selection.now (published_changes c.args.selection.now (drop c.args.k entries)) (published_changes c.args.selection.now (drop (c.args.k + 1) entries))
     (option_map (λ n. (c.entry-position.result.0, n)) o) c.put.new.out in
     subst P found (put_yields c.args.selection.now entries c.args.k c.entry-position.result.0 c.entry-position.result.1.now c.put.new.out c.put.result lt (omega arith) c.entry-position.ensures.entry puts.message puts.fits)
 
-pub returns-in_err-length-clause-yields : goal.returns-in_err-length-clause-yields
-returns-in_err-length-clause-yields c =
+pub returns-in-None-clause-yields : goal.returns-in-None-clause-yields
+returns-in-None-clause-yields c =
     let pool = c.args.reorder.now.strands.pool in
     let entries = ready_entries pool c.args.ready.now in
     let lt : c.args.k < length entries = omega (arith, length-map c.args.ready.now.places (entry_at (lent_from pool c.args.ready.now))) in
@@ -27,6 +27,4 @@ returns-in_err-length-clause-yields c =
     let found : c.put.result ≡ None = cc in
     let P : Option ℕ → Type 0 = λ o. Yields c.args.selection.now (published_changes c.args.selection.now (drop c.args.k entries)) (published_changes c.args.selection.now (drop (c.args.k + 1) entries))
     (option_map (λ n. (c.entry-position.result.0, n)) o) c.put.new.out in
-    let back : c.from_residual.result ≡ None = cc in
-    let Q : Option (ℕ × ℕ) → Type 0 = λ o. Yields c.args.selection.now (published_changes c.args.selection.now (drop c.args.k entries)) (published_changes c.args.selection.now (drop (c.args.k + 1) entries)) o c.put.new.out in
-    subst Q (sym back) (subst P found (put_yields c.args.selection.now entries c.args.k c.entry-position.result.0 c.entry-position.result.1.now c.put.new.out c.put.result lt (omega arith) c.entry-position.ensures.entry puts.message puts.fits))
+    subst P found (put_yields c.args.selection.now entries c.args.k c.entry-position.result.0 c.entry-position.result.1.now c.put.new.out c.put.result lt (omega arith) c.entry-position.ensures.entry puts.message puts.fits)

@@ -1,15 +1,19 @@
-use Rattle.std.proofs.Common.{arith, drop, take}
+use Rattle.std.proofs.Common.{◌+◌, arith, drop, length, take}
 use Rattle.std.proofs.lemmas.List.{length-take}
 use Rattle.publication.specs.declared.putting.TheConstants.{MAX_MESSAGE_LENGTH}
 use Rattle.publication.specs.Logged.{note_message}
 use Rattle.publication.proofs.Fields.{told_of}
 use Rattle.publication.proofs.LoggedMessages.{note_fits}
+use Rattle.publication.proofs.Room.{room_within}
 use Rattle.publication.proofs.Standing.{coded_values}
 use Rattle.publication.proofs.Written.{put_in}
 use Rattle.publication.proofs.selection.Selection.put_note.Goals as goal
 
 pub put_note_tagged-requires : goal.put_note_tagged-requires
-put_note_tagged-requires c = let size = length-take MAX_MESSAGE_LENGTH c.args.out.now in (omega (arith, size, c.requires), omega (arith, size))
+put_note_tagged-requires c =
+    let size = length-take MAX_MESSAGE_LENGTH c.args.out.now in
+    let max = room_within (length c.in_ok-tag.fields.now + 1) in
+    (omega (arith, size, c.requires, max), omega (arith, size))
 
 pub returns-clause-message : goal.returns-clause-message
 returns-clause-message c = λ change is.

@@ -1,8 +1,11 @@
-use Rattle.std.proofs.Common.{subst}
+use Rattle.std.proofs.Common.{◌+◌, arith, length, subst}
+use Rattle.tables.specs.Spelling.{row_length}
 use Rattle.publication_config.specs.Published.{PublicationSet}
 use Rattle.tables.specs.declared.change.Change.TheVariants.{Update}
 use Rattle.publication.specs.Projection.{message_by}
 use Rattle.publication.specs.Selection.{FitTables}
+use Rattle.publication.proofs.Fields.{rows_size}
+use Rattle.publication.proofs.Room.{less_room}
 use Rattle.publication.proofs.Standing.{large_stand, none_written, nothing_if}
 use Rattle.publication.proofs.selection.Selection.put_updated.Goals as goal
 
@@ -11,3 +14,10 @@ returns-in_err-oid-clause-told c = λ m e.
     let all = subst (λ (s : PublicationSet). FitTables s) c.self.view_is c.self.invariant.0 in
     let none = nothing_if (message_by c.args.self.now (Update m.0.0 m.0.1 m.1)) _ (large_stand c.args.self.now m.0.0 m.0.1 m.1 all (c.in_err-oid.ensures.none m e)) in
     none_written c.from_residual.result c.args.out.now _ c.from_residual.ensures none
+
+pub put_update-requires-clause-room : goal.put_update-requires-clause-room
+put_update-requires-clause-room c =
+    let old = c.two_rows.new.old in
+    let new = c.two_rows.new.new in
+    let size = rows_size c.args.fields.now (λ i. omega (arith, c.type_inv.fields i)) ((c.in_ok-oid.oid, old), new) c.in_ok-oid.ensures.found in
+    less_room (5 + row_length old + row_length new) (length c.args.fields.now + 1) c.args.out.now (omega (arith, size)) c.requires

@@ -1,6 +1,6 @@
 use Rattle.std.proofs.Common.{◌≡◌, [], deque_len, sym, ap, ◌∙◌, arith}
 use Rattle.std.proofs.lemmas.Bool.{eqb-true}
-use Rattle.sender.specs.declared.making.TheConstants.{MAX_FRAME_LENGTH}
+use Rattle.sender.specs.declared.making.TheConstants.{LEAST_ROOM}
 use Rattle.sender.specs.declared.outgoing.Outgoing.{Outgoing}
 use Rattle.sender.proofs.Frames.{last_moved, room_there}
 use Rattle.sender.proofs.Emptied.{empty_is}
@@ -13,7 +13,7 @@ returns-clause-same c =
     let rest = c.move_made.ensures.rest in
     let none : o.waiting.items ≡ [] = empty_is o.waiting.items (let ok = o.waiting.ok in omega (arith, ok, eqb-true (deque_len o.waiting) 0 (sym c.is_empty.ensures ∙ c.if-not-is_empty.false))) in
     last_moved selection c.args.reorder.now o c.move_made.new.self c.min-count.result c.requires.good
-    (room_there selection c.args.reorder.now o MAX_FRAME_LENGTH c.requires.good (omega arith) c.requires.room)
+    (room_there selection c.args.reorder.now o LEAST_ROOM c.requires.good (omega arith) c.requires.room)
     (record {
       front = ap (λ (p : Outgoing). p.front.items) rest;
       from = ap (λ (p : Outgoing). p.from) rest;

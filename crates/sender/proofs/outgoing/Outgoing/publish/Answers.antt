@@ -4,7 +4,7 @@ use Rattle.reorder.specs.Ready.{IsReadyIn, ReadyState}
 use Rattle.reorder.specs.Settled.{after_giving_all_back, after_giving_back}
 use Rattle.sender.specs.Outgoing.{settled_of}
 use Rattle.sender.specs.Waiting.{ready_states}
-use Rattle.sender.proofs.Committing.{none_grows, none_lent, unqueued_grows, unqueued_taken, unqueued_tidy}
+use Rattle.sender.proofs.Committing.{none_grows, none_lent, unqueued_taken, unqueued_tidy}
 use Rattle.sender.proofs.Lent.{lent_first}
 use Rattle.sender.proofs.outgoing.Outgoing.publish.Goals as goal
 

@@ -1,7 +1,6 @@
 use Rattle.std.proofs.Common.{◌+◌, ap, ◌∙◌}
 use Rattle.reorder.proofs.Settling.{settled_taken}
 use Rattle.sender.specs.Waiting.{ready_states}
-use Rattle.wal.specs.declared.record.Record.{Record}
 use Rattle.reorder.specs.Chunks.{live_chunks}
 use Rattle.sender.proofs.Lasting.{lent_held, lent_sum}
 use Rattle.sender.proofs.sender.Sender.free_chunks.Goals as goal
