@@ -5,10 +5,9 @@ use mathlib.Core.List.{List, [], ◌∷◌}
 use denote.RattleType.{RattleType}
 use denote.Struct.Field.{row_field}
 use denote.Struct.Tuple.{TupleAt, type_at, parts}
-use denote.Param.Send.{IsSend, IsSync, AllSend, sendable}
+use denote.Param.Send.{IsSend, IsSync, AllSend, sendable, view_send}
 use denote.Param.SendFields.{FieldsHave, declared_send, declared_sync, as_row_send}
 use Rattle.std.proofs.Crossing as heap
-use Rattle.chgarena.proofs.arena.Arena.TheSendSync as arena
 use Rattle.pqformat.proofs.items.Items.TheSendSync as items
 use Rattle.pqformat.proofs.text.Text.TheSendSync as text
 use Rattle.tables.proofs.table.Table.TheSendSync as table
@@ -22,8 +21,13 @@ use Rattle.shared_log.proofs.reader.LogReader.TheSendSync as reader
 use Rattle.slots.specs.declared.rule.SlotName as slot_name
 use Rattle.slots.proofs.table.SlotTable.TheSendSync as slots
 use Rattle.txlog.proofs.publisher.Publisher.TheSendSync as publisher
+use Rattle.reorder.proofs.reorder.Reorder.TheSendSync as reorder
+use Rattle.sender.proofs.outgoing.Outgoing.TheSendSync as outgoing
+use Rattle.sender.specs.contracts.sender.Sender as sender
+use Rattle.sender.specs.contracts.sender.Sender.TheInside as inside
+use Rattle.walsender.specs.contracts.walsender.Walsender as walsender
 use Rattle.connections.proofs.Crossing.{inbox_send, arrival_sync, latch_sync, post_sync, sockets_sync, hold_send}
-use Rattle.hub.specs.contracts.grant.StreamGrant as grant
+use Rattle.hub.specs.contracts.streaming.Stream as stream
 use Rattle.hub.specs.contracts.hub.Hub as hub
 use Rattle.hub.specs.contracts.line.Line as line
 use Rattle.hub.specs.contracts.system.SystemName as system
@@ -66,10 +70,17 @@ publications_sync = search (publication_sync, items.the_sync, table.the_sync, se
 system_sync : IsSync system.the_row
 system_sync = declared_sync system.the_type (text.the_sync, tt)
 
+-- ---- the sender of a stream
+pub sender_send : IsSend sender.the_row
+sender_send = view_send _ _ _ _ _ (declared_send inside.the_type (selection_send, (search sendable, (search sendable, (reorder.the_send, (outgoing.the_send, (search (heap.crosses, sendable) depth 10, (search sendable, tt))))))))
+
 -- ---- at the names of a log and its slots
 module _ (L : RattleType) (s : slot_name.Ghosts L.Denot) (l : log_name.Ghosts L.Denot) where
-  grant_send : IsSend (grant.the_row L s l)
-  grant_send = declared_send (grant.the_type L s l) (selection_send, (search sendable, (search sendable, (reader.the_send L l, (hold_send L s, (search sendable, (arena.the_send, tt)))))))
+  walsender_send : IsSend (walsender.the_row L l)
+  walsender_send = declared_send (walsender.the_type L l) (sender_send, (reader.the_send L l, tt))
+
+  stream_send : IsSend (stream.the_row L s l)
+  stream_send = declared_send (stream.the_type L s l) (search sendable, (walsender_send, (hold_send L s, (search sendable, (search sendable, (search sendable, (search sendable, tt)))))))
 
   -- what the two threads of a connection have in common
   pub line_sync : IsSync (line.the_row L s l)
@@ -77,7 +88,7 @@ module _ (L : RattleType) (s : slot_name.Ghosts L.Denot) (l : log_name.Ghosts L.
     heap.sync,
     (
       search (inbox_send, heap.crosses, sendable) depth 10,
-      (search (grant_send, heap.crosses, sendable) depth 10, (search (heap.crosses, sendable) depth 10, (search (heap.crosses, sendable) depth 10, tt))),
+      (search (stream_send, heap.crosses, sendable) depth 10, (search (heap.crosses, sendable) depth 10, (search (heap.crosses, sendable) depth 10, tt))),
     ),
   )
 

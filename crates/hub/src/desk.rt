@@ -86,10 +86,10 @@ impl<'h, L: LogName + SlotName, R: Wait, G: Gate> Desk for HubDesk<'h, L, R, G> 
         options: &StreamOptions,
     ) -> Result<(), DeskFault> {
         match self.hub.begin(self.rt, slot, position, options) {
-            Ok(grant) => {
-                self.latch = Some(grant.latch);
-                if let Some(unwritten) = self.line.grant(self.rt, grant) {
-                    self.hub.end_grant(self.rt, unwritten);
+            Ok(stream) => {
+                self.latch = Some(stream.latch());
+                if let Some(unwritten) = self.line.begin(self.rt, stream) {
+                    self.hub.end(self.rt, unwritten);
                 }
                 Ok(())
             }

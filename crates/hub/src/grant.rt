@@ -7,7 +7,7 @@ ghost use Rattle.hub.specs.declared.grant.TheConstants.{LIMIT};
 ghost use Rattle.hub.specs.Streams.{asked_for};
 ghost use Rattle.slots.specs.Rule.{slot_step, with_step};
 ghost use Rattle.slots.specs.Standings.{held_by};
-ghost use Rattle.slots.specs.declared.step.SlotKind.TheVariants.{Claim, Read, Release};
+ghost use Rattle.slots.specs.declared.step.SlotKind.TheVariants.{Claim, Read};
 
 use crate::pool::Pair;
 use chgarena::Arena;
@@ -96,8 +96,7 @@ struct Beginning {
     arena: Arena,
 }
 
-/// What a START was granted, on its way to the thread that writes: `Stream::open` makes the stream of it. It isn't `Drop`: where
-/// no stream comes of it, `end` ends it.
+/// What a START was granted: `Stream::open` makes the stream of it. It isn't `Drop`.
 pub(crate) struct StreamGrant<L: LogName + SlotName> {
     pub selection: Selection,
     pub start: u64,
@@ -167,24 +166,5 @@ impl<L: LogName + SlotName> StreamGrant<L> {
             }),
             Err(fault) => Err((Pair::of(reader, hold.release(slots), latch), fault)),
         }
-    }
-
-    /// Makes the slot free, and gives reader and seat back.
-    pub fn end(self, slots: &SlotTable<L>) -> Pair<L>
-        ensures reader { result.reader ≡ self.reader }
-        ensures seat { result.seat
-            ≡ with_step self.hold.seat
-            (slot_step Release self.hold.lease.place (held_by self.hold.seat.number) 1) }
-    {
-        let StreamGrant {
-            selection: _,
-            start: _,
-            first: _,
-            reader,
-            hold,
-            latch,
-            arena: _,
-        } = self;
-        Pair::of(reader, hold.release(slots), latch)
     }
 }

@@ -14,6 +14,7 @@ use replcmd::StreamOptions;
 use server::DeskFault;
 use shared_log::LogName;
 use slots::SlotName;
+use std::alloc::AllocFailed;
 use std::sync::atomic::Ordering;
 use std::sync::{MutexGuard, Wait};
 use walsender::begin;
@@ -90,7 +91,7 @@ impl<L: LogName + SlotName> Hub<L> {
         slot: &str,
         position: u64,
         options: &StreamOptions,
-    ) -> Result<StreamGrant<L>, DeskFault> {
+    ) -> Result<Box<Stream<L>>, DeskFault> {
         let mut start = HubStart {
             rt,
             hub: self,
@@ -99,20 +100,29 @@ impl<L: LogName + SlotName> Hub<L> {
             position,
         };
         let grant = begin(&mut start).map_err(of_start)?;
+        let stream = self.opened(rt, grant)?;
         self.streams_begun.fetch_add(1, Ordering::SeqCst);
         self.signal(rt);
-        Ok(grant)
+        Ok(stream)
+    }
+
+    /// The stream of a grant, or, where memory is refused, nothing: then what was granted goes back.
+    // It lies in memory of its own, and what makes it has a stack frame of its own: on the stacks of both threads it took a page.
+    #[inline(never)]
+    fn opened<R: Wait>(&self, rt: &R, grant: StreamGrant<L>) -> Result<Box<Stream<L>>, DeskFault> {
+        match Box::new(self.alloc, Stream::open(self.alloc, grant)) {
+            Ok(stream) => Ok(stream),
+            Err(AllocFailed { value }) => {
+                self.give_back(rt, value.end(&self.slots));
+                Err(DeskFault::Memory)
+            }
+        }
     }
 
     /// Ends a stream: its slot is free, and its reader and seat go back to the pool.
-    pub(crate) fn end<R: Wait>(&self, rt: &R, stream: Stream<L>) {
-        let pair = stream.end(&self.slots);
-        self.give_back(rt, pair);
-    }
-
-    /// Ends what was granted, and never was written, in the same way.
-    pub(crate) fn end_grant<R: Wait>(&self, rt: &R, grant: StreamGrant<L>) {
-        let pair = grant.end(&self.slots);
+    #[inline(never)]
+    pub(crate) fn end<R: Wait>(&self, rt: &R, stream: Box<Stream<L>>) {
+        let pair = Box::into_inner(stream).end(&self.slots);
         self.give_back(rt, pair);
     }
 

@@ -1,6 +1,6 @@
 //! What stands between the two threads of a connection.
 
-use crate::grant::StreamGrant;
+use crate::streaming::Stream;
 use bytes::BytesMut;
 use connections::{ConnectionEnd, Inbox, Work};
 use server::Phase;
@@ -10,11 +10,11 @@ use std::alloc::Global;
 use std::mem;
 use std::sync::{Condvar, Mutex, MutexGuard, Wait};
 
-/// The inbox of a connection, and what a START was granted whose stream isn't written yet. It isn't `Drop`: `end` ends it.
+/// The inbox of a connection, and the stream of a START that isn't written yet. It isn't `Drop`: `end` ends it.
 pub(crate) struct Line<L: LogName + SlotName> {
     alloc: Global,
     inbox: Mutex<Inbox>,
-    granted: Mutex<Option<StreamGrant<L>>>,
+    begun: Mutex<Option<Box<Stream<L>>>>,
     /// There is something to be written, or nothing more comes.
     filled: Condvar,
     /// The writing thread has taken what was to be said, or ended a stream, or writes no more.
@@ -26,7 +26,7 @@ impl<L: LogName + SlotName> Line<L> {
         Line {
             alloc,
             inbox: Mutex::new(Inbox::new(alloc)),
-            granted: Mutex::new(None),
+            begun: Mutex::new(None),
             filled: Condvar::new(),
             taken: Condvar::new(),
         }
@@ -66,10 +66,10 @@ impl<L: LogName + SlotName> Line<L> {
         self.inbox.lock(rt).fall_silent();
     }
 
-    /// A START was granted. The words that say so come behind. It answers what was granted before and never written.
-    pub fn grant<R: Wait>(&self, rt: &R, grant: StreamGrant<L>) -> Option<StreamGrant<L>> {
-        let mut place = self.granted.lock(rt);
-        let before = mem::replace(&mut *place, Some(grant));
+    /// A stream has begun. The words that say so come behind. It answers one that began before and was never written.
+    pub fn begin<R: Wait>(&self, rt: &R, stream: Box<Stream<L>>) -> Option<Box<Stream<L>>> {
+        let mut place = self.begun.lock(rt);
+        let before = mem::replace(&mut *place, Some(stream));
         let _ = MutexGuard::unlock(place);
         before
     }
@@ -118,12 +118,12 @@ impl<L: LogName + SlotName> Line<L> {
         work
     }
 
-    /// What a START was granted.
-    pub fn take_grant<R: Wait>(&self, rt: &R) -> Option<StreamGrant<L>> {
-        let mut place = self.granted.lock(rt);
-        let grant = mem::replace(&mut *place, None);
+    /// The stream that has begun.
+    pub fn take_stream<R: Wait>(&self, rt: &R) -> Option<Box<Stream<L>>> {
+        let mut place = self.begun.lock(rt);
+        let stream = mem::replace(&mut *place, None);
         let _ = MutexGuard::unlock(place);
-        grant
+        stream
     }
 
     /// The stream has ended.
@@ -149,15 +149,15 @@ impl<L: LogName + SlotName> Line<L> {
 
     // ---- behind both
 
-    /// What was granted and never written, and why the stream could not be written to its end, if it could not.
-    pub fn end(self) -> (Option<StreamGrant<L>>, Option<ConnectionEnd>) {
+    /// The stream that was never written, and why another could not be written to its end, if it could not.
+    pub fn end(self) -> (Option<Box<Stream<L>>>, Option<ConnectionEnd>) {
         let Line {
             alloc: _,
             inbox,
-            granted,
+            begun,
             filled: _,
             taken: _,
         } = self;
-        (granted.into_inner(), inbox.into_inner().early())
+        (begun.into_inner(), inbox.into_inner().early())
     }
 }

@@ -131,7 +131,7 @@ where
     hub.sockets.leave(rt, number);
     let (unwritten, early) = line.end();
     if let Some(unwritten) = unwritten {
-        hub.end_grant(rt, unwritten);
+        hub.end(rt, unwritten);
     }
     match read {
         Some(end) => {

@@ -99,6 +99,11 @@ impl<L: LogName + SlotName> Stream<L> {
         self.walsender.free_chunks()
     }
 
+    /// The place of its slot.
+    pub fn place(&self) -> usize {
+        self.hold.place()
+    }
+
     /// Which latch wakes it.
     pub fn latch(&self) -> usize {
         self.latch

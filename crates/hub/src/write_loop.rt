@@ -1,6 +1,5 @@
 //! The writing thread of a connection: all that goes to the client.
 
-use crate::grant::StreamGrant;
 use crate::hub::Hub;
 use crate::line::Line;
 use crate::stream_desk::{StreamDesk, report};
@@ -46,15 +45,18 @@ fn write_step<L: LogName + SlotName, R: Wait + Clock>(
     if work.phase == Phase::Idle || work.phase == Phase::Startup {
         return Ok(());
     }
-    let Some(grant) = write.line.take_grant(write.rt) else {
+    let Some(mut stream) = write.line.take_stream(write.rt) else {
         return Ok(());
     };
-    let ended = match write.hub.post_at(Some(grant.hold.place())) {
-        Some(post) => write_granted(write, post, grant, work),
-        None => {
-            write.hub.end_grant(write.rt, grant);
-            Err(ConnectionEnd::Lost)
-        }
+    let post = write.hub.post_at(Some(stream.place()));
+    let written = match post {
+        Some(post) => write_begun(write, post, &mut stream, work),
+        None => Err(ConnectionEnd::Lost),
+    };
+    write.hub.end(write.rt, stream);
+    let ended = match post {
+        Some(post) if post.end(write.rt) => Err(ConnectionEnd::Cut),
+        _ => written,
     };
     match ended {
         Ok(()) => write.line.end_stream(write.rt),
@@ -63,11 +65,11 @@ fn write_step<L: LogName + SlotName, R: Wait + Clock>(
     ended
 }
 
-/// Writes the stream of a grant, and answers why it could not be written to its end.
-fn write_granted<L: LogName + SlotName, R: Wait + Clock>(
+/// Writes a stream that has begun, and answers why it could not be written to its end.
+fn write_begun<L: LogName + SlotName, R: Wait + Clock>(
     write: &WriteLoop<'_, L, R>,
     post: &SlotPost,
-    grant: StreamGrant<L>,
+    stream: &mut Stream<L>,
     work: Work,
 ) -> Result<(), ConnectionEnd> {
     let WriteLoop {
@@ -76,10 +78,9 @@ fn write_granted<L: LogName + SlotName, R: Wait + Clock>(
         line,
         socket,
     } = *write;
-    post.begin(rt, grant.latch);
-    hub.await_release(rt, line, post, grant.latch);
-    let mut stream = Stream::open(hub.alloc, grant);
-    hub.inform(rt, &mut stream);
+    post.begin(rt, stream.latch());
+    hub.await_release(rt, line, post, stream.latch());
+    hub.inform(rt, stream);
     let mut desk = StreamDesk {
         write: WriteLoop {
             rt,
@@ -90,12 +91,8 @@ fn write_granted<L: LogName + SlotName, R: Wait + Clock>(
         post,
     };
     let mut tap = Tap { rt, post, socket };
-    let ended = write_stream(rt, &mut desk, &hub.slots, &mut stream, work, &mut tap);
-    report(rt, post, &stream);
-    hub.end(rt, stream);
-    if post.end(rt) {
-        return Err(ConnectionEnd::Cut);
-    }
+    let ended = write_stream(rt, &mut desk, &hub.slots, stream, work, &mut tap);
+    report(rt, post, stream);
     ended
 }
 
