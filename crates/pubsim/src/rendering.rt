@@ -23,7 +23,9 @@ pub fn write_rendered<W: Write>(
         let Some((frame, length)) = read_back(alloc, rest).map_err(of_frame)? else {
             break;
         };
-        write_frame(alloc, output, &frame)?;
+        let written = write_frame(alloc, output, &frame);
+        drop(frame);
+        written?;
         rest = rest.get(length..).unwrap_or(&[]);
     }
     if !rest.is_empty() {
@@ -37,19 +39,41 @@ fn write_frame<W: Write>(alloc: Global, output: &mut W, frame: &Back) -> io::Res
         return Err(io::Error::from(ErrorKind::InvalidData));
     };
     match read_server(data.bytes.as_slice()) {
-        Ok(ServerBody::XLogData(data)) => {
-            let position = write_position(alloc, data.start)?;
-            let message = read_logical(alloc, data.payload).map_err(of_message)?;
-            let line = render(alloc, &message)?;
-            writeln!(output, "  {position} {line}")
-        }
+        Ok(ServerBody::XLogData(data)) => write_message(alloc, output, data.start, data.payload),
         Ok(ServerBody::Keepalive(keepalive)) => {
-            let position = write_position(alloc, keepalive.end)?;
-            let asks = if keepalive.ask { " ASKS" } else { "" };
-            writeln!(output, "  {position} KEEPALIVE{asks}")
+            write_keepalive(alloc, output, keepalive.end, keepalive.ask)
         }
         Err(_) => Err(io::Error::from(ErrorKind::InvalidData)),
     }
+}
+
+fn write_message<W: Write>(
+    alloc: Global,
+    output: &mut W,
+    start: u64,
+    payload: &[u8],
+) -> io::Result<()> {
+    let position = write_position(alloc, start)?;
+    let line = line_of(alloc, payload)?;
+    writeln!(output, "  {position} {line}")
+}
+
+fn line_of(alloc: Global, payload: &[u8]) -> io::Result<String> {
+    let message = read_logical(alloc, payload).map_err(of_message)?;
+    let line = render(alloc, &message);
+    drop(message);
+    Ok(line?)
+}
+
+fn write_keepalive<W: Write>(
+    alloc: Global,
+    output: &mut W,
+    end: u64,
+    asks: bool,
+) -> io::Result<()> {
+    let position = write_position(alloc, end)?;
+    let asked = if asks { " ASKS" } else { "" };
+    writeln!(output, "  {position} KEEPALIVE{asked}")
 }
 
 fn of_frame(fault: FrameFault) -> io::Error {
