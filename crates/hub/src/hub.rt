@@ -13,7 +13,7 @@ use crate::shared::{Places, Shared};
 use crate::streaming::Stream;
 use crate::system::SystemName;
 use connections::{Latch, Names, SlotPost, Sockets};
-use publication::Publications;
+use publications::Publications;
 use server::{Dialect, Service};
 use shared_log::{LogName, LogReader};
 use slots::{SlotName, SlotTable};

@@ -3,7 +3,7 @@
 ghost use Rattle.std.specs.Prelude.{◌≡◌};
 ghost use Rattle.hub.specs.Refusals.{of_publications, of_slot, of_start};
 
-use publication::PubFault;
+use publications::PubFault;
 use server::DeskFault;
 use slots::SlotFault;
 use walsender::{ClaimFault, StartFault};

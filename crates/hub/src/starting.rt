@@ -5,7 +5,7 @@ ghost use Rattle.std.specs.Prelude.{◌<◌};
 use crate::grant::{Means, StreamGrant};
 use crate::hub::Hub;
 use crate::pool::Pair;
-use publication::PubFault;
+use publications::PubFault;
 use replcmd::StreamOptions;
 use shared_log::LogName;
 use slots::SlotName;
