@@ -26,7 +26,9 @@ pub use change_reading::read_body;
 pub use column::Column;
 pub use fault::BodyFault;
 pub use identity::Identity;
-pub use kinds::{Kind, Value, ValueRef, is_without_zero, uuid_of_halves, uuid_of_text, write_value};
+pub use kinds::{
+    Kind, Value, ValueRef, is_without_zero, uuid_of_halves, uuid_of_text, write_value,
+};
 pub use lending::lend_oids;
 pub use message::{
     MAX_CONTENT_LENGTH, MAX_PREFIX_LENGTH, Message, MessageRef, is_prefix, lend_message,

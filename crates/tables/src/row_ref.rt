@@ -10,10 +10,10 @@ ghost use Rattle.tables.specs.declared.row.TheConstants.{MAX_ROW_LENGTH};
 ghost use Rattle.tables.specs.declared.table.TheConstants.{MAX_COLUMNS};
 ghost use Rattle.tables.specs.declared.kinds.Value.{Value as Datum};
 
-use crate::table::MAX_COLUMNS;
 use crate::kinds::{Value, ValueRef};
 use crate::lending::lend_values;
 use crate::row::{MAX_ROW_LENGTH, Row};
+use crate::table::MAX_COLUMNS;
 use pqformat::Cursor;
 use std::marker::Model;
 
