@@ -58,11 +58,15 @@ abbrev pub are_told : List (ℕ × ℕ) → List ℕ → Result (Unit {0}) Clien
 are_told tables [] = Ok tt
 are_told tables (oid ∷ oids) = columns_of tables oid >>= λ _. are_told tables oids
 
+-- whether a row has as many cells as its table was told to have columns
+abbrev pub judgement_of_row : List (ℕ × ℕ) → ℕ → List Cell → Result (Unit {0}) ClientFault
+judgement_of_row tables oid cells = columns_of tables oid >>= λ n. fits n cells
+
 -- whether a change fits the tables that were told
 abbrev pub judgement_of_change : List (ℕ × ℕ) → Logical → Result (Unit {0}) ClientFault
-judgement_of_change tables (logical.Insert m) = columns_of tables m.oid >>= λ n. fits n m.new
+judgement_of_change tables (logical.Insert m) = judgement_of_row tables m.oid m.new
 judgement_of_change tables (logical.Update m) = columns_of tables m.oid >>= λ n. fits_old n m.old >>= λ _. fits n m.new
-judgement_of_change tables (logical.Delete m) = columns_of tables m.oid >>= λ n. fits n (cells_of m.old)
+judgement_of_change tables (logical.Delete m) = judgement_of_row tables m.oid (cells_of m.old)
 judgement_of_change tables (logical.Truncate m) = are_told tables m.oids
 judgement_of_change tables _ = Ok tt
 

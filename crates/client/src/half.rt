@@ -44,8 +44,8 @@ impl Half {
         ensures ok { OnOk result (self.new ≡ with_change self.old position message) }
         ensures err { OnErr result (self.new ≡ self.old) }
     {
-        self.changes.push(PublishedChange { position, message })?;
-        Ok(())
+        let change = PublishedChange { position, message };
+        Ok(self.changes.push(change)?)
     }
 
     /// The transaction, once it is committed.

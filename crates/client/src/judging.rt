@@ -1,12 +1,13 @@
 //! Whether a change fits the tables that were told.
 
 ghost use Rattle.std.specs.Prelude.{◌≡◌};
-ghost use Rattle.client.specs.Subscriber.{are_told, columns_of, fits, fits_old, judgement_of_change};
+ghost use Rattle.pgoutput.specs.declared.logical.Logical.TheVariants as Logical;
+ghost use Rattle.client.specs.Subscriber.{are_told, columns_of, fits, fits_old, judgement_of_change, judgement_of_row};
 ghost use Rattle.pgoutput.specs.OldTuple.{cells_of};
 
 use crate::fault::ClientFault;
 use indexmap::IndexMap;
-use pgoutput::{Cell, Logical, OldTuple};
+use pgoutput::{Cell, Logical, OldTuple, Update};
 use pqformat::Items;
 
 /// How many columns each table has, by its OID.
@@ -19,21 +20,28 @@ pub(crate) fn judge(tables: &Tables, message: &Logical) -> Result<(), ClientFaul
     ensures { result ≡ judgement_of_change tables.now.entries message.now }
 {
     match message {
-        Logical::Insert(message) => judge_cells(columns_in(tables, message.oid)?, &message.new),
-        Logical::Update(message) => {
-            let columns = columns_in(tables, message.oid)?;
-            judge_old(columns, &message.old)?;
-            judge_cells(columns, &message.new)
-        }
-        Logical::Delete(message) => {
-            let columns = columns_in(tables, message.oid)?;
-            judge_cells(columns, cells_in(&message.old))
-        }
+        Logical::Insert(message) => judge_row(tables, message.oid, &message.new),
+        Logical::Update(message) => judge_update(tables, message),
+        Logical::Delete(message) => judge_row(tables, message.oid, cells_in(&message.old)),
         Logical::Truncate(message) => judge_tables(tables, message.oids.as_slice()),
         Logical::Begin(_) | Logical::Commit(_) | Logical::Relation(_) | Logical::Message(_) => {
             Ok(())
         }
     }
+}
+
+fn judge_row(tables: &Tables, oid: u32, cells: &Items<Cell>) -> Result<(), ClientFault>
+    ensures { result ≡ judgement_of_row tables.now.entries oid cells.now }
+{
+    judge_cells(columns_in(tables, oid)?, cells)
+}
+
+fn judge_update(tables: &Tables, message: &Update) -> Result<(), ClientFault>
+    ensures { result ≡ judgement_of_change tables.now.entries (Logical.Update message.now) }
+{
+    let columns = columns_in(tables, message.oid)?;
+    judge_old(columns, &message.old)?;
+    judge_cells(columns, &message.new)
 }
 
 fn columns_in(tables: &Tables, oid: u32) -> Result<usize, ClientFault>

@@ -13,17 +13,16 @@ pub(crate) fn note_of(alloc: Global, end: u64, message: Message) -> Result<Publi
     ensures { IfOk result (λ t. t ≡ note_of end message) }
 {
     let start = message.position;
-    let mut changes = Vec::new(alloc);
-    changes.push(PublishedChange {
+    let change = PublishedChange {
         position: start,
         message: Logical::Message(message),
-    })?;
+    };
     Ok(Published {
         is_note: true,
         start,
         end,
         time: 0,
         xid: 0,
-        changes: Items::new(changes),
+        changes: Items::new(vec![in alloc; change]?),
     })
 }

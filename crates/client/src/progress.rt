@@ -1,7 +1,7 @@
 //! How far a subscriber is, and what each word makes of it.
 
-ghost use Rattle.std.specs.Prelude.{◌≡◌, [], None};
-ghost use Rattle.client.specs.Subscriber.{after_word, after_message, after_begin, after_change, after_commit, after_logical_message, after_keepalive, after_note, after_relation, subscriber_at_rest, Makes};
+ghost use Rattle.std.specs.Prelude.{◌≡◌, ◌++◌, ◌∷◌, [], None, OnErr, OnOk, if◌then◌else◌, nat_le};
+ghost use Rattle.client.specs.Subscriber.{after_word, after_message, after_begin, after_change, after_commit, after_logical_message, after_keepalive, after_note, after_relation, note_of, subscriber_at_rest, Makes};
 
 use crate::fault::ClientFault;
 use crate::half::Half;
@@ -9,7 +9,7 @@ use crate::judging::{Tables, judge};
 use crate::note::note_of;
 use indexmap::IndexMap;
 use pgoutput::{Begin, Commit, Logical, Message, Relation};
-use std::alloc::Global;
+use std::alloc::{AllocError, Global};
 use std::marker::Model;
 use stream::{Keepalive, Published, Word, XLogData};
 
@@ -145,17 +145,17 @@ impl Progress {
         ensures { Makes result self.old self.new
             (after_change self.old.half self.old position message) }
     {
-        let Some(half) = &mut self.half else {
-            drop(message);
-            return Err(ClientFault::Order);
-        };
         let judged = judge(&self.tables, &message);
-        if judged.is_err() {
-            drop(message);
-            return judged;
+        match &mut self.half {
+            Some(half) if judged.is_ok() => Ok(half.push(position, message)?),
+            half => {
+                drop(message);
+                if half.is_some() {
+                    return judged;
+                }
+                Err(ClientFault::Order)
+            }
         }
-        half.push(position, message)?;
-        Ok(())
     }
 
     fn message(&mut self, start: u64, end: u64, message: Message) -> Result<(), ClientFault>
@@ -176,13 +176,26 @@ impl Progress {
             drop(message);
             return Err(ClientFault::Order);
         }
-        if self.position <= message.position {
-            self.applied.push(note_of(self.alloc, end, message)?)?;
-        } else {
-            drop(message);
-        }
+        self.apply_note(end, message)?;
         self.position = self.position.max(end);
         Ok(())
+    }
+
+    /// Applies the note, unless it was applied before.
+    fn apply_note(&mut self, end: u64, message: Message) -> Result<(), AllocError>
+        ensures ok { OnOk result (self.new
+            ≡ record self.old {
+              applied = self.old.applied
+                  ++ (if nat_le self.old.position message.position then note_of end message ∷ [] else []);
+            }) }
+        ensures err { OnErr result (self.new ≡ self.old) }
+    {
+        if message.position < self.position {
+            drop(message);
+            return Ok(());
+        }
+        let note = note_of(self.alloc, end, message)?;
+        Ok(self.applied.push(note)?)
     }
 
     /// Memory is asked for before anything changes.
@@ -197,10 +210,11 @@ impl Progress {
             return Err(ClientFault::Order);
         }
         self.applied.reserve(1)?;
-        if let Some(half) = self.half.take() {
-            if self.position <= start {
+        match self.half.take() {
+            Some(half) if self.position <= start => {
                 self.applied.push_reserved(half.commit(commit));
             }
+            passed_over => drop(passed_over),
         }
         self.position = self.position.max(commit.end);
         Ok(())
