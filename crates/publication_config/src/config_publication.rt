@@ -5,8 +5,8 @@ ghost use Rattle.std.specs.List.{list_all, list_any};
 ghost use Rattle.std.specs.Str.{bytes_eq};
 ghost use Rattle.toml.specs.Data.{get};
 ghost use Rattle.toml.specs.View.{view, items_view};
-ghost use Rattle.publication_config.specs.Config.{Reads, ReadsReach, all_in, has_others, has_whole, is_schema, judged_table, list_in, name_of, no_operations, operation_in, operation_of, operations_behind, operations_in, publication_in, published_behind, published_by, reach_in, schemas_in, seen_reach, tables_in, whole_behind, with_operation, wrong};
-ghost use Rattle.published_tables.specs.Published.{published_whole};
+ghost use Rattle.publication_config.specs.Config.{Reads, ReadsReach, all_in, has_others, has_whole, is_schema, judged_table, list_in, name_of, no_operations, operation_in, operation_of, operations_behind, operations_in, publication_in, published_behind, published_by, reach_in, schemas_in, seen_reach, tables_in, whole_behind, wrong};
+ghost use Rattle.published_tables.specs.Published.{published_whole, with_operation};
 ghost use Rattle.publication_config.specs.declared.config_fault.Unread.TheVariants.{Refused};
 
 use crate::config_fault::{Member, Misfit, Place, Refusal, Unread};
