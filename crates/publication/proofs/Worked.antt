@@ -17,8 +17,7 @@ use Rattle.tables.specs.declared.table.Table.{Table}
 use Rattle.tables.specs.declared.change.Change.TheVariants as changes
 use Rattle.tables.specs.Tables.{item_table, table_named}
 use Rattle.published_tables.specs.declared.publication.Publication.{Publication}
-use Rattle.published_tables.specs.Published.{PublicationSet, all_operations, published_whole}
-use Rattle.publications.specs.Publications.{is_unknown, selected_publications}
+use Rattle.published_tables.specs.Published.{PublicationSet, all_operations, published_whole, publications_named}
 use Rattle.publication.specs.Projection.{delete_message, message, message_of_update, update_message}
 
 -- ---- Tables, rows and messages.
@@ -54,7 +53,9 @@ builtin_publications tables = record {
 }
 
 abbrev by : List (List ℕ) → PublicationSet
-by names = selected_publications (builtin_publications (item_table ∷ tag_table ∷ note_table ∷ [])) names
+by names =
+    let all = builtin_publications (item_table ∷ tag_table ∷ note_table ∷ []) in
+    record all { publications = publications_named names all.publications }
 
 abbrev item : ℕ → List ℕ → ℕ → List Value
 item id name qty = values.Int4 (pos id) ∷ values.Text name ∷ values.Int8 (pos qty) ∷ []
@@ -145,8 +146,3 @@ comes = refl
 goes : message_of_update true false (Some item_table) (item 1 (codes "a") 1) (item 2 (codes "b") 1) ≡ delete 16384 (Key (Text (codes "1") ∷ Null ∷ Null ∷ []))
 unfolding digits int16 int32 int64
 goes = refl
-
--- ---- Names.
-
-no_such_name : is_unknown (by (codes "p" ∷ codes "t" ∷ [])) (codes "p" ∷ codes "f" ∷ []) ≡ true
-no_such_name = refl
