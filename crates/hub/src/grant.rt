@@ -9,8 +9,8 @@ ghost use Rattle.slots.specs.Rule.{slot_step, with_step};
 ghost use Rattle.slots.specs.Standings.{held_by};
 ghost use Rattle.slots.specs.declared.step.SlotKind.TheVariants.{Claim, Read};
 
-use crate::pool::Pair;
 use chgarena::Arena;
+use commons::Pair;
 use connections::Hold;
 use pqformat::Text;
 use publication::{PubFault, Publications, Selection};

@@ -1,6 +1,6 @@
 //! A transaction of who builds a service.
 
-use crate::hub::Hub;
+use crate::commons::Commons;
 use shared_log::LogName;
 use slots::SlotName;
 use std::sync::{MutexGuard, Wait};
@@ -11,7 +11,7 @@ use txlog::{Publisher, Receipt, SessionFault, Tx};
 /// It isn't `Drop`: `end` ends it.
 pub struct Transaction<'h, L: LogName + SlotName, R: Wait> {
     rt: &'h R,
-    hub: &'h Hub<L>,
+    commons: &'h Commons<L>,
     publisher: MutexGuard<'h, Publisher<L>>,
     tx: Tx,
 }
@@ -21,17 +21,17 @@ pub struct Savepoint {
     depth: u32,
 }
 
-impl<L: LogName + SlotName> Hub<L> {
+impl<L: LogName + SlotName> Commons<L> {
     /// Begins a transaction, once no other is in progress by this way.
     pub fn transaction<'h, R: Wait>(
         &'h self,
         rt: &'h R,
     ) -> Result<Transaction<'h, L, R>, SessionFault> {
-        let mut publisher = self.publisher().lock(rt);
+        let mut publisher = self.publisher.lock(rt);
         match publisher.begin() {
             Ok(tx) => Ok(Transaction {
                 rt,
-                hub: self,
+                commons: self,
                 publisher,
                 tx,
             }),
@@ -103,13 +103,13 @@ impl<'h, L: LogName + SlotName, R: Wait> Transaction<'h, L, R> {
     {
         let Transaction {
             rt,
-            hub,
+            commons,
             publisher,
             tx,
         } = self;
         if done.is_ok() {
             let receipt = commit(rt, publisher, tx, time)?;
-            hub.tell(rt, receipt);
+            commons.tell(rt, receipt);
         } else {
             abort(rt, publisher, tx);
         }
