@@ -10,7 +10,7 @@ use crate::settings::HubSettings;
 use crate::shared::{Places, Shared};
 use crate::system::SystemName;
 use connections::{Latch, Line, Names, SlotPost, Sockets};
-use publication::Publications;
+use publications::Publications;
 use server::{Dialect, Service};
 use shared_log::{LogName, LogReader};
 use slots::{SlotName, SlotTable};

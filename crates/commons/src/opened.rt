@@ -6,12 +6,12 @@ ghost use Rattle.txlog.specs.declared.limits.TheConstants.{MAX_RECORDS};
 use crate::fault::HubFault;
 use crate::settings::HubSettings;
 use crate::system::SystemName;
+use catalog::Catalog;
 use pqformat::Text;
-use publication::Publications;
+use publications::Publications;
 use slots::OpenedSlots;
 use std::alloc::Global;
 use std::time::Duration;
-use tables::Catalog;
 use txlog::Opened;
 
 /// How many streams may run at once.

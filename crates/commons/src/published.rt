@@ -8,7 +8,8 @@ ghost use Rattle.commons.specs.Published.{is_publication, tables_in, tables_told
 use crate::refusals::of_publications;
 use pgoutput::Logical;
 use pqformat::{Items, Text};
-use publication::{PubFault, Publications, Selection};
+use publication::Selection;
+use publications::{PubFault, Publications};
 use server::{DeskFault, TableName};
 use std::alloc::{AllocError, Global};
 use std::slice;

@@ -3,7 +3,7 @@
 ghost use Rattle.std.specs.Prelude.{◌≡◌};
 ghost use Rattle.commons.specs.Refusals.{of_publications, of_slot};
 
-use publication::PubFault;
+use publications::PubFault;
 use server::DeskFault;
 use slots::SlotFault;
 

@@ -5,9 +5,9 @@ use Rattle.std.specs.Str.{bytes_eq}
 use Rattle.toml.specs.Data.{Data, Members, no_members, member, get, as_str, as_integer, as_table}
 use Rattle.pqformat.specs.Steps.{◌>>=◌}
 use Rattle.tables.specs.declared.table.Table.{Table}
-use Rattle.tables.specs.declared.config_fault.Misfit.{Misfit}
-use Rattle.tables.specs.declared.config_fault.CatalogFault.TheVariants as catalog_faults
-use Rattle.tables.specs.Config.{and_then, told_member, tables_in, document_of}
+use Rattle.catalog.specs.declared.config_fault.Misfit.{Misfit}
+use Rattle.catalog.specs.declared.config_fault.CatalogFault.TheVariants as catalog_faults
+use Rattle.catalog.specs.Config.{and_then, told_member, tables_in, document_of}
 use Rattle.txlog.specs.declared.limits.TheConstants.{MAX_RECORDS}
 use Rattle.publication_config.specs.declared.fault.PubFault.{PubFault}
 use Rattle.publication_config.specs.declared.fault.PubFault.TheVariants as pubs

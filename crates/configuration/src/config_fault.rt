@@ -5,10 +5,10 @@ ghost use Rattle.configuration.specs.declared.config_fault.ConfigFault.TheVarian
 ghost use Rattle.configuration.specs.Config.{is_memory, unread_fault};
 
 use crate::server::Unread;
-use publication::PubFault;
+use catalog::CatalogFault;
+use publications::PubFault;
 use std::alloc::AllocError;
 use std::fmt;
-use tables::CatalogFault;
 use thiserror::Error;
 
 /// What is wrong with a configuration besides its tables and publications.

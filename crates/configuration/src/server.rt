@@ -5,7 +5,7 @@ ghost use Rattle.std.specs.List.{list_any};
 ghost use Rattle.toml.specs.Data.{as_table, get};
 ghost use Rattle.std.specs.BTreeMap.{keys};
 ghost use Rattle.toml.specs.View.{view};
-ghost use Rattle.tables.specs.Config.{and_then};
+ghost use Rattle.catalog.specs.Config.{and_then};
 ghost use Rattle.configuration.specs.declared.server.Unread.TheVariants.{Memory};
 ghost use Rattle.configuration.specs.Config.{IsServer, ReadsServer, has_another_in, is_of_server, is_part, number_in, server_in, server_of, text_in};
 

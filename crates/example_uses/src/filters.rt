@@ -3,11 +3,12 @@
 
 use crate::number;
 use anyhow::{Context, Result, bail};
+use catalog::Catalog;
 use pqformat::Text;
 use rowfilter::{Filter, parse};
 use std::alloc::Global;
 use std::io::Print;
-use tables::{Catalog, Row, RowRef, Value};
+use tables::{Row, RowRef, Value};
 
 pub const ITEM: u32 = 16384;
 

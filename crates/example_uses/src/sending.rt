@@ -4,15 +4,17 @@ ghost use Rattle.std.specs.Prelude.{◌≡◌};
 
 use anyhow::{Result, bail};
 use bytes::BytesMut;
+use catalog::Catalog;
 use chgarena::Arena;
 use pqformat::Text;
-use publication::{Publications, Selection};
+use publication::Selection;
+use publications::Publications;
 use sender::Sender;
 use shared_log::{LogName, LogReader};
 use std::alloc::Global;
 use std::marker::Brand;
 use std::sync::Wait;
-use tables::{Catalog, Row, Value};
+use tables::{Row, Value};
 use txlog::{Opened, Publisher, SessionFault, Tx};
 use wal::FIRST_POSITION;
 

@@ -7,9 +7,10 @@ use crate::following::{Followed, follow_both};
 use crate::ordering::take_orders;
 use crate::shop::CONFIGURATION;
 use anyhow::Result;
+use catalog::Catalog;
 use hub::{Hub, OpenGate, OpenedHub, serve};
 use pqformat::Text;
-use publication::Publications;
+use publications::Publications;
 use shared_log::LogName;
 use slots::SlotName;
 use std::alloc::Global;
@@ -20,7 +21,6 @@ use std::sync::Wait;
 use std::thread;
 use std::thread::Threads;
 use std::time::Clock;
-use tables::Catalog;
 
 /// How many connections are served.
 pub const FOLLOWERS: u32 = 2;

@@ -24,10 +24,10 @@ use Rattle.tables.specs.Tables.{repeats}
 use Rattle.tables.specs.Kinds.{IsValue}
 use Rattle.tables.specs.Tables.{table_of}
 use Rattle.stream.specs.Items.{FitsRelationOf}
-use Rattle.publication_config.specs.declared.operations.Operation.{Operation}
-use Rattle.publication_config.specs.declared.operations.Operation.TheVariants.{Insert, Update, Delete, Truncate}
-use Rattle.publication_config.specs.declared.publication.Publication.{Publication}
-use Rattle.publication_config.specs.Published.{PublicationSet, has, publishes}
+use Rattle.published_tables.specs.declared.operations.Operation.{Operation}
+use Rattle.published_tables.specs.declared.operations.Operation.TheVariants.{Insert, Update, Delete, Truncate}
+use Rattle.published_tables.specs.declared.publication.Publication.{Publication}
+use Rattle.published_tables.specs.Published.{PublicationSet, has, publishes}
 use Rattle.publication.specs.Selection.{has_table, list_by, relation, relation_column, selected_table, table_as_published, whole_table, FitsTable, FitTables}
 use Rattle.publication.specs.Tuples.{old_by, old_row_of_update, tuple_behind, tuple_of}
 use Rattle.publication.specs.Projection.{delete_message, insert_message, is_published, may_be_emptied, message, message_by, message_of_update, only_if, passes, row_as_published, stands, stands_in, truncate_message, update_message, AreValues, MessageFits}

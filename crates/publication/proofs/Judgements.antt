@@ -19,9 +19,9 @@ use Rattle.tables.specs.Reading.{insert_at, row_at, update_at}
 use Rattle.tables.specs.Refs.{IsLarge}
 use Rattle.tables.specs.Spelling.{row_length}
 use Rattle.tables.specs.Tables.{fits_table, table_of}
-use Rattle.publication_config.specs.declared.operations.Operation.{Operation}
-use Rattle.publication_config.specs.declared.operations.Operation.TheVariants.{Insert, Update, Delete, Truncate}
-use Rattle.publication_config.specs.Published.{PublicationSet}
+use Rattle.published_tables.specs.declared.operations.Operation.{Operation}
+use Rattle.published_tables.specs.declared.operations.Operation.TheVariants.{Insert, Update, Delete, Truncate}
+use Rattle.published_tables.specs.Published.{PublicationSet}
 use Rattle.publication.specs.Projection.{delete_message, insert_message, is_published, may_be_emptied, message, message_by, message_of_update, only_if, passes, row_as_published, stands, stands_in, truncate_message}
 use Rattle.publication.specs.Selection.{FitsTable, has_table, list_by, selected_table, table_as_published, whole_table}
 use Rattle.publication.specs.Spelling.{IsShortRow}

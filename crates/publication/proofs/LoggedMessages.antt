@@ -16,7 +16,7 @@ use Rattle.tables.specs.declared.change.Change.{Change}
 use Rattle.tables.specs.declared.change.Change.TheVariants as changes
 use Rattle.tables.specs.Kinds.{has_no_zero}
 use Rattle.tables.specs.Tables.{is_prefix}
-use Rattle.publication_config.specs.Published.{PublicationSet}
+use Rattle.published_tables.specs.Published.{PublicationSet}
 use Rattle.publication.specs.Logged.{IsNoteAt, change_message, fits_log, logged_message, note_message, told_of}
 use Rattle.publication.specs.Projection.{AreValues, MessageFits}
 use Rattle.publication.specs.Selection.{FitTables}

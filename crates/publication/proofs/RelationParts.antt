@@ -13,7 +13,7 @@ use Rattle.pgoutput.specs.declared.relation.TheConstants.{RELATION}
 use Rattle.tables.specs.declared.column.Column.{Column}
 use Rattle.tables.specs.declared.identity.Identity.{Identity}
 use Rattle.tables.specs.declared.table.Table.{Table}
-use Rattle.publication_config.specs.Published.{is_identity, is_listed}
+use Rattle.published_tables.specs.Published.{is_identity, is_listed}
 use Rattle.publication.specs.declared.relation.TheConstants.{NO_MODIFIER}
 use Rattle.publication.specs.Kinds.{type_oid}
 use Rattle.publication.specs.Selection.{identity_of, listed_items, relation_column, relation_of, table_as_published}

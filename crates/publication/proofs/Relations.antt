@@ -18,7 +18,7 @@ use Rattle.tables.specs.declared.column.Column.{Column}
 use Rattle.tables.specs.declared.table.Table.{Table}
 use Rattle.tables.specs.Tables.{table_of}
 use Rattle.stream.specs.Items.{IsShortMessage, FitsRelationOf}
-use Rattle.publication_config.specs.Published.{PublicationSet}
+use Rattle.published_tables.specs.Published.{PublicationSet}
 use Rattle.publication.specs.Selection.{relation, relation_of, relation_column, selected_table, FitsTable, FitTables}
 use Rattle.publication.proofs.Values.{type_fits}
 

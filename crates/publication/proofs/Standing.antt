@@ -27,7 +27,7 @@ use Rattle.tables.specs.declared.change.Change.TheVariants as changes
 use Rattle.tables.specs.Refs.{IsLarge}
 use Rattle.tables.specs.Spelling.{row_length}
 use Rattle.tables.specs.Tables.{fits_table, table_of}
-use Rattle.publication_config.specs.Published.{PublicationSet}
+use Rattle.published_tables.specs.Published.{PublicationSet}
 use Rattle.publication.specs.Projection.{delete_message, insert_message, message_of_update, only_if, stands, stands_in, update_message, AreValues, MessageFits}
 use Rattle.publication.specs.Selection.{FitTables, FitsTable, listed_items, table_as_published}
 use Rattle.pqformat.specs.Writing.{FitsRoom}

@@ -16,9 +16,9 @@ use Rattle.tables.specs.declared.kinds.Value.TheVariants as values
 use Rattle.tables.specs.declared.table.Table.{Table}
 use Rattle.tables.specs.declared.change.Change.TheVariants as changes
 use Rattle.tables.specs.Tables.{item_table, table_named}
-use Rattle.publication_config.specs.declared.publication.Publication.{Publication}
-use Rattle.publication_config.specs.Published.{PublicationSet, all_operations, published_whole}
-use Rattle.publication.specs.Publications.{is_unknown, selected_publications}
+use Rattle.published_tables.specs.declared.publication.Publication.{Publication}
+use Rattle.published_tables.specs.Published.{PublicationSet, all_operations, published_whole}
+use Rattle.publications.specs.Publications.{is_unknown, selected_publications}
 use Rattle.publication.specs.Projection.{delete_message, message, message_of_update, update_message}
 
 -- ---- Tables, rows and messages.

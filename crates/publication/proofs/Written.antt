@@ -24,7 +24,7 @@ use Rattle.pqformat.proofs.Numbers.{length-int16, length-int32}
 use Rattle.pgoutput.specs.declared.tuple.Cell.{Cell}
 use Rattle.pgoutput.specs.declared.tuple.Cell.TheVariants as cells
 use Rattle.pgoutput.specs.Tuple.{cell, tuple}
-use Rattle.publication_config.specs.Published.{is_listed}
+use Rattle.published_tables.specs.Published.{is_listed}
 use Rattle.publication.specs.Selection.{listed_items}
 use Rattle.pqformat.specs.Writing.{FitsRoom, Writes}
 use Rattle.pqformat.proofs.Writing.{first, left, length_front}

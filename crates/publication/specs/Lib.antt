@@ -5,6 +5,4 @@ pub mod Tuples
 pub mod Spelling
 pub mod Projection
 pub mod Logged
-pub use Rattle.publication_config.specs.Config
-pub use Rattle.publication_config.specs.Faults
-pub use Rattle.publication_config.specs.Published
+pub use Rattle.published_tables.specs.Published

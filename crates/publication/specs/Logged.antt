@@ -11,7 +11,7 @@ use Rattle.tables.specs.declared.message.Message.{Message}
 use Rattle.tables.specs.declared.change.Change.{Change}
 use Rattle.tables.specs.declared.change.Change.TheVariants as changes
 use Rattle.tables.specs.Tables.{is_prefix}
-use Rattle.publication_config.specs.Published.{PublicationSet}
+use Rattle.published_tables.specs.Published.{PublicationSet}
 use Rattle.publication.specs.Projection.{message}
 
 -- whether a message may stand in the log

@@ -16,9 +16,9 @@ use Rattle.tables.specs.Tables.{repeats}
 use Rattle.tables.specs.Kinds.{IsValue}
 use Rattle.tables.specs.Tables.{table_of, fits_table}
 use Rattle.stream.specs.Items.{tables_of, IsShortMessage, IsOfChange, FitsRelationOf}
-use Rattle.publication_config.specs.declared.operations.Operation.{Operation}
-use Rattle.publication_config.specs.declared.operations.Operation.TheVariants.{Insert, Update, Delete, Truncate}
-use Rattle.publication_config.specs.Published.{PublicationSet, has, publishes}
+use Rattle.published_tables.specs.declared.operations.Operation.{Operation}
+use Rattle.published_tables.specs.declared.operations.Operation.TheVariants.{Insert, Update, Delete, Truncate}
+use Rattle.published_tables.specs.Published.{PublicationSet, has, publishes}
 use Rattle.publication.specs.Publications.{passes_in}
 use Rattle.publication.specs.Selection.{listed_items, list_by, selected_table, relation}
 use Rattle.publication.specs.Tuples.{tuple_of, tuple_behind, old_by, old_row_of_update}

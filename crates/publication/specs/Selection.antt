@@ -13,9 +13,9 @@ use Rattle.tables.specs.declared.table.Table.{Table}
 use Rattle.tables.specs.Tables.{table_of}
 use Rattle.publication.specs.declared.relation.TheConstants.{NO_MODIFIER}
 use Rattle.publication.specs.Kinds.{type_oid}
-use Rattle.publication_config.specs.declared.publication.Publication.{Publication}
-use Rattle.publication_config.specs.declared.published_table.PublishedTable.{PublishedTable}
-use Rattle.publication_config.specs.Published.{PublicationSet, has, is_identity, table_in}
+use Rattle.published_tables.specs.declared.publication.Publication.{Publication}
+use Rattle.published_tables.specs.declared.published_table.PublishedTable.{PublishedTable}
+use Rattle.published_tables.specs.Published.{PublicationSet, has, is_identity, table_in}
 
 -- whether some publication of the selection has the table of this OID
 abbrev pub has_table : PublicationSet → ℕ → Bool

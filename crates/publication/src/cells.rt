@@ -10,7 +10,7 @@ ghost use Rattle.publication.specs.Tuples.{cell_behind, changes_key, key_tuple_o
 use crate::kinds::{cell, is_long, is_same};
 use pgoutput::{Cell, OldTuple};
 use pqformat::Items;
-use publication_config::is_listed;
+use published_tables::is_listed;
 use std::alloc::{AllocError, Global};
 use tables::{Column, Identity, Row, Table, Value};
 

@@ -1,4 +1,4 @@
-//! Publications: which changes are published, and the messages that they become.
+//! Selections of publications: which changes are published, and the messages that they become.
 #![tactic(auto)]
 
 mod cells;
@@ -8,7 +8,6 @@ mod logged;
 mod messages;
 mod passing;
 mod projection;
-mod publications;
 mod put_messages;
 mod put_relation;
 mod putting;
@@ -19,8 +18,6 @@ mod truncating;
 mod tuples;
 
 pub use projection::Projected;
-pub use publication_config::{Member, Misfit, Place, PubFault, TableMember, explained};
-pub use publications::Publications;
 pub use putting::{MAX_MESSAGE_LENGTH, room_for};
 pub use relation::NO_MODIFIER;
 pub use selection::Selection;

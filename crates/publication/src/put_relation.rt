@@ -8,7 +8,7 @@ ghost use Rattle.pqformat.specs.Fields.{string};
 ghost use Rattle.pgoutput.specs.Logical.{spell_logical};
 ghost use Rattle.pgoutput.specs.Relation.{column, identity_letter, key_flag};
 ghost use Rattle.pgoutput.specs.declared.logical.Logical.TheVariants as logical;
-ghost use Rattle.publication_config.specs.Published.{is_identity};
+ghost use Rattle.published_tables.specs.Published.{is_identity};
 ghost use Rattle.publication.specs.Selection.{FitsTable, identity_of, listed_items, relation_column, relation_of, selected_table, table_as_published};
 ghost use Rattle.pqformat.specs.Writing.{Writes};
 ghost use Rattle.publication.specs.Spelling.{HasRoom, IsPut};
@@ -19,7 +19,7 @@ use crate::relation::NO_MODIFIER;
 use crate::selection::Selection;
 use pgoutput::{IDENTITY_DEFAULT, IDENTITY_FULL, IDENTITY_NOTHING, KEY_FLAG, NO_FLAG, RELATION};
 use pqformat::{write_byte, write_bytes, write_int16, write_int32};
-use publication_config::{is_in_identity, is_listed};
+use published_tables::{is_in_identity, is_listed};
 use tables::{Column, Identity, Table};
 
 /// The longest that the Relation tells of one column, in bytes: its flags, a name of 63 bytes with its end, its type and modifier.

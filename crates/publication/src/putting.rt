@@ -13,7 +13,7 @@ ghost use Rattle.tables.specs.Spelling.{row_length};
 use crate::put_messages::{put_deletion, put_insertion, put_update};
 use crate::row_reading::{one_row, two_rows};
 use crate::selection::Selection;
-use publication_config::Operation;
+use published_tables::Operation;
 use tables::{DELETE_TAG, INSERT_TAG, MESSAGE_TAG, RowRef, TRUNCATE_TAG, UPDATE_TAG};
 
 /// So many bytes are room for the message of any change: an update's two rows have at most 9,536 each, and 7 stand before and between

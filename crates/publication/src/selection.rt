@@ -9,9 +9,9 @@ ghost use Rattle.tables.specs.Kinds.{IsValue};
 ghost use Rattle.tables.specs.Tables.{table_of, oids_of, repeats};
 ghost use Rattle.tables.specs.declared.change.Change.{Change};
 ghost use Rattle.stream.specs.Items.{IsShortMessage};
-ghost use Rattle.publication_config.specs.Published.{has};
+ghost use Rattle.published_tables.specs.Published.{has};
 ghost use Rattle.publication.specs.Selection.{relation_of, FitsTable, has_table, list_by, selected_oids, selected_table, whole_table};
-ghost use Rattle.publication_config.specs.declared.operations.Operation.{Operation};
+ghost use Rattle.published_tables.specs.declared.operations.Operation.{Operation};
 ghost use Rattle.publication.specs.Logged.{change_message};
 ghost use Rattle.publication.specs.Projection.{is_published, may_be_emptied, message, passes, projection_of, stands_in, AreValues, FitsProjected, MessageFits};
 
@@ -21,7 +21,7 @@ use crate::projection::Projected;
 use crate::relation::relation_message;
 use pgoutput::Logical;
 use pqformat::Items;
-use publication_config::{Operation, Publication};
+use published_tables::{Operation, Publication};
 use std::alloc::{AllocError, Global};
 use std::marker::Model;
 use tables::{Change, MAX_TRUNCATED, Row, RowRef, Table, repeats};
@@ -47,7 +47,7 @@ impl Model for Selection {
     ghost use Rattle.std.specs.List.{AllByRecursion};
     ghost use Rattle.std.specs.Coded.{codes};
     ghost use Rattle.tables.specs.Tables.{oids_of, repeats};
-    ghost use Rattle.publication_config.specs.Published.{PublicationSet, condition_code};
+    ghost use Rattle.published_tables.specs.Published.{PublicationSet, condition_code};
     ghost use Rattle.publication.specs.Selection.{FitsTable, selected_oids};
 
     ghost Value = { PublicationSet };
@@ -85,7 +85,7 @@ impl Selection {
     }
 
     /// These publications, over the tables of a catalogue.
-    pub(crate) fn new(
+    pub fn new(
         alloc: Global,
         tables: Items<Table>,
         publications: Items<Publication>,

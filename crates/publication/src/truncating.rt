@@ -8,7 +8,7 @@ ghost use Rattle.pgoutput.specs.Logical.{spell_logical};
 ghost use Rattle.pgoutput.specs.declared.logical.Logical.TheVariants as logical;
 ghost use Rattle.tables.specs.Reading.{oids_at};
 ghost use Rattle.tables.specs.declared.change.Change.{Change as Changed};
-ghost use Rattle.publication_config.specs.declared.operations.Operation.{Operation};
+ghost use Rattle.published_tables.specs.declared.operations.Operation.{Operation};
 ghost use Rattle.publication.specs.Projection.{is_published, message};
 ghost use Rattle.pqformat.specs.Writing.{FitsRoom, Writes};
 ghost use Rattle.publication.specs.Spelling.{HasRoomFor, IsReadWhole, IsWritten};
@@ -16,7 +16,7 @@ ghost use Rattle.publication.specs.Spelling.{HasRoomFor, IsReadWhole, IsWritten}
 use crate::selection::{Selection, may_be_emptied};
 use pgoutput::{NO_OPTIONS, TRUNCATE};
 use pqformat::{write_byte, write_int32};
-use publication_config::Operation;
+use published_tables::Operation;
 use tables::{MAX_TRUNCATED, lend_oids};
 
 impl Selection {

@@ -3,13 +3,13 @@ use Rattle.std.proofs.Common.{◌≡◌, ℕ, List, Some, Result, Ok, Err, ap, �
 use Rattle.std.specs.Prelude.{option_map}
 use Rattle.toml.specs.Data.{Data}
 use Rattle.tables.specs.declared.table.Table.{Table}
-use Rattle.tables.specs.Config.{document_of}
+use Rattle.catalog.specs.Config.{document_of}
 use Rattle.publication_config.specs.declared.config_fault.Refusal.{Refusal}
 use Rattle.publication_config.specs.declared.config_fault.Refusal.TheVariants as refusals
 use Rattle.publication_config.specs.declared.fault.PubFault.{PubFault}
 use Rattle.publication_config.specs.declared.fault.PubFault.TheVariants as faults
 use Rattle.publication_config.specs.Config.{Configures, ReadsPublications, configured_by, fault_of, publications_in}
-use Rattle.publication_config.specs.Published.{PublicationSet}
+use Rattle.published_tables.specs.Published.{PublicationSet}
 
 pub refused_so : (refusal : Refusal) (read : Result PublicationSet PubFault) → read ≡ Err (fault_of refusal) → ReadsPublications (Err (fault_of refusal)) read
 refused_so (refusals.Misfit misfit) read is = is

@@ -1,4 +1,2 @@
 pub mod Configured
-pub mod Filtering
-pub mod Naming
 pub mod Reading

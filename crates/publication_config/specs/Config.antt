@@ -11,7 +11,7 @@ use Rattle.tables.specs.declared.column.Column.{Column}
 use Rattle.tables.specs.declared.identity.Identity.{Identity}
 use Rattle.tables.specs.declared.identity.Identity.TheVariants as identities
 use Rattle.tables.specs.declared.table.Table.{Table}
-use Rattle.tables.specs.Config.{and_then, document_of, is_column, is_more_than, name_in, names_in}
+use Rattle.catalog.specs.Config.{and_then, document_of, is_column, is_more_than, name_in, names_in}
 use Rattle.tables.specs.Tables.{table_named}
 use Rattle.conditions.specs.declared.fault.FilterFault.{FilterFault}
 use Rattle.rowfilter.specs.Answers.{read_filter}
@@ -30,12 +30,12 @@ use Rattle.publication_config.specs.declared.config_publication.Reach.{Reach as 
 use Rattle.publication_config.specs.declared.config_publication.Reach.TheVariants as founds
 use Rattle.publication_config.specs.declared.fault.PubFault.{PubFault}
 use Rattle.publication_config.specs.declared.fault.PubFault.TheVariants as faults
-use Rattle.publication_config.specs.declared.operations.Operation.{Operation}
-use Rattle.publication_config.specs.declared.operations.Operation.TheVariants.{Insert, Update, Delete, Truncate}
-use Rattle.publication_config.specs.declared.operations.Operations.{Operations}
-use Rattle.publication_config.specs.declared.publication.Publication.{Publication}
-use Rattle.publication_config.specs.declared.published_table.PublishedTable.{PublishedTable}
-use Rattle.publication_config.specs.Published.{PublicationSet, all_operations, is_identity, is_listed, published_whole}
+use Rattle.published_tables.specs.declared.operations.Operation.{Operation}
+use Rattle.published_tables.specs.declared.operations.Operation.TheVariants.{Insert, Update, Delete, Truncate}
+use Rattle.published_tables.specs.declared.operations.Operations.{Operations}
+use Rattle.published_tables.specs.declared.publication.Publication.{Publication}
+use Rattle.published_tables.specs.declared.published_table.PublishedTable.{PublishedTable}
+use Rattle.published_tables.specs.Published.{PublicationSet, all_operations, is_identity, is_listed, published_whole, with_operation}
 
 -- what reading a part of a configuration answers, memory apart
 abbrev pub Reads : {X : Type 0} → Result X Unread → Result X Refusal → Type 0
@@ -52,12 +52,6 @@ operation_of word =
     else if bytes_eq word (codes "delete") then Some Delete
     else if bytes_eq word (codes "truncate") then Some Truncate
     else None
-
-abbrev pub with_operation : Operations → Operation → Operations
-with_operation operations Insert = record operations { insert = true }
-with_operation operations Update = record operations { update = true }
-with_operation operations Delete = record operations { delete = true }
-with_operation operations Truncate = record operations { truncate = true }
 
 abbrev pub no_operations : Operations
 no_operations = record { insert = false; update = false; delete = false; truncate = false }

@@ -1,3 +1,2 @@
-pub mod Published
 pub mod Config
 pub mod Faults

@@ -6,18 +6,17 @@ ghost use Rattle.std.specs.Str.{bytes_eq};
 ghost use Rattle.toml.specs.Data.{get};
 ghost use Rattle.toml.specs.View.{view, items_view};
 ghost use Rattle.publication_config.specs.Config.{Reads, ReadsReach, all_in, has_others, has_whole, is_schema, judged_table, list_in, name_of, no_operations, operation_in, operation_of, operations_behind, operations_in, publication_in, published_behind, published_by, reach_in, schemas_in, seen_reach, tables_in, whole_behind, with_operation, wrong};
-ghost use Rattle.publication_config.specs.Published.{published_whole};
+ghost use Rattle.published_tables.specs.Published.{published_whole};
 ghost use Rattle.publication_config.specs.declared.config_fault.Unread.TheVariants.{Refused};
 
 use crate::config_fault::{Member, Misfit, Place, Refusal, Unread};
 use crate::config_table::{count_if, published_in};
 use crate::judging::judged;
-use crate::operations::{Operation, Operations};
-use crate::publication::Publication;
-use crate::published_table::PublishedTable;
+use catalog::{Catalog, is_more_than, name_in, names_in};
 use pqformat::{Items, Text};
+use published_tables::{Operation, Operations, Publication, PublishedTable};
 use std::alloc::{AllocError, Global};
-use tables::{Catalog, Table, is_more_than, name_in, names_in};
+use tables::Table;
 use toml::Value;
 
 /// The members that every publication has: its name, and one that tells its tables.

@@ -5,18 +5,18 @@ ghost use Rattle.std.specs.List.{list_all, list_any};
 ghost use Rattle.std.specs.Str.{bytes_eq};
 ghost use Rattle.toml.specs.Data.{as_str, get};
 ghost use Rattle.toml.specs.View.{view};
-ghost use Rattle.tables.specs.Config.{and_then, is_column};
+ghost use Rattle.catalog.specs.Config.{and_then, is_column};
 ghost use Rattle.publication_config.specs.Config.{Reads, columns_in, count_if, filter_in, has_more, has_published, listed_if, listed_in, published_in, table_in, text_in, wrong_member};
 ghost use Rattle.publication_config.specs.declared.config_fault.Unread.TheVariants.{Refused};
 
 use crate::config_fault::{Misfit, Place, Refusal, TableMember, Unread};
 use crate::judging::judged;
-use crate::operations::Operations;
-use crate::published_table::PublishedTable;
+use catalog::{Catalog, is_more_than, names_in};
 use pqformat::{Items, Text};
+use published_tables::{Operations, PublishedTable};
 use rowfilter::{Filter, FilterFault, parse};
 use std::alloc::{AllocError, Global};
-use tables::{Catalog, Column, Table, is_more_than, names_in};
+use tables::{Column, Table};
 use toml::Value;
 
 /// The table that a value names, with its filter and its columns, as the next of a publication.

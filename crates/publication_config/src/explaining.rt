@@ -2,9 +2,10 @@
 
 use crate::config_fault::{Misfit, Place};
 use crate::fault::PubFault;
+use catalog::Catalog;
 use rowfilter::{FilterFault, MOST_BYTES, fault_at};
 use std::alloc::{AllocError, Global};
-use tables::{Catalog, Table};
+use tables::Table;
 use toml::Value;
 
 /// The most bytes of a text that a line shows, so that no line is long.

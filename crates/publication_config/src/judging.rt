@@ -2,11 +2,9 @@
 
 ghost use Rattle.std.specs.Prelude.{◌≡◌, option_copied};
 ghost use Rattle.publication_config.specs.Config.{Reads, filter_leaves_identity, identity_fault, judged_table, lacks_identity, leaves_identity};
-ghost use Rattle.publication_config.specs.Published.{is_identity};
 
 use crate::config_fault::{Place, Refusal, Unread};
-use crate::operations::Operations;
-use crate::published_table::{PublishedTable, is_listed};
+use published_tables::{Operations, PublishedTable, is_in_identity, is_listed};
 use rowfilter::Filter;
 use tables::{Identity, Table};
 
@@ -85,15 +83,4 @@ fn leaves_identity(table: &Table, filter: &Filter) -> bool
         }
     }
     false
-}
-
-/// Whether a column belongs to the identity, by whether it belongs to the primary key.
-pub fn is_in_identity(identity: Identity, is_key: bool) -> bool
-    ensures { result ≡ is_identity identity is_key }
-{
-    match identity {
-        Identity::Default => is_key,
-        Identity::Nothing => false,
-        Identity::Full => true,
-    }
 }

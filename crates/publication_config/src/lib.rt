@@ -1,4 +1,4 @@
-//! Publications as values, and how the text of a configuration tells them.
+//! How the text of a configuration tells publications, and why it tells none.
 #![tactic(auto)]
 
 mod config;
@@ -8,15 +8,8 @@ mod config_table;
 mod explaining;
 mod fault;
 mod judging;
-mod operations;
-mod publication;
-mod published_table;
 
 pub use config::{configured_by, publications_in};
 pub use config_fault::{Member, Misfit, Place, TableMember};
 pub use explaining::explained;
 pub use fault::PubFault;
-pub use judging::is_in_identity;
-pub use operations::{Operation, Operations};
-pub use publication::{Publication, conflict, named};
-pub use published_table::{PublishedTable, is_listed};

@@ -1,7 +1,7 @@
 -- The codes by which refusals are printed.
 use Rattle.std.specs.Prelude.{ℕ, codes, List, Option, Some, None}
 use Rattle.txlog.specs.Publishing.{code_of}
-use Rattle.publication.specs.Faults.{publication_code_of}
+use Rattle.publication_config.specs.Faults.{publication_code_of}
 use Rattle.sender.specs.declared.fault.SendFault.{SendFault}
 use Rattle.sender.specs.declared.fault.SendFault.TheVariants as sends
 use Rattle.client.specs.declared.fault.ClientFault.{ClientFault}

@@ -1,7 +1,7 @@
 //! What an event answered.
 
 use client::ClientFault;
-use publication::PubFault;
+use publication_config::PubFault;
 use sender::SendFault;
 use slots::SlotFault;
 use txlog::SessionFault;

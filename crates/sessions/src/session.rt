@@ -7,12 +7,12 @@ ghost use Rattle.sessions.specs.SessionLines.{after_step, delete_refused, delete
 ghost use Rattle.sessions.specs.Sessions.{Called, Grows, is_within, named_tx, place_from};
 
 use crate::rows::{key_of, row_of};
+use catalog::Catalog;
 use pqformat::{Items, Text};
 use schedule::{Answer, Literal, SessionStep};
 use shared_log::LogName;
 use std::alloc::{AllocError, Global};
 use std::sync::Wait;
-use tables::Catalog;
 use txlog::{Publisher, Receipt, SessionFault, Tx};
 
 /// A transaction in progress, by the name that a line gives it.

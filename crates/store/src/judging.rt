@@ -1,7 +1,7 @@
 //! Which changes a store refuses, and the places of those that it does not.
 
 ghost use Rattle.std.specs.Prelude.{◌≡◌, ◌<◌, ◌&&◌, ◌||◌, not, Err, IfOk, List, OnOk, is_some, length, if◌then◌else◌};
-ghost use Rattle.tables.specs.declared.config.TheConstants.{MAX_TABLES};
+ghost use Rattle.catalog.specs.declared.config.TheConstants.{MAX_TABLES};
 ghost use Rattle.std.specs.List.{list_all};
 ghost use Rattle.store.specs.Keeping.{AreShort, Keeps, RefusedExactly, key_held, keys_fault, places_fault, row_at};
 ghost use Rattle.store.specs.History.{Made, delete_fault, insert_fault, is_other, row_place, table_place, truncate_refusal, unless, update_fault};

@@ -2,7 +2,7 @@
 
 ghost use Rattle.std.specs.Prelude.{◌≡◌, ◌==◌, ◌≤◌, ◌++◌, ◌∷◌, [], ◌&&◌, ◌||◌, ◌<◌, not, Err, IfErr, IfOk, IsTrue, OnErr, OnOk, List, length, is_some, if◌then◌else◌, ℕ};
 ghost use Rattle.std.specs.Option.{option_copied};
-ghost use Rattle.tables.specs.declared.config.TheConstants.{MAX_TABLES};
+ghost use Rattle.catalog.specs.declared.config.TheConstants.{MAX_TABLES};
 ghost use Rattle.store.specs.Keeping.{AreShort, DeletesAt, IsSame, Keeps, Makes, UpdatesAt, RefusedExactly, RefusedOrMemory, journal_of, key_held, keys_fault, places_fault, row_at};
 ghost use Rattle.store.specs.Emptying.{Does};
 ghost use Rattle.store.specs.History.{Made, change_made, count_of, delete_fault, delete_refusal, history_after_end, history_after_rollback, insert_fault, insert_refusal, is_other, row_place, rows_after, table_place, truncate_refusal, unless, update_fault, update_refusal, Deletes, Updates};
@@ -16,10 +16,11 @@ use crate::key::{MAX_KEY_LENGTH, Place};
 use crate::slot::Undo;
 use crate::slots::Slots;
 use crate::store_fault::StoreFault;
+use catalog::Catalog;
 use pqformat::Items;
 use std::alloc::{AllocError, Global};
 use std::marker::Model;
-use tables::{Catalog, Change, Row};
+use tables::{Change, Row};
 
 /// The rows of a catalogue's tables, and what live transactions changed in them. A transaction is named by its xid.
 ///

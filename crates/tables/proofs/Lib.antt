@@ -1,10 +1,6 @@
-pub mod Behind
-pub mod Catalogs
-pub mod Catalogued
 pub mod ChangeBodies
 pub mod Lengths
 pub mod Lent
-pub mod Members
 pub mod Names
 pub mod RowBodies
 pub mod Sides

@@ -1,4 +1,3 @@
-pub mod Config
 pub mod Kinds
 pub mod Reading
 pub mod Refs

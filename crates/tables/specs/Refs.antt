@@ -1,7 +1,7 @@
 -- Rows and messages that are read where they lie.
 use Rattle.std.specs.Prelude.{◌⊎◌, ◌<◌, List, length}
 use Rattle.tables.specs.declared.kinds.Value.{Value}
-use Rattle.tables.specs.declared.config_table.TheConstants.{MAX_COLUMNS}
+use Rattle.tables.specs.declared.table.TheConstants.{MAX_COLUMNS}
 use Rattle.tables.specs.declared.row.TheConstants.{MAX_ROW_LENGTH}
 use Rattle.tables.specs.declared.message.Message.{Message}
 use Rattle.tables.specs.declared.message.MessageRef.{MessageRef}

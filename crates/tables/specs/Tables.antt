@@ -2,8 +2,8 @@
 use Rattle.std.specs.Prelude.{◌≡◌, ℕ, ◌^◌, ◌<◌, ◌≤◌, ◌==◌, nat_le, Bool, true, false, ◌&&◌, ◌||◌, not, List, [], ◌∷◌, ◌++◌, length, codes, count_by, filter, find, map, Option, IsSome, IsSomeAnd}
 use Rattle.std.specs.List.{list_all, list_any, zip, AllByRecursion}
 use Rattle.std.specs.Str.{bytes_eq, is_utf8}
-use Rattle.tables.specs.declared.config_member.TheConstants.{MAX_NAME_LENGTH}
-use Rattle.tables.specs.declared.config_table.TheConstants.{MAX_COLUMNS}
+use Rattle.tables.specs.declared.table.TheConstants.{MAX_NAME_LENGTH}
+use Rattle.tables.specs.declared.table.TheConstants.{MAX_COLUMNS}
 use Rattle.tables.specs.declared.row.TheConstants.{MAX_ROW_LENGTH}
 use Rattle.tables.specs.declared.change_body.TheConstants.{MAX_TRUNCATED}
 use Rattle.tables.specs.declared.kinds.Kind.TheVariants as kinds

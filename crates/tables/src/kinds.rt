@@ -72,7 +72,7 @@ pub const UUID_TAG: u8 = 6;
 
 impl Kind {
     /// The kind of this name in a configuration.
-    pub(crate) fn named(name: &str) -> Option<Kind>
+    pub fn named(name: &str) -> Option<Kind>
         ensures { result ≡ kind_named name.now }
     {
         match name {
@@ -101,7 +101,8 @@ impl Kind {
     }
 }
 
-pub(crate) fn is_without_zero(text: &[u8]) -> bool
+/// Whether none of the bytes is zero.
+pub fn is_without_zero(text: &[u8]) -> bool
     ensures { result ≡ has_no_zero text.now }
 {
     text.iter().all(|b| *b != 0)

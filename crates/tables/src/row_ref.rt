@@ -7,13 +7,13 @@ ghost use Rattle.tables.specs.Reading.{IsCodedRow, row_at};
 ghost use Rattle.tables.specs.Refs.{IsLarge};
 ghost use Rattle.tables.specs.Spelling.{row_length};
 ghost use Rattle.tables.specs.declared.row.TheConstants.{MAX_ROW_LENGTH};
-ghost use Rattle.tables.specs.declared.config_table.TheConstants.{MAX_COLUMNS};
+ghost use Rattle.tables.specs.declared.table.TheConstants.{MAX_COLUMNS};
 ghost use Rattle.tables.specs.declared.kinds.Value.{Value as Datum};
 
-use crate::config_table::MAX_COLUMNS;
 use crate::kinds::{Value, ValueRef};
 use crate::lending::lend_values;
 use crate::row::{MAX_ROW_LENGTH, Row};
+use crate::table::MAX_COLUMNS;
 use pqformat::Cursor;
 use std::marker::Model;
 
@@ -29,7 +29,7 @@ pub struct RowRef<'a> {
 
 impl<'a> Model for RowRef<'a> {
     ghost use Rattle.std.specs.Prelude.{◌≤◌, ◌++◌, List, length, map, take};
-    ghost use Rattle.tables.specs.declared.config_table.TheConstants.{MAX_COLUMNS};
+    ghost use Rattle.tables.specs.declared.table.TheConstants.{MAX_COLUMNS};
     ghost use Rattle.tables.specs.declared.kinds.Value.{Value as Datum};
     ghost use Rattle.tables.specs.Kinds.{value_of};
 

@@ -13,6 +13,12 @@ use crate::row_ref::RowRef;
 use pqformat::{Items, Text};
 use std::alloc::{AllocError, Global};
 
+/// The most bytes of a name.
+pub const MAX_NAME_LENGTH: usize = 63;
+
+/// The most columns of a table.
+pub const MAX_COLUMNS: usize = 64;
+
 /// A table that sessions write. Its columns stand in table order.
 #[derive(Debug, Drop)]
 pub struct Table {

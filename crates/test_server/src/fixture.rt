@@ -1,11 +1,11 @@
 //! A hub of one table, for tests.
 
+use catalog::Catalog;
 use hub::OpenedHub;
 use pqformat::Text;
-use publication::Publications;
+use publications::Publications;
 use std::alloc::Global;
 use std::test::Fail;
-use tables::Catalog;
 
 const CONFIGURATION: &str = "\
 table = [{ oid = 16384, schema = 'public', name = 'item', key = ['id'], \

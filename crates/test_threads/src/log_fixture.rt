@@ -1,8 +1,10 @@
 //! A log and its sessions, for tests.
 
+use catalog::Catalog;
 use chgarena::Arena;
 use pqformat::Text;
-use publication::{Publications, Selection};
+use publication::Selection;
+use publications::Publications;
 use sender::Sender;
 use shared_log::{LogName, LogReader, ReadFault};
 use std::alloc::{AllocError, Global};
@@ -10,7 +12,7 @@ use std::fmt::Debug;
 use std::sync::{Arc, Mutex, MutexGuard, Wait};
 use std::test::Fail;
 use std::thread::{Threads, join};
-use tables::{Catalog, Row, Value};
+use tables::{Row, Value};
 use txlog::{Opened, Publisher, Receipt, SessionFault};
 use wal::{Body, FIRST_POSITION, Record};
 

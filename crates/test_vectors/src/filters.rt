@@ -2,9 +2,10 @@
 
 use crate::answer::bytes_of;
 use anyhow::{Context, Result, bail};
+use catalog::Catalog;
 use rowfilter::{Filter, fault_at, parse};
 use std::alloc::{AllocError, Global};
-use tables::{Catalog, Change, Table, read_body};
+use tables::{Change, Table, read_body};
 
 /// `TABLES|INSERTS|FILTER`: a configuration of one table, and the bodies of inserts, between commas. Adds what the filter is of
 /// each row, or its fault and the byte where it stands.

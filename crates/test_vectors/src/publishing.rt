@@ -2,11 +2,13 @@
 
 use crate::answer::bytes_of;
 use anyhow::{Context, Result, bail};
+use catalog::{Catalog, read_document};
 use pgoutput::read_logical;
 use pqformat::Text;
-use publication::{MAX_MESSAGE_LENGTH, Projected, PubFault, Publications, Selection, explained};
+use publication::{MAX_MESSAGE_LENGTH, Projected, Selection};
+use publications::{PubFault, Publications, explained};
 use std::alloc::{AllocError, Global};
-use tables::{Catalog, Change, read_body, read_document};
+use tables::{Change, read_body};
 use toml::Value;
 
 /// Where the records of all changes start; no message of a row or a table tells of it.

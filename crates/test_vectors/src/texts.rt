@@ -1,11 +1,11 @@
 //! Texts: commands, positions, lines of schedules and configurations.
 
 use crate::answer::tell;
+use catalog::Catalog;
 use configuration::{Config, ConfigFault};
 use replcmd::{parse_command, parse_position, write_position};
 use schedule::Event;
 use std::alloc::{AllocError, Global};
-use tables::Catalog;
 
 pub fn answer_command(alloc: Global, given: &str, answer: &mut String) -> Result<(), AllocError> {
     tell(answer, &parse_command(alloc, given))

@@ -6,8 +6,8 @@ ghost use Rattle.txlog.specs.declared.limits.TheConstants.{MAX_READERS, MAX_RECO
 
 use crate::fault::SessionFault;
 use crate::limits::{MAX_READERS, MAX_RECORDS};
+use catalog::Catalog;
 use std::alloc::Global;
-use tables::Catalog;
 
 /// What a publisher is opened with: `Publisher::open` names its log, and makes it and the readers.
 #[derive(Drop)]

@@ -16,12 +16,13 @@ use crate::opened::Opened;
 use crate::receipt::Receipt;
 use crate::savepoint::Savepoint;
 use crate::tx::Tx;
+use catalog::Catalog;
 use shared_log::{LogName, LogReader, LogWriter};
 use std::alloc::Global;
 use std::marker::Model;
 use std::sync::Wait;
 use store::Store;
-use tables::{Catalog, Row};
+use tables::Row;
 use wal::{Body, FIRST_XID};
 
 /// The log, the transactions that write it, and the rows that it leaves in the tables (`rows_of`). A place in the log is kept

@@ -2,7 +2,7 @@
 
 ghost use Rattle.walsender.specs.Beginning.{AreAsked, questions};
 
-use publication::PubFault;
+use publication_config::PubFault;
 use slots::SlotFault;
 
 /// Whoever has the slots, the publications and the readers of which a stream is made, for one START. `told` is what a question with

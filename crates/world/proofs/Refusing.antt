@@ -4,7 +4,8 @@ use Rattle.std.specs.Prelude.{◌==◌, Result, Ok, Err, not}
 use Rattle.std.proofs.lemmas.Bool.{cases_eq}
 use Rattle.publication_config.specs.declared.fault.PubFault.{PubFault}
 use Rattle.publication_config.specs.declared.fault.PubFault.TheVariants as pubs
-use Rattle.publication.specs.Publications.{PublicationSet, conflicts, is_unknown, judgement_of_names, selected_publications}
+use Rattle.publication.specs.Publications.{PublicationSet}
+use Rattle.publications.specs.Publications.{conflicts, is_unknown, judgement_of_names, selected_publications}
 use Rattle.slots.specs.declared.fault.SlotFault.TheVariants as slot_faults
 use Rattle.schedule.specs.declared.answer.Answer.{Answer}
 use Rattle.schedule.specs.declared.answer.Answer.TheVariants as answers

@@ -1,7 +1,8 @@
 -- What a connection's line does to its sender.
 use Rattle.std.specs.Prelude.{◌≡◌, ◌==◌, ℕ, List, [], ◌∷◌, ◌++◌, Option, Some, None, if◌then◌else◌}
 use Rattle.publication_config.specs.declared.fault.PubFault.TheVariants as pubs
-use Rattle.publication.specs.Publications.{PublicationSet, conflicts, selected_publications, is_unknown}
+use Rattle.publication.specs.Publications.{PublicationSet}
+use Rattle.publications.specs.Publications.{conflicts, selected_publications, is_unknown}
 use Rattle.schedule.specs.declared.answer.Answer.{Answer}
 use Rattle.schedule.specs.declared.start_options.StartOptions.{StartOptions}
 use Rattle.schedule.specs.declared.answer.Answer.TheVariants as answers

@@ -1,6 +1,7 @@
 -- What a start is judged by, and one that isn't refused, with what its publications select.
 use Rattle.std.specs.Prelude.{◌≡◌, ℕ, not, Bool, List, [], ◌∷◌, ◌++◌, Option, Some, None, if◌then◌else◌}
-use Rattle.publication.specs.Publications.{PublicationSet, judgement_of_names}
+use Rattle.publication.specs.Publications.{PublicationSet}
+use Rattle.publications.specs.Publications.{judgement_of_names}
 use Rattle.slots.specs.declared.fault.SlotFault.TheVariants as slot_faults
 use Rattle.walsender.specs.declared.beginning.ClaimFault.{ClaimFault}
 use Rattle.walsender.specs.declared.beginning.ClaimFault.TheVariants as claims

@@ -16,11 +16,12 @@ ghost use Rattle.starts.specs.Starts.{IsServed, start_state};
 use crate::limits::MAX_SENDERS;
 use crate::opening::{close, place_among};
 use crate::subscriber::{Subscriber, place_of, reconnect};
+use catalog::Catalog;
 use configuration::Config;
 use indexmap::IndexSet;
 use named_slots::{HeldSlots, let_go};
 use pqformat::Text;
-use publication::Publications;
+use publications::Publications;
 use replcmd::is_slot_name;
 use schedule::{Answer, ConnectionStep, Event, WorldFault};
 use sessions::Sessions;
@@ -29,7 +30,6 @@ use slots::{OpenedSlots, SlotName};
 use starts::{Action, Start};
 use std::alloc::Global;
 use std::sync::Wait;
-use tables::Catalog;
 use txlog::{MAX_RECORDS, Opened, Publisher, SessionFault};
 
 /// A publisher, its slots, its sessions by name, every start of a sender, where the open ones stand, in order, the readers that serve none

@@ -2,10 +2,10 @@
 
 use crate::filters::{ITEM, ITEM_TABLE, row};
 use anyhow::{Result, ensure};
+use catalog::Catalog;
 use pqformat::Text;
 use std::alloc::Global;
 use store::Store;
-use tables::Catalog;
 
 /// The transaction that changes it.
 const TOP: u32 = 700;

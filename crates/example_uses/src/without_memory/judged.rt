@@ -6,11 +6,11 @@ ghost use Rattle.publication.specs.declared.putting.TheConstants.{MAX_MESSAGE_LE
 use crate::filters::{filter, row};
 use crate::sending::{CONFIGURATION, selection_of_p};
 use anyhow::{Result, ensure};
+use catalog::Catalog;
 use pqformat::Text;
 use publication::{MAX_MESSAGE_LENGTH, Selection};
 use rowfilter::Truth;
 use std::alloc::Global;
-use tables::Catalog;
 
 /// The body of an insert of (20,'ab',7) into public.item, as a log keeps it.
 const BODY: &[u8] = b"\x01\0\0\x40\0\0\x03\x02\0\0\0\x14\x04\0\0\0\x02ab\x03\0\0\0\0\0\0\0\x07";

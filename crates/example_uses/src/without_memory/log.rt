@@ -4,12 +4,12 @@ ghost use Rattle.std.specs.Prelude.{◌≡◌};
 
 use crate::sending::{CONFIGURATION, feed, item, sender_of_p};
 use anyhow::{Result, bail, ensure};
+use catalog::Catalog;
 use sender::Sender;
 use shared_log::{LogName, LogReader, ReadFault};
 use std::alloc::Global;
 use std::marker::Brand;
 use std::sync::Wait;
-use tables::Catalog;
 use txlog::{Opened, Publisher, Receipt, SessionFault};
 use wal::FIRST_POSITION;
 

@@ -3,7 +3,7 @@ use Rattle.std.specs.Prelude.{◌&&◌, ◌||◌}
 use Rattle.tables.specs.declared.kinds.Value.{Value}
 use Rattle.tables.specs.Reading.{insert_at, row_at, update_at}
 use Rattle.tables.specs.Tables.{fits_table}
-use Rattle.publication_config.specs.declared.operations.Operation.TheVariants.{Update}
+use Rattle.published_tables.specs.declared.operations.Operation.TheVariants.{Update}
 use Rattle.publication.specs.Projection.{passes, stands_in}
 use Rattle.publication.proofs.Fields.{behind_is, update_parts}
 use Rattle.publication.proofs.Judgements.{both_stand, large_first, large_second, read_alike, unfit_first, update_judged, update_read}

@@ -1,6 +1,6 @@
 use Rattle.std.proofs.Common.{arith, inl, sym, ap, ◌∙◌, w16}
 use Rattle.pqformat.specs.Fields.{number_at}
-use Rattle.tables.specs.declared.config_table.TheConstants.{MAX_COLUMNS}
+use Rattle.tables.specs.declared.table.TheConstants.{MAX_COLUMNS}
 use Rattle.tables.proofs.Lent.{is_coded, sizes, too_long, wide}
 use Rattle.tables.proofs.row_ref.RowRef.read.Goals as goal
 

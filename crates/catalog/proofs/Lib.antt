@@ -1,0 +1,4 @@
+pub mod Behind
+pub mod Catalogs
+pub mod Catalogued
+pub mod Members

@@ -1,0 +1,22 @@
+use Rattle.std.proofs.Common.{◌+◌, drop, sym, ◌∙◌}
+use Rattle.toml.specs.View.{view, items_view}
+use Rattle.catalog.specs.Config.{tables_behind}
+use Rattle.catalog.proofs.Catalogued.{one_more}
+use Rattle.catalog.proofs.Behind.{item_next, no_more_items, table_read}
+use Rattle.catalog.proofs.config.tables_behind.Goals as goal
+
+pub loop-value-preserved : goal.loop-value-preserved
+loop-value-preserved c =
+    let had = c.loop-value.tables.items in
+    let next = item_next (tables_behind had) c.args.values.now c.loop-value.value-index c.value-item.result c.loop-value-test.true c.value-item.is in
+    let read = table_read had (view c.value-item.result) (items_view (drop (c.loop-value.value-index + 1) c.args.values.now)) c.in_ok-table.table
+    (rw c.as_slice.ensures.value at c.in_ok-table.ensures.value) in
+    rw c.in_ok-push.ensures.items
+    (sym read ∙ sym next ∙ c.loop-value.invariant.0, one_more had c.in_ok-table.table c.loop-value.invariant.1 c.in_ok-table.ensures.fits (rw c.as_slice.ensures.value at c.in_ok-table.ensures.alone))
+
+pub returns : goal.returns
+returns c =
+    rw c.new.ensures (record {
+      value = sym c.loop-value.invariant.0 ∙ no_more_items (tables_behind c.loop-value.tables.items) c.args.values.now c.loop-value.value-index c.loop-value-test.false;
+      fits = c.loop-value.invariant.1;
+    })

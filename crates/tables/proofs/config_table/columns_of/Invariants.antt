@@ -1,9 +1,0 @@
-use Rattle.std.proofs.Common.{◌≡◌, [], drop}
-use Rattle.toml.specs.View.{items_view}
-use Rattle.tables.specs.Config.{columns_behind}
-use Rattle.tables.specs.Tables.{AreColumns}
-use Rattle.tables.proofs.config_table.columns_of.Given as goal
-
-abbrev pub invariant-loop-value : goal.invariant-loop-value
-invariant-loop-value l =
-    (columns_behind l.key l.columns.items (items_view (drop l.value-index l.values)) ≡ columns_behind l.key [] (items_view l.values)) × AreColumns l.columns.items
