@@ -50,8 +50,27 @@ impl<L: LogName + SlotName> Commons<L> {
         true
     }
 
+    /// Whether both threads of the connection that came run, the first of which was begun or not. One that can't have them is told so.
+    pub fn has_threads<G: Gate, R: Wait>(
+        &self,
+        rt: &R,
+        gate: &G,
+        arrival: &Arrival,
+        is_begun: bool,
+    ) -> bool {
+        if !is_begun {
+            arrival.settle(rt);
+        }
+        let Some(socket) = arrival.settled(rt) else {
+            return true;
+        };
+        self.dismiss();
+        self.refuse(gate, &Untaken::Thread, &socket);
+        false
+    }
+
     /// Tells a client that it can't be served beside the others.
-    pub fn refuse<G: Gate>(&self, gate: &G, why: &Untaken, socket: &TcpStream) {
+    fn refuse<G: Gate>(&self, gate: &G, why: &Untaken, socket: &TcpStream) {
         gate.untaken(why);
         let mut to = socket;
         let _ = write_trouble(self.alloc, Trouble::Crowd, &mut to);

@@ -127,6 +127,25 @@ fn answer<L: LogName + SlotName, R: Wait, G: Gate>(
     read: &ReadLoop<'_, L, R, G>,
     state: &mut ReadState,
 ) -> Result<bool, ConnectionEnd> {
+    let mut said = BytesMut::new(read.commons.alloc);
+    let Some(more) = answered(read, state, &mut said) else {
+        return Err(ConnectionEnd::Memory);
+    };
+    let phase = state.connection.phase();
+    let is_refused = phase == Phase::Closed && !said.is_empty();
+    post(read, state, said, phase)?;
+    if is_refused {
+        return Err(ConnectionEnd::Refused);
+    }
+    Ok(more)
+}
+
+/// Whether one was there, with what is said of it. None: there was no memory for that.
+fn answered<L: LogName + SlotName, R: Wait, G: Gate>(
+    read: &ReadLoop<'_, L, R, G>,
+    state: &mut ReadState,
+    said: &mut BytesMut,
+) -> Option<bool> {
     let mut desk = HubDesk {
         rt: read.rt,
         commons: read.commons,
@@ -135,18 +154,11 @@ fn answer<L: LogName + SlotName, R: Wait, G: Gate>(
         number: read.number,
         latch: state.latch,
     };
-    let mut said = BytesMut::new(read.commons.alloc);
-    let Ok(more) = state.connection.answer(&mut desk, &mut said) else {
-        return Err(ConnectionEnd::Memory);
+    let Ok(more) = state.connection.answer(&mut desk, said) else {
+        return None;
     };
     state.latch = desk.latch;
-    let phase = state.connection.phase();
-    let is_refused = phase == Phase::Closed && !said.is_empty();
-    post(read, state, said, phase)?;
-    if is_refused {
-        return Err(ConnectionEnd::Refused);
-    }
-    Ok(more)
+    Some(more)
 }
 
 /// Waits for the end of the stream that stops, and has it said.

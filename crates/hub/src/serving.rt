@@ -6,7 +6,7 @@ use crate::read_loop::{ReadLoop, read_line};
 use crate::streaming::Stream;
 use crate::write_loop::{WriteLoop, write_line};
 use commons::{Commons, ServeFault};
-use connections::{Arrival, ConnectionEnd, Gate, Line, Untaken};
+use connections::{Arrival, ConnectionEnd, Gate, Line};
 use shared_log::LogName;
 use slots::SlotName;
 use std::net::{Shutdown, TcpListener, TcpStream};
@@ -49,15 +49,8 @@ where
                 continue;
             }
             let spawned = scope.spawn(move || connect(rt, commons, gate, number, shared));
-            if spawned.is_err() {
-                shared.settle(rt);
-            }
-            match shared.settled(rt) {
-                None => taken = number,
-                Some(socket) => {
-                    commons.dismiss();
-                    commons.refuse(gate, &Untaken::Thread, &socket);
-                }
+            if commons.has_threads(rt, gate, shared, spawned.is_ok()) {
+                taken = number;
             }
         }
         Ok(())
@@ -71,27 +64,53 @@ where
     G: Gate + Sync,
     R: Threads + Wait + Clock + Sync,
 {
-    let Some(socket) = arrival.take(rt) else {
-        return;
-    };
-    if !commons.sockets.enter(rt, number, &socket) {
-        arrival.give_back(rt, socket);
-        return;
+    if let Some(socket) = arrival.take(rt) {
+        if !is_served(rt, commons, gate, number, arrival, &socket) {
+            arrival.give_back(rt, socket);
+        }
+    }
+}
+
+/// Serves a connection to its end. False: it can't be served.
+fn is_served<L, G, R>(
+    rt: &R,
+    commons: &Commons<L>,
+    gate: &G,
+    number: u32,
+    arrival: &Arrival,
+    socket: &TcpStream,
+) -> bool
+where
+    L: LogName + SlotName + Send + Sync,
+    G: Gate + Sync,
+    R: Threads + Wait + Clock + Sync,
+{
+    if !commons.sockets.enter(rt, number, socket) {
+        return false;
     }
     let line = Line::new(commons.alloc);
-    let read = both(rt, commons, gate, number, arrival, &line, &socket);
+    let read = both(rt, commons, gate, number, arrival, &line, socket);
     commons.sockets.leave(rt, number);
+    let early = end_line(rt, commons, line);
+    let Some(end) = read else {
+        return false;
+    };
+    commons.dismiss();
+    gate.ended(number, why(early, end));
+    true
+}
+
+/// Ends a line with the stream that was never written, and answers why another could not be written to its end, if it could not.
+fn end_line<L: LogName + SlotName, R: Wait>(
+    rt: &R,
+    commons: &Commons<L>,
+    line: Line<Box<Stream<L>>>,
+) -> Option<ConnectionEnd> {
     let (unwritten, early) = line.end();
     if let Some(unwritten) = unwritten {
         end_stream(rt, commons, unwritten);
     }
-    match read {
-        Some(end) => {
-            commons.dismiss();
-            gate.ended(number, why(early, end));
-        }
-        None => arrival.give_back(rt, socket),
-    }
+    early
 }
 
 /// Why a connection ended: where its stream could not go on, that, and else what its reading thread has seen.

@@ -38,31 +38,60 @@ pub(crate) fn write_line<L: LogName + SlotName, R: Wait + Clock>(write: &WriteLo
 fn write_step<L: LogName + SlotName, R: Wait + Clock>(
     write: &WriteLoop<'_, L, R>,
 ) -> Result<(), ConnectionEnd> {
-    let mut to = write.socket;
     let mut work = write.line.take(write.rt);
-    say(&work, &mut to)?;
-    work.said.clear();
-    if work.phase == Phase::Idle || work.phase == Phase::Startup {
-        return Ok(());
-    }
-    let Some(mut stream) = write.line.take_stream(write.rt) else {
+    say_first(write, &mut work)?;
+    let Some(stream) = stream_of(write, &work) else {
         return Ok(());
     };
-    let post = write.commons.post_at(Some(stream.place()));
-    let written = match post {
-        Some(post) => write_begun(write, post, &mut stream, work),
-        None => Err(ConnectionEnd::Lost),
-    };
-    end_stream(write.rt, write.commons, stream);
-    let ended = match post {
-        Some(post) if post.end(write.rt) => Err(ConnectionEnd::Cut),
-        _ => written,
-    };
+    let ended = write_whole(write, stream, work);
     match ended {
         Ok(()) => write.line.end_stream(write.rt),
         Err(end) => write.line.end_early(write.rt, end),
     }
     ended
+}
+
+/// Writes what is said before all else.
+fn say_first<L: LogName + SlotName, R: Wait>(
+    write: &WriteLoop<'_, L, R>,
+    work: &mut Work,
+) -> Result<(), ConnectionEnd> {
+    let mut to = write.socket;
+    say(work, &mut to)?;
+    work.said.clear();
+    Ok(())
+}
+
+/// The stream that began with what was said, if one did.
+fn stream_of<L: LogName + SlotName, R: Wait>(
+    write: &WriteLoop<'_, L, R>,
+    work: &Work,
+) -> Option<Box<Stream<L>>> {
+    if work.phase == Phase::Idle || work.phase == Phase::Startup {
+        return None;
+    }
+    write.line.take_stream(write.rt)
+}
+
+/// Writes a stream from its beginning, and answers why it could not be written to its end.
+fn write_whole<L: LogName + SlotName, R: Wait + Clock>(
+    write: &WriteLoop<'_, L, R>,
+    mut stream: Box<Stream<L>>,
+    work: Work,
+) -> Result<(), ConnectionEnd> {
+    let post = write.commons.post_at(Some(stream.place()));
+    let written = match post {
+        Some(post) => write_begun(write, post, &mut stream, work),
+        None => {
+            drop(work);
+            Err(ConnectionEnd::Lost)
+        }
+    };
+    end_stream(write.rt, write.commons, stream);
+    match post {
+        Some(post) if post.end(write.rt) => Err(ConnectionEnd::Cut),
+        _ => written,
+    }
 }
 
 /// Writes a stream that has begun, and answers why it could not be written to its end.
