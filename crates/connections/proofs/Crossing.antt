@@ -16,7 +16,6 @@ use Rattle.connections.specs.contracts.arrival.Arriving as arriving
 use Rattle.connections.specs.contracts.hold.Hold as hold
 use Rattle.connections.specs.contracts.inbox.Inbox as inbox
 use Rattle.connections.specs.contracts.latch.Latch as latch
-use Rattle.connections.specs.contracts.line.Line as line
 use Rattle.connections.specs.contracts.slot_post.KnownSlot as known
 use Rattle.connections.specs.contracts.slot_post.SlotPost as post
 use Rattle.connections.specs.contracts.sockets.ServedSocket as served
@@ -37,16 +36,6 @@ arrival_sync = declared_sync arrival.the_type (search (arriving_send, heap.cross
 
 pub latch_sync : IsSync latch.the_row
 latch_sync = declared_sync latch.the_type (search (heap.crosses, sendable) depth 20, (search (heap.crosses, sendable) depth 10, tt))
-
--- of a stream that crosses
-pub line_sync : (S : RattleType) → IsSend S → IsSync (line.the_row S)
-line_sync S stream = declared_sync (line.the_type S) (
-  heap.sync,
-  (
-    search (inbox_send, heap.crosses, sendable) depth 10,
-    (search (stream, heap.crosses, sendable) depth 10, (search (heap.crosses, sendable) depth 10, (search (heap.crosses, sendable) depth 10, tt))),
-  ),
-)
 
 known_send : IsSend known.the_row
 known_send = declared_send known.the_type (

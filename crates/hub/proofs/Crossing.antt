@@ -6,9 +6,9 @@ use denote.Struct.Field.{row_field}
 use denote.Struct.Tuple.{TupleAt, type_at, parts}
 use denote.Param.Send.{IsSend, IsSync, AllSend, sendable, view_send}
 use denote.Param.SendFields.{FieldsHave, declared_send, declared_sync, as_row_send}
-use Rattle.std_alloc.specs.contracts.boxed.Box as Box
-use Rattle.std_heap.specs.contracts.Global as Heap
-use Rattle.std_heap.specs.contracts.GlobalAllocator.TheImpl.{ghosts}
+use Rattle.std.specs.contracts.alloc.Global as Heap
+use Rattle.std.specs.contracts.boxed.Box as Box
+use Rattle.std.specs.contracts.impls.GlobalAllocator.TheImpl.{ghosts}
 use Rattle.std.proofs.Crossing as heap
 use Rattle.shared_log.specs.declared.name.LogName as log_name
 use Rattle.shared_log.proofs.reader.LogReader.TheSendSync as reader
@@ -19,7 +19,7 @@ use Rattle.sender.specs.contracts.sender.Sender as sender
 use Rattle.sender.specs.contracts.sender.Sender.TheInside as inside
 use Rattle.walsender.specs.contracts.walsender.Walsender as walsender
 use Rattle.connections.specs.contracts.line.Line as line
-use Rattle.connections.proofs.Crossing.{arrival_sync, hold_send, line_sync}
+use Rattle.connections.proofs.Crossing.{arrival_sync, hold_send, inbox_send}
 use Rattle.commons.proofs.Crossing.{commons_sync, selection_send}
 use Rattle.hub.specs.contracts.streaming.Stream as stream
 use Rattle.hub.specs.contracts.hub.Hub as hub
@@ -47,9 +47,19 @@ module _ (L : RattleType) (s : slot_name.Ghosts L.Denot) (l : log_name.Ghosts L.
   stream_send : IsSend (stream.the_row L s l)
   stream_send = declared_send (stream.the_type L s l) (search sendable, (walsender_send, (hold_send L s, (search sendable, (search sendable, (search sendable, (search sendable, tt)))))))
 
+  -- a stream in memory of its own
+  abbrev begun : RattleType
+  begun = Box.the_row (stream.the_row L s l) Heap.the_row ghosts
+
   -- what the two threads of a connection have in common
-  pub begun_sync : IsSync (line.the_row (Box.the_row (stream.the_row L s l) Heap.the_row ghosts))
-  begun_sync = line_sync (Box.the_row (stream.the_row L s l) Heap.the_row ghosts) (heap.Box-send (stream.the_row L s l) stream_send)
+  pub line_sync : IsSync (line.the_row begun)
+  line_sync = declared_sync (line.the_type begun) (
+    heap.sync,
+    (
+      search (inbox_send, heap.crosses, sendable) depth 10,
+      (search (stream_send, heap.crosses, sendable) depth 10, (search (heap.crosses, sendable) depth 10, (search (heap.crosses, sendable) depth 10, tt))),
+    ),
+  )
 
   pub hub_sync : IsSync (hub.the_row L s l)
   hub_sync = declared_sync (hub.the_type L s l) (commons_sync L s l, tt)
@@ -58,4 +68,4 @@ module _ (L : RattleType) (s : slot_name.Ghosts L.Denot) (l : log_name.Ghosts L.
 pub ruleset crosses = (closure_send, both, hub_sync, sendable)
 
 -- what those need that serve from it
-pub ruleset serving = (closure_send, both, commons_sync, begun_sync, arrival_sync, sendable)
+pub ruleset serving = (closure_send, both, commons_sync, line_sync, arrival_sync, sendable)
