@@ -86,12 +86,21 @@ impl<'h, L: LogName + SlotName, R: Wait> Transaction<'h, L, R> {
         E: From<SessionFault> + Drop,
     {
         let Savepoint { depth } = savepoint;
-        if done.is_ok() {
-            self.publisher.release(&mut self.tx, depth)?;
-        } else {
-            self.publisher.rollback_to(self.rt, &mut self.tx, depth)?;
+        match self.leave_savepoint(depth, done.is_ok()) {
+            Ok(()) => done,
+            Err(fault) => {
+                drop(done);
+                Err(E::from(fault))
+            }
         }
-        done
+    }
+
+    fn leave_savepoint(&mut self, depth: u32, stays: bool) -> Result<(), SessionFault> {
+        if stays {
+            self.publisher.release(&mut self.tx, depth)
+        } else {
+            self.publisher.rollback_to(self.rt, &mut self.tx, depth)
+        }
     }
 
     /// Ends the transaction with what came of its work. At `Ok` it commits at this time, in microseconds since 2000-01-01, and
@@ -107,13 +116,20 @@ impl<'h, L: LogName + SlotName, R: Wait> Transaction<'h, L, R> {
             publisher,
             tx,
         } = self;
-        if done.is_ok() {
-            let receipt = commit(rt, publisher, tx, time)?;
-            commons.tell(rt, receipt);
-        } else {
+        if done.is_err() {
             abort(rt, publisher, tx);
+            return done;
         }
-        done
+        match commit(rt, publisher, tx, time) {
+            Ok(receipt) => {
+                commons.tell(rt, receipt);
+                done
+            }
+            Err(fault) => {
+                drop(done);
+                Err(E::from(fault))
+            }
+        }
     }
 }
 
