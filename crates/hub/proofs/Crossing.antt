@@ -68,4 +68,4 @@ module _ (L : RattleType) (s : slot_name.Ghosts L.Denot) (l : log_name.Ghosts L.
 pub ruleset crosses = (closure_send, both, hub_sync, sendable)
 
 -- what those need that serve from it
-pub ruleset serving = (closure_send, both, commons_sync, line_sync, arrival_sync, sendable)
+pub ruleset serves = (closure_send, both, commons_sync, line_sync, arrival_sync, sendable)
