@@ -28,21 +28,33 @@ impl<'a> fmt::Display for RefusedCommand<'a> {
     fn fmt<W: fmt::Write>(&self, f: &mut fmt::Formatter<W>) -> fmt::Result {
         match self {
             RefusedCommand::Text(text, fault) => {
-                for character in text.chars().take(MOST_CHARACTERS) {
-                    write!(f, "{}", character.escape_debug())?;
-                }
+                write_text(f, text)?;
                 write!(f, ": {fault}")
             }
             RefusedCommand::OfSlot(command, slot, fault) => {
                 write!(f, "{command} of slot {slot}: {fault}")
             }
-            RefusedCommand::Start(slot, names, fault) => {
-                write!(f, "START_REPLICATION of slot {slot}")?;
-                write_names(f, names)?;
-                write!(f, ": {fault}")
-            }
+            RefusedCommand::Start(slot, names, fault) => write_start(f, slot, names, *fault),
         }
     }
+}
+
+fn write_text<W: fmt::Write>(f: &mut fmt::Formatter<W>, text: &str) -> fmt::Result {
+    for character in text.chars().take(MOST_CHARACTERS) {
+        write!(f, "{}", character.escape_debug())?;
+    }
+    Ok(())
+}
+
+fn write_start<W: fmt::Write>(
+    f: &mut fmt::Formatter<W>,
+    slot: &str,
+    names: &[Text],
+    fault: DeskFault,
+) -> fmt::Result {
+    write!(f, "START_REPLICATION of slot {slot}")?;
+    write_names(f, names)?;
+    write!(f, ": {fault}")
 }
 
 fn write_names<W: fmt::Write>(f: &mut fmt::Formatter<W>, names: &[Text]) -> fmt::Result {

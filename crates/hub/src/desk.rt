@@ -1,9 +1,10 @@
 //! The desk of a connection over the hub.
 
-use crate::hub::Hub;
-use crate::line::Line;
-use crate::published::{known_names, tables_of};
-use connections::{Gate, RefusedCommand};
+use crate::granting::{begin_stream, end_stream};
+use crate::starting::HubStart;
+use crate::streaming::Stream;
+use commons::{Commons, known_names, tables_of};
+use connections::{Gate, Line, RefusedCommand};
 use pqformat::{Items, Text};
 use replcmd::{CmdFault, StreamOptions};
 use server::{Desk, DeskFault, TableName};
@@ -16,8 +17,8 @@ use std::sync::Wait;
 #[derive(Drop)]
 pub(crate) struct HubDesk<'h, L: LogName + SlotName, R: Wait, G: Gate> {
     pub rt: &'h R,
-    pub hub: &'h Hub<L>,
-    pub line: &'h Line<L>,
+    pub commons: &'h Commons<L>,
+    pub line: &'h Line<Box<Stream<L>>>,
     pub gate: &'h G,
     /// The connection's number.
     pub number: u32,
@@ -40,15 +41,15 @@ impl<'h, L: LogName + SlotName, R: Wait, G: Gate> Desk for HubDesk<'h, L, R, G> 
     ghost told = { λ old call new. Unit {0} };
 
     fn end(&mut self) -> u64 {
-        self.hub.end_of_log(self.rt)
+        self.commons.end_of_log(self.rt)
     }
 
     fn systemid(&self) -> &str {
-        self.hub.system.as_str()
+        self.commons.system.as_str()
     }
 
     fn create(&mut self, slot: &str) -> Result<u64, DeskFault> {
-        let created = self.hub.create_slot(self.rt, slot);
+        let created = self.commons.create_slot(self.rt, slot);
         if let Err(fault) = &created {
             let what = RefusedCommand::OfSlot("CREATE_REPLICATION_SLOT", slot, *fault);
             self.gate.refused(self.number, &what);
@@ -57,24 +58,32 @@ impl<'h, L: LogName + SlotName, R: Wait, G: Gate> Desk for HubDesk<'h, L, R, G> 
     }
 
     fn drop_slot(&mut self, slot: &str) -> Result<(), DeskFault> {
-        let dropped = self.hub.drop_slot(self.rt, slot);
+        let dropped = self.commons.drop_slot(self.rt, slot);
         self.tell_drop(slot, &dropped);
         dropped
     }
 
     fn publications(&mut self, names: &Items<Text>) -> Result<Items<Text>, DeskFault> {
-        match known_names(self.hub.alloc, &self.hub.publications, names.as_slice()) {
+        match known_names(
+            self.commons.alloc,
+            &self.commons.publications,
+            names.as_slice(),
+        ) {
             Ok(known) => Ok(known),
             Err(_) => Err(DeskFault::Memory),
         }
     }
 
     fn tables(&mut self, names: &Items<Text>) -> Result<Items<TableName>, DeskFault> {
-        tables_of(self.hub.alloc, &self.hub.publications, names.as_slice())
+        tables_of(
+            self.commons.alloc,
+            &self.commons.publications,
+            names.as_slice(),
+        )
     }
 
     fn drop_when_free(&mut self, slot: &str) -> Result<(), DeskFault> {
-        let dropped = self.hub.drop_when_free(self.rt, slot);
+        let dropped = self.commons.drop_when_free(self.rt, slot);
         self.tell_drop(slot, &dropped);
         dropped
     }
@@ -85,11 +94,18 @@ impl<'h, L: LogName + SlotName, R: Wait, G: Gate> Desk for HubDesk<'h, L, R, G> 
         position: u64,
         options: &StreamOptions,
     ) -> Result<(), DeskFault> {
-        match self.hub.begin(self.rt, slot, position, options) {
+        let mut start = HubStart {
+            rt: self.rt,
+            commons: self.commons,
+            slot,
+            options,
+            position,
+        };
+        match begin_stream(&mut start) {
             Ok(stream) => {
                 self.latch = Some(stream.latch());
                 if let Some(unwritten) = self.line.begin(self.rt, stream) {
-                    self.hub.end(self.rt, unwritten);
+                    end_stream(self.rt, self.commons, unwritten);
                 }
                 Ok(())
             }
@@ -112,7 +128,7 @@ impl<'h, L: LogName + SlotName, R: Wait, G: Gate> Desk for HubDesk<'h, L, R, G> 
             return;
         }
         if let Some(latch) = self.latch {
-            self.hub.tell_work(self.rt, latch);
+            self.commons.tell_work(self.rt, latch);
         }
     }
 }

@@ -9,8 +9,8 @@ ghost use Rattle.slots.specs.Rule.{slot_step, with_step};
 ghost use Rattle.slots.specs.Standings.{held_by};
 ghost use Rattle.slots.specs.declared.step.SlotKind.TheVariants.{Claim, Read};
 
-use crate::pool::Pair;
 use chgarena::Arena;
+use commons::Pair;
 use connections::Hold;
 use pqformat::Text;
 use publication::Selection;
@@ -43,8 +43,13 @@ impl<'a> Means<'a> {
             ≡ asked_for self.now.publications.now self.now.names.now self.now.options.now) }
     {
         let selection = self.publications.select(self.names)?;
-        let arena = Arena::new(self.alloc, self.chunks as usize)?;
-        Ok((selection.with_messages(self.options.messages), arena))
+        match Arena::new(self.alloc, self.chunks as usize) {
+            Ok(arena) => Ok((selection.with_messages(self.options.messages), arena)),
+            Err(_) => {
+                drop(selection);
+                Err(PubFault::Memory)
+            }
+        }
     }
 
     /// Begins at the position, or at a later one that the slot has confirmed. The reader goes to where it begins to read for that, in
@@ -75,16 +80,19 @@ impl<'a> Means<'a> {
             return Err(ClaimFault::Memory);
         };
         let start = position.max(hold.confirmed(slots));
-        let first = match reader.resume(start, LIMIT) {
-            Ok(first) => first,
-            Err(_) => return Err(ClaimFault::NoEntry),
-        };
-        Ok(Beginning {
-            selection,
-            start,
-            first,
-            arena,
-        })
+        match reader.resume(start, LIMIT) {
+            Ok(first) => Ok(Beginning {
+                selection,
+                start,
+                first,
+                arena,
+            }),
+            Err(_) => {
+                drop(selection);
+                drop(arena);
+                Err(ClaimFault::NoEntry)
+            }
+        }
     }
 }
 

@@ -1,54 +1,20 @@
-//! What the connections of a publisher share.
+//! What the connections of a publisher are served from, for whoever runs it.
 
 ghost use Rattle.std.specs.Prelude.{◌≡◌};
-ghost use Rattle.hub.specs.Streams.{HasLearnt};
 
-use crate::commit_notice::CommitNotice;
-use crate::fault::HubFault;
-use crate::line::Line;
-use crate::opened::OpenedHub;
-use crate::pool::Pool;
-use crate::settings::HubSettings;
-use crate::shared::{Places, Shared};
-use crate::streaming::Stream;
-use crate::system::SystemName;
-use connections::{Latch, Names, SlotPost, Sockets};
-use publications::Publications;
-use server::{Dialect, Service};
-use shared_log::{LogName, LogReader};
-use slots::{SlotName, SlotTable};
-use std::alloc::Global;
-use std::sync::atomic::{AtomicBool, AtomicU32, AtomicU64, Ordering};
-use std::sync::{Condvar, Mutex, Wait};
-use std::time::{Clock, Duration};
-use txlog::{Publisher, Receipt};
+use commons::{Commons, HubFault, HubStatus, OpenedHub, SteerFault, Transaction};
+use shared_log::LogName;
+use slots::SlotName;
+use std::alloc::{AllocError, Global};
+use std::sync::{Mutex, Wait};
+use std::time::Clock;
+use txlog::{Publisher, Receipt, SessionFault};
 
 /// What the connections of a publisher share: its log and rows, its slots, its publications, and what commits and notes tell.
 ///
 /// `OpenedHub::new` and `Hub::open` make one, and `serve` serves connections from it. It isn't `Drop`: `close` ends it.
 pub struct Hub<L: LogName + SlotName> {
-    pub(crate) alloc: Global,
-    pub(crate) publications: Publications,
-    pub(crate) system: SystemName,
-    pub(crate) settings: HubSettings,
-    pub(crate) publisher: Mutex<Publisher<L>>,
-    pub(crate) slots: SlotTable<L>,
-    pub(crate) pool: Mutex<Pool<L>>,
-    pub(crate) names: Mutex<Names<L>>,
-    notice: Mutex<CommitNotice<L>>,
-    /// One for each stream that may run.
-    latches: Vec<Latch>,
-    /// How many connections are served.
-    pub(crate) served: AtomicU32,
-    pub(crate) streams_begun: AtomicU64,
-    no_more_streams: AtomicBool,
-    /// A stream has begun, or none will.
-    changed: Condvar,
-    /// One for each place of a slot.
-    pub(crate) posts: Vec<SlotPost>,
-    pub(crate) sockets: Sockets,
-    /// A reader that reads nothing: the log tells it how many records there are.
-    pub(crate) counter: Mutex<LogReader<L>>,
+    pub(crate) commons: Commons<L>,
 }
 
 impl<L: LogName + SlotName> Hub<L> {
@@ -57,245 +23,131 @@ impl<L: LogName + SlotName> Hub<L> {
         requires log { opened.log.history.seen.book ≡ L.book }
         requires slots { opened.slots.first.table_id ≡ L.table }
     {
-        let OpenedHub {
-            alloc,
-            publications,
-            system,
-            log,
-            slots,
-            settings,
-        } = opened;
-        match Shared::open(rt, alloc, log, slots) {
-            Ok(shared) => Ok(Hub::of(shared, alloc, publications, system, settings)),
-            Err(fault) => {
-                drop(publications);
-                drop(system);
-                Err(fault)
-            }
-        }
-    }
-
-    /// A hub of these parts, which no connection has reached yet.
-    fn of(
-        shared: Shared<L>,
-        alloc: Global,
-        publications: Publications,
-        system: SystemName,
-        settings: HubSettings,
-    ) -> Self
-        ensures { (result.publications ≡ publications) × (result.system ≡ system)
-            × (result.settings ≡ settings) }
-    {
-        let Shared {
-            places,
-            publisher,
-            pool,
-            counter,
-        } = shared;
-        let Places {
-            table,
-            seat,
-            latches,
-            posts,
-        } = places;
-        Hub {
-            alloc,
-            publications,
-            system,
-            settings,
-            publisher: Mutex::new(publisher),
-            slots: table,
-            pool: Mutex::new(pool),
-            names: Mutex::new(Names::new(alloc, seat)),
-            notice: Mutex::new(CommitNotice::new()),
-            latches,
-            served: AtomicU32::new(0),
-            streams_begun: AtomicU64::new(0),
-            no_more_streams: AtomicBool::new(false),
-            changed: Condvar::new(),
-            posts,
-            sockets: Sockets::new(alloc),
-            counter: Mutex::new(counter),
+        match Commons::open(rt, opened) {
+            Ok(commons) => Ok(Hub { commons }),
+            Err(fault) => Err(fault),
         }
     }
 
     /// Ends the log. Transactions in progress are left as they are.
     pub fn close<R: Wait>(self, rt: &R) {
-        let Hub {
-            alloc: _,
-            publications: _,
-            system: _,
-            settings: _,
-            publisher,
-            slots: _,
-            pool: _,
-            names: _,
-            notice: _,
-            latches: _,
-            served: _,
-            streams_begun: _,
-            no_more_streams: _,
-            changed: _,
-            posts: _,
-            sockets: _,
-            counter: _,
-        } = self;
-        publisher.into_inner().close(rt);
+        let Hub { commons } = self;
+        commons.close(rt);
     }
 
     /// Where its memory comes from.
     pub fn alloc(&self) -> Global {
-        self.alloc
+        self.commons.alloc
     }
+
+    // ---- what is written
 
     /// What sessions call, one thread at a time. Each receipt of a commit goes to `tell`, and where the log ends behind a note to
     /// `tell_note`.
     pub fn publisher(&self) -> &Mutex<Publisher<L>> {
-        &self.publisher
+        &self.commons.publisher
     }
-
-    /// How the connection of this number is served.
-    pub(crate) fn service(&self, number: u32) -> Service {
-        let dialect = if self.settings.answers_postgresql {
-            Dialect::Questions
-        } else {
-            Dialect::Commands
-        };
-        Service { number, dialect }
-    }
-
-    /// For how long a read of a connection waits: half of the time for which the client of a stream may be silent.
-    pub(crate) fn silence(&self) -> Option<Duration> {
-        if self.settings.wal_sender_timeout.is_zero() {
-            return None;
-        }
-        Some(self.settings.wal_sender_timeout / 2)
-    }
-
-    /// By when on this clock a connection that begins now has to have said its startup.
-    pub(crate) fn startup_until<R: Clock>(&self, rt: &R) -> Option<Duration> {
-        if self.settings.authentication_timeout.is_zero() {
-            return None;
-        }
-        rt.monotonic()
-            .ok()?
-            .checked_add(self.settings.authentication_timeout)
-    }
-
-    /// One more connection is served, unless as many are as may be at once.
-    pub(crate) fn admit(&self) -> bool {
-        let before = self.served.fetch_add(1, Ordering::SeqCst);
-        if self.settings.max_connections <= before {
-            self.dismiss();
-            return false;
-        }
-        true
-    }
-
-    /// A connection is served no more.
-    pub(crate) fn dismiss(&self) {
-        self.served.fetch_sub(1, Ordering::SeqCst);
-    }
-
-    // ---- what threads wait for
 
     /// A commit leaves its receipt: streams read on up to it, at least.
     pub fn tell<R: Wait>(&self, rt: &R, receipt: Receipt<L>) {
-        let mut notice = self.notice.lock(rt);
-        notice.publish(receipt);
-        let end = notice.end();
-        drop(notice);
-        self.wake(rt, end);
+        self.commons.tell(rt, receipt);
     }
 
     /// A note leaves where the log ended right behind it, and no receipt: streams read on up to there, at least.
     pub fn tell_note<R: Wait>(&self, rt: &R, end: u64) {
-        let mut notice = self.notice.lock(rt);
-        notice.note(end);
-        let end = notice.end();
-        drop(notice);
-        self.wake(rt, end);
+        self.commons.tell_note(rt, end);
     }
 
-    /// Wakes each stream that hasn't read up to this position.
-    fn wake<R: Wait>(&self, rt: &R, end: u64) {
-        for latch in &self.latches {
-            latch.tell_end(rt, end);
-        }
+    /// Begins a transaction, once no other is in progress by this way.
+    pub fn transaction<'h, R: Wait>(
+        &'h self,
+        rt: &'h R,
+    ) -> Result<Transaction<'h, L, R>, SessionFault> {
+        self.commons.transaction(rt)
     }
 
-    /// The connection of the stream with this latch has something to do.
-    pub(crate) fn tell_work<R: Wait>(&self, rt: &R, latch: usize) {
-        if let Some(latch) = self.latches.get(latch) {
-            latch.tell_work(rt);
-        }
+    /// Writes a message outside of all transactions, and answers the position where its record starts. S13, S6, S7, S11 in this
+    /// order, and then nobody hears of it. Streams that ask for messages send it at once, whatever transactions do.
+    ///
+    /// It waits until no `Transaction` is in progress, so a thread that has one ends it first.
+    pub fn note<R: Wait>(&self, rt: &R, prefix: &str, content: &[u8]) -> Result<u64, SessionFault> {
+        self.commons.note(rt, prefix, content)
     }
 
-    /// Waits until a stream or its connection has something to do and it isn't held, and tells the stream of the latest commit.
-    pub(crate) fn await_stream<R: Wait>(
-        &self,
-        rt: &R,
-        line: &Line<L>,
-        post: &SlotPost,
-        stream: &mut Stream<L>,
-    )
-        ensures learnt { HasLearnt stream.old.walsender stream.new.walsender }
-        ensures hold { stream.new.hold ≡ stream.old.hold }
-    {
-        if let Some(latch) = self.latches.get(stream.latch()) {
-            latch.wait(rt, stream.position());
-        }
-        self.await_release(rt, line, post, stream.latch());
-        self.inform(rt, stream);
-    }
-
-    /// Waits while the stream with this latch is held on purpose, unless its connection is over.
-    pub(crate) fn await_release<R: Wait>(
-        &self,
-        rt: &R,
-        line: &Line<L>,
-        post: &SlotPost,
-        latch: usize,
-    ) {
-        let Some(latch) = self.latches.get(latch) else {
-            return;
-        };
-        for _ in rt.forever() {
-            if !post.is_held(rt) || line.is_closed(rt) {
-                break;
-            }
-            latch.wait_for_work(rt);
-        }
-    }
-
-    /// Wakes those that wait for streams to begin. Whoever looked before waits by now, since it looks under the lock.
-    pub(crate) fn signal<R: Wait>(&self, rt: &R) {
-        drop(self.notice.lock(rt));
-        self.changed.notify_all();
-    }
+    // ---- what runs
 
     /// Waits until so many streams have begun since the hub was opened, or `end_awaiting` was called. What is committed then
     /// reaches those streams.
     pub fn await_streams<R: Wait>(&self, rt: &R, count: u64) {
-        drop(
-            self.changed.wait_while(rt, self.notice.lock(rt), |_| {
-                self.streams_begun.load(Ordering::SeqCst) < count
-                    && !self.no_more_streams.load(Ordering::SeqCst)
-            }),
-        );
+        self.commons.await_streams(rt, count);
     }
 
     /// Nobody awaits streams from now on, since no more connections come.
     pub fn end_awaiting<R: Wait>(&self, rt: &R) {
-        self.no_more_streams.store(true, Ordering::SeqCst);
-        self.signal(rt);
+        self.commons.end_awaiting(rt);
     }
 
-    /// Tells the stream of the latest commit.
-    pub(crate) fn inform<R: Wait>(&self, rt: &R, stream: &mut Stream<L>)
-        ensures learnt { HasLearnt stream.old.walsender stream.new.walsender }
-        ensures hold { stream.new.hold ≡ stream.old.hold }
-    {
-        stream.learn(&*self.notice.lock(rt));
+    /// What is served now. The parts are looked at one after the other, so connections may have gone on in between.
+    pub fn status<R: Wait + Clock>(&self, rt: &R) -> Result<HubStatus, AllocError> {
+        self.commons.status(rt)
+    }
+
+    // ---- how streams are steered on purpose, as tests of their clients need it
+
+    /// Waits until the slot of this name is confirmed at this position or further. L1 where there is none, or it is dropped, or the
+    /// server ends meanwhile.
+    pub fn await_confirmed<R: Wait>(
+        &self,
+        rt: &R,
+        slot: &str,
+        position: u64,
+    ) -> Result<(), SteerFault> {
+        self.commons.await_confirmed(rt, slot, position)
+    }
+
+    /// Nothing of the slot's stream is written any more, nor of those that come, until it is let go; statuses are read all the same.
+    /// L1.
+    pub fn hold_stream<R: Wait>(&self, rt: &R, slot: &str) -> Result<(), SteerFault> {
+        self.commons.hold_stream(rt, slot)
+    }
+
+    /// The slot's stream goes on. L1.
+    pub fn resume_stream<R: Wait>(&self, rt: &R, slot: &str) -> Result<(), SteerFault> {
+        self.commons.resume_stream(rt, slot)
+    }
+
+    /// A keepalive asks the client of the slot's stream for an answer: at once, or as its next stream begins. L1.
+    pub fn ask_stream<R: Wait>(&self, rt: &R, slot: &str) -> Result<(), SteerFault> {
+        self.commons.ask_stream(rt, slot)
+    }
+
+    /// Cuts the connection of the slot's stream, or of its next one, behind so many more bytes: in the middle of a frame, where they
+    /// end in one. Behind none it is cut at once, between two frames. The stream after that isn't cut. L1.
+    pub fn cut_stream<R: Wait>(&self, rt: &R, slot: &str, bytes: u64) -> Result<(), SteerFault> {
+        self.commons.cut_stream(rt, slot, bytes)
+    }
+
+    // ---- how the server ends
+
+    /// From now on no connection is served but those that are. Each stream sends what is held and what the log has, and CopyDone;
+    /// then its connection is closed, and each other one at once. `serve` returns once its listener gave one more socket and all
+    /// connections have ended.
+    pub fn shut_down<R: Wait>(&self, rt: &R) {
+        self.commons.shut_down(rt);
+    }
+
+    /// Whether `shut_down` was called.
+    pub fn is_ending(&self) -> bool {
+        self.commons.is_ending()
+    }
+
+    /// Whether no connection is served.
+    pub fn is_deserted<R: Wait>(&self, rt: &R) -> bool {
+        self.commons.is_deserted(rt)
+    }
+
+    /// Closes the connections that are served, whatever is still held for them.
+    pub fn cut_off<R: Wait>(&self, rt: &R) {
+        self.commons.cut_off(rt);
     }
 }

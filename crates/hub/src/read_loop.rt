@@ -4,24 +4,16 @@ ghost use Rattle.std.specs.Prelude.{◌≡◌};
 ghost use Rattle.server.specs.Segment.{phase_of};
 
 use crate::desk::HubDesk;
-use crate::hub::Hub;
-use crate::line::Line;
+use crate::streaming::Stream;
 use bytes::BytesMut;
-use connections::{ConnectionEnd, Gate};
+use commons::Commons;
+use connections::{Came, ConnectionEnd, Gate, Line, limit_wait, read_more};
 use server::{Connection, Phase};
 use shared_log::LogName;
 use slots::SlotName;
-use std::io;
-use std::io::{ErrorKind, Read};
 use std::net::TcpStream;
 use std::sync::Wait;
 use std::time::{Clock, Duration};
-
-/// How many bytes are read at once.
-const MOST_READ: usize = 1024;
-
-/// The fewest milliseconds for which a read waits: a socket takes none for no limit.
-const SHORTEST_WAIT: u64 = 1;
 
 /// How far a connection is.
 #[derive(Drop)]
@@ -39,20 +31,12 @@ struct ReadState {
     startup_until: Option<Duration>,
 }
 
-/// Whether a read brought anything.
-#[derive(Clone, Copy, PartialEq, Eq)]
-enum Came {
-    Bytes,
-    /// It gave up.
-    Nothing,
-}
-
 /// What a reading thread is passed.
 #[derive(Drop)]
 pub(crate) struct ReadLoop<'h, L: LogName + SlotName, R: Wait, G: Gate> {
     pub rt: &'h R,
-    pub hub: &'h Hub<L>,
-    pub line: &'h Line<L>,
+    pub commons: &'h Commons<L>,
+    pub line: &'h Line<Box<Stream<L>>>,
     pub gate: &'h G,
     pub number: u32,
     pub socket: &'h TcpStream,
@@ -63,12 +47,12 @@ pub(crate) fn read_line<L: LogName + SlotName, R: Wait + Clock, G: Gate>(
     read: &ReadLoop<'_, L, R, G>,
 ) -> ConnectionEnd {
     let mut state = ReadState {
-        connection: Connection::served(read.hub.alloc, read.hub.service(read.number)),
+        connection: Connection::served(read.commons.alloc, read.commons.service(read.number)),
         commands: 0,
         posted: Phase::Startup,
         latch: None,
         is_asked: false,
-        startup_until: read.hub.startup_until(read.rt),
+        startup_until: read.commons.startup_until(read.rt),
     };
     let mut end = ConnectionEnd::Client;
     for _ in read.rt.forever() {
@@ -79,7 +63,7 @@ pub(crate) fn read_line<L: LogName + SlotName, R: Wait + Clock, G: Gate>(
     }
     read.line.pass(read.rt, Phase::Closed);
     tell_work(read, state.latch);
-    if end == ConnectionEnd::Client && read.hub.is_ending() {
+    if end == ConnectionEnd::Client && read.commons.is_ending() {
         return ConnectionEnd::ServerEnd;
     }
     end
@@ -102,7 +86,15 @@ fn read_step<L: LogName + SlotName, R: Wait + Clock, G: Gate>(
     if answer(read, state)? {
         return Ok(());
     }
-    limit_wait(read, state)?;
+    let phase = state.connection.phase();
+    let silence = read.commons.silence();
+    limit_wait(
+        read.rt,
+        read.socket,
+        phase,
+        &mut state.startup_until,
+        silence,
+    )?;
     match read_more(&mut state.connection, read.socket)? {
         Came::Bytes => {
             state.is_asked = false;
@@ -110,59 +102,6 @@ fn read_step<L: LogName + SlotName, R: Wait + Clock, G: Gate>(
         }
         Came::Nothing => wait_on(read, state),
     }
-}
-
-/// A read waits no longer than the startup may take yet, and behind it for as long as a client may be silent.
-fn limit_wait<L: LogName + SlotName, R: Wait + Clock, G: Gate>(
-    read: &ReadLoop<'_, L, R, G>,
-    state: &mut ReadState,
-) -> Result<(), ConnectionEnd> {
-    let Some(until) = state.startup_until else {
-        return Ok(());
-    };
-    let wait = if state.connection.phase() == Phase::Startup {
-        Some(left_until(read.rt, until)?)
-    } else {
-        state.startup_until = None;
-        read.hub.silence()
-    };
-    match read.socket.set_read_timeout(wait) {
-        Ok(()) => Ok(()),
-        Err(_) => Err(ConnectionEnd::Lost),
-    }
-}
-
-/// How long a startup may take yet.
-fn left_until<R: Clock>(rt: &R, until: Duration) -> Result<Duration, ConnectionEnd> {
-    match rt.monotonic() {
-        Ok(now) if now < until => {
-            let left = until.saturating_sub(now);
-            Ok(left.max(Duration::from_millis(SHORTEST_WAIT)))
-        }
-        Ok(_) => Err(ConnectionEnd::NoStartup),
-        Err(_) => Err(ConnectionEnd::Lost),
-    }
-}
-
-// The buffer isn't on the stack while a command is answered.
-#[inline(never)]
-fn read_more(connection: &mut Connection, socket: &TcpStream) -> Result<Came, ConnectionEnd> {
-    let mut bytes = [0; MOST_READ];
-    let mut from = socket;
-    match from.read(&mut bytes) {
-        Ok(0) => Err(ConnectionEnd::Client),
-        Ok(count) => {
-            connection.push(&bytes[..count])?;
-            Ok(Came::Bytes)
-        }
-        Err(fault) if gave_up(&fault) => Ok(Came::Nothing),
-        Err(_) => Err(ConnectionEnd::Lost),
-    }
-}
-
-/// Whether a read has only waited for as long as it may.
-fn gave_up(fault: &io::Error) -> bool {
-    matches!(fault.kind(), ErrorKind::WouldBlock | ErrorKind::TimedOut)
 }
 
 /// Nothing came for half of the time for which the client of a stream may be silent: at first it is asked for an answer, and
@@ -188,19 +127,10 @@ fn answer<L: LogName + SlotName, R: Wait, G: Gate>(
     read: &ReadLoop<'_, L, R, G>,
     state: &mut ReadState,
 ) -> Result<bool, ConnectionEnd> {
-    let mut desk = HubDesk {
-        rt: read.rt,
-        hub: read.hub,
-        line: read.line,
-        gate: read.gate,
-        number: read.number,
-        latch: state.latch,
-    };
-    let mut said = BytesMut::new(read.hub.alloc);
-    let Ok(more) = state.connection.answer(&mut desk, &mut said) else {
+    let mut said = BytesMut::new(read.commons.alloc);
+    let Some(more) = answered(read, state, &mut said) else {
         return Err(ConnectionEnd::Memory);
     };
-    state.latch = desk.latch;
     let phase = state.connection.phase();
     let is_refused = phase == Phase::Closed && !said.is_empty();
     post(read, state, said, phase)?;
@@ -208,6 +138,27 @@ fn answer<L: LogName + SlotName, R: Wait, G: Gate>(
         return Err(ConnectionEnd::Refused);
     }
     Ok(more)
+}
+
+/// Whether one was there, with what is said of it. None: there was no memory for that.
+fn answered<L: LogName + SlotName, R: Wait, G: Gate>(
+    read: &ReadLoop<'_, L, R, G>,
+    state: &mut ReadState,
+    said: &mut BytesMut,
+) -> Option<bool> {
+    let mut desk = HubDesk {
+        rt: read.rt,
+        commons: read.commons,
+        line: read.line,
+        gate: read.gate,
+        number: read.number,
+        latch: state.latch,
+    };
+    let Ok(more) = state.connection.answer(&mut desk, said) else {
+        return None;
+    };
+    state.latch = desk.latch;
+    Some(more)
 }
 
 /// Waits for the end of the stream that stops, and has it said.
@@ -219,7 +170,7 @@ fn stop<L: LogName + SlotName, R: Wait, G: Gate>(
 {
     read.line.await_end(read.rt)?;
     state.latch = None;
-    let mut said = BytesMut::new(read.hub.alloc);
+    let mut said = BytesMut::new(read.commons.alloc);
     let Ok(phase) = state.connection.stopped(&mut said) else {
         return Err(ConnectionEnd::Memory);
     };
@@ -252,6 +203,6 @@ fn tell_work<L: LogName + SlotName, R: Wait, G: Gate>(
     latch: Option<usize>,
 ) {
     if let Some(latch) = latch {
-        read.hub.tell_work(read.rt, latch);
+        read.commons.tell_work(read.rt, latch);
     }
 }

@@ -1,14 +1,12 @@
 //! Serving connections: two threads for each.
 
-use crate::fault::ServeFault;
+use crate::granting::end_stream;
 use crate::hub::Hub;
-use crate::line::Line;
 use crate::read_loop::{ReadLoop, read_line};
+use crate::streaming::Stream;
 use crate::write_loop::{WriteLoop, write_line};
-use connections::{
-    Arrival, ConnectionEnd, Gate, Trouble, Untaken, is_of_listener, next_socket, rest,
-    write_trouble,
-};
+use commons::{Commons, ServeFault};
+use connections::{Arrival, ConnectionEnd, Gate, Line};
 use shared_log::LogName;
 use slots::SlotName;
 use std::net::{Shutdown, TcpListener, TcpStream};
@@ -37,109 +35,82 @@ where
     G: Gate + Sync,
     R: Threads + Wait + Clock + Sync,
 {
+    let commons = &hub.commons;
     let arrival = Arrival::new();
     let shared = &arrival;
     thread::scope(thread::scope_env(), rt, |scope| {
         let mut taken = 0;
         for _ in rt.forever() {
-            if connections <= taken || hub.is_ending() {
+            if connections <= taken || commons.is_ending() {
                 break;
             }
             let number = taken + 1;
-            if !arrives(rt, listener, hub, gate, shared)? {
+            if !commons.arrives(rt, listener, gate, shared)? {
                 continue;
             }
-            let spawned = scope.spawn(move || connect(rt, hub, gate, number, shared));
-            if spawned.is_err() {
-                shared.settle(rt);
-            }
-            match shared.settled(rt) {
-                None => taken = number,
-                Some(socket) => {
-                    hub.dismiss();
-                    refuse(hub, gate, &Untaken::Thread, &socket);
-                }
+            let spawned = scope.spawn(move || connect(rt, commons, gate, number, shared));
+            if commons.has_threads(rt, gate, shared, spawned.is_ok()) {
+                taken = number;
             }
         }
         Ok(())
     })
 }
 
-/// Whether a connection came that can be served. The listener rests where it can't give one for now.
-fn arrives<L, G, R>(
-    rt: &R,
-    listener: &TcpListener,
-    hub: &Hub<L>,
-    gate: &G,
-    arrival: &Arrival,
-) -> Result<bool, ServeFault>
-where
-    L: LogName + SlotName,
-    G: Gate,
-    R: Wait + Clock,
-{
-    match next_socket(listener, hub.silence()) {
-        Ok(socket) => {
-            if hub.is_ending() {
-                return Ok(false);
-            }
-            if !hub.admit() {
-                refuse(hub, gate, &Untaken::Crowd, &socket);
-                return Ok(false);
-            }
-            arrival.put(rt, socket);
-            Ok(true)
-        }
-        Err(fault) if is_of_listener(&fault) => Err(ServeFault::Listener(fault)),
-        Err(fault) => {
-            gate.untaken(&Untaken::Accept(fault));
-            rest(rt);
-            Ok(false)
-        }
-    }
-}
-
-/// Tells a client that it can't be served beside the others.
-fn refuse<L: LogName + SlotName, G: Gate>(
-    hub: &Hub<L>,
-    gate: &G,
-    why: &Untaken,
-    socket: &TcpStream,
-) {
-    gate.untaken(why);
-    let mut to = socket;
-    let _ = write_trouble(hub.alloc, Trouble::Crowd, &mut to);
-    let _ = socket.shutdown(Shutdown::Both);
-}
-
 /// Serves the connection that arrived, and closes its socket. Where no second thread is to be had, it goes back.
-fn connect<L, G, R>(rt: &R, hub: &Hub<L>, gate: &G, number: u32, arrival: &Arrival)
+fn connect<L, G, R>(rt: &R, commons: &Commons<L>, gate: &G, number: u32, arrival: &Arrival)
 where
     L: LogName + SlotName + Send + Sync,
     G: Gate + Sync,
     R: Threads + Wait + Clock + Sync,
 {
-    let Some(socket) = arrival.take(rt) else {
-        return;
-    };
-    if !hub.sockets.enter(rt, number, &socket) {
-        arrival.give_back(rt, socket);
-        return;
+    if let Some(socket) = arrival.take(rt) {
+        if !is_served(rt, commons, gate, number, arrival, &socket) {
+            arrival.give_back(rt, socket);
+        }
     }
-    let line = Line::new(hub.alloc);
-    let read = both(rt, hub, gate, number, arrival, &line, &socket);
-    hub.sockets.leave(rt, number);
+}
+
+/// Serves a connection to its end. False: it can't be served.
+fn is_served<L, G, R>(
+    rt: &R,
+    commons: &Commons<L>,
+    gate: &G,
+    number: u32,
+    arrival: &Arrival,
+    socket: &TcpStream,
+) -> bool
+where
+    L: LogName + SlotName + Send + Sync,
+    G: Gate + Sync,
+    R: Threads + Wait + Clock + Sync,
+{
+    if !commons.sockets.enter(rt, number, socket) {
+        return false;
+    }
+    let line = Line::new(commons.alloc);
+    let read = both(rt, commons, gate, number, arrival, &line, socket);
+    commons.sockets.leave(rt, number);
+    let early = end_line(rt, commons, line);
+    let Some(end) = read else {
+        return false;
+    };
+    commons.dismiss();
+    gate.ended(number, why(early, end));
+    true
+}
+
+/// Ends a line with the stream that was never written, and answers why another could not be written to its end, if it could not.
+fn end_line<L: LogName + SlotName, R: Wait>(
+    rt: &R,
+    commons: &Commons<L>,
+    line: Line<Box<Stream<L>>>,
+) -> Option<ConnectionEnd> {
     let (unwritten, early) = line.end();
     if let Some(unwritten) = unwritten {
-        hub.end(rt, unwritten);
+        end_stream(rt, commons, unwritten);
     }
-    match read {
-        Some(end) => {
-            hub.dismiss();
-            gate.ended(number, why(early, end));
-        }
-        None => arrival.give_back(rt, socket),
-    }
+    early
 }
 
 /// Why a connection ended: where its stream could not go on, that, and else what its reading thread has seen.
@@ -153,11 +124,11 @@ fn why(early: Option<ConnectionEnd>, read: ConnectionEnd) -> ConnectionEnd {
 /// Serves a connection by this thread and another, and answers why that ended. None: there is no other.
 fn both<L, G, R>(
     rt: &R,
-    hub: &Hub<L>,
+    commons: &Commons<L>,
     gate: &G,
     number: u32,
     arrival: &Arrival,
-    line: &Line<L>,
+    line: &Line<Box<Stream<L>>>,
     socket: &TcpStream,
 ) -> Option<ConnectionEnd>
 where
@@ -166,12 +137,12 @@ where
     R: Threads + Wait + Clock + Sync,
 {
     thread::scope(thread::scope_env(), rt, |scope| {
-        let spawned = scope.spawn(|| write(rt, hub, line, socket));
+        let spawned = scope.spawn(|| write(rt, commons, line, socket));
         if spawned.is_err() {
             return None;
         }
         arrival.settle(rt);
-        Some(read(rt, hub, line, gate, number, socket))
+        Some(read(rt, commons, line, gate, number, socket))
     })
 }
 
@@ -179,15 +150,15 @@ where
 /// the writing thread doesn't wait in it.
 fn read<L: LogName + SlotName, G: Gate, R: Wait + Clock>(
     rt: &R,
-    hub: &Hub<L>,
-    line: &Line<L>,
+    commons: &Commons<L>,
+    line: &Line<Box<Stream<L>>>,
     gate: &G,
     number: u32,
     socket: &TcpStream,
 ) -> ConnectionEnd {
     let read = ReadLoop {
         rt,
-        hub,
+        commons,
         line,
         gate,
         number,
@@ -202,13 +173,13 @@ fn read<L: LogName + SlotName, G: Gate, R: Wait + Clock>(
 
 fn write<L: LogName + SlotName, R: Wait + Clock>(
     rt: &R,
-    hub: &Hub<L>,
-    line: &Line<L>,
+    commons: &Commons<L>,
+    line: &Line<Box<Stream<L>>>,
     socket: &TcpStream,
 ) {
     let write = WriteLoop {
         rt,
-        hub,
+        commons,
         line,
         socket,
     };

@@ -3,8 +3,7 @@
 ghost use Rattle.std.specs.Prelude.{◌<◌};
 
 use crate::grant::{Means, StreamGrant};
-use crate::hub::Hub;
-use crate::pool::Pair;
+use commons::{Commons, Pair};
 use publications::PubFault;
 use replcmd::StreamOptions;
 use shared_log::LogName;
@@ -16,7 +15,7 @@ use walsender::{ClaimFault, StartDesk};
 #[derive(Drop)]
 pub(crate) struct HubStart<'h, L: LogName + SlotName, R: Wait> {
     pub rt: &'h R,
-    pub hub: &'h Hub<L>,
+    pub commons: &'h Commons<L>,
     pub slot: &'h str,
     pub options: &'h StreamOptions,
     pub position: u64,
@@ -40,35 +39,35 @@ impl<'h, L: LogName + SlotName, R: Wait> StartDesk for HubStart<'h, L, R> {
     ghost told = { λ old question new. Unit {0} };
 
     fn find_slot(&mut self) -> Option<FoundSlot> {
-        match self.hub.place_of(self.rt, self.slot) {
+        match self.commons.place_of(self.rt, self.slot) {
             Some(place) => Some(FoundSlot { place }),
             None => None,
         }
     }
 
     fn judge(&mut self) -> Result<(), PubFault> {
-        self.hub
+        self.commons
             .publications
             .judge(self.options.publications.as_slice())
     }
 
     fn take_reader(&mut self) -> Option<Pair<L>> {
-        self.hub.take_pair(self.rt)
+        self.commons.take_pair(self.rt)
     }
 
     fn claim(&mut self, slot: FoundSlot, pair: Pair<L>) -> Result<StreamGrant<L>, ClaimFault> {
-        let hub = self.hub;
+        let commons = self.commons;
         let means = Means {
-            alloc: hub.alloc,
-            publications: &hub.publications,
+            alloc: commons.alloc,
+            publications: &commons.publications,
             names: self.options.publications.as_slice(),
             options: self.options,
-            chunks: hub.settings.chunks,
+            chunks: commons.settings.chunks,
         };
-        match StreamGrant::claim(&hub.slots, pair, slot.place, &means, self.position) {
+        match StreamGrant::claim(&commons.slots, pair, slot.place, &means, self.position) {
             Ok(grant) => Ok(grant),
             Err((pair, fault)) => {
-                hub.give_back(self.rt, pair);
+                commons.give_back(self.rt, pair);
                 Err(fault)
             }
         }

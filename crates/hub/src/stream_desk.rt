@@ -1,5 +1,6 @@
 //! Where the work of a stream comes from while it is written: from its client, from those that steer it, and from the server's end.
 
+use crate::granting::{await_stream, inform};
 use crate::streaming::Stream;
 use crate::work_desk::WorkDesk;
 use crate::write_loop::{WriteLoop, break_off};
@@ -27,9 +28,9 @@ impl<'h, L: LogName + SlotName, R: Wait + Clock> WorkDesk<L> for StreamDesk<'h, 
         let (write, post) = (&self.write, self.post);
         report(write.rt, post, stream);
         if post.is_cut(write.rt) {
-            write.hub.inform(write.rt, stream);
+            inform(write.rt, write.commons, stream);
         } else {
-            write.hub.await_stream(write.rt, write.line, post, stream);
+            await_stream(write.rt, write.commons, write.line, post, stream);
         }
         let mut work = write.line.take(write.rt);
         steer(write, post, &mut work);
@@ -70,7 +71,7 @@ fn steer<L: LogName + SlotName, R: Wait + Clock>(
     if post.take_cut(rt) {
         work.said.clear();
         work.phase = Phase::Closed;
-    } else if write.hub.is_ending() && work.said.is_empty() {
+    } else if write.commons.is_ending() && work.said.is_empty() {
         let is_said = write_back(&Back::CopyDone, &mut work.said).is_ok();
         work.phase = if is_said {
             Phase::Streaming

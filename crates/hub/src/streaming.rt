@@ -15,9 +15,8 @@ ghost use Rattle.hub.specs.declared.streaming.TheConstants.{CLOCK};
 ghost use Rattle.hub.specs.Streams.{HasLearnt, StreamsOn, keepalives};
 ghost use Rattle.hub.specs.Turns.{Confirms};
 
-use crate::commit_notice::CommitNotice;
 use crate::grant::StreamGrant;
-use crate::pool::Pair;
+use commons::{CommitNotice, Pair};
 use connections::{Hold, Work};
 use sender::{SendFault, TurnFault};
 use server::Phase;

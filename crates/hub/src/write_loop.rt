@@ -1,11 +1,11 @@
 //! The writing thread of a connection: all that goes to the client.
 
-use crate::hub::Hub;
-use crate::line::Line;
+use crate::granting::{end_stream, inform};
 use crate::stream_desk::{StreamDesk, report};
 use crate::stream_loop::{say, write_stream};
 use crate::streaming::Stream;
-use connections::{ConnectionEnd, SlotPost, Tap, Work};
+use commons::Commons;
+use connections::{ConnectionEnd, Line, SlotPost, Tap, Work};
 use server::Phase;
 use shared_log::LogName;
 use slots::SlotName;
@@ -17,8 +17,8 @@ use std::time::Clock;
 #[derive(Drop)]
 pub(crate) struct WriteLoop<'h, L: LogName + SlotName, R: Wait> {
     pub rt: &'h R,
-    pub hub: &'h Hub<L>,
-    pub line: &'h Line<L>,
+    pub commons: &'h Commons<L>,
+    pub line: &'h Line<Box<Stream<L>>>,
     pub socket: &'h TcpStream,
 }
 
@@ -38,31 +38,60 @@ pub(crate) fn write_line<L: LogName + SlotName, R: Wait + Clock>(write: &WriteLo
 fn write_step<L: LogName + SlotName, R: Wait + Clock>(
     write: &WriteLoop<'_, L, R>,
 ) -> Result<(), ConnectionEnd> {
-    let mut to = write.socket;
     let mut work = write.line.take(write.rt);
-    say(&work, &mut to)?;
-    work.said.clear();
-    if work.phase == Phase::Idle || work.phase == Phase::Startup {
-        return Ok(());
-    }
-    let Some(mut stream) = write.line.take_stream(write.rt) else {
+    say_first(write, &mut work)?;
+    let Some(stream) = stream_of(write, &work) else {
         return Ok(());
     };
-    let post = write.hub.post_at(Some(stream.place()));
-    let written = match post {
-        Some(post) => write_begun(write, post, &mut stream, work),
-        None => Err(ConnectionEnd::Lost),
-    };
-    write.hub.end(write.rt, stream);
-    let ended = match post {
-        Some(post) if post.end(write.rt) => Err(ConnectionEnd::Cut),
-        _ => written,
-    };
+    let ended = write_whole(write, stream, work);
     match ended {
         Ok(()) => write.line.end_stream(write.rt),
         Err(end) => write.line.end_early(write.rt, end),
     }
     ended
+}
+
+/// Writes what is said before all else.
+fn say_first<L: LogName + SlotName, R: Wait>(
+    write: &WriteLoop<'_, L, R>,
+    work: &mut Work,
+) -> Result<(), ConnectionEnd> {
+    let mut to = write.socket;
+    say(work, &mut to)?;
+    work.said.clear();
+    Ok(())
+}
+
+/// The stream that began with what was said, if one did.
+fn stream_of<L: LogName + SlotName, R: Wait>(
+    write: &WriteLoop<'_, L, R>,
+    work: &Work,
+) -> Option<Box<Stream<L>>> {
+    if work.phase == Phase::Idle || work.phase == Phase::Startup {
+        return None;
+    }
+    write.line.take_stream(write.rt)
+}
+
+/// Writes a stream from its beginning, and answers why it could not be written to its end.
+fn write_whole<L: LogName + SlotName, R: Wait + Clock>(
+    write: &WriteLoop<'_, L, R>,
+    mut stream: Box<Stream<L>>,
+    work: Work,
+) -> Result<(), ConnectionEnd> {
+    let post = write.commons.post_at(Some(stream.place()));
+    let written = match post {
+        Some(post) => write_begun(write, post, &mut stream, work),
+        None => {
+            drop(work);
+            Err(ConnectionEnd::Lost)
+        }
+    };
+    end_stream(write.rt, write.commons, stream);
+    match post {
+        Some(post) if post.end(write.rt) => Err(ConnectionEnd::Cut),
+        _ => written,
+    }
 }
 
 /// Writes a stream that has begun, and answers why it could not be written to its end.
@@ -74,24 +103,24 @@ fn write_begun<L: LogName + SlotName, R: Wait + Clock>(
 ) -> Result<(), ConnectionEnd> {
     let WriteLoop {
         rt,
-        hub,
+        commons,
         line,
         socket,
     } = *write;
     post.begin(rt, stream.latch());
-    hub.await_release(rt, line, post, stream.latch());
-    hub.inform(rt, stream);
+    commons.await_release(rt, line, post, stream.latch());
+    inform(rt, commons, stream);
     let mut desk = StreamDesk {
         write: WriteLoop {
             rt,
-            hub,
+            commons,
             line,
             socket,
         },
         post,
     };
     let mut tap = Tap { rt, post, socket };
-    let ended = write_stream(rt, &mut desk, &hub.slots, stream, work, &mut tap);
+    let ended = write_stream(rt, &mut desk, &commons.slots, stream, work, &mut tap);
     report(rt, post, stream);
     ended
 }

@@ -1,5 +1,5 @@
-use Rattle.hub.proofs.Crossing.{crosses}
+use Rattle.hub.proofs.Crossing.{serves}
 use Rattle.hub.proofs.serving.fn.serve.scope.Goals as goal
 
 pub spawn-spawned-requires-send-F : goal.spawn-spawned-requires-send-F
-spawn-spawned-requires-send-F g c κs within = let asked = c.requires in search (crosses, asked) depth 40
+spawn-spawned-requires-send-F g c κs within = let asked = c.requires in search (serves, asked) depth 40

@@ -1,6 +1,6 @@
 //! A transaction of who builds a service.
 
-use crate::hub::Hub;
+use crate::commons::Commons;
 use shared_log::LogName;
 use slots::SlotName;
 use std::sync::{MutexGuard, Wait};
@@ -11,7 +11,7 @@ use txlog::{Publisher, Receipt, SessionFault, Tx};
 /// It isn't `Drop`: `end` ends it.
 pub struct Transaction<'h, L: LogName + SlotName, R: Wait> {
     rt: &'h R,
-    hub: &'h Hub<L>,
+    commons: &'h Commons<L>,
     publisher: MutexGuard<'h, Publisher<L>>,
     tx: Tx,
 }
@@ -21,17 +21,17 @@ pub struct Savepoint {
     depth: u32,
 }
 
-impl<L: LogName + SlotName> Hub<L> {
+impl<L: LogName + SlotName> Commons<L> {
     /// Begins a transaction, once no other is in progress by this way.
     pub fn transaction<'h, R: Wait>(
         &'h self,
         rt: &'h R,
     ) -> Result<Transaction<'h, L, R>, SessionFault> {
-        let mut publisher = self.publisher().lock(rt);
+        let mut publisher = self.publisher.lock(rt);
         match publisher.begin() {
             Ok(tx) => Ok(Transaction {
                 rt,
-                hub: self,
+                commons: self,
                 publisher,
                 tx,
             }),
@@ -86,12 +86,21 @@ impl<'h, L: LogName + SlotName, R: Wait> Transaction<'h, L, R> {
         E: From<SessionFault> + Drop,
     {
         let Savepoint { depth } = savepoint;
-        if done.is_ok() {
-            self.publisher.release(&mut self.tx, depth)?;
-        } else {
-            self.publisher.rollback_to(self.rt, &mut self.tx, depth)?;
+        match self.leave_savepoint(depth, done.is_ok()) {
+            Ok(()) => done,
+            Err(fault) => {
+                drop(done);
+                Err(E::from(fault))
+            }
         }
-        done
+    }
+
+    fn leave_savepoint(&mut self, depth: u32, stays: bool) -> Result<(), SessionFault> {
+        if stays {
+            self.publisher.release(&mut self.tx, depth)
+        } else {
+            self.publisher.rollback_to(self.rt, &mut self.tx, depth)
+        }
     }
 
     /// Ends the transaction with what came of its work. At `Ok` it commits at this time, in microseconds since 2000-01-01, and
@@ -103,17 +112,24 @@ impl<'h, L: LogName + SlotName, R: Wait> Transaction<'h, L, R> {
     {
         let Transaction {
             rt,
-            hub,
+            commons,
             publisher,
             tx,
         } = self;
-        if done.is_ok() {
-            let receipt = commit(rt, publisher, tx, time)?;
-            hub.tell(rt, receipt);
-        } else {
+        if done.is_err() {
             abort(rt, publisher, tx);
+            return done;
         }
-        done
+        match commit(rt, publisher, tx, time) {
+            Ok(receipt) => {
+                commons.tell(rt, receipt);
+                done
+            }
+            Err(fault) => {
+                drop(done);
+                Err(E::from(fault))
+            }
+        }
     }
 }
 

@@ -69,19 +69,56 @@ fn places_of<L: SlotName>(
 ) -> Result<(Places<L>, Vec<SlotSeat<L>>), HubFault>
     requires { slots.first.table_id ≡ L.table }
 {
-    let latches = latches_of(alloc)?;
-    let posts = posts_of(alloc)?;
-    let (table, mut seats) = slots.open::<L>(MOST_STREAMS + 1)?;
-    let Some(seat) = seats.pop() else {
+    let Ok((latches, posts)) = latches_and_posts(alloc) else {
+        drop(slots);
         return Err(HubFault::Memory);
     };
-    let places = Places {
-        table,
-        seat,
-        latches,
-        posts,
+    match seats_of(slots) {
+        Some((table, seat, seats)) => {
+            let places = Places {
+                table,
+                seat,
+                latches,
+                posts,
+            };
+            Ok((places, seats))
+        }
+        None => {
+            drop(latches);
+            drop(posts);
+            Err(HubFault::Memory)
+        }
+    }
+}
+
+fn latches_and_posts(alloc: Global) -> Result<(Vec<Latch>, Vec<SlotPost>), AllocError> {
+    let latches = latches_of(alloc)?;
+    match posts_of(alloc) {
+        Ok(posts) => Ok((latches, posts)),
+        Err(fault) => {
+            drop(latches);
+            Err(fault)
+        }
+    }
+}
+
+/// The table of slots, the seat that makes and drops slots, and one for each stream that may run. None: there is no memory for them.
+fn seats_of<L: SlotName>(
+    slots: OpenedSlots,
+) -> Option<(SlotTable<L>, SlotSeat<L>, Vec<SlotSeat<L>>)>
+    requires { slots.first.table_id ≡ L.table }
+{
+    let Ok((table, mut seats)) = slots.open::<L>(MOST_STREAMS + 1) else {
+        return None;
     };
-    Ok((places, seats))
+    match seats.pop() {
+        Some(seat) => Some((table, seat, seats)),
+        None => {
+            drop(table);
+            drop(seats);
+            None
+        }
+    }
 }
 
 fn latches_of(alloc: Global) -> Result<Vec<Latch>, AllocError> {

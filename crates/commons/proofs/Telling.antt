@@ -6,7 +6,7 @@ use Rattle.std.specs.Str.{bytes_eq}
 use Rattle.std.proofs.lemmas.Bool.Decides.{nat_tests}
 use Rattle.publication.specs.Publications.{PublicationSet}
 use Rattle.server.specs.Calls.{IsShort}
-use Rattle.hub.specs.Published.{is_publication}
+use Rattle.commons.specs.Published.{is_publication}
 
 short_name : (n : ℕ) (rest : Bool) → (nat_le n 63 && rest) ≡ true → n < 2 ^ 16
 short_name n rest is = grind (arith, nat_tests)

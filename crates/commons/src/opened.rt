@@ -53,24 +53,82 @@ impl OpenedHub {
         requires some { 1 ≤ records }
         requires few { records ≤ MAX_RECORDS }
     {
-        let system = SystemName::new(systemid).ok_or(HubFault::LongName)?;
-        let log = log_of(alloc, catalog, records)?;
-        let slots = OpenedSlots::new(alloc)?;
-        Ok(OpenedHub {
-            alloc,
-            publications,
-            system,
-            log,
-            slots,
-            settings: HubSettings {
-                wal_sender_timeout: Duration::from_secs(WAL_SENDER_TIMEOUT),
-                authentication_timeout: Duration::from_secs(AUTHENTICATION_TIMEOUT),
-                max_connections: MAX_CONNECTIONS,
-                chunks: CHUNKS,
-                answers_postgresql: false,
-                capacity: records,
-            },
-        })
+        match Parts::new(alloc, catalog, systemid, records) {
+            Ok(Parts { system, log, slots }) => Ok(OpenedHub {
+                alloc,
+                publications,
+                system,
+                log,
+                slots,
+                settings: settings_for(records),
+            }),
+            Err(fault) => {
+                drop(publications);
+                Err(fault)
+            }
+        }
+    }
+}
+
+/// What is made as a hub is opened: the system's name, its log and its slots.
+#[derive(Drop)]
+struct Parts {
+    system: SystemName,
+    log: Opened,
+    slots: OpenedSlots,
+}
+
+impl Parts {
+    fn new(
+        alloc: Global,
+        catalog: Catalog,
+        systemid: Text,
+        records: usize,
+    ) -> Result<Self, HubFault>
+        requires some { 1 ≤ records }
+        requires few { records ≤ MAX_RECORDS }
+    {
+        let Some(system) = SystemName::new(systemid) else {
+            drop(catalog);
+            return Err(HubFault::LongName);
+        };
+        match log_and_slots(alloc, catalog, records) {
+            Ok((log, slots)) => Ok(Parts { system, log, slots }),
+            Err(fault) => {
+                drop(system);
+                Err(fault)
+            }
+        }
+    }
+}
+
+fn log_and_slots(
+    alloc: Global,
+    catalog: Catalog,
+    records: usize,
+) -> Result<(Opened, OpenedSlots), HubFault>
+    requires some { 1 ≤ records }
+    requires few { records ≤ MAX_RECORDS }
+{
+    let log = log_of(alloc, catalog, records)?;
+    match OpenedSlots::new(alloc) {
+        Ok(slots) => Ok((log, slots)),
+        Err(_) => {
+            drop(log);
+            Err(HubFault::Memory)
+        }
+    }
+}
+
+/// What is set unless it is set otherwise, for a log of so many records.
+fn settings_for(records: usize) -> HubSettings {
+    HubSettings {
+        wal_sender_timeout: Duration::from_secs(WAL_SENDER_TIMEOUT),
+        authentication_timeout: Duration::from_secs(AUTHENTICATION_TIMEOUT),
+        max_connections: MAX_CONNECTIONS,
+        chunks: CHUNKS,
+        answers_postgresql: false,
+        capacity: records,
     }
 }
 

@@ -1,13 +1,13 @@
 //! How streams are steered on purpose, as tests of their clients need it.
 
+use crate::commons::Commons;
 use crate::fault::SteerFault;
-use crate::hub::Hub;
 use connections::{Rein, SlotPost};
 use shared_log::LogName;
 use slots::SlotName;
 use std::sync::Wait;
 
-impl<L: LogName + SlotName> Hub<L> {
+impl<L: LogName + SlotName> Commons<L> {
     /// Waits until the slot of this name is confirmed at this position or further. L1 where there is none, or it is dropped, or the
     /// server ends meanwhile.
     pub fn await_confirmed<R: Wait>(

@@ -1,7 +1,7 @@
 //! Why no hub was made, and why serving ended.
 
 ghost use Rattle.std.specs.Prelude.{◌≡◌};
-ghost use Rattle.hub.specs.declared.fault.HubFault.TheVariants.{Memory};
+ghost use Rattle.commons.specs.declared.fault.HubFault.TheVariants.{Memory};
 
 use std::alloc::{AllocError, AllocFailed};
 use std::io;

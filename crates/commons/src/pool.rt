@@ -8,7 +8,7 @@ use std::alloc::{AllocError, Global};
 
 /// What a stream takes: a reader of the log, and a seat at the slots.
 #[derive(Drop)]
-pub(crate) struct Pair<L: LogName + SlotName> {
+pub struct Pair<L: LogName + SlotName> {
     pub reader: LogReader<L>,
     pub seat: SlotSeat<L>,
     /// Which latch wakes its stream: each pair has one of its own.

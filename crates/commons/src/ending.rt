@@ -1,11 +1,11 @@
 //! The end of a server: what is held goes out, and then its connections are over.
 
-use crate::hub::Hub;
+use crate::commons::Commons;
 use shared_log::LogName;
 use slots::SlotName;
 use std::sync::Wait;
 
-impl<L: LogName + SlotName> Hub<L> {
+impl<L: LogName + SlotName> Commons<L> {
     /// From now on no connection is served but those that are. Each stream sends what is held and what the log has, and CopyDone;
     /// then its connection is closed, and each other one at once. `serve` returns once its listener gave one more socket and all
     /// connections have ended.

@@ -1,6 +1,6 @@
 //! What runs, for whoever looks.
 
-use crate::hub::Hub;
+use crate::commons::Commons;
 use connections::{KnownSlot, SlotPost};
 use pqformat::Text;
 use shared_log::LogName;
@@ -48,7 +48,7 @@ pub struct SlotStatus {
     pub silent_for: Option<Duration>,
 }
 
-impl<L: LogName + SlotName> Hub<L> {
+impl<L: LogName + SlotName> Commons<L> {
     /// What is served now. The parts are looked at one after the other, so connections may have gone on in between.
     pub fn status<R: Wait + Clock>(&self, rt: &R) -> Result<HubStatus, AllocError> {
         let (log_end, records) = self.log_size(rt);

@@ -1,8 +1,8 @@
 use Rattle.std.proofs.Common.{◌≡◌, take}
 use Rattle.std.specs.List.{filter_map, AllByRecursion}
 use Rattle.server.specs.Calls.{IsShortName}
-use Rattle.hub.specs.Published.{told_table}
-use Rattle.hub.proofs.published.tables_in.Given as goal
+use Rattle.commons.specs.Published.{told_table}
+use Rattle.commons.proofs.published.tables_in.Given as goal
 
 abbrev pub invariant-loop-oid : goal.invariant-loop-oid
 invariant-loop-oid l = record {

@@ -9,7 +9,7 @@ pub const MOST_NAME_BYTES: usize = 65_535;
 
 /// The text by which a system names itself to clients.
 #[derive(Drop)]
-pub(crate) struct SystemName {
+pub struct SystemName {
     text: Text,
     ghost short: { length text < 2 ^ 16 },
 }

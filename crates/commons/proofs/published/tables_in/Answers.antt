@@ -5,9 +5,9 @@ use Rattle.std.specs.List.{AllByRecursion}
 use Rattle.std.proofs.lemmas.List.Elements.{filter_map-append}
 use Rattle.server.specs.Calls.{IsShortName}
 use Rattle.server.specs.declared.table_name.TableName.{TableName}
-use Rattle.hub.proofs.Telling.{all_more}
-use Rattle.hub.proofs.published.tables_in.Goals.{in-Some+in_ok-push, in_default}
-use Rattle.hub.proofs.published.tables_in.Goals as goal
+use Rattle.commons.proofs.Telling.{all_more}
+use Rattle.commons.proofs.published.tables_in.Goals.{in-Some+in_ok-push, in_default}
+use Rattle.commons.proofs.published.tables_in.Goals as goal
 
 pub loop-oid-preserved : goal.loop-oid-preserved
 loop-oid-preserved c = elim c.match-branch-2.branch [

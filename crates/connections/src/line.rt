@@ -1,27 +1,25 @@
 //! What stands between the two threads of a connection.
 
-use crate::streaming::Stream;
+use crate::fault::ConnectionEnd;
+use crate::inbox::{Inbox, Work};
 use bytes::BytesMut;
-use connections::{ConnectionEnd, Inbox, Work};
 use server::Phase;
-use shared_log::LogName;
-use slots::SlotName;
 use std::alloc::Global;
 use std::mem;
 use std::sync::{Condvar, Mutex, MutexGuard, Wait};
 
-/// The inbox of a connection, and the stream of a START that isn't written yet. It isn't `Drop`: `end` ends it.
-pub(crate) struct Line<L: LogName + SlotName> {
+/// The inbox of a connection, and the stream of a START that isn't written yet, whatever a stream is. It isn't `Drop`: `end` ends it.
+pub struct Line<S> {
     alloc: Global,
     inbox: Mutex<Inbox>,
-    begun: Mutex<Option<Box<Stream<L>>>>,
+    begun: Mutex<Option<S>>,
     /// There is something to be written, or nothing more comes.
     filled: Condvar,
     /// The writing thread has taken what was to be said, or ended a stream, or writes no more.
     taken: Condvar,
 }
 
-impl<L: LogName + SlotName> Line<L> {
+impl<S> Line<S> {
     pub fn new(alloc: Global) -> Self {
         Line {
             alloc,
@@ -67,7 +65,7 @@ impl<L: LogName + SlotName> Line<L> {
     }
 
     /// A stream has begun. The words that say so come behind. It answers one that began before and was never written.
-    pub fn begin<R: Wait>(&self, rt: &R, stream: Box<Stream<L>>) -> Option<Box<Stream<L>>> {
+    pub fn begin<R: Wait>(&self, rt: &R, stream: S) -> Option<S> {
         let mut place = self.begun.lock(rt);
         let before = mem::replace(&mut *place, Some(stream));
         let _ = MutexGuard::unlock(place);
@@ -119,7 +117,7 @@ impl<L: LogName + SlotName> Line<L> {
     }
 
     /// The stream that has begun.
-    pub fn take_stream<R: Wait>(&self, rt: &R) -> Option<Box<Stream<L>>> {
+    pub fn take_stream<R: Wait>(&self, rt: &R) -> Option<S> {
         let mut place = self.begun.lock(rt);
         let stream = mem::replace(&mut *place, None);
         let _ = MutexGuard::unlock(place);
@@ -150,7 +148,7 @@ impl<L: LogName + SlotName> Line<L> {
     // ---- behind both
 
     /// The stream that was never written, and why another could not be written to its end, if it could not.
-    pub fn end(self) -> (Option<Box<Stream<L>>>, Option<ConnectionEnd>) {
+    pub fn end(self) -> (Option<S>, Option<ConnectionEnd>) {
         let Line {
             alloc: _,
             inbox,

@@ -1,7 +1,7 @@
 //! What commits and notes tell streams.
 
 ghost use Rattle.std.specs.Prelude.{◌≡◌, Some, None, max};
-ghost use Rattle.hub.specs.Notices.{greatest, notice_end};
+ghost use Rattle.commons.specs.Notices.{greatest, notice_end};
 ghost use Rattle.shared_log.specs.Readers.{seen_of};
 ghost use mathlib.Core.List.{IsPrefix};
 
@@ -11,7 +11,7 @@ use txlog::Receipt;
 
 /// The receipt of the greatest place among the commits, and the greatest end among the notes.
 #[derive(Drop)]
-pub(crate) struct CommitNotice<L: LogName> {
+pub struct CommitNotice<L: LogName> {
     latest: Option<Receipt<L>>,
     /// 0 before the first note.
     noted: u64,

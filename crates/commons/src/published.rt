@@ -3,7 +3,7 @@
 ghost use Rattle.std.specs.Prelude.{◌≡◌, IfOk, IfSome, filter};
 ghost use Rattle.std.specs.List.{AllByRecursion};
 ghost use Rattle.server.specs.Calls.{IsShort, IsShortName};
-ghost use Rattle.hub.specs.Published.{is_publication, tables_in, tables_told, told_table};
+ghost use Rattle.commons.specs.Published.{is_publication, tables_in, tables_told, told_table};
 
 use crate::refusals::of_publications;
 use pgoutput::Logical;
@@ -18,7 +18,7 @@ use std::slice;
 const MOST_NAME_BYTES: usize = 63;
 
 /// Those of the names that are publications.
-pub(crate) fn known_names(
+pub fn known_names(
     alloc: Global,
     publications: &Publications,
     names: &[Text],
@@ -50,7 +50,7 @@ fn is_publication(publications: &Publications, name: &Text) -> bool
 }
 
 /// The tables of the publications of these names, each once. P2 where two of those have different column lists for one of them.
-pub(crate) fn tables_of(
+pub fn tables_of(
     alloc: Global,
     publications: &Publications,
     names: &[Text],

@@ -1,0 +1,3 @@
+pub mod Notices
+pub mod Published
+pub mod Refusals
