@@ -1,6 +1,7 @@
 //! Why the words of a command line are of no use.
 
 use clap::error::ErrorKind;
+use std::alloc::AllocError;
 use std::io;
 use thiserror::Error;
 
@@ -10,9 +11,11 @@ pub enum WordsFault {
     #[error("the arguments cannot be read: {0}")]
     Arguments(io::Error),
     #[error("{0}")]
-    Usage(clap::Error),
+    Usage(#[from] clap::Error),
     #[error("ADDR is an address and a port, as in 127.0.0.1:5433")]
     Address,
+    #[error("out of memory")]
+    Memory(#[from(alloc)] AllocError),
 }
 
 impl WordsFault {
@@ -29,6 +32,7 @@ impl WordsFault {
                 _ => 2,
             },
             WordsFault::Address => 2,
+            WordsFault::Memory(_) => 1,
         }
     }
 }

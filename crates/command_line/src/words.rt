@@ -1,29 +1,80 @@
 //! Words of a command line.
 
 use crate::fault::WordsFault;
-use clap::{Arg, ArgAction, Command};
+use clap::{Arg, ArgAction, ArgMatches, Command};
 use std::alloc::{AllocError, Global};
 use std::net::SocketAddr;
 
-/// A word that has to be there, and what is said of it.
-fn required<'a>(alloc: Global, name: &'a str, help: &'a str) -> Arg<'a> {
-    Arg::new(alloc, name)
-        .required(true)
-        .action(ArgAction::Set)
-        .help(help)
+/// A program's name, what it is for, what is told behind its words, and its words.
+#[derive(Clone, Copy)]
+pub struct CommandLine<'a> {
+    pub name: &'a str,
+    pub about: &'a str,
+    pub after_help: &'a str,
+    pub words: &'a [Word<'a>],
 }
 
-/// The command with words that have to be there, each with what is said of it.
-pub fn with_required<'a>(
+/// A word, and what is said of it.
+#[derive(Clone, Copy)]
+pub struct Word<'a> {
+    pub name: &'a str,
+    pub form: WordForm<'a>,
+    pub help: &'a str,
+}
+
+/// How a word stands on the command line.
+#[derive(Clone, Copy)]
+pub enum WordForm<'a> {
+    /// In its place, and it has to be there.
+    Required,
+    /// In its place, as often as it is given.
+    Repeated,
+    /// As `--name`, with nothing behind it.
+    Flag,
+    /// As `--name VALUE`, for this VALUE.
+    Option(&'a str),
+}
+
+impl<'a> CommandLine<'a> {
+    /// The words that are given, or the text for a user who asks for help or gives other words.
+    pub fn read(&self, alloc: Global, given: &'a [String]) -> Result<ArgMatches<'a>, clap::Error> {
+        self.command(alloc)?.try_get_matches_from(given)
+    }
+
+    /// The command with all these words.
+    pub fn command(&self, alloc: Global) -> Result<Command<'a>, AllocError> {
+        with_words(alloc, self.bare(alloc)?, self.words)
+    }
+
+    /// The command without its words.
+    fn bare(&self, alloc: Global) -> Result<Command<'a>, AllocError> {
+        Command::new(alloc, self.name)
+            .about(self.about)
+            .after_help(self.after_help)
+            .bin_name(self.name)
+    }
+}
+
+fn with_words<'a>(
     alloc: Global,
     command: Command<'a>,
-    words: &[(&'a str, &'a str)],
+    words: &[Word<'a>],
 ) -> Result<Command<'a>, AllocError> {
     let mut command = command;
-    for (name, help) in words {
-        command = command.arg(required(alloc, *name, *help))?;
+    for word in words {
+        command = command.arg(arg_of(alloc, word))?;
     }
     Ok(command)
+}
+
+fn arg_of<'a>(alloc: Global, word: &Word<'a>) -> Arg<'a> {
+    let arg = Arg::new(alloc, word.name).help(word.help);
+    match word.form {
+        WordForm::Required => arg.required(true).action(ArgAction::Set),
+        WordForm::Repeated => arg.num_args(0..).action(ArgAction::Append),
+        WordForm::Flag => arg.long(word.name).action(ArgAction::SetTrue),
+        WordForm::Option(value) => arg.long(word.name).value_name(value).action(ArgAction::Set),
+    }
 }
 
 /// The address and the port of the word ADDR.

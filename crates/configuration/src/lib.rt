@@ -1,13 +1,16 @@
 //! What a publisher is configured with, read from a TOML text: its tables, its publications, and its server.
 //!
-//! `Config::from_toml` reads a text, or answers what is wrong with it, and `explained` says that in lines for whoever wrote it.
+//! `Config::from_toml` reads a text, or answers what is wrong with it, and `explained` says that in lines for whoever wrote it;
+//! `config_at` does both for a file.
 //! The form of a configuration is told in docs/CONFIGURATION.md.
 #![tactic(auto)]
 
 mod config;
 mod config_fault;
+mod file;
 mod server;
 
 pub use config::{Config, explained};
 pub use config_fault::{ConfigFault, ServerMisfit};
+pub use file::{ConfigFileFault, config_at};
 pub use server::{MAX_CHUNKS, MAX_SYSTEMID, Server};

@@ -1,30 +1,22 @@
 //! `pubd CONFIG ADDR CONNECTIONS [SCRIPT]...` serves replication connections, and runs scripts beside them.
 #![tactic(auto)]
 
-mod command;
-mod ending;
 mod fault;
-mod numbers;
-mod reports;
 mod scripts;
-mod status_page;
-mod status_text;
 
 ghost use Rattle.std.specs.Prelude.{◌≡◌};
 
-use command::{Numbers, Words, words_of};
-use command_line::{WordsFault, ended};
-use configuration::{Config, explained};
-use ending::{Door, Doors, end_server};
+use command_line::{arguments_of, ended};
+use configuration::{Config, config_at};
 use fault::Fault;
-use hub::{Hub, HubSettings, OpenedHub, serve};
-use reports::{Level, Reports};
-use scripting::{ScriptEnd, run_input};
-use scripts::{STANDARD_INPUT, Script, run_all, scripts_of};
+use hub::{Hub, HubFault, HubSettings, OpenedHub, serve};
+use pubd_command::{CommandFault, Level, Numbers, Words, words_of};
+use script_lines::{STANDARD_INPUT, Script, scripts_at};
+use scripting::run_input;
+use scripts::{end_script, run_all};
 use shared_log::LogName;
 use slots::SlotName;
-use status_page::serve_status;
-use std::alloc::AllocError;
+use std::alloc::{AllocError, Global};
 use std::io::{Print, Stdin};
 use std::marker::Brand;
 use std::net::{Net, SocketAddr, TcpListener, TcpStream};
@@ -33,7 +25,8 @@ use std::sync::Wait;
 use std::sync::atomic::{AtomicBool, Ordering};
 use std::thread::Threads;
 use std::time::Clock;
-use std::{env, fs, io, thread};
+use std::{io, thread};
+use supervision::{Doors, Reports, end_server, serve_status};
 
 fn main(rt: HostRuntime) -> ExitCode {
     ended(&rt, run(&rt, &rt))
@@ -44,11 +37,15 @@ fn run<R>(rt: &HostRuntime, host: &R) -> Result<(), Fault>
 where
     R: Net<Listener = TcpListener, Stream = TcpStream> + Threads + Wait + Clock + Sync,
 {
-    let alloc = rt.alloc();
-    let arguments: Vec<String> = env::args(rt)
-        .map_err(WordsFault::Arguments)?
-        .collect(alloc)?;
-    let words = words_of(alloc, arguments.as_slice()).map_err(WordsFault::Usage)?;
+    let arguments = arguments_of(rt).map_err(CommandFault::Words)?;
+    run_called(rt, host, arguments.as_slice())
+}
+
+fn run_called<R>(rt: &HostRuntime, host: &R, arguments: &[String]) -> Result<(), Fault>
+where
+    R: Net<Listener = TcpListener, Stream = TcpStream> + Threads + Wait + Clock + Sync,
+{
+    let words = words_of(rt.alloc(), arguments)?;
     run_words(rt, host, &words)
 }
 
@@ -58,88 +55,91 @@ where
     R: Net<Listener = TcpListener, Stream = TcpStream> + Threads + Wait + Clock + Sync,
 {
     let numbers = words.numbers()?;
-    let scripts = scripts_of(rt, words.scripts.as_slice())?;
-    let has_input = words.scripts.as_slice().contains(&STANDARD_INPUT);
-    listen(
-        rt,
-        host,
-        words.config,
-        &numbers,
-        scripts.as_slice(),
-        has_input,
-    )
+    let scripts = scripts_at(rt, words.scripts.as_slice())?;
+    let asked = Asked {
+        config: words.config,
+        numbers: &numbers,
+        scripts: scripts.as_slice(),
+        has_input: words.scripts.as_slice().contains(&STANDARD_INPUT),
+    };
+    listen(rt, host, &asked)
 }
 
-fn listen<R>(
+/// What is asked for, read but for the configuration.
+#[derive(Clone, Copy)]
+struct Asked<'a> {
+    config: &'a str,
+    numbers: &'a Numbers,
+    scripts: &'a [Script],
+    /// Whether lines come from the standard input.
+    has_input: bool,
+}
+
+fn listen<R>(rt: &HostRuntime, host: &R, asked: &Asked) -> Result<(), Fault>
+where
+    R: Net<Listener = TcpListener, Stream = TcpStream> + Threads + Wait + Clock + Sync,
+{
+    let listener = TcpListener::bind(host, asked.numbers.address).map_err(Fault::Listen)?;
+    let page = page_at(host, asked.numbers.status).map_err(Fault::Listen)?;
+    serve_at(rt, host, asked, &listener, page.as_ref())
+}
+
+/// The listener of the page that tells what runs, if there is to be one.
+fn page_at<R>(host: &R, address: Option<SocketAddr>) -> io::Result<Option<TcpListener>>
+where
+    R: Net<Listener = TcpListener, Stream = TcpStream>,
+{
+    match address {
+        Some(address) => TcpListener::bind(host, address).map(Some),
+        None => Ok(None),
+    }
+}
+
+fn serve_at<R>(
     rt: &HostRuntime,
     host: &R,
-    config: &str,
-    numbers: &Numbers,
-    scripts: &[Script],
-    has_input: bool,
+    asked: &Asked,
+    listener: &TcpListener,
+    page: Option<&TcpListener>,
 ) -> Result<(), Fault>
 where
     R: Net<Listener = TcpListener, Stream = TcpStream> + Threads + Wait + Clock + Sync,
 {
-    let listener = TcpListener::bind(host, numbers.address).map_err(Fault::Listen)?;
-    let page = page_at(host, numbers.status)?;
-    let doors = doors_of(&listener, page.as_ref())?;
+    let doors = Doors::of(listener, page).map_err(Fault::Listen)?;
     let service = Service {
-        listener: &listener,
-        page: page.as_ref(),
+        listener,
+        page,
         doors: &doors,
-        connections: numbers.connections,
-        awaited: numbers.awaited,
-        level: numbers.level,
-        scripts,
-        has_input,
+        connections: asked.numbers.connections,
+        awaited: asked.numbers.awaited,
+        level: asked.numbers.level,
+        scripts: asked.scripts,
+        has_input: asked.has_input,
     };
-    let opened = opened(rt, config, numbers)?;
+    serve_configured(rt, host, asked, &service)
+}
+
+fn serve_configured<R>(
+    rt: &HostRuntime,
+    host: &R,
+    asked: &Asked,
+    service: &Service,
+) -> Result<(), Fault>
+where
+    R: Net<Listener = TcpListener, Stream = TcpStream> + Threads + Wait + Clock + Sync,
+{
+    let config = config_at(rt, asked.config)?;
+    let opened = opened(rt.alloc(), config, asked.numbers).map_err(Fault::Hub)?;
     let streams = Streams {
         input: &rt.stdin(),
         output: &rt.stdout(),
         errors: &rt.stderr(),
     };
-    served::<Brand, R, _, _>(host, opened, &service, &streams)
+    served::<Brand, R, _, _>(host, opened, service, &streams)
 }
 
-/// The listener of the page that tells what runs, if there is to be one.
-fn page_at<R>(host: &R, address: Option<SocketAddr>) -> Result<Option<TcpListener>, Fault>
-where
-    R: Net<Listener = TcpListener, Stream = TcpStream>,
-{
-    match address {
-        Some(address) => match TcpListener::bind(host, address) {
-            Ok(listener) => Ok(Some(listener)),
-            Err(fault) => Err(Fault::Listen(fault)),
-        },
-        None => Ok(None),
-    }
-}
-
-fn doors_of(listener: &TcpListener, page: Option<&TcpListener>) -> Result<Doors, Fault> {
-    let status = match page {
-        Some(page) => Some(Door::of(page).map_err(Fault::Listen)?),
-        None => None,
-    };
-    Ok(Doors {
-        connections: Door::of(listener).map_err(Fault::Listen)?,
-        status,
-        is_status_over: AtomicBool::new(false),
-    })
-}
-
-/// A hub for the configuration at this path, with those limits that are told.
-fn opened(rt: &HostRuntime, path: &str, numbers: &Numbers) -> Result<OpenedHub, Fault> {
-    let alloc = rt.alloc();
-    let text = fs::read_to_string(rt, path).map_err(Fault::ReadConfig)?;
-    let config = match Config::from_toml(alloc, text.as_str()) {
-        Ok(config) => config,
-        Err(fault) => {
-            let lines = explained(alloc, text.as_str(), &fault)?;
-            return Err(Fault::Config(fault, lines));
-        }
-    };
+/// A hub for this configuration, with those limits that are told.
+fn opened(alloc: Global, config: Config, numbers: &Numbers) -> Result<OpenedHub, HubFault> {
     let (catalog, publications, server) = config.into_parts();
     let mut opened = OpenedHub::new(
         alloc,
@@ -147,8 +147,7 @@ fn opened(rt: &HostRuntime, path: &str, numbers: &Numbers) -> Result<OpenedHub, 
         publications,
         server.systemid,
         server.records,
-    )
-    .map_err(Fault::Hub)?;
+    )?;
     opened.settings.chunks = server.chunks as u32;
     limit(&mut opened.settings, numbers);
     Ok(opened)
@@ -225,7 +224,26 @@ where
 {
     tell_doors(service.doors, streams.output).map_err(Fault::Output)?;
     let ended_early = AtomicBool::new(false);
-    let early = &ended_early;
+    serve_beside(rt, hub, service, streams, &ended_early)?;
+    if ended_early.load(Ordering::SeqCst) {
+        return Err(Fault::EndedEarly);
+    }
+    Ok(())
+}
+
+fn serve_beside<L, R, O, E>(
+    rt: &R,
+    hub: &Hub<L>,
+    service: &Service,
+    streams: &Streams<O, E>,
+    early: &AtomicBool,
+) -> Result<(), AllocError>
+where
+    L: LogName + SlotName + Send + Sync,
+    R: Threads + Wait + Clock + Sync,
+    O: Print,
+    E: Print + Sync,
+{
     let errors = streams.errors;
     thread::scope(thread::scope_env(), rt, |scope| {
         let scripted = scope.spawn(move || run_awaited(rt, hub, service, errors, early));
@@ -248,11 +266,7 @@ where
         }
         run_lines(rt, hub, service, streams, early);
         Ok(())
-    })?;
-    if ended_early.load(Ordering::SeqCst) {
-        return Err(Fault::EndedEarly);
-    }
-    Ok(())
+    })
 }
 
 /// Tells where connections are taken, and where it is told what runs.
@@ -270,14 +284,14 @@ fn was_spawned<T: Drop, E: Drop>(spawned: Result<T, E>) -> bool {
 }
 
 /// A thread can't be had: those that run are ended.
-fn give_up<L, R>(rt: &R, hub: &Hub<L>, service: &Service) -> Result<(), Fault>
+fn give_up<L, R>(rt: &R, hub: &Hub<L>, service: &Service) -> Result<(), AllocError>
 where
     L: LogName + SlotName,
     R: Wait + Clock,
 {
     service.doors.close_status();
     end_server(rt, hub, service.doors);
-    Err(Fault::Memory(AllocError))
+    Err(AllocError)
 }
 
 /// The lines of the standard input are done as they come, and answered on the standard output.
@@ -295,15 +309,16 @@ where
     E: Print,
 {
     let mut answers = io::writer(streams.output);
-    match run_input(rt, hub, streams.input, &mut answers) {
-        Ok(ScriptEnd::LastLine) => {}
-        Ok(ScriptEnd::EndLine) => end_server(rt, hub, service.doors),
-        Err(fault) => {
-            let errors = streams.errors;
-            let _ = errors.println(format_args!("pubd: {STANDARD_INPUT}: {fault}"));
-            early.store(true, Ordering::SeqCst);
-        }
-    }
+    let ended = run_input(rt, hub, streams.input, &mut answers);
+    end_script(
+        rt,
+        hub,
+        service.doors,
+        STANDARD_INPUT,
+        ended,
+        streams.errors,
+        early,
+    );
 }
 
 /// Tells whoever asks what runs, if there is a place for that.

@@ -1,21 +1,12 @@
 //! The words of the command line.
 
 use crate::simulation::Form;
-use clap::{Arg, ArgAction, ArgMatches, Command, Error};
-use command_line::{help_text, with_required};
-use std::alloc::{AllocError, Global};
+use clap::ArgMatches;
+use command_line::{CommandLine, Word, WordForm, WordsFault, help_text};
+use std::alloc::Global;
 
 const ABOUT: &str =
     "Runs a schedule of sessions and replication senders over a publisher in memory, and prints what the senders produced";
-
-/// The words, both of which have to be there, and what is said of each.
-const REQUIRED: [(&str, &str); 2] = [
-    (
-        "CONFIG",
-        "A TOML file with the tables, their publications and the server",
-    ),
-    ("SCHEDULE", "A text file with one event a line"),
-];
 
 const AFTER_HELP: &str = help_text!(
     "  tables = [{ name = 'public.item', where = 'id > 0', columns = ['id', 'qty'] }]
@@ -75,33 +66,43 @@ pub struct Words<'a> {
     pub form: Form,
 }
 
-/// The word by which streams are printed as text.
-const RENDER: &str = "render";
+/// The words.
+const WORDS: [Word<'static>; 3] = [
+    Word {
+        name: "render",
+        form: WordForm::Flag,
+        help: "Print what each sender produced as text, a line for each frame",
+    },
+    Word {
+        name: "CONFIG",
+        form: WordForm::Required,
+        help: "A TOML file with the tables, their publications and the server",
+    },
+    Word {
+        name: "SCHEDULE",
+        form: WordForm::Required,
+        help: "A text file with one event a line",
+    },
+];
+
+const PUBSIM: CommandLine<'static> = CommandLine {
+    name: "pubsim",
+    about: ABOUT,
+    after_help: AFTER_HELP,
+    words: &WORDS,
+};
 
 /// All words, or the text for a user who asks for help or gives other words.
-pub fn words_of<'a>(alloc: Global, words: &'a [String]) -> Result<Words<'a>, Error> {
-    let matches = command_of(alloc)?.try_get_matches_from(words)?;
-    Ok(words_in(&matches))
-}
-
-fn command_of<'a>(alloc: Global) -> Result<Command<'a>, AllocError> {
-    let command = Command::new(alloc, "pubsim")
-        .about(ABOUT)
-        .after_help(AFTER_HELP)
-        .bin_name("pubsim")?;
-    with_required(alloc, command.arg(render(alloc))?, &REQUIRED)
-}
-
-fn render(alloc: Global) -> Arg<'static> {
-    Arg::new(alloc, RENDER)
-        .long(RENDER)
-        .action(ArgAction::SetTrue)
-        .help("Print what each sender produced as text, a line for each frame")
+pub fn words_of<'a>(alloc: Global, given: &'a [String]) -> Result<Words<'a>, WordsFault> {
+    match PUBSIM.read(alloc, given) {
+        Ok(matches) => Ok(words_in(&matches)),
+        Err(fault) => Err(WordsFault::Usage(fault)),
+    }
 }
 
 /// All but --render are required, so they are there.
 fn words_in<'a>(matches: &ArgMatches<'a>) -> Words<'a> {
-    let form = match matches.get_flag(RENDER) {
+    let form = match matches.get_flag("render") {
         true => Form::Text,
         false => Form::Digits,
     };

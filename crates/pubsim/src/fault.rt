@@ -2,8 +2,7 @@
 
 use crate::simulation::SimFault;
 use command_line::{Ending, WordsFault};
-use configuration::ConfigFault;
-use std::alloc::AllocError;
+use configuration::ConfigFileFault;
 use std::io;
 use thiserror::Error;
 
@@ -11,18 +10,14 @@ use thiserror::Error;
 pub enum Fault {
     #[error("{0}")]
     Words(#[from] WordsFault),
-    #[error("the configuration cannot be read: {0}")]
-    ReadConfig(io::Error),
-    #[error("in the configuration: {1}")]
-    Config(ConfigFault, String),
+    #[error("{0}")]
+    Config(#[from] ConfigFileFault),
     #[error("the schedule cannot be opened: {0}")]
     Open(io::Error),
     #[error("{0}")]
     Run(SimFault),
     #[error("standard output cannot be used: {0}")]
     Output(io::Error),
-    #[error("out of memory")]
-    Memory(#[from(alloc)] AllocError),
 }
 
 impl Ending for Fault {
@@ -30,12 +25,9 @@ impl Ending for Fault {
     /// file, the output or memory failed.
     fn status(&self) -> u8 {
         match self {
-            // A file that is no text is a bad configuration, and no file that can't be read.
-            Fault::ReadConfig(error) if error.kind() == io::ErrorKind::InvalidData => 2,
-            Fault::Config(fault, _) if !fault.is_memory() => 2,
+            Fault::Config(fault) if fault.is_bad_configuration() => 2,
             Fault::Run(fault) if fault.is_bad_schedule() => 2,
-            Fault::ReadConfig(_) | Fault::Config(_, _) => 1,
-            Fault::Run(_) | Fault::Open(_) | Fault::Output(_) | Fault::Memory(_) => 1,
+            Fault::Config(_) | Fault::Run(_) | Fault::Open(_) | Fault::Output(_) => 1,
             Fault::Words(fault) => fault.status(),
         }
     }

@@ -8,14 +8,14 @@ mod rendering;
 mod simulation;
 
 use command::{Words, words_of};
-use command_line::{WordsFault, ended};
-use configuration::{Config, explained};
+use command_line::{arguments_of, ended};
+use configuration::{Config, config_at};
 use fault::Fault;
 use simulation::{Form, simulate};
 use std::io::{BufWriter, Read};
 use std::process::ExitCode;
 use std::sync::Wait;
-use std::{env, fs, io};
+use std::{fs, io};
 
 fn main(rt: HostRuntime) -> ExitCode {
     ended(&rt, run(&rt, &rt))
@@ -23,16 +23,22 @@ fn main(rt: HostRuntime) -> ExitCode {
 
 /// The runtime has the files, and `waits` may wait for readers of the log.
 fn run<R: Wait>(rt: &HostRuntime, waits: &R) -> Result<(), Fault> {
-    let alloc = rt.alloc();
-    let arguments: Vec<String> = env::args(rt)
-        .map_err(WordsFault::Arguments)?
-        .collect(alloc)?;
-    let words = words_of(alloc, arguments.as_slice()).map_err(WordsFault::Usage)?;
-    run_words(rt, waits, words)
+    let arguments = arguments_of(rt)?;
+    run_called(rt, waits, arguments.as_slice())
 }
 
-fn run_words<R: Wait>(rt: &HostRuntime, waits: &R, words: Words) -> Result<(), Fault> {
-    let config = config_of(rt, words.config)?;
+fn run_called<R: Wait>(rt: &HostRuntime, waits: &R, arguments: &[String]) -> Result<(), Fault> {
+    let words = words_of(rt.alloc(), arguments)?;
+    let config = config_at(rt, words.config)?;
+    run_configured(rt, waits, config, words)
+}
+
+fn run_configured<R: Wait>(
+    rt: &HostRuntime,
+    waits: &R,
+    config: Config,
+    words: Words,
+) -> Result<(), Fault> {
     let mut schedule = fs::open(rt, words.schedule).map_err(Fault::Open)?;
     run_schedule(rt, waits, config, words.form, &mut schedule)
 }
@@ -47,16 +53,4 @@ fn run_schedule<R: Wait, I: Read>(
     let alloc = rt.alloc();
     let mut output = BufWriter::new(alloc, io::writer(rt)).map_err(Fault::Output)?;
     simulate(waits, alloc, config, form, schedule, &mut output).map_err(Fault::Run)
-}
-
-fn config_of(rt: &HostRuntime, path: &str) -> Result<Config, Fault> {
-    let text = fs::read_to_string(rt, path).map_err(Fault::ReadConfig)?;
-    let alloc = rt.alloc();
-    match Config::from_toml(alloc, text.as_str()) {
-        Ok(config) => Ok(config),
-        Err(fault) => {
-            let lines = explained(alloc, text.as_str(), &fault)?;
-            Err(Fault::Config(fault, lines))
-        }
-    }
 }

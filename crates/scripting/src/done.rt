@@ -1,32 +1,17 @@
-//! How a step is done beside connections, and what comes of it.
+//! How a step is done beside connections.
 
-use crate::fault::ScriptFault;
-use crate::script::{BAD_LINE, do_told};
-use crate::step::{Steering, Step};
 use hub::{Hub, SteerFault};
-use schedule::{Event, WorldFault};
+use schedule::{Answer, Event};
+use script_lines::{Done, Steering, Step};
 use sessions::Sessions;
 use shared_log::LogName;
 use slots::SlotName;
-use std::sync::Wait;
+use std::alloc::AllocError;
+use std::sync::{MutexGuard, Wait};
+use txlog::Receipt;
 
 /// The code of a line that steers the stream of a slot that isn't there.
 const NO_SLOT: &str = "L1";
-
-/// What came of a step.
-#[derive(Clone, Copy)]
-pub(crate) enum Done {
-    /// A session's line was done.
-    Line,
-    /// A transaction was committed, whose record ends at this position.
-    Commit(u64),
-    /// A stream was steered, or waited for.
-    Steered,
-    /// A line was refused with this code.
-    Refused(&'static str),
-    /// The server is to end.
-    End,
-}
 
 /// Does a step: a session's under the publisher's lock, behind which streams are told of its commit or its note.
 pub(crate) fn do_step<L: LogName + SlotName, R: Wait>(
@@ -34,7 +19,7 @@ pub(crate) fn do_step<L: LogName + SlotName, R: Wait>(
     hub: &Hub<L>,
     sessions: &mut Sessions,
     step: &Step,
-) -> Result<Done, ScriptFault> {
+) -> Result<Done, AllocError> {
     match step {
         Step::Session(event) => do_event(rt, hub, sessions, event),
         Step::Steer(slot, steering) => Ok(match steer(rt, hub, slot.as_str(), *steering) {
@@ -60,19 +45,52 @@ fn steer<L: LogName + SlotName, R: Wait>(
     }
 }
 
-fn do_event<L: LogName + SlotName, R: Wait>(
+/// Does a session's line under the publisher's lock, and tells streams of its commit or its note.
+pub(crate) fn do_event<L: LogName + SlotName, R: Wait>(
     rt: &R,
     hub: &Hub<L>,
     sessions: &mut Sessions,
     event: &Event,
-) -> Result<Done, ScriptFault> {
-    match do_told(rt, hub, sessions, event) {
-        Ok((answer, end)) => Ok(match (answer.code(), end) {
-            (Some(code), _) => Done::Refused(code),
-            (None, Some(end)) => Done::Commit(end),
-            (None, None) => Done::Line,
-        }),
-        Err(WorldFault::BadEvent) => Ok(Done::Refused(BAD_LINE)),
-        Err(WorldFault::Memory | WorldFault::NoEntry) => Err(ScriptFault::Memory),
+) -> Result<Done, AllocError> {
+    let mut publisher = hub.publisher().lock(rt);
+    let done = sessions.line(rt, &mut publisher, event);
+    let log_end = publisher.end();
+    MutexGuard::unlock(publisher);
+    match done {
+        Ok((answer, Some(receipt))) => Ok(tell_commit(rt, hub, answer, receipt)),
+        Ok((answer, None)) => Ok(tell_note(rt, hub, event, answer, log_end)),
+        Err(fault) => Done::of_fault(fault),
     }
+}
+
+/// A commit leaves its receipt.
+fn tell_commit<L: LogName + SlotName, R: Wait>(
+    rt: &R,
+    hub: &Hub<L>,
+    answer: Answer,
+    receipt: Receipt<L>,
+) -> Done {
+    let end = receipt.end();
+    hub.tell(rt, receipt);
+    match answer.code() {
+        Some(code) => Done::Refused(code),
+        None => Done::Commit(end),
+    }
+}
+
+/// A note that was done leaves where the log ends; other lines leave nothing.
+fn tell_note<L: LogName + SlotName, R: Wait>(
+    rt: &R,
+    hub: &Hub<L>,
+    event: &Event,
+    answer: Answer,
+    log_end: u64,
+) -> Done {
+    if let Some(code) = answer.code() {
+        return Done::Refused(code);
+    }
+    if matches!(event, Event::Note(_, _)) {
+        hub.tell_note(rt, log_end);
+    }
+    Done::Line
 }

@@ -1,17 +1,15 @@
 //! Lines from outside: done as they come, and answered one by one.
 
-use crate::done::{Done, do_step};
-use crate::fault::ScriptFault;
-use crate::script::{BAD_LINE, leave_all};
-use crate::step::Step;
+use crate::done::do_step;
+use crate::leaving::leave_all;
 use crate::steps::ScriptEnd;
 use hub::Hub;
-use replcmd::write_position;
-use schedule::WorldFault;
+use script_lines::{Done, ScriptFault, Step, answer};
 use sessions::Sessions;
 use shared_log::LogName;
 use slots::SlotName;
-use std::alloc::Global;
+use std::alloc::AllocError;
+use std::io;
 use std::io::{Input, Write};
 use std::sync::Wait;
 
@@ -41,12 +39,7 @@ fn answer_lines<L: LogName + SlotName, R: Wait, I: Input, W: Write>(
     answers: &mut W,
 ) -> Result<ScriptEnd, ScriptFault> {
     for line in input.lines(hub.alloc()) {
-        let line = line.map_err(ScriptFault::Lines)?;
-        if line.is_empty() || line.starts_with('#') {
-            continue;
-        }
-        let done = do_text(rt, hub, sessions, line.as_str())?;
-        answer(hub.alloc(), done, answers)?;
+        let done = answer_line(rt, hub, sessions, line, answers)?;
         if matches!(done, Done::End) {
             return Ok(ScriptEnd::EndLine);
         }
@@ -54,28 +47,42 @@ fn answer_lines<L: LogName + SlotName, R: Wait, I: Input, W: Write>(
     Ok(ScriptEnd::LastLine)
 }
 
+fn answer_line<L: LogName + SlotName, R: Wait, W: Write>(
+    rt: &R,
+    hub: &Hub<L>,
+    sessions: &mut Sessions,
+    line: io::Result<String>,
+    answers: &mut W,
+) -> Result<Done, ScriptFault> {
+    match line {
+        Ok(line) => answer_text(rt, hub, sessions, line.as_str(), answers),
+        Err(fault) => Err(ScriptFault::Lines(fault)),
+    }
+}
+
+fn answer_text<L: LogName + SlotName, R: Wait, W: Write>(
+    rt: &R,
+    hub: &Hub<L>,
+    sessions: &mut Sessions,
+    line: &str,
+    answers: &mut W,
+) -> Result<Done, ScriptFault> {
+    if line.is_empty() || line.starts_with('#') {
+        return Ok(Done::Line);
+    }
+    let done = do_text(rt, hub, sessions, line)?;
+    answer(hub.alloc(), done, answers)?;
+    Ok(done)
+}
+
 fn do_text<L: LogName + SlotName, R: Wait>(
     rt: &R,
     hub: &Hub<L>,
     sessions: &mut Sessions,
     line: &str,
-) -> Result<Done, ScriptFault> {
+) -> Result<Done, AllocError> {
     match Step::parse(hub.alloc(), line) {
         Ok(step) => do_step(rt, hub, sessions, &step),
-        Err(WorldFault::BadEvent) => Ok(Done::Refused(BAD_LINE)),
-        Err(WorldFault::Memory | WorldFault::NoEntry) => Err(ScriptFault::Memory),
+        Err(fault) => Done::of_fault(fault),
     }
-}
-
-fn answer<W: Write>(alloc: Global, done: Done, answers: &mut W) -> Result<(), ScriptFault> {
-    let told = match done {
-        Done::Line | Done::Steered | Done::End => writeln!(answers, "ok"),
-        Done::Commit(end) => {
-            let end = write_position(alloc, end)?;
-            writeln!(answers, "ok {end}")
-        }
-        Done::Refused(code) => writeln!(answers, "{code}"),
-    };
-    told.map_err(ScriptFault::Answers)?;
-    answers.flush().map_err(ScriptFault::Answers)
 }

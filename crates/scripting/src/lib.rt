@@ -3,13 +3,12 @@
 #![tactic(auto)]
 
 mod done;
-mod fault;
 mod input;
+mod leaving;
 mod script;
-mod step;
 mod steps;
 
-pub use fault::ScriptFault;
 pub use input::run_input;
 pub use script::run_script;
-pub use steps::{ScriptEnd, Steps, run_steps};
+pub use script_lines::{ScriptFault, Steps};
+pub use steps::{ScriptEnd, run_steps};

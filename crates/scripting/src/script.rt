@@ -1,17 +1,16 @@
 //! Scripts: session lines, run beside the connections.
 
-use crate::fault::ScriptFault;
+use crate::done::do_event;
+use crate::leaving::leave_all;
 use hub::Hub;
-use schedule::{Answer, Event, Schedule, WorldFault};
+use schedule::Schedule;
+use script_lines::{Done, ScriptFault};
 use sessions::Sessions;
 use shared_log::LogName;
 use slots::SlotName;
 use std::alloc::Global;
 use std::io::Write;
-use std::sync::{MutexGuard, Wait};
-
-/// The code of a line whose transaction's name is unknown, or in use already.
-pub(crate) const BAD_LINE: &str = "V1";
+use std::sync::Wait;
 
 /// Does the lines of a script in order, each under the publisher's lock, and tells streams of each commit and each note.
 ///
@@ -30,12 +29,6 @@ pub fn run_script<L: LogName + SlotName, R: Wait, W: Write>(
     done
 }
 
-pub(crate) fn leave_all<L: LogName + SlotName, R: Wait>(rt: &R, hub: &Hub<L>, sessions: Sessions) {
-    let publisher = hub.publisher().lock(rt);
-    sessions.leave_all(&publisher);
-    MutexGuard::unlock(publisher);
-}
-
 fn do_lines<L: LogName + SlotName, R: Wait, W: Write>(
     rt: &R,
     hub: &Hub<L>,
@@ -45,7 +38,7 @@ fn do_lines<L: LogName + SlotName, R: Wait, W: Write>(
     refusals: &mut W,
 ) -> Result<(), ScriptFault> {
     for (line, event) in script.lines().iter().zip(script.events()) {
-        if let Some(code) = do_line(rt, hub, sessions, event)? {
+        if let Done::Refused(code) = do_event(rt, hub, sessions, event)? {
             write_refusal(hub.alloc(), name, *line, code, refusals)?;
         }
     }
@@ -61,40 +54,4 @@ fn write_refusal<W: Write>(
 ) -> Result<(), ScriptFault> {
     let refusal = format!(in alloc; "{name} {line} {code}\n")?;
     Ok(refusals.write_all(refusal.as_bytes())?)
-}
-
-/// The code of a refusal, if the line is refused.
-fn do_line<L: LogName + SlotName, R: Wait>(
-    rt: &R,
-    hub: &Hub<L>,
-    sessions: &mut Sessions,
-    event: &Event,
-) -> Result<Option<&'static str>, ScriptFault> {
-    match do_told(rt, hub, sessions, event) {
-        Ok((answer, _)) => Ok(answer.code()),
-        Err(WorldFault::BadEvent) => Ok(Some(BAD_LINE)),
-        Err(WorldFault::Memory | WorldFault::NoEntry) => Err(ScriptFault::Memory),
-    }
-}
-
-/// Does a line under the publisher's lock, and tells streams of its commit or its note; what it answered, and where a commit
-/// ends.
-pub(crate) fn do_told<L: LogName + SlotName, R: Wait>(
-    rt: &R,
-    hub: &Hub<L>,
-    sessions: &mut Sessions,
-    event: &Event,
-) -> Result<(Answer, Option<u64>), WorldFault> {
-    let mut publisher = hub.publisher().lock(rt);
-    let done = sessions.line(rt, &mut publisher, event);
-    let log_end = publisher.end();
-    MutexGuard::unlock(publisher);
-    let (answer, receipt) = done?;
-    let commit_end = receipt.as_ref().map(|receipt| receipt.end());
-    match (receipt, event, answer) {
-        (Some(receipt), _, _) => hub.tell(rt, receipt),
-        (None, Event::Note(_, _), Answer::Done) => hub.tell_note(rt, log_end),
-        _ => {}
-    }
-    Ok((answer, commit_end))
 }

@@ -1,31 +1,14 @@
 //! Scripts that steer streams beside what sessions do.
 
-use crate::done::{Done, do_step};
-use crate::fault::ScriptFault;
-use crate::script::leave_all;
-use crate::step::Step;
+use crate::done::do_step;
+use crate::leaving::leave_all;
 use hub::Hub;
-use schedule::{LineFault, WorldFault};
+use script_lines::{Done, ScriptFault, Steps, tell};
 use sessions::Sessions;
 use shared_log::LogName;
 use slots::SlotName;
-use std::alloc::Global;
-use std::io;
 use std::io::Write;
 use std::sync::Wait;
-
-/// The steps of a script, in the order of its lines.
-#[derive(Drop)]
-pub struct Steps {
-    steps: Vec<NumberedStep>,
-}
-
-/// A step, and the number of its line, from 1.
-#[derive(Drop)]
-struct NumberedStep {
-    line: usize,
-    step: Step,
-}
 
 /// How a script has ended.
 #[derive(Clone, Copy, Debug, PartialEq, Eq)]
@@ -33,31 +16,6 @@ pub enum ScriptEnd {
     LastLine,
     /// By the line `end`, behind which it does nothing.
     EndLine,
-}
-
-impl Steps {
-    /// The steps of all lines. Empty lines and those that begin with `#` are passed over, but counted. The first line that is no
-    /// step is refused.
-    pub fn parse(alloc: Global, text: &str) -> Result<Steps, LineFault> {
-        let mut steps = Steps {
-            steps: Vec::new(alloc),
-        };
-        for (line, content) in (1..usize::MAX).zip(text.split('\n')) {
-            if content.is_empty() || content.starts_with('#') {
-                continue;
-            }
-            if let Err(fault) = steps.add(alloc, line, content) {
-                return Err(LineFault { line, fault });
-            }
-        }
-        Ok(steps)
-    }
-
-    fn add(&mut self, alloc: Global, line: usize, content: &str) -> Result<(), WorldFault> {
-        let step = Step::parse(alloc, content)?;
-        self.steps.push(NumberedStep { line, step })?;
-        Ok(())
-    }
 }
 
 /// Does the steps of a script in order, each session's under the publisher's lock, and tells streams of each commit and each note.
@@ -86,17 +44,12 @@ fn do_steps<L: LogName + SlotName, R: Wait, W: Write>(
     sessions: &mut Sessions,
     told: &mut W,
 ) -> Result<ScriptEnd, ScriptFault> {
-    for each in &script.steps {
-        match do_step(rt, hub, sessions, &each.step)? {
-            Done::Line | Done::Commit(_) => {}
-            Done::Steered => tell(name, each.line, "ok", told)?,
-            Done::Refused(code) => tell(name, each.line, code, told)?,
-            Done::End => return Ok(ScriptEnd::EndLine),
+    for each in script.as_slice() {
+        let done = do_step(rt, hub, sessions, &each.step)?;
+        if matches!(done, Done::End) {
+            return Ok(ScriptEnd::EndLine);
         }
+        tell(name, each.line, done, told)?;
     }
     Ok(ScriptEnd::LastLine)
-}
-
-fn tell<W: Write>(name: &str, line: usize, word: &str, told: &mut W) -> io::Result<()> {
-    writeln!(told, "{name} {line} {word}")
 }

@@ -1,7 +1,7 @@
 //! The words of the command line.
 
 use clap::{Arg, ArgAction, ArgMatches, Command, Error};
-use command_line::with_required;
+use command_line::{CommandLine, Word, WordForm, WordsFault};
 use std::alloc::{AllocError, Global};
 
 const ABOUT: &str =
@@ -66,68 +66,80 @@ pub struct Words<'a> {
     pub count: &'a str,
 }
 
-/// The words that stand alone, and what is said of each.
-const FLAGS: [(&str, &str); 4] = [
-    ("create", "Create the slot first"),
-    (
-        "follow",
-        "Go on over lost connections, and print each transaction once",
-    ),
-    (
-        "json",
-        "Print an object of JSON on a line, as users of wal2json know them",
-    ),
-    ("messages", "Ask for the messages in the log too"),
+/// The words: those that stand alone, and those that have to be there. FILE stands apart.
+const WORDS: [Word<'static>; 9] = [
+    Word {
+        name: "create",
+        form: WordForm::Flag,
+        help: "Create the slot first",
+    },
+    Word {
+        name: "follow",
+        form: WordForm::Flag,
+        help: "Go on over lost connections, and print each transaction once",
+    },
+    Word {
+        name: "json",
+        form: WordForm::Flag,
+        help: "Print an object of JSON on a line, as users of wal2json know them",
+    },
+    Word {
+        name: "messages",
+        form: WordForm::Flag,
+        help: "Ask for the messages in the log too",
+    },
+    Word {
+        name: "ADDR",
+        form: WordForm::Required,
+        help: "The publisher's address and port, as in 127.0.0.1:5433",
+    },
+    Word {
+        name: "SLOT",
+        form: WordForm::Required,
+        help: "The name of the slot",
+    },
+    Word {
+        name: "POSITION",
+        form: WordForm::Required,
+        help: "Where the stream should begin, as in 0/0",
+    },
+    Word {
+        name: "PUBLICATIONS",
+        form: WordForm::Required,
+        help: "Names of publications, joined by commas",
+    },
+    Word {
+        name: "COUNT",
+        form: WordForm::Required,
+        help: "After how many transactions the stream is ended",
+    },
 ];
 
-/// The words that have to be there, and what is said of each.
-const REQUIRED: [(&str, &str); 5] = [
-    (
-        "ADDR",
-        "The publisher's address and port, as in 127.0.0.1:5433",
-    ),
-    ("SLOT", "The name of the slot"),
-    ("POSITION", "Where the stream should begin, as in 0/0"),
-    ("PUBLICATIONS", "Names of publications, joined by commas"),
-    ("COUNT", "After how many transactions the stream is ended"),
-];
+const SUBCAT: CommandLine<'static> = CommandLine {
+    name: "subcat",
+    about: ABOUT,
+    after_help: AFTER_HELP,
+    words: &WORDS,
+};
 
 /// All words, or the text for a user who asks for help or gives other words.
-pub fn words_of<'a>(alloc: Global, words: &'a [String]) -> Result<Words<'a>, Error> {
-    let matches = command_of(alloc)?.try_get_matches_from(words)?;
-    Ok(words_in(&matches))
+pub fn words_of<'a>(alloc: Global, given: &'a [String]) -> Result<Words<'a>, WordsFault> {
+    match read(alloc, given) {
+        Ok(matches) => Ok(words_in(&matches)),
+        Err(fault) => Err(WordsFault::Usage(fault)),
+    }
+}
+
+fn read<'a>(alloc: Global, given: &'a [String]) -> Result<ArgMatches<'a>, Error> {
+    command_of(alloc)?.try_get_matches_from(given)
 }
 
 fn command_of<'a>(alloc: Global) -> Result<Command<'a>, AllocError> {
-    let command = with_output(alloc, with_flags(alloc, bare(alloc)?)?)?;
-    with_required(alloc, command, &REQUIRED)
-}
-
-/// The command without its words.
-fn bare<'a>(alloc: Global) -> Result<Command<'a>, AllocError> {
-    Command::new(alloc, "subcat")
-        .about(ABOUT)
-        .after_help(AFTER_HELP)
-        .bin_name("subcat")
-}
-
-fn with_flags<'a>(alloc: Global, command: Command<'a>) -> Result<Command<'a>, AllocError> {
-    let mut command = command;
-    for (name, help) in &FLAGS {
-        command = command.arg(flag(alloc, *name, *help))?;
-    }
-    Ok(command)
+    with_output(alloc, SUBCAT.command(alloc)?)
 }
 
 fn with_output<'a>(alloc: Global, command: Command<'a>) -> Result<Command<'a>, AllocError> {
     command.arg(output(alloc)?)
-}
-
-fn flag<'a>(alloc: Global, name: &'a str, help: &'a str) -> Arg<'a> {
-    Arg::new(alloc, name)
-        .long(name)
-        .action(ArgAction::SetTrue)
-        .help(help)
 }
 
 fn output(alloc: Global) -> Result<Arg<'static>, AllocError> {

@@ -28,14 +28,24 @@ impl Journal {
         let mut options = OpenOptions::new();
         options.read(true).append(true).create(true);
         let file: File = options.open(rt, path).map_err(Fault::Journal)?;
-        file.try_lock().map_err(not_locked)?;
-        let kept = read(alloc, &file, form)?;
-        if kept.is_foreign {
-            return Err(Fault::ForeignJournal);
-        }
-        file.set_len(kept.length).map_err(Fault::Journal)?;
+        let kept = taken(alloc, &file, form)?;
         Ok((Journal { file }, kept))
     }
+}
+
+/// Takes the file for this run, cuts off what was half written, and answers what it holds.
+fn taken(alloc: Global, file: &File, form: Form) -> Result<Kept, Fault> {
+    file.try_lock().map_err(not_locked)?;
+    let kept = read(alloc, file, form)?;
+    cut_off(file, &kept)?;
+    Ok(kept)
+}
+
+fn cut_off(file: &File, kept: &Kept) -> Result<(), Fault> {
+    if kept.is_foreign {
+        return Err(Fault::ForeignJournal);
+    }
+    file.set_len(kept.length).map_err(Fault::Journal)
 }
 
 fn not_locked(fault: TryLockError) -> Fault {
@@ -49,16 +59,42 @@ fn not_locked(fault: TryLockError) -> Fault {
 fn read(alloc: Global, file: &File, form: Form) -> Result<Kept, Fault> {
     let mut lines = BufReader::new(alloc, file).map_err(Fault::Journal)?;
     let mut kept = Kept::new();
+    let taken = take_lines(alloc, form, &mut lines, &mut kept);
+    drop(lines);
+    taken?;
+    Ok(kept)
+}
+
+fn take_lines<R: BufRead>(
+    alloc: Global,
+    form: Form,
+    lines: &mut R,
+    kept: &mut Kept,
+) -> Result<(), Fault> {
     let mut line = Vec::new(alloc);
     for _ in 0..u64::MAX {
         line.clear();
-        let length = lines.read_until(b'\n', &mut line);
-        if length.map_err(Fault::Journal)? == 0 {
+        if !take_line(alloc, form, lines, &mut line, kept)? {
             break;
         }
-        kept.take(alloc, form, line.as_slice())?;
     }
-    Ok(kept)
+    Ok(())
+}
+
+/// Takes the next line; false where there is none.
+fn take_line<R: BufRead>(
+    alloc: Global,
+    form: Form,
+    lines: &mut R,
+    line: &mut Vec<u8>,
+    kept: &mut Kept,
+) -> Result<bool, Fault> {
+    let length = lines.read_until(b'\n', line).map_err(Fault::Journal)?;
+    if length == 0 {
+        return Ok(false);
+    }
+    kept.take(alloc, form, line.as_slice())?;
+    Ok(true)
 }
 
 impl Write for Journal {

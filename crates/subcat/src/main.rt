@@ -8,16 +8,17 @@ mod journal;
 mod keeping;
 
 use command::{Words, words_of};
-use command_line::{WordsFault, address_of, count_of, ended};
+use command_line::{address_of, arguments_of, count_of, ended};
 use fault::Fault;
 use follower::{Form, Options, follow};
 use keeping::{keep_in, keep_printing};
 use replcmd::parse_position;
-use std::io::BufWriter;
+use std::alloc::Global;
+use std::io;
+use std::io::{BufWriter, Write};
 use std::net::{Net, SocketAddr, TcpListener, TcpStream};
 use std::process::ExitCode;
 use std::sync::Wait;
-use std::{env, io};
 
 fn main(rt: HostRuntime) -> ExitCode {
     ended(&rt, run(&rt, &rt))
@@ -28,11 +29,16 @@ fn run<N: Net<Listener = TcpListener, Stream = TcpStream> + Wait>(
     rt: &HostRuntime,
     net: &N,
 ) -> Result<(), Fault> {
-    let alloc = rt.alloc();
-    let arguments: Vec<String> = env::args(rt)
-        .map_err(WordsFault::Arguments)?
-        .collect(alloc)?;
-    let words = words_of(alloc, arguments.as_slice()).map_err(WordsFault::Usage)?;
+    let arguments = arguments_of(rt)?;
+    run_called(rt, net, arguments.as_slice())
+}
+
+fn run_called<N: Net<Listener = TcpListener, Stream = TcpStream> + Wait>(
+    rt: &HostRuntime,
+    net: &N,
+    arguments: &[String],
+) -> Result<(), Fault> {
+    let words = words_of(rt.alloc(), arguments)?;
     let address = address_of(words.address)?;
     let options = options_of(&words)?;
     match words.output {
@@ -48,10 +54,19 @@ fn follow_at<N: Net<Listener = TcpListener, Stream = TcpStream> + Wait>(
     address: SocketAddr,
     options: &Options,
 ) -> Result<(), Fault> {
-    let alloc = rt.alloc();
-    let mut output = BufWriter::new(alloc, io::writer(rt)).map_err(Fault::Output)?;
+    let mut output = BufWriter::new(rt.alloc(), io::writer(rt)).map_err(Fault::Output)?;
+    follow_into(net, rt.alloc(), address, options, &mut output)
+}
+
+fn follow_into<N: Net<Listener = TcpListener, Stream = TcpStream> + Wait, W: Write>(
+    net: &N,
+    alloc: Global,
+    address: SocketAddr,
+    options: &Options,
+    output: &mut W,
+) -> Result<(), Fault> {
     let mut socket = TcpStream::connect(net, address).map_err(Fault::Connect)?;
-    follow(net, alloc, &mut socket, options, &mut output).map_err(Fault::Follow)
+    follow(net, alloc, &mut socket, options, output).map_err(Fault::Follow)
 }
 
 fn options_of<'a>(words: &Words<'a>) -> Result<Options<'a>, Fault> {

@@ -1,4 +1,4 @@
-use Rattle.pubd.proofs.listen.Given as goal
+use Rattle.pubd.proofs.serve_configured.Given as goal
 
 abbrev pub ghosts-served-L-LogName : goal.ghosts-served-L-LogName
 ghosts-served-L-LogName g a = record { book = a.opened.log.history.seen.book }

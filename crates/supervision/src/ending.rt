@@ -23,11 +23,18 @@ pub struct Door {
 }
 
 impl Door {
-    pub fn of(listener: &TcpListener) -> io::Result<Self> {
+    fn of(listener: &TcpListener) -> io::Result<Self> {
         Ok(Door {
             address: listener.local_addr()?,
             socket: TcpStream::from(OwnedFd::from(listener.try_clone()?)),
         })
+    }
+
+    fn of_any(listener: Option<&TcpListener>) -> io::Result<Option<Self>> {
+        match listener {
+            Some(listener) => Ok(Some(Door::of(listener)?)),
+            None => Ok(None),
+        }
     }
 
     /// No connection comes by it any more: Linux has whoever waits there see a fault of the listener.
@@ -42,10 +49,20 @@ pub struct Doors {
     pub connections: Door,
     pub status: Option<Door>,
     /// Nobody is told any more what runs.
-    pub is_status_over: AtomicBool,
+    pub(crate) is_status_over: AtomicBool,
 }
 
 impl Doors {
+    /// The doors at which these listeners wait.
+    pub fn of(connections: &TcpListener, status: Option<&TcpListener>) -> io::Result<Self> {
+        let status = Door::of_any(status)?;
+        Ok(Doors {
+            connections: Door::of(connections)?,
+            status,
+            is_status_over: AtomicBool::new(false),
+        })
+    }
+
     /// Ends the page that tells what runs.
     pub fn close_status(&self) {
         self.is_status_over.store(true, Ordering::SeqCst);

@@ -7,7 +7,7 @@ use std::alloc::Global;
 
 /// One line.
 #[derive(Drop)]
-pub(crate) enum Step {
+pub enum Step {
     /// A session does this.
     Session(Event),
     /// The stream of the slot of this name is waited for, or steered.
@@ -18,7 +18,7 @@ pub(crate) enum Step {
 
 /// What becomes of the stream of a slot S.
 #[derive(Clone, Copy)]
-pub(crate) enum Steering {
+pub enum Steering {
     /// `await S POSITION`: nothing, but the lines behind wait until the slot is confirmed there or further.
     Await(u64),
     /// `hold S`: nothing of it is written, until it is let go.
@@ -49,9 +49,18 @@ impl Step {
 
 fn session(alloc: Global, line: &str) -> Result<Step, WorldFault> {
     let event = Event::parse(alloc, line)?;
-    match &event {
-        Event::Session(_, _) | Event::Note(_, _) => Ok(Step::Session(event)),
-        Event::Connection(_, _) | Event::Slot(_) => Err(WorldFault::BadEvent),
+    if is_of_session(&event) {
+        Ok(Step::Session(event))
+    } else {
+        drop(event);
+        Err(WorldFault::BadEvent)
+    }
+}
+
+fn is_of_session(event: &Event) -> bool {
+    match event {
+        Event::Session(_, _) | Event::Note(_, _) => true,
+        Event::Connection(_, _) | Event::Slot(_) => false,
     }
 }
 

@@ -1,4 +1,4 @@
-//! Numbers of the command line, and times as PostgreSQL's settings write them.
+//! Times as PostgreSQL's settings write them.
 
 use command_line::count_of;
 use std::time::Duration;

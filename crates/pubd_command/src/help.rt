@@ -1,0 +1,51 @@
+//! What `pubd --help` says in front of its words and behind them.
+
+use command_line::help_text;
+
+pub(crate) const ABOUT: &str =
+    "Serves logical replication of tables in memory to clients of PostgreSQL's streaming replication protocol";
+
+pub(crate) const AFTER_HELP: &str = help_text!(
+    "  tables = [{ name = 'public.item' }]
+
+The log has room for that number of records. Each stream keeps the changes of transactions in
+progress in that number of chunks, each of 16,384 bytes; where they are full it ends (53400).
+
+A script has one line for each step. T is a name for a transaction.
+
+",
+    "
+These steer the stream of the slot S, or its next one, for tests of clients:
+
+  await S POSITION         the lines behind wait until S is confirmed at POSITION, as in 0/1000050
+  hold S                   nothing of the stream is written any more
+  resume S                 it goes on
+  ask S                    a keepalive asks the client for an answer
+  cut S                    its connection is cut between two frames
+  cut S N                  its connection is cut behind N more bytes
+  end                      the server ends: streams send what is left and CopyDone
+
+For example
+
+  pubd --await-streams 1 pubd.toml 127.0.0.1:5433 1 load.script
+
+prints listening 127.0.0.1:5433, serves one connection, runs the script on a thread of its own
+once that connection's stream has begun, and ends once both have ended. Without --await-streams
+scripts begin at once, and a slot that is created later begins behind what they have committed
+by then. A client connects to it as to a walsender of PostgreSQL, with
+replication=database. A line of a script that is refused is printed on the standard error: the
+script's name, the line's number and a code, as in load.script 7 S4. The script then goes on. So
+is a line that steers, once it is done, with ok in the place of the code.
+
+A script that is named - is the standard input. Its lines are done as they come, beside the
+connections, and each is answered on the standard output: by ok, behind a commit with the position
+at which it ends, as in ok 0/1000050, or by the code of its refusal. So another program can drive
+the server through a pipe:
+
+  pubd pubd.toml 127.0.0.1:5433 forever -
+
+serves until it is told end, or ended by a signal, and writes what it is told.
+
+It ends with 0 where that is done, with 2 where the arguments, the configuration or a script are
+refused, and with 1 where a file, the socket or memory fails."
+);

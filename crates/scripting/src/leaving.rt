@@ -1,0 +1,14 @@
+//! What a script leaves behind.
+
+use hub::Hub;
+use sessions::Sessions;
+use shared_log::LogName;
+use slots::SlotName;
+use std::sync::{MutexGuard, Wait};
+
+/// Transactions in progress are left as they are, so that nothing of them commits.
+pub(crate) fn leave_all<L: LogName + SlotName, R: Wait>(rt: &R, hub: &Hub<L>, sessions: Sessions) {
+    let publisher = hub.publisher().lock(rt);
+    sessions.leave_all(&publisher);
+    MutexGuard::unlock(publisher);
+}
