@@ -1,7 +1,7 @@
 use Rattle.std.proofs.Common.{◌++◌, List, sym, ap, ◌∙◌}
 use Rattle.std.proofs.lemmas.List.{append-nil, drop_all}
 use Rattle.tables.specs.declared.table.Table.{Table}
-use Rattle.publication.proofs.publications.copy_into.Goals as goal
+use Rattle.publications.proofs.publications.copy_into.Goals as goal
 
 pub returns : goal.returns
 returns c =
