@@ -69,9 +69,12 @@ pub fn turn<L: LogName, W: Write>(
     ensures silent { has_written result ≡ false → out.new ≡ out.old }
 {
     let records = reader.fetch(alloc, TURN_RECORDS)?;
-    sender.feed(records.as_slice(), clock)?;
+    let count = records.len();
+    let fed = sender.feed(records.as_slice(), clock);
+    drop(records);
+    fed?;
     sender.write_held(out)?;
-    Ok(records.len())
+    Ok(count)
 }
 
 impl Sender {
