@@ -5,7 +5,7 @@ use Rattle.std.specs.Str.{bytes_eq}
 use Rattle.publication.specs.Publications.{PublicationSet}
 use Rattle.publications.specs.Publications.{selected_publications}
 use Rattle.publication.specs.Selection.{selected_oids, selected_table}
-use Rattle.server.specs.declared.table_name.TableName.{TableName}
+use Rattle.answers.specs.declared.table_name.TableName.{TableName}
 use Rattle.commons.specs.declared.published.TheConstants.{MOST_NAME_BYTES}
 
 -- A publication has this name. PostgreSQL's names are no longer.

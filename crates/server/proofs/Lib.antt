@@ -1,5 +1,3 @@
-pub mod Rows
-pub mod Tails
 pub mod Steps
 pub mod Names
 pub mod Parameters

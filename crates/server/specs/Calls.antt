@@ -1,8 +1,8 @@
 -- What a connection asks of its desk, with the answers.
-use Rattle.std.specs.Prelude.{◌≡◌, ◌<◌, ◌^◌, ℕ, length, Bool, List, [], ◌∷◌, Result}
+use Rattle.std.specs.Prelude.{◌≡◌, ℕ, Bool, List, [], ◌∷◌, Result}
 use Rattle.replcmd.specs.declared.setting.StreamOptions.{StreamOptions}
-use Rattle.server.specs.declared.fault.DeskFault.{DeskFault}
-use Rattle.server.specs.declared.table_name.TableName.{TableName}
+use Rattle.answers.specs.declared.fault.DeskFault.{DeskFault}
+use Rattle.answers.specs.declared.table_name.TableName.{TableName}
 
 pub data Call : Type 0 where
   End : (end : ℕ) → Call
@@ -18,10 +18,3 @@ pub data Call : Type 0 where
 abbrev pub AreAsked : {D : Type 0} → (D → Call → D → Type 0) → D → List Call → D → Type 0
 AreAsked told old [] new = new ≡ old
 AreAsked {D} told old (call ∷ calls) new = (mid : D) × told old call mid × AreAsked told mid calls new
-
--- texts for which a row has room
-abbrev pub IsShort : List ℕ → Type 0
-IsShort text = length text < 2 ^ 16
-
-abbrev pub IsShortName : TableName → Type 0
-IsShortName table = IsShort table.schema × IsShort table.name

@@ -8,15 +8,15 @@ use Rattle.replcmd.specs.Grammar.{SpellsCommand}
 use Rattle.replcmd.specs.Commands.{Tells}
 use Rattle.pqformat.specs.Putting.{Extends}
 use Rattle.std.specs.declared.alloc.AllocError.{AllocError}
-use Rattle.server.specs.declared.fault.DeskFault.{DeskFault}
-use Rattle.server.specs.declared.refusal.Refusal.TheVariants as refusals
-use Rattle.server.specs.declared.service.Dialect.{Dialect}
-use Rattle.server.specs.declared.service.Dialect.TheVariants.{Commands, Questions}
-use Rattle.server.specs.declared.table_name.TableName.{TableName}
-use Rattle.server.specs.Answers.{path_set, mode_shown, publications_told, tables_told}
+use Rattle.answers.specs.declared.fault.DeskFault.{DeskFault}
+use Rattle.answers.specs.declared.refusal.Refusal.TheVariants as refusals
+use Rattle.answers.specs.declared.service.Dialect.{Dialect}
+use Rattle.answers.specs.declared.service.Dialect.TheVariants.{Commands, Questions}
+use Rattle.answers.specs.declared.table_name.TableName.{TableName}
+use Rattle.answers.specs.Answers.{path_set, mode_shown, publications_told, tables_told}
 use Rattle.server.specs.Calls.{Call, End, System, CreateSlot, DropSlot, StartStream, AreAsked}
 use Rattle.server.specs.Calls as calls
-use Rattle.server.specs.Said.{error_and_ready, answer_to_identify, answer_to_create, answer_to_drop, answer_to_start}
+use Rattle.answers.specs.Said.{error_and_ready, answer_to_identify, answer_to_create, answer_to_drop, answer_to_start}
 use Rattle.questions.specs.declared.question.Question.{Question}
 use Rattle.questions.specs.declared.question.Question.TheVariants.{SearchPath, DirectoryMode, InitialCopy, Publications, Tables, DropWhenFree}
 use Rattle.questions.specs.Questions.{SpellsQuestion}

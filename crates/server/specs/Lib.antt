@@ -1,6 +1,3 @@
-pub mod Refusals
-pub mod Said
-pub mod Answers
 pub mod Calls
 pub mod Opening
 pub mod Conversation

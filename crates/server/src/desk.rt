@@ -2,10 +2,9 @@
 
 ghost use Rattle.std.specs.Prelude.{◌<◌, ◌^◌, length, IfOk};
 ghost use Rattle.std.specs.List.{AllByRecursion};
-ghost use Rattle.server.specs.Calls.{IsShort, IsShortName};
+ghost use Rattle.answers.specs.Answers.{IsShort, IsShortName};
 
-use crate::fault::DeskFault;
-use crate::table_name::TableName;
+use answers::{DeskFault, TableName};
 use pqformat::{Items, Text};
 use replcmd::{CmdFault, StreamOptions};
 

@@ -1,4 +1,4 @@
-//! The faults of a connection, and of a desk.
+//! The faults of a connection.
 
 ghost use Rattle.std.specs.Prelude.{◌≡◌};
 ghost use Rattle.server.specs.declared.fault.ConnFault.TheVariants.{Memory};
@@ -29,25 +29,4 @@ impl<T: Drop> From<AllocFailed<T>> for ConnFault {
     fn from(_e: AllocFailed<T>) -> ConnFault {
         ConnFault::Memory
     }
-}
-
-/// Why a desk refuses what a command asks.
-#[derive(Clone, Copy, Debug, PartialEq, Eq, Error)]
-pub enum DeskFault {
-    #[error("L1: the slot does not exist")]
-    SlotMissing,
-    #[error("L2: the slot is in use")]
-    SlotInUse,
-    #[error("L3: the slot already exists")]
-    SlotExists,
-    #[error("L4: no slot place is left")]
-    NoSlotPlace,
-    #[error("P1: the publication does not exist")]
-    UnknownPublication,
-    #[error("P2: different column lists")]
-    ListConflict,
-    #[error("L6: no reader is free")]
-    NoReader,
-    #[error("out of memory")]
-    Memory,
 }

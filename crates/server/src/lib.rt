@@ -2,7 +2,6 @@
 //! thread.
 #![tactic(auto)]
 
-mod answer_rows;
 mod connection;
 mod conversation;
 mod database;
@@ -10,21 +9,13 @@ mod desk;
 mod fault;
 mod opening;
 mod query;
-mod refusal;
 mod replying;
-mod say;
-mod say_answers;
-mod service;
 mod session;
 mod stage;
 mod streaming;
-mod table_name;
 mod turn;
 
 pub use connection::{Connection, Phase};
 pub use conversation::{Event, converse};
 pub use desk::Desk;
-pub use fault::{ConnFault, DeskFault};
-pub use refusal::Refusal;
-pub use service::{Dialect, Service};
-pub use table_name::TableName;
+pub use fault::ConnFault;

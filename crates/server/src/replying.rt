@@ -7,10 +7,10 @@ ghost use Rattle.server.specs.Conversation.{Answered, AnswersQuestion, RepliesIn
 use crate::database::Database;
 use crate::desk::Desk;
 use crate::query::reply;
-use crate::refusal::Refusal;
-use crate::say::{say_dropped, say_refused_ready};
-use crate::say_answers::{say_found_tables, say_mode, say_path_set, say_publications};
-use crate::service::Dialect;
+use answers::{
+    Dialect, Refusal, say_dropped, say_found_tables, say_mode, say_path_set, say_publications,
+    say_refused_ready,
+};
 use bytes::BytesMut;
 use pqformat::{Items, Text};
 use questions::{Question, question_of};
