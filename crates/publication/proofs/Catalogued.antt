@@ -9,8 +9,8 @@ use Rattle.tables.specs.declared.column.Column.{Column}
 use Rattle.tables.specs.declared.table.Table.{Table}
 use Rattle.tables.specs.Kinds.{has_no_zero}
 use Rattle.tables.specs.Tables.{IsName, IsTable}
-use Rattle.publication.specs.Selection.{FitsTable}
-use Rattle.publication.proofs.Rows.{both_true}
+use Rattle.row_messages.specs.Relations.{FitsTable}
+use Rattle.row_messages.proofs.Rows.{both_true}
 
 pub no_zero : (text : List ℕ) → has_no_zero text ≡ true → has_zero text ≡ false
 no_zero [] e = refl

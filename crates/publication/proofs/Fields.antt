@@ -16,7 +16,7 @@ use Rattle.tables.proofs.Lengths.{insert_length, message_length, two_rows_length
 use Rattle.tables.specs.Spelling.{body_length, row_length}
 use Rattle.tables.specs.declared.message.Message.{Message}
 use Rattle.tables.specs.Reading.{SpellsBody, body_at, change_at, change_tagged, insert_at, message_at, oids_at, row_at, update_at}
-use Rattle.publication.specs.Spelling.{IsReadWhole}
+use Rattle.publication.specs.Read.{IsReadWhole}
 
 abbrev row_in : Result ((ℕ × List Value) × List ℕ) BodyFault → Result (List Value × List ℕ) BodyFault
 row_in (Ok read) = Ok (read.0.1, read.1)

@@ -28,11 +28,13 @@ use Rattle.published_tables.specs.declared.operations.Operation.{Operation}
 use Rattle.published_tables.specs.declared.operations.Operation.TheVariants.{Insert, Update, Delete, Truncate}
 use Rattle.published_tables.specs.declared.publication.Publication.{Publication}
 use Rattle.published_tables.specs.Published.{PublicationSet, has, publishes}
-use Rattle.publication.specs.Selection.{has_table, list_by, relation, relation_column, selected_table, table_as_published, whole_table, FitsTable, FitTables}
-use Rattle.publication.specs.Tuples.{old_by, old_row_of_update, tuple_behind, tuple_of}
-use Rattle.publication.specs.Projection.{delete_message, insert_message, is_published, may_be_emptied, message, message_by, message_of_update, only_if, passes, row_as_published, stands, stands_in, truncate_message, update_message, AreValues, MessageFits}
-use Rattle.publication.proofs.Choosing.{all_chosen, narrowed_fits, narrowed_stands}
-use Rattle.publication.proofs.Rows.{both_true, OldFits, TupleFits, old_fits, replaced_fits, sent_fits, tuple_behind_fits, tuple_fits}
+use Rattle.row_messages.specs.Relations.{relation_column, table_as_published, FitsTable}
+use Rattle.publication.specs.Selection.{has_table, list_by, relation, selected_table, whole_table, FitTables}
+use Rattle.row_messages.specs.Tuples.{old_by, old_row_of_update, tuple_behind, tuple_of}
+use Rattle.row_messages.specs.Messages.{delete_message, insert_message, stands_in, update_message}
+use Rattle.publication.specs.Projection.{is_published, may_be_emptied, message, message_by, message_of_update, only_if, passes, row_as_published, stands, truncate_message, AreValues, MessageFits}
+use Rattle.row_messages.proofs.Choosing.{all_chosen, narrowed_fits, narrowed_stands}
+use Rattle.row_messages.proofs.Rows.{both_true, OldFits, TupleFits, old_fits, replaced_fits, sent_fits, tuple_behind_fits, tuple_fits}
 use Rattle.publication.proofs.Relations.{found_table, relation_tells, some_is}
 
 -- ---- a message

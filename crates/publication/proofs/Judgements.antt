@@ -22,10 +22,12 @@ use Rattle.tables.specs.Tables.{fits_table, table_of}
 use Rattle.published_tables.specs.declared.operations.Operation.{Operation}
 use Rattle.published_tables.specs.declared.operations.Operation.TheVariants.{Insert, Update, Delete, Truncate}
 use Rattle.published_tables.specs.Published.{PublicationSet}
-use Rattle.publication.specs.Projection.{delete_message, insert_message, is_published, may_be_emptied, message, message_by, message_of_update, only_if, passes, row_as_published, stands, stands_in, truncate_message}
-use Rattle.publication.specs.Selection.{FitsTable, has_table, list_by, selected_table, table_as_published, whole_table}
-use Rattle.publication.specs.Spelling.{IsShortRow}
-use Rattle.publication.specs.Tuples.{old_by}
+use Rattle.row_messages.specs.Messages.{delete_message, insert_message, stands_in}
+use Rattle.publication.specs.Projection.{is_published, may_be_emptied, message, message_by, message_of_update, only_if, passes, row_as_published, stands, truncate_message}
+use Rattle.row_messages.specs.Relations.{FitsTable, table_as_published}
+use Rattle.publication.specs.Selection.{has_table, list_by, selected_table, whole_table}
+use Rattle.publication.specs.Read.{IsShortRow}
+use Rattle.row_messages.specs.Tuples.{old_by}
 use Rattle.publication.proofs.Oids.{few_emptied}
 use Rattle.publication.proofs.Standing.{large}
 

@@ -1,6 +1,4 @@
-pub mod Bounds
 pub mod Catalogued
-pub mod Choosing
 pub mod Fields
 pub mod Fitting
 pub mod Judgements
@@ -9,9 +7,5 @@ pub mod Oids
 pub mod Relations
 pub mod Repeats
 pub mod Room
-pub mod Rows
 pub mod Standing
-pub mod Values
 pub mod Worked
-pub mod Written
-pub mod RelationParts

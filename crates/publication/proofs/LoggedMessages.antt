@@ -21,12 +21,12 @@ use Rattle.publication.specs.Logged.{IsNoteAt, change_message, fits_log, logged_
 use Rattle.publication.specs.Projection.{AreValues, MessageFits}
 use Rattle.publication.specs.Selection.{FitTables}
 use Rattle.pqformat.specs.Writing.{FitsRoom}
-use Rattle.publication.specs.Spelling.{HasRoomFor}
-use Rattle.publication.specs.declared.putting.TheConstants.{MAX_MESSAGE_LENGTH}
+use Rattle.row_messages.specs.Spelling.{HasRoomFor}
+use Rattle.row_messages.specs.declared.room.TheConstants.{MAX_MESSAGE_LENGTH}
 use Rattle.publication.proofs.Catalogued.{no_zero}
 use Rattle.publication.proofs.Fitting.{message_fits}
 use Rattle.publication.proofs.Room.{has_room}
-use Rattle.publication.proofs.Rows.{both_true}
+use Rattle.row_messages.proofs.Rows.{both_true}
 
 -- what of a message is known that may stand in the log
 record Short (m : Message) : Type 0 where

@@ -14,7 +14,7 @@ use Rattle.tables.specs.declared.change_body.TheConstants.{MAX_TRUNCATED}
 use Rattle.tables.specs.declared.table.Table.{Table}
 use Rattle.tables.specs.Tables.{repeats, table_of}
 use Rattle.publication.specs.Projection.{may_be_emptied}
-use Rattle.publication.proofs.Rows.{both_true}
+use Rattle.row_messages.proofs.Rows.{both_true}
 
 -- one OID more is written
 pub one_more : (oids : List ℕ) (i : ℕ) (oid : ℕ) → i < length oids → oid ≡ get_or oids i 0 → flat_map int32 (take (i + 1) oids) ≡ flat_map int32 (take i oids) ++ int32 oid

@@ -19,8 +19,9 @@ use Rattle.tables.specs.declared.table.Table.{Table}
 use Rattle.tables.specs.Tables.{table_of}
 use Rattle.stream.specs.Items.{IsShortMessage, FitsRelationOf}
 use Rattle.published_tables.specs.Published.{PublicationSet}
-use Rattle.publication.specs.Selection.{relation, relation_of, relation_column, selected_table, FitsTable, FitTables}
-use Rattle.publication.proofs.Values.{type_fits}
+use Rattle.row_messages.specs.Relations.{relation_of, relation_column, FitsTable}
+use Rattle.publication.specs.Selection.{relation, selected_table, FitTables}
+use Rattle.row_messages.proofs.Values.{type_fits}
 
 pub some_is : {A : Type 0} (x y : A) → Some x ≡ Some y → x ≡ y
 some_is x y e = cc

@@ -2,8 +2,8 @@
 use Rattle.std.proofs.Common.{◌≡◌, ℕ, ◌+◌, ◌≤◌, List, length, arith}
 use Rattle.std.specs.Prelude.{min}
 use Rattle.std.proofs.Math.Nat.{le-min, min-eq_left, min-eq_right, min-le_left, min-le_right}
-use Rattle.publication.specs.declared.putting.TheConstants.{MAX_ADDED_LENGTH, MAX_MESSAGE_LENGTH}
-use Rattle.publication.specs.Spelling.{HasRoom, HasRoomFor, room_for}
+use Rattle.row_messages.specs.declared.room.TheConstants.{MAX_ADDED_LENGTH, MAX_MESSAGE_LENGTH}
+use Rattle.row_messages.specs.Spelling.{HasRoom, HasRoomFor, room_for}
 
 -- whatever is no longer than the longest message, and than its body and what may be added to it
 pub has_room : (size n : ℕ) (out : List ℕ) → n ≤ MAX_MESSAGE_LENGTH → n ≤ size + MAX_ADDED_LENGTH → HasRoomFor size out → n ≤ length out

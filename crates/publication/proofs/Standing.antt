@@ -28,19 +28,22 @@ use Rattle.tables.specs.Refs.{IsLarge}
 use Rattle.tables.specs.Spelling.{row_length}
 use Rattle.tables.specs.Tables.{fits_table, table_of}
 use Rattle.published_tables.specs.Published.{PublicationSet}
-use Rattle.publication.specs.Projection.{delete_message, insert_message, message_of_update, only_if, stands, stands_in, update_message, AreValues, MessageFits}
-use Rattle.publication.specs.Selection.{FitTables, FitsTable, listed_items, table_as_published}
+use Rattle.row_messages.specs.Messages.{delete_message, insert_message, stands_in, update_message}
+use Rattle.publication.specs.Projection.{message_of_update, only_if, stands, AreValues, MessageFits}
+use Rattle.row_messages.specs.Relations.{FitsTable, listed_items, table_as_published}
+use Rattle.publication.specs.Selection.{FitTables}
 use Rattle.pqformat.specs.Writing.{FitsRoom}
-use Rattle.publication.specs.Spelling.{HasRoomFor, IsShortRow, IsWritten}
-use Rattle.publication.specs.Tuples.{changes_key, key_tuple_of, old_by, old_row_of_update, tuple_behind, tuple_of}
-use Rattle.publication.proofs.Bounds.{behind_bound, key_bound, tuple_bound}
-use Rattle.publication.proofs.Choosing.{all_chosen, narrowed_shorter}
+use Rattle.row_messages.specs.Spelling.{HasRoomFor, IsWritten}
+use Rattle.publication.specs.Read.{IsShortRow}
+use Rattle.row_messages.specs.Tuples.{changes_key, key_tuple_of, old_by, old_row_of_update, tuple_behind, tuple_of}
+use Rattle.row_messages.proofs.Bounds.{behind_bound, key_bound, tuple_bound}
+use Rattle.row_messages.proofs.Choosing.{all_chosen, narrowed_shorter}
 use Rattle.publication.proofs.Room.{has_room, less_room}
 use Rattle.publication.proofs.Relations.{found_table}
 use Rattle.publication.specs.Logged.{change_message}
 use Rattle.publication.proofs.LoggedMessages.{change_fits}
-use Rattle.publication.proofs.Rows.{both_true}
-use Rattle.publication.proofs.Written.{chosen_short}
+use Rattle.row_messages.proofs.Rows.{both_true}
+use Rattle.row_messages.proofs.Written.{chosen_short}
 use Rattle.tables.proofs.Values.{value_is}
 
 some_is : {A : Type 0} (a b : A) → Some a ≡ Some b → a ≡ b

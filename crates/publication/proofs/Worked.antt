@@ -18,7 +18,8 @@ use Rattle.tables.specs.declared.change.Change.TheVariants as changes
 use Rattle.tables.specs.Tables.{item_table, table_named}
 use Rattle.published_tables.specs.declared.publication.Publication.{Publication}
 use Rattle.published_tables.specs.Published.{PublicationSet, all_operations, published_whole, publications_named}
-use Rattle.publication.specs.Projection.{delete_message, message, message_of_update, update_message}
+use Rattle.row_messages.specs.Messages.{delete_message, update_message}
+use Rattle.publication.specs.Projection.{message, message_of_update}
 
 -- ---- Tables, rows and messages.
 

@@ -1,8 +1,6 @@
-pub mod Kinds
 pub mod Publications
 pub mod Selection
-pub mod Tuples
-pub mod Spelling
+pub mod Read
 pub mod Projection
 pub mod Logged
 pub use Rattle.published_tables.specs.Published

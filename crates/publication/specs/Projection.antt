@@ -5,23 +5,22 @@ use Rattle.std.specs.Str.{is_utf8}
 use Rattle.pgoutput.specs.declared.logical.Logical.{Logical}
 use Rattle.pgoutput.specs.declared.logical.Logical.TheVariants as logical
 use Rattle.pgoutput.specs.Logical.{FitsLogical}
-use Rattle.tables.specs.declared.row.TheConstants.{MAX_ROW_LENGTH}
 use Rattle.tables.specs.declared.change_body.TheConstants.{MAX_TRUNCATED}
 use Rattle.tables.specs.declared.kinds.Value.{Value}
 use Rattle.tables.specs.declared.table.Table.{Table}
 use Rattle.tables.specs.declared.change.Change.{Change}
 use Rattle.tables.specs.declared.change.Change.TheVariants as changes
-use Rattle.tables.specs.Spelling.{row_length}
 use Rattle.tables.specs.Tables.{repeats}
 use Rattle.tables.specs.Kinds.{IsValue}
-use Rattle.tables.specs.Tables.{table_of, fits_table}
+use Rattle.tables.specs.Tables.{table_of}
 use Rattle.stream.specs.Items.{tables_of, IsShortMessage, IsOfChange, FitsRelationOf}
 use Rattle.published_tables.specs.declared.operations.Operation.{Operation}
 use Rattle.published_tables.specs.declared.operations.Operation.TheVariants.{Insert, Update, Delete, Truncate}
 use Rattle.published_tables.specs.Published.{PublicationSet, has, publishes}
 use Rattle.publication.specs.Publications.{passes_in}
-use Rattle.publication.specs.Selection.{listed_items, list_by, selected_table, relation}
-use Rattle.publication.specs.Tuples.{tuple_of, tuple_behind, old_by, old_row_of_update}
+use Rattle.row_messages.specs.Relations.{listed_items}
+use Rattle.row_messages.specs.Messages.{stands_in, insert_message, update_message, delete_message}
+use Rattle.publication.specs.Selection.{list_by, selected_table, relation}
 use Rattle.publication.specs.declared.projection.Projected.{Projected}
 use Rattle.publication.specs.declared.projection.Projected.TheVariants.{Nothing, Message}
 
@@ -36,9 +35,6 @@ abbrev pub passes : PublicationSet → Operation → ℕ → List Value → Bool
 passes s operation oid row = list_any (passes_in operation oid row) s.publications
 
 -- ---- What fits the catalogue: the table, the rows and the list of a change are none that S1, S2 or S6 refuses.
-
-abbrev pub stands_in : Table → List Value → Bool
-stands_in table row = fits_table table row && nat_le (row_length row) MAX_ROW_LENGTH
 
 abbrev pub stands : Option Table → List Value → Bool
 stands None row = false
@@ -56,16 +52,6 @@ fits_catalogue tables (changes.Truncate oids) = may_be_emptied tables oids
 fits_catalogue tables (changes.Message m) = false
 
 -- ---- Messages.
-
-abbrev pub insert_message : List Value → Table → Logical
-insert_message row t = logical.Insert (record { oid = t.oid; new = tuple_of row })
-
-abbrev pub update_message : (old new : List Value) → Table → Logical
-update_message old new t = logical.Update (record { oid = t.oid; old = old_row_of_update t.identity t old new; new = tuple_behind old new })
-
--- without an identity nothing can be told of a row that is gone
-abbrev pub delete_message : List Value → Table → Option Logical
-delete_message old t = option_map (λ o. logical.Delete (record { oid = t.oid; old = o })) (old_by t.identity t old)
 
 abbrev pub truncate_message : List ℕ → Option Logical
 truncate_message [] = None

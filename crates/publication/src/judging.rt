@@ -10,10 +10,12 @@ ghost use Rattle.tables.specs.declared.kinds.Value.{Value as Datum};
 ghost use Rattle.tables.specs.declared.message.Message.{Message as Held};
 ghost use Rattle.published_tables.specs.declared.operations.Operation.{Operation};
 ghost use Rattle.publication.specs.Logged.{change_message, logged_message};
-ghost use Rattle.publication.specs.Projection.{is_published, message, passes, stands_in};
-ghost use Rattle.publication.specs.Selection.{FitsTable, whole_table};
-ghost use Rattle.publication.specs.Spelling.{IsReadWhole};
-ghost use Rattle.publication.specs.Tuples.{old_by};
+ghost use Rattle.row_messages.specs.Messages.{stands_in};
+ghost use Rattle.publication.specs.Projection.{is_published, message, passes};
+ghost use Rattle.row_messages.specs.Relations.{FitsTable};
+ghost use Rattle.publication.specs.Selection.{whole_table};
+ghost use Rattle.publication.specs.Read.{IsReadWhole};
+ghost use Rattle.row_messages.specs.Tuples.{old_by};
 
 use crate::logged::fits_log;
 use crate::row_reading::{last_row, oid_and_row, one_row};

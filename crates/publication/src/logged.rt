@@ -1,5 +1,5 @@
 //! Messages of the log, sent to streams that ask for them.
-#![tactic(auto, using(crate::proofs::Written::sizes))]
+#![tactic(auto, using(row_messages::proofs::Written::sizes))]
 
 ghost use Rattle.std.specs.Prelude.{◌≡◌, ◌+◌, ◌≤◌, [], IfOk, IfSome, Ok, OnSome, Some, length, true};
 ghost use Rattle.std.specs.Str.{is_utf8};
@@ -12,12 +12,13 @@ ghost use Rattle.tables.specs.declared.change.Change.{Change as Changed};
 ghost use Rattle.tables.specs.declared.message.Message.{Message as Held};
 ghost use Rattle.publication.specs.Logged.{IsNoteAt, change_message, fits_log, note_message, logged_message, told_of};
 ghost use Rattle.pqformat.specs.Writing.{FitsRoom, Writes};
-ghost use Rattle.publication.specs.Spelling.{HasRoomFor, IsPut, IsReadWhole, IsWritten};
+ghost use Rattle.row_messages.specs.Spelling.{HasRoomFor, IsPut, IsWritten};
+ghost use Rattle.publication.specs.Read.{IsReadWhole};
 
-use crate::putting::MAX_MESSAGE_LENGTH;
 use crate::selection::Selection;
 use pgoutput::{Logical, MESSAGE, Message as Told, message_flags};
 use pqformat::{Items, write_byte, write_bytes, write_int32, write_int64};
+use row_messages::MAX_MESSAGE_LENGTH;
 use std::alloc::AllocError;
 use tables::{MAX_CONTENT_LENGTH, MESSAGE_TAG, Message, MessageRef, is_prefix, lend_message};
 

@@ -1,32 +1,22 @@
-//! The messages of changes in one table, and of tables that were emptied.
+//! The message of an update, by which of its two rows pass, and that of tables that were emptied.
 
-ghost use Rattle.std.specs.Prelude.{◌≡◌, IfOk, Some, length};
-ghost use Rattle.publication.specs.Selection.{listed_items, table_as_published};
-ghost use Rattle.publication.specs.Projection.{delete_message, insert_message, message_of_update, truncate_message, update_message};
+ghost use Rattle.std.specs.Prelude.{◌≡◌, ◌<◌, ◌^◌, IfOk, Some, length};
+ghost use Rattle.pgoutput.specs.Logical.{spell_logical};
+ghost use Rattle.pgoutput.specs.declared.logical.Logical.{Logical as Told};
+ghost use Rattle.pqformat.specs.Writing.{FitsRoom};
+ghost use Rattle.row_messages.specs.Relations.{listed_items, table_as_published};
+ghost use Rattle.row_messages.specs.Spelling.{IsWritten};
+ghost use Rattle.publication.specs.Projection.{message_of_update, truncate_message};
 
-use crate::cells::{old_of, replaced_of, tuple_behind, tuple_of};
-use pgoutput::{Delete, Insert, Logical, Truncate, TruncateOptions, Update};
+use pgoutput::{Logical, Truncate, TruncateOptions};
 use pqformat::Items;
+use row_messages::{
+    deletion, insertion, put_deletion, put_insertion, put_replacement, replacement,
+};
 use std::alloc::{AllocError, Global};
-use tables::{Row, Table};
+use tables::{Row, RowRef, Table};
 
-pub(crate) fn insertion(
-    alloc: Global,
-    table: &Table,
-    listed: &[bool],
-    row: &Row,
-) -> Result<Logical, AllocError>
-    ensures { IfOk result
-        (λ m. m ≡ insert_message (listed_items listed.now row.now)
-        (table_as_published listed.now table.now)) }
-{
-    Ok(Logical::Insert(Insert {
-        oid: table.oid,
-        new: tuple_of(alloc, listed, row.values())?,
-    }))
-}
-
-/// Of an update, by whether the old row passed and the new one passes.
+/// By whether the old row passed and the new one passes.
 pub(crate) fn update(
     alloc: Global,
     table: &Table,
@@ -51,44 +41,34 @@ pub(crate) fn update(
     }
 }
 
-fn replacement(
-    alloc: Global,
+/// The same, written where it is sent from.
+pub(crate) fn put_update(
+    out: &mut [u8],
     table: &Table,
     listed: &[bool],
-    old: &Row,
-    new: &Row,
-) -> Result<Logical, AllocError>
+    old_passes: bool,
+    new_passes: bool,
+    old: &RowRef<'_>,
+    new: &RowRef<'_>,
+) -> Option<usize>
+    requires room { (m : Told) →
+        message_of_update old_passes new_passes (Some (table_as_published listed.now table.now))
+        (listed_items listed.now old.now) (listed_items listed.now new.now)
+        ≡ Some m →
+        FitsRoom 0 out.old (spell_logical m) }
     requires columns { length table.now.columns ≡ length old.now }
     requires rows { length old.now ≡ length new.now }
-    ensures { IfOk result
-        (λ m. m
-        ≡ update_message (listed_items listed.now old.now) (listed_items listed.now new.now)
-        (table_as_published listed.now table.now)) }
+    requires few { length old.now < 2 ^ 15 }
+    ensures { IsWritten result out.old out.new
+        (message_of_update old_passes new_passes (Some (table_as_published listed.now table.now))
+        (listed_items listed.now old.now) (listed_items listed.now new.now)) }
 {
-    Ok(Logical::Update(Update {
-        oid: table.oid,
-        old: replaced_of(alloc, table, listed, old, new)?,
-        new: tuple_behind(alloc, listed, old.values(), new.values())?,
-    }))
-}
-
-/// None for a table without an identity, of whose rows nothing can be told once they are gone.
-pub(crate) fn deletion(
-    alloc: Global,
-    table: &Table,
-    listed: &[bool],
-    old: &Row,
-) -> Result<Option<Logical>, AllocError>
-    requires { length table.now.columns ≡ length old.now }
-    ensures { IfOk result
-        (λ o. o ≡ delete_message (listed_items listed.now old.now)
-        (table_as_published listed.now table.now)) }
-{
-    let Some(old) = old_of(alloc, table, listed, old)? else {
-        return Ok(None);
-    };
-    let oid = table.oid;
-    Ok(Some(Logical::Delete(Delete { oid, old })))
+    match (old_passes, new_passes) {
+        (true, true) => Some(put_replacement(out, table, listed, old, new)),
+        (false, true) => Some(put_insertion(out, table, listed, new)),
+        (true, false) => put_deletion(out, table, listed, old),
+        (false, false) => None,
+    }
 }
 
 pub(crate) fn truncation(oids: Items<u32>) -> Option<Logical>

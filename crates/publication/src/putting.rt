@@ -7,31 +7,16 @@ ghost use Rattle.tables.specs.declared.kinds.Value.{Value as Datum};
 ghost use Rattle.pgoutput.specs.declared.logical.Logical.{Logical};
 ghost use Rattle.publication.specs.Logged.{change_message};
 ghost use Rattle.publication.specs.Projection.{MessageFits, message};
-ghost use Rattle.publication.specs.Spelling.{HasRoomFor, IsPut, IsReadWhole, IsShortRow, IsWritten, room_for};
+ghost use Rattle.row_messages.specs.Spelling.{HasRoomFor, IsPut, IsWritten, room_for};
+ghost use Rattle.publication.specs.Read.{IsReadWhole, IsShortRow};
 ghost use Rattle.tables.specs.Spelling.{row_length};
 
-use crate::put_messages::{put_deletion, put_insertion, put_update};
+use crate::messages::put_update;
 use crate::row_reading::{one_row, two_rows};
 use crate::selection::Selection;
 use published_tables::Operation;
+use row_messages::{put_deletion, put_insertion, room_for};
 use tables::{DELETE_TAG, INSERT_TAG, MESSAGE_TAG, RowRef, TRUNCATE_TAG, UPDATE_TAG};
-
-/// So many bytes are room for the message of any change: an update's two rows have at most 9,536 each, and 7 stand before and between
-/// them.
-pub const MAX_MESSAGE_LENGTH: usize = 19_200;
-
-/// A message of a change is at most so many bytes longer than its body: each value of its two rows by 24 at most, and 2 before them.
-pub const MAX_ADDED_LENGTH: usize = 3_100;
-
-/// How many bytes are room for the message of a change whose body has so many.
-pub fn room_for(size: usize) -> usize
-    ensures { result ≡ room_for size }
-{
-    if size > MAX_MESSAGE_LENGTH - MAX_ADDED_LENGTH {
-        return MAX_MESSAGE_LENGTH;
-    }
-    size + MAX_ADDED_LENGTH
-}
 
 impl Selection {
     /// Writes the message of the change whose body these bytes are, and whose record starts at the position, to the front of `out`, and

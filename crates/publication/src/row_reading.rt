@@ -4,7 +4,7 @@ ghost use Rattle.std.specs.Prelude.{◌≡◌, ◌⊎◌, [], ℕ, List, IfNone,
 ghost use Rattle.tables.specs.Reading.{insert_at, row_at, update_at};
 ghost use Rattle.tables.specs.Refs.{IsLarge};
 ghost use Rattle.tables.specs.declared.kinds.Value.{Value as Datum};
-ghost use Rattle.publication.specs.Spelling.{IsShortRow};
+ghost use Rattle.publication.specs.Read.{IsShortRow};
 
 use pqformat::Cursor;
 use tables::RowRef;

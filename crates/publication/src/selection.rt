@@ -10,18 +10,20 @@ ghost use Rattle.tables.specs.Tables.{table_of, oids_of, repeats};
 ghost use Rattle.tables.specs.declared.change.Change.{Change};
 ghost use Rattle.stream.specs.Items.{IsShortMessage};
 ghost use Rattle.published_tables.specs.Published.{has};
-ghost use Rattle.publication.specs.Selection.{relation_of, FitsTable, has_table, list_by, selected_oids, selected_table, whole_table};
+ghost use Rattle.row_messages.specs.Relations.{relation_of, FitsTable};
+ghost use Rattle.publication.specs.Selection.{has_table, list_by, selected_oids, selected_table, whole_table};
 ghost use Rattle.published_tables.specs.declared.operations.Operation.{Operation};
 ghost use Rattle.publication.specs.Logged.{change_message};
-ghost use Rattle.publication.specs.Projection.{is_published, may_be_emptied, message, passes, projection_of, stands_in, AreValues, FitsProjected, MessageFits};
+ghost use Rattle.row_messages.specs.Messages.{stands_in};
+ghost use Rattle.publication.specs.Projection.{is_published, may_be_emptied, message, passes, projection_of, AreValues, FitsProjected, MessageFits};
 
-use crate::messages::{deletion, insertion, truncation, update};
+use crate::messages::{truncation, update};
 use crate::passing::passes;
 use crate::projection::Projected;
-use crate::relation::relation_message;
 use pgoutput::Logical;
 use pqformat::Items;
 use published_tables::{Operation, Publication};
+use row_messages::{deletion, insertion, relation_message};
 use std::alloc::{AllocError, Global};
 use std::marker::Model;
 use tables::{Change, MAX_TRUNCATED, Row, RowRef, Table, repeats};
@@ -48,7 +50,8 @@ impl Model for Selection {
     ghost use Rattle.std.specs.Coded.{codes};
     ghost use Rattle.tables.specs.Tables.{oids_of, repeats};
     ghost use Rattle.published_tables.specs.Published.{PublicationSet, condition_code};
-    ghost use Rattle.publication.specs.Selection.{FitsTable, selected_oids};
+    ghost use Rattle.row_messages.specs.Relations.{FitsTable};
+    ghost use Rattle.publication.specs.Selection.{selected_oids};
 
     ghost Value = { PublicationSet };
 

@@ -1,5 +1,5 @@
 //! The message of a truncate, written straight from the body that the log keeps.
-#![tactic(auto, using(crate::proofs::Written::sizes))]
+#![tactic(auto, using(row_messages::proofs::Written::sizes))]
 
 ghost use Rattle.std.specs.Prelude.{◌≡◌, ◌+◌, ◌*◌, ◌≤◌, ◌<◌, ◌^◌, [], ℕ, List, Ok, IfSome, false, filter, length, take};
 ghost use Rattle.std.specs.List.{flat_map};
@@ -11,7 +11,8 @@ ghost use Rattle.tables.specs.declared.change.Change.{Change as Changed};
 ghost use Rattle.published_tables.specs.declared.operations.Operation.{Operation};
 ghost use Rattle.publication.specs.Projection.{is_published, message};
 ghost use Rattle.pqformat.specs.Writing.{FitsRoom, Writes};
-ghost use Rattle.publication.specs.Spelling.{HasRoomFor, IsReadWhole, IsWritten};
+ghost use Rattle.row_messages.specs.Spelling.{HasRoomFor, IsWritten};
+ghost use Rattle.publication.specs.Read.{IsReadWhole};
 
 use crate::selection::{Selection, may_be_emptied};
 use pgoutput::{NO_OPTIONS, TRUNCATE};

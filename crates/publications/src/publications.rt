@@ -6,7 +6,7 @@ ghost use Rattle.std.specs.Str.{bytes_eq};
 ghost use Rattle.publication_config.specs.declared.fault.PubFault.{PubFault};
 ghost use Rattle.toml.specs.View.{view};
 ghost use Rattle.publication_config.specs.Config.{Configures, ReadsPublications, configured_by, publications_in};
-ghost use Rattle.publication.specs.Selection.{FitsTable};
+ghost use Rattle.row_messages.specs.Relations.{FitsTable};
 ghost use Rattle.published_tables.specs.Published.{conflicts};
 ghost use Rattle.publications.specs.Publications.{IsOfSelect, is_unknown, judgement_of_names, selected_publications};
 
@@ -37,7 +37,7 @@ impl Model for Publications {
     ghost use Rattle.tables.specs.Tables.{oids_of, repeats};
     ghost use Rattle.published_tables.specs.Published.{PublicationSet, condition_code};
     ghost use Rattle.std.specs.List.{AllByRecursion};
-    ghost use Rattle.publication.specs.Selection.{FitsTable};
+    ghost use Rattle.row_messages.specs.Relations.{FitsTable};
 
     ghost Value = { PublicationSet };
 

@@ -10,7 +10,7 @@ use Rattle.tables.specs.declared.change.Change.{Change}
 use Rattle.publication.specs.Publications.{PublicationSet}
 use Rattle.publication.specs.Logged.{IsNoteAt, note_message}
 use Rattle.publication.specs.Selection.{relation}
-use Rattle.publication.specs.Spelling.{IsPut}
+use Rattle.row_messages.specs.Spelling.{IsPut}
 use Rattle.reorder.specs.Taking.{ReorderState}
 use Rattle.stream.specs.Items.{Block, bytes_of_items, relations_sent_through, xlogdata_word}
 use Rattle.sender.specs.Published.{published_note}

@@ -6,7 +6,8 @@ use Rattle.std.proofs.lemmas.Bool.{eq-eqb, eqb-true}
 use Rattle.tables.specs.declared.table.Table.{Table}
 use Rattle.tables.specs.Tables.{table_of}
 use Rattle.publication.specs.Publications.{PublicationSet}
-use Rattle.publication.specs.Selection.{has_table, list_by, selected_oids, selected_table, table_as_published}
+use Rattle.row_messages.specs.Relations.{table_as_published}
+use Rattle.publication.specs.Selection.{has_table, list_by, selected_oids, selected_table}
 use Rattle.sender.proofs.Heads.{either}
 use Rattle.sender.specs.Waiting.{AreEach, AreSelected}
 

@@ -8,7 +8,7 @@ use Rattle.wal.specs.Log.{IsWellFormedLog, IsSized, WellFormedAfter, follows, en
 use Rattle.wal.proofs.Laws.{follows-append, WellFormedAfter-front, WellFormedAfter-back}
 use Rattle.reorder.specs.Taking.{StartsBehind}
 use Rattle.reorder.proofs.Sections.{next_within}
-use Rattle.publication.proofs.Rows.{both_true}
+use Rattle.row_messages.proofs.Rows.{both_true}
 use Rattle.sender.specs.Sending.{MayFollow}
 
 pub all_front : {A : Type 0} (P : A → Type 0) (xs ys : List A) → AllByRecursion P (xs ++ ys) → AllByRecursion P xs

@@ -29,7 +29,7 @@ use Rattle.pgoutput.proofs.Wires.{logical_codec}
 use Rattle.publication.specs.Publications.{PublicationSet}
 use Rattle.publication.specs.Logged.{change_message}
 use Rattle.publication.specs.Projection.{MessageFits}
-use Rattle.publication.specs.Spelling.{IsPut}
+use Rattle.row_messages.specs.Spelling.{IsPut}
 use Rattle.tables.specs.declared.change.Change.{Change}
 use Rattle.tables.specs.Reading.{SpellsBody}
 use Rattle.wal.specs.Log.{Entry}

@@ -1,5 +1,5 @@
 //! The frames round the changes of a transaction: Begin and Commit (PostgreSQL 15, 55.9).
-#![tactic(auto, using(publication::proofs::Written::sizes))]
+#![tactic(auto, using(row_messages::proofs::Written::sizes))]
 
 ghost use Rattle.std.specs.Prelude.{◌≡◌, ◌<◌, ◌≤◌, ◌^◌, length, take};
 ghost use Rattle.pgoutput.specs.Logical.{spell_logical};

@@ -1,5 +1,5 @@
 //! The frames of changes, made one by one into a slice that has room for them (PostgreSQL 15, 55.4).
-#![tactic(auto, using(publication::proofs::Written::sizes))]
+#![tactic(auto, using(row_messages::proofs::Written::sizes))]
 
 ghost use Rattle.std.specs.Prelude.{◌≡◌, ◌⊎◌, ◌==◌, ℕ, true, ◌+◌, ◌<◌, ◌≤◌, ◌^◌, [], ◌∷◌, List, None, IfSome, IsSome, false, length, reverse, take, vec_capacity};
 ghost use Rattle.std.specs.List.{list_any};

@@ -12,7 +12,7 @@ use Rattle.world.specs.State.{open_start}
 use Rattle.starts.specs.Starts.{start_state, state_with, is_open}
 use Rattle.world.specs.Machine.{start_place, open_places, is_for, place_among, without_place, IsOpenStartAt}
 use Rattle.world.proofs.Inside.{same_inside, place_is}
-use Rattle.publication.proofs.Rows.{both_true}
+use Rattle.row_messages.proofs.Rows.{both_true}
 
 -- ---- by walking over all starts
 

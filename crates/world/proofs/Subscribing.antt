@@ -17,7 +17,7 @@ use Rattle.starts.specs.Starts.{start_state}
 use Rattle.std.proofs.lemmas.List.{append-nil}
 use Rattle.tables.proofs.Names.{bytes_eq-after}
 use Rattle.stream.proofs.Lists.{all_of_both}
-use Rattle.publication.proofs.Rows.{both_true}
+use Rattle.row_messages.proofs.Rows.{both_true}
 use Rattle.std.proofs.lemmas.Slice.Eq.{bytes_eq-Decides}
 use Rattle.world.proofs.Inside.{same_inside, place_is}
 

@@ -1,7 +1,7 @@
 //! A filter's truth of a row, and a message written straight from a change's body.
 
 ghost use Rattle.std.specs.Prelude.{◌≤◌, length};
-ghost use Rattle.publication.specs.declared.putting.TheConstants.{MAX_MESSAGE_LENGTH};
+ghost use Rattle.row_messages.specs.declared.room.TheConstants.{MAX_MESSAGE_LENGTH};
 
 use crate::filters::{filter, row};
 use crate::sending::{CONFIGURATION, selection_of_p};

@@ -3,11 +3,11 @@ use Rattle.std.proofs.lemmas.List.{length-take}
 use Rattle.publication.specs.Logged.{change_message}
 use Rattle.published_tables.specs.Published.{PublicationSet}
 use Rattle.publication.specs.Selection.{FitTables}
-use Rattle.publication.specs.Spelling.{room_for}
+use Rattle.row_messages.specs.Spelling.{room_for}
 use Rattle.publication.proofs.Standing.{spelled_fits}
 use Rattle.publication.proofs.Fields.{found_of, told_of}
 use Rattle.publication.proofs.Room.{room_within}
-use Rattle.publication.proofs.Written.{put_in}
+use Rattle.row_messages.proofs.Written.{put_in}
 use Rattle.publication.proofs.selection.Selection.put.Goals as goal
 
 pub put_tagged-requires : goal.put_tagged-requires

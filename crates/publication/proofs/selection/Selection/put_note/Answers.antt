@@ -1,12 +1,12 @@
 use Rattle.std.proofs.Common.{◌+◌, arith, drop, length, take}
 use Rattle.std.proofs.lemmas.List.{length-take}
-use Rattle.publication.specs.declared.putting.TheConstants.{MAX_MESSAGE_LENGTH}
+use Rattle.row_messages.specs.declared.room.TheConstants.{MAX_MESSAGE_LENGTH}
 use Rattle.publication.specs.Logged.{note_message}
 use Rattle.publication.proofs.Fields.{told_of}
 use Rattle.publication.proofs.LoggedMessages.{note_fits}
 use Rattle.publication.proofs.Room.{room_within}
 use Rattle.publication.proofs.Standing.{coded_values}
-use Rattle.publication.proofs.Written.{put_in}
+use Rattle.row_messages.proofs.Written.{put_in}
 use Rattle.publication.proofs.selection.Selection.put_note.Goals as goal
 
 pub put_note_tagged-requires : goal.put_note_tagged-requires

@@ -1,7 +1,7 @@
 use Rattle.std.proofs.Common.{ℕ, subst, sym}
 use Rattle.std.specs.Prelude.{IfSome}
 use Rattle.tables.specs.Reading.{change_tagged}
-use Rattle.publication.specs.Spelling.{IsReadWhole}
+use Rattle.publication.specs.Read.{IsReadWhole}
 use Rattle.publication.proofs.Fields.{found_delete, found_insert, found_message, found_truncate, found_update}
 use Rattle.publication.proofs.selection.Selection.put_tagged.Goals as goal
 

@@ -1,5 +1,5 @@
-use Rattle.publication.specs.Selection.{table_as_published}
-use Rattle.publication.proofs.Choosing.{narrowed_fits}
+use Rattle.row_messages.specs.Relations.{table_as_published}
+use Rattle.row_messages.proofs.Choosing.{narrowed_fits}
 use Rattle.publication.proofs.Relations.{relation_answer_fits}
 use Rattle.publication.proofs.selection.Selection.relation.Goals as goal
 

@@ -4,7 +4,8 @@ use Rattle.tables.specs.declared.kinds.Value.{Value}
 use Rattle.tables.specs.Reading.{insert_at, row_at, update_at}
 use Rattle.tables.specs.Tables.{fits_table}
 use Rattle.published_tables.specs.declared.operations.Operation.TheVariants.{Update}
-use Rattle.publication.specs.Projection.{passes, stands_in}
+use Rattle.row_messages.specs.Messages.{stands_in}
+use Rattle.publication.specs.Projection.{passes}
 use Rattle.publication.proofs.Fields.{behind_is, update_parts}
 use Rattle.publication.proofs.Judgements.{both_stand, large_first, large_second, read_alike, unfit_first, update_judged, update_read}
 use Rattle.publication.proofs.selection.Selection.tells_rows.Goals as goal

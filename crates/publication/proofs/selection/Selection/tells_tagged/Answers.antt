@@ -1,6 +1,6 @@
 use Rattle.std.proofs.Common.{ℕ, Some, subst, sym}
 use Rattle.tables.specs.Reading.{change_tagged}
-use Rattle.publication.specs.Spelling.{IsReadWhole}
+use Rattle.publication.specs.Read.{IsReadWhole}
 use Rattle.publication.proofs.Fields.{found_delete, found_insert, found_message, found_truncate, found_update}
 use Rattle.publication.proofs.selection.Selection.tells_tagged.Goals as goal
 

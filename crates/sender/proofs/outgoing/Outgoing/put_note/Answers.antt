@@ -3,7 +3,7 @@ use Rattle.std.specs.Int.{w64}
 use Rattle.std.proofs.lemmas.Int.{to_z-of_z}
 use Rattle.std.proofs.lemmas.List.{take_at}
 use Rattle.publication.specs.Logged.{note_message}
-use Rattle.publication.specs.Spelling.{IsPut}
+use Rattle.row_messages.specs.Spelling.{IsPut}
 use Rattle.std.specs.Prelude.{ℕ, Some}
 use Rattle.sender.proofs.Noting.{note_fits, on_ok}
 use Rattle.sender.proofs.Noted.{note_grows}

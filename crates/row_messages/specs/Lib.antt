@@ -1,0 +1,5 @@
+pub mod Kinds
+pub mod Tuples
+pub mod Relations
+pub mod Messages
+pub mod Spelling
