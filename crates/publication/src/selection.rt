@@ -337,7 +337,7 @@ fn found(tables: &[Table], oid: u32) -> Option<&Table>
 }
 
 /// Whether the row may stand in the table.
-#[tactic(auto, using(crate::proofs::Rows::whole_row))]
+#[tactic(auto, using(row_messages::proofs::Rows::whole_row))]
 fn stands(table: &Table, row: &Row) -> bool
     ensures value { result ≡ stands_in table.now row.now }
     ensures in_range { result ≡ true → AllByRecursion IsValue row.now }
