@@ -8,7 +8,7 @@ use crate::answer::{tell, tell_written};
 use anyhow::{Result, ensure};
 use bytes::BytesMut;
 use copyboth::{
-    ServerBody, read_client, read_server, write_keepalive, write_status, write_xlogdata,
+    ServerBody, Status, read_client, read_server, write_keepalive, write_status, write_xlogdata,
 };
 use pgoutput::{Logical, OutFault, read_logical, write_logical, written_and_read};
 use std::alloc::{AllocError, Global};
@@ -42,8 +42,19 @@ fn tell_logical(alloc: Global, message: &Logical, read: &[u8], answer: &mut Stri
     requires short { IsShort message.now }
 {
     tell_written_logical(alloc, message, read, answer)?;
-    let is_same = is_read_again(alloc, message)?;
-    ensure!(is_same, "is another message when it is read again");
+    see_again(alloc, message)
+}
+
+fn see_again(alloc: Global, message: &Logical) -> Result<()>
+    requires range { FitsLogical message.now }
+    requires short { IsShort message.now }
+{
+    let again = written_and_read(alloc, message)?;
+    see_same(&again, message)
+}
+
+fn see_same(again: &Logical, message: &Logical) -> Result<()> {
+    ensure!(again == message, "is another message when it is read again");
     Ok(())
 }
 
@@ -60,22 +71,24 @@ fn tell_written_logical(
     tell_written(answer, written.as_slice(), read)
 }
 
-fn is_read_again(alloc: Global, message: &Logical) -> Result<bool, OutFault>
-    requires range { FitsLogical message.now }
-    requires short { IsShort message.now }
-{
-    Ok(written_and_read(alloc, message)? == *message)
-}
-
 pub fn answer_server(alloc: Global, bytes: &[u8], answer: &mut String) -> Result<()> {
     let came = read_server(bytes);
     tell(answer, &came)?;
-    if let Ok(body) = &came {
-        let mut written = BytesMut::new(alloc);
-        write_server(body, &mut written)?;
-        tell_written(answer, written.as_slice(), bytes)?;
+    match came {
+        Ok(body) => Ok(tell_server(alloc, &body, bytes, answer)?),
+        Err(_) => Ok(()),
     }
-    Ok(())
+}
+
+fn tell_server(
+    alloc: Global,
+    body: &ServerBody<'_>,
+    read: &[u8],
+    answer: &mut String,
+) -> Result<(), AllocError> {
+    let mut written = BytesMut::new(alloc);
+    write_server(body, &mut written)?;
+    tell_written(answer, written.as_slice(), read)
 }
 
 fn write_server(body: &ServerBody<'_>, written: &mut BytesMut) -> Result<(), AllocError> {
@@ -90,12 +103,21 @@ fn write_server(body: &ServerBody<'_>, written: &mut BytesMut) -> Result<(), All
 pub fn answer_client(alloc: Global, bytes: &[u8], answer: &mut String) -> Result<()> {
     let came = read_client(bytes);
     tell(answer, &came)?;
-    if let Ok(status) = &came {
-        let mut written = BytesMut::new(alloc);
-        write_status(status, &mut written)?;
-        tell_written(answer, written.as_slice(), bytes)?;
+    match came {
+        Ok(status) => Ok(tell_client(alloc, &status, bytes, answer)?),
+        Err(_) => Ok(()),
     }
-    Ok(())
+}
+
+fn tell_client(
+    alloc: Global,
+    status: &Status,
+    read: &[u8],
+    answer: &mut String,
+) -> Result<(), AllocError> {
+    let mut written = BytesMut::new(alloc);
+    write_status(status, &mut written)?;
+    tell_written(answer, written.as_slice(), read)
 }
 
 /// A change is written again where it is short enough.
@@ -120,11 +142,24 @@ fn add_body(
 fn tell_body(alloc: Global, change: &Change, read: &[u8], answer: &mut String) -> Result<()>
     requires { IsShortBody change.now }
 {
+    let length = tell_written_body(alloc, change, read, answer)?;
+    ensure!(body_len(change) == length, "has another length");
+    Ok(())
+}
+
+/// Answers how long it is as it is written.
+fn tell_written_body(
+    alloc: Global,
+    change: &Change,
+    read: &[u8],
+    answer: &mut String,
+) -> Result<usize, AllocError>
+    requires { IsShortBody change.now }
+{
     let mut written = BytesMut::new(alloc);
     write_body(change, &mut written)?;
     tell_written(answer, written.as_slice(), read)?;
-    ensure!(body_len(change) == written.len(), "has another length");
-    Ok(())
+    Ok(written.len())
 }
 
 fn is_short(change: &Change) -> bool

@@ -10,7 +10,7 @@ use crate::publishing::{answer_explained, answer_published};
 use crate::subscriber::{answer_applied, answer_render, answer_status};
 use crate::talk::answer_talk;
 use crate::texts::{answer_catalog, answer_command, answer_config, answer_event, answer_position};
-use anyhow::Result;
+use anyhow::{Result, bail};
 use std::alloc::Global;
 
 pub fn answer_call(alloc: Global, call: &str, given: &str, answer: &mut String) -> Result<()> {
@@ -23,26 +23,34 @@ pub fn answer_call(alloc: Global, call: &str, given: &str, answer: &mut String) 
         "filter" => answer_filter(alloc, given, answer),
         "texts" => answer_texts(given, answer),
         "codes" => answer_codes(answer),
-        "command" => Ok(answer_command(alloc, given, answer)?),
-        "position" => Ok(answer_position(alloc, given, answer)?),
-        "event" => Ok(answer_event(alloc, given, answer)?),
-        "catalog" => Ok(answer_catalog(alloc, given, answer)?),
-        "config" => Ok(answer_config(alloc, given, answer)?),
-        _ => answer_bytes(alloc, call, bytes_of(alloc, given)?.as_slice(), answer),
+        "command" => answer_command(alloc, given, answer),
+        "position" => answer_position(alloc, given, answer),
+        "event" => answer_event(alloc, given, answer),
+        "catalog" => answer_catalog(alloc, given, answer),
+        "config" => answer_config(alloc, given, answer),
+        _ => answer_digits(alloc, call, given, answer),
     }
 }
 
 /// The calls that are given bytes.
+fn answer_digits(alloc: Global, call: &str, digits: &str, answer: &mut String) -> Result<()> {
+    let bytes = bytes_of(alloc, digits)?;
+    answer_bytes(alloc, call, bytes.as_slice(), answer)
+}
+
 fn answer_bytes(alloc: Global, call: &str, bytes: &[u8], answer: &mut String) -> Result<()> {
     match call {
-        "read_startup" => Ok(answer_startup(alloc, bytes, answer)?),
-        "read_front" => Ok(answer_front(alloc, bytes, answer)?),
-        "read_back" => Ok(answer_back(alloc, bytes, answer)?),
+        "read_startup" => answer_startup(alloc, bytes, answer),
+        "read_front" => answer_front(alloc, bytes, answer),
+        "read_back" => answer_back(alloc, bytes, answer),
         "read_logical" => answer_logical(alloc, bytes, answer),
         "read_server" => answer_server(alloc, bytes, answer),
         "read_client" => answer_client(alloc, bytes, answer),
         "read_body" => answer_body(alloc, bytes, answer),
         "render" => answer_render(alloc, bytes, answer),
-        _ => answer_field(alloc, call, bytes, answer),
+        "u8" | "u16" | "u32" | "u64" | "take2" | "cstr" => {
+            Ok(answer_field(alloc, call, bytes, answer)?)
+        }
+        _ => bail!("no such call"),
     }
 }

@@ -10,7 +10,6 @@ use rowfilter::FilterFault;
 use schedule::{Answer, WorldFault};
 use sender::SendFault;
 use slots::SlotFault;
-use std::alloc::AllocError;
 use std::fmt::{Debug, Display};
 use tables::BodyFault;
 use txlog::SessionFault;
@@ -125,23 +124,22 @@ const ANSWERS: [Answer; 27] = [
 /// Adds each fault of a type, with its text.
 pub fn answer_texts(given: &str, answer: &mut String) -> Result<()> {
     match given {
-        "FrameFault" => add_texts(&FRAME_FAULTS, answer)?,
-        "OutFault" => add_texts(&OUT_FAULTS, answer)?,
-        "BodyFault" => add_texts(&BODY_FAULTS, answer)?,
-        "FilterFault" => add_texts(&FILTER_FAULTS, answer)?,
-        "SessionFault" => add_texts(&SESSION_FAULTS, answer)?,
-        "PubFault" => add_texts(&PUB_FAULTS, answer)?,
-        "ReorderFault" => add_texts(&REORDER_FAULTS, answer)?,
-        "SendFault" => add_texts(&SEND_FAULTS, answer)?,
-        "WorldFault" => add_texts(&WORLD_FAULTS, answer)?,
-        "ConfigFault" => add_texts(&CONFIG_FAULTS, answer)?,
+        "FrameFault" => add_texts(&FRAME_FAULTS, answer),
+        "OutFault" => add_texts(&OUT_FAULTS, answer),
+        "BodyFault" => add_texts(&BODY_FAULTS, answer),
+        "FilterFault" => add_texts(&FILTER_FAULTS, answer),
+        "SessionFault" => add_texts(&SESSION_FAULTS, answer),
+        "PubFault" => add_texts(&PUB_FAULTS, answer),
+        "ReorderFault" => add_texts(&REORDER_FAULTS, answer),
+        "SendFault" => add_texts(&SEND_FAULTS, answer),
+        "WorldFault" => add_texts(&WORLD_FAULTS, answer),
+        "ConfigFault" => add_texts(&CONFIG_FAULTS, answer),
         _ => bail!("no such type"),
     }
-    Ok(())
 }
 
-fn add_texts<F: Debug + Display>(faults: &[F], answer: &mut String) -> Result<(), AllocError> {
-    write!(answer, "=")?;
+fn add_texts<F: Debug + Display>(faults: &[F], answer: &mut String) -> Result<()> {
+    answer.push('=')?;
     for fault in faults {
         write!(answer, "|{fault:?} {fault}")?;
     }
@@ -150,7 +148,7 @@ fn add_texts<F: Debug + Display>(faults: &[F], answer: &mut String) -> Result<()
 
 /// Adds each answer of an event, with its code.
 pub fn answer_codes(answer: &mut String) -> Result<()> {
-    write!(answer, "=")?;
+    answer.push('=')?;
     for came in &ANSWERS {
         write!(answer, " {came:?} {:?}", came.code())?;
     }

@@ -1,92 +1,145 @@
 //! Fields of messages from the front of some bytes.
 
-use crate::answer::tell_written;
-use anyhow::{Result, bail};
+use crate::answer::{add_value, tell_value, tell_written};
 use bytes::BytesMut;
 use pqformat::{Cursor, put_byte, put_bytes, put_int16, put_int32, put_int64, put_string, utf8_of};
-use std::alloc::Global;
+use std::alloc::{AllocError, Global};
 
 /// Adds the field, or None where it isn't there whole, and what is left behind it.
-pub fn answer_field(alloc: Global, call: &str, bytes: &[u8], answer: &mut String) -> Result<()> {
+pub fn answer_field(
+    alloc: Global,
+    call: &str,
+    bytes: &[u8],
+    answer: &mut String,
+) -> Result<(), AllocError> {
     let mut cursor = Cursor::new(bytes);
     let mut written = BytesMut::new(alloc);
-    match call {
-        "take2" | "cstr" => add_text(call, &mut cursor, &mut written, answer)?,
-        _ => add_number(call, &mut cursor, &mut written, answer)?,
-    }
-    let rest = cursor.rest();
-    write!(answer, " {rest:?}")?;
-    let read = bytes.strip_suffix(rest).unwrap_or(&[]);
-    Ok(tell_written(answer, written.as_slice(), read)?)
+    add_field(call, &mut cursor, &mut written, answer)?;
+    tell_rest(cursor.rest(), written.as_slice(), bytes, answer)
 }
 
-fn add_number(
+fn tell_rest(
+    rest: &[u8],
+    written: &[u8],
+    bytes: &[u8],
+    answer: &mut String,
+) -> Result<(), AllocError> {
+    add_value(answer, &rest)?;
+    tell_written(answer, written, bytes.strip_suffix(rest).unwrap_or(&[]))
+}
+
+fn add_field(
     call: &str,
     cursor: &mut Cursor<'_>,
     written: &mut BytesMut,
     answer: &mut String,
-) -> Result<()> {
+) -> Result<(), AllocError> {
     match call {
-        "u8" => {
-            let number = cursor.u8();
-            write!(answer, "= {number:?}")?;
-            if let Some(number) = number {
-                put_byte(written, number)?;
-            }
-        }
-        "u16" => {
-            let number = cursor.u16();
-            write!(answer, "= {number:?}")?;
-            if let Some(number) = number {
-                put_int16(written, number)?;
-            }
-        }
-        "u32" => {
-            let number = cursor.u32();
-            write!(answer, "= {number:?}")?;
-            if let Some(number) = number {
-                put_int32(written, number)?;
-            }
-        }
-        "u64" => {
-            let number = cursor.u64();
-            write!(answer, "= {number:?}")?;
-            if let Some(number) = number {
-                put_int64(written, number)?;
-            }
-        }
-        _ => bail!("no such call"),
+        "u8" => add_u8(cursor, written, answer),
+        "u16" => add_u16(cursor, written, answer),
+        "u32" => add_u32(cursor, written, answer),
+        "u64" => add_u64(cursor, written, answer),
+        "take2" => add_two(cursor, written, answer),
+        _ => add_text(cursor, written, answer),
     }
-    Ok(())
 }
 
-/// Adds two bytes, or what stands before a zero byte: as a text where it is one.
+fn add_u8(
+    cursor: &mut Cursor<'_>,
+    written: &mut BytesMut,
+    answer: &mut String,
+) -> Result<(), AllocError> {
+    let number = cursor.u8();
+    tell_value(answer, &number)?;
+    match number {
+        Some(number) => put_byte(written, number),
+        None => Ok(()),
+    }
+}
+
+fn add_u16(
+    cursor: &mut Cursor<'_>,
+    written: &mut BytesMut,
+    answer: &mut String,
+) -> Result<(), AllocError> {
+    let number = cursor.u16();
+    tell_value(answer, &number)?;
+    match number {
+        Some(number) => put_int16(written, number),
+        None => Ok(()),
+    }
+}
+
+fn add_u32(
+    cursor: &mut Cursor<'_>,
+    written: &mut BytesMut,
+    answer: &mut String,
+) -> Result<(), AllocError> {
+    let number = cursor.u32();
+    tell_value(answer, &number)?;
+    match number {
+        Some(number) => put_int32(written, number),
+        None => Ok(()),
+    }
+}
+
+fn add_u64(
+    cursor: &mut Cursor<'_>,
+    written: &mut BytesMut,
+    answer: &mut String,
+) -> Result<(), AllocError> {
+    let number = cursor.u64();
+    tell_value(answer, &number)?;
+    match number {
+        Some(number) => put_int64(written, number),
+        None => Ok(()),
+    }
+}
+
+fn add_two(
+    cursor: &mut Cursor<'_>,
+    written: &mut BytesMut,
+    answer: &mut String,
+) -> Result<(), AllocError> {
+    let two = cursor.take(2);
+    tell_value(answer, &two)?;
+    put_bytes(written, two.unwrap_or(&[]))
+}
+
+/// Adds what stands before a zero byte: as a text where it is one.
 fn add_text(
-    call: &str,
     cursor: &mut Cursor<'_>,
     written: &mut BytesMut,
     answer: &mut String,
-) -> Result<()> {
-    if call == "take2" {
-        let two = cursor.take(2);
-        write!(answer, "= {two:?}")?;
-        put_bytes(written, two.unwrap_or(&[]))?;
-        return Ok(());
+) -> Result<(), AllocError> {
+    match cursor.cstr() {
+        Some(before) => add_before(before, written, answer),
+        None => answer.push_str("= None"),
     }
-    let Some(before) = cursor.cstr() else {
-        write!(answer, "= None")?;
-        return Ok(());
-    };
+}
+
+fn add_before(
+    before: &[u8],
+    written: &mut BytesMut,
+    answer: &mut String,
+) -> Result<(), AllocError> {
     match utf8_of(before) {
-        Some(text) => {
-            write!(answer, "= Some({text:?})")?;
-            put_string(written, text)?;
-        }
-        None => {
-            write!(answer, "= Some({before:?})")?;
-            put_bytes(written, before)?;
-            put_byte(written, 0)?;
-        }
+        Some(text) => add_string(text, written, answer),
+        None => add_no_string(before, written, answer),
     }
-    Ok(())
+}
+
+fn add_string(text: &str, written: &mut BytesMut, answer: &mut String) -> Result<(), AllocError> {
+    tell_value(answer, &Some(text))?;
+    put_string(written, text)
+}
+
+fn add_no_string(
+    before: &[u8],
+    written: &mut BytesMut,
+    answer: &mut String,
+) -> Result<(), AllocError> {
+    tell_value(answer, &Some(before))?;
+    put_bytes(written, before)?;
+    put_byte(written, 0)
 }

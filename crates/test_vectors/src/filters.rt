@@ -1,10 +1,10 @@
 //! Row filters: what each is of some rows, or why it is none.
 
-use crate::answer::bytes_of;
+use crate::answer::{add_value, bytes_of};
 use anyhow::{Context, Result, bail};
 use catalog::Catalog;
-use rowfilter::{Filter, fault_at, parse};
-use std::alloc::{AllocError, Global};
+use rowfilter::{Filter, FilterFault, fault_at, parse};
+use std::alloc::Global;
 use tables::{Change, Table, read_body};
 
 /// `TABLES|INSERTS|FILTER`: a configuration of one table, and the bodies of inserts, between commas. Adds what the filter is of
@@ -12,8 +12,28 @@ use tables::{Change, Table, read_body};
 pub fn answer_filter(alloc: Global, given: &str, answer: &mut String) -> Result<()> {
     let (tables, rest) = given.split_once('|').context("gives no rows")?;
     let (inserts, text) = rest.split_once('|').context("gives no filter")?;
+    add_configured(alloc, tables, inserts, text, answer)
+}
+
+fn add_configured(
+    alloc: Global,
+    tables: &str,
+    inserts: &str,
+    text: &str,
+    answer: &mut String,
+) -> Result<()> {
     let catalog = Catalog::from_toml(alloc, tables)?;
-    match catalog.tables() {
+    add_over(alloc, catalog.tables(), inserts, text, answer)
+}
+
+fn add_over(
+    alloc: Global,
+    tables: &[Table],
+    inserts: &str,
+    text: &str,
+    answer: &mut String,
+) -> Result<()> {
+    match tables {
         [table, ..] => add_filtered(alloc, table, inserts, text, answer),
         [] => bail!("gives no table"),
     }
@@ -28,15 +48,23 @@ fn add_filtered(
 ) -> Result<()> {
     match parse(alloc, text, table) {
         Ok(filter) => add_truths(alloc, &filter, inserts, answer),
-        Err(fault) => {
-            let at = fault_at(alloc, text, table, fault)?;
-            Ok(write!(answer, "! {at} {fault}")?)
-        }
+        Err(fault) => add_fault(alloc, table, text, fault, answer),
     }
 }
 
+fn add_fault(
+    alloc: Global,
+    table: &Table,
+    text: &str,
+    fault: FilterFault,
+    answer: &mut String,
+) -> Result<()> {
+    let at = fault_at(alloc, text, table, fault)?;
+    Ok(write!(answer, "! {at} {fault}")?)
+}
+
 fn add_truths(alloc: Global, filter: &Filter, inserts: &str, answer: &mut String) -> Result<()> {
-    write!(answer, "=")?;
+    answer.push('=')?;
     for insert in inserts.split_terminator(',') {
         add_truth(alloc, filter, insert, answer)?;
     }
@@ -45,13 +73,12 @@ fn add_truths(alloc: Global, filter: &Filter, inserts: &str, answer: &mut String
 
 fn add_truth(alloc: Global, filter: &Filter, insert: &str, answer: &mut String) -> Result<()> {
     let bytes = bytes_of(alloc, insert)?;
-    let change = read_body(alloc, bytes.as_slice())?;
-    Ok(add_truth_of(filter, &change, answer)?)
+    add_truth_of(alloc, filter, bytes.as_slice(), answer)
 }
 
-fn add_truth_of(filter: &Filter, change: &Change, answer: &mut String) -> Result<(), AllocError> {
-    match change {
-        Change::Insert(_, row) => write!(answer, " {:?}", filter.truth(row)),
+fn add_truth_of(alloc: Global, filter: &Filter, body: &[u8], answer: &mut String) -> Result<()> {
+    match &read_body(alloc, body)? {
+        Change::Insert(_, row) => Ok(add_value(answer, &filter.truth(row))?),
         _ => Ok(()),
     }
 }

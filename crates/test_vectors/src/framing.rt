@@ -6,6 +6,7 @@ ghost use Rattle.frames.specs.Front.{front_body};
 ghost use Rattle.frames.specs.Back.{back_body, HasCounts};
 
 use crate::answer::{tell, tell_written};
+use anyhow::Result;
 use bytes::BytesMut;
 use frames::{
     Back, FrameFault, Front, read_back, read_front, read_startup, write_back, write_front,
@@ -13,11 +14,11 @@ use frames::{
 use std::alloc::{AllocError, Global};
 
 /// A startup is only read.
-pub fn answer_startup(alloc: Global, bytes: &[u8], answer: &mut String) -> Result<(), AllocError> {
+pub fn answer_startup(alloc: Global, bytes: &[u8], answer: &mut String) -> Result<()> {
     tell(answer, &read_startup(alloc, bytes))
 }
 
-pub fn answer_front(alloc: Global, bytes: &[u8], answer: &mut String) -> Result<(), AllocError> {
+pub fn answer_front(alloc: Global, bytes: &[u8], answer: &mut String) -> Result<()> {
     let came = read_front(alloc, bytes);
     add_front(alloc, &came, bytes, answer)
 }
@@ -27,17 +28,17 @@ fn add_front(
     came: &Result<Option<(Front, usize)>, FrameFault>,
     bytes: &[u8],
     answer: &mut String,
-) -> Result<(), AllocError>
+) -> Result<()>
     requires { IfOk came.now (λ found. IfSome found (λ f. FitsLength (front_body f.0))) }
 {
     tell(answer, came)?;
     match came {
-        Ok(Some((frame, size))) => tell_front(alloc, frame, front_of(bytes, *size), answer),
+        Ok(Some((frame, size))) => Ok(tell_front(alloc, frame, front_of(bytes, *size), answer)?),
         _ => Ok(()),
     }
 }
 
-pub fn answer_back(alloc: Global, bytes: &[u8], answer: &mut String) -> Result<(), AllocError> {
+pub fn answer_back(alloc: Global, bytes: &[u8], answer: &mut String) -> Result<()> {
     let came = read_back(alloc, bytes);
     add_back(alloc, &came, bytes, answer)
 }
@@ -47,13 +48,13 @@ fn add_back(
     came: &Result<Option<(Back, usize)>, FrameFault>,
     bytes: &[u8],
     answer: &mut String,
-) -> Result<(), AllocError>
+) -> Result<()>
     requires { IfOk came.now
         (λ found. IfSome found (λ f. FitsLength (back_body f.0) × HasCounts f.0)) }
 {
     tell(answer, came)?;
     match came {
-        Ok(Some((frame, size))) => tell_back(alloc, frame, front_of(bytes, *size), answer),
+        Ok(Some((frame, size))) => Ok(tell_back(alloc, frame, front_of(bytes, *size), answer)?),
         _ => Ok(()),
     }
 }

@@ -1,6 +1,6 @@
 //! Publications: what they make of changes, and why some are none.
 
-use crate::answer::bytes_of;
+use crate::answer::{add_value, bytes_of, tell_fault};
 use anyhow::{Context, Result, bail};
 use catalog::{Catalog, read_document};
 use pgoutput::read_logical;
@@ -18,19 +18,25 @@ const POSITION: u64 = 0;
 /// each table, and what is published of each change.
 pub fn answer_published(alloc: Global, given: &str, answer: &mut String) -> Result<()> {
     let (names, rest) = given.split_once('|').context("gives no changes")?;
-    let (bodies, rest) = rest.split_once('|').context("gives no tables")?;
-    let (tables, text) = rest.split_once('|').context("gives no publications")?;
-    match publications_of(alloc, tables, text)? {
+    let (bodies, configured) = rest.split_once('|').context("gives no tables")?;
+    add_configured(alloc, configured, names, bodies, answer)
+}
+
+fn add_configured(
+    alloc: Global,
+    configured: &str,
+    names: &str,
+    bodies: &str,
+    answer: &mut String,
+) -> Result<()> {
+    match publications_of(alloc, configured)? {
         Ok(publications) => add_selected(alloc, &publications, names, bodies, answer),
-        Err(fault) => Ok(write!(answer, "! {fault}")?),
+        Err(fault) => Ok(tell_fault(answer, &fault)?),
     }
 }
 
-fn publications_of(
-    alloc: Global,
-    tables: &str,
-    text: &str,
-) -> Result<Result<Publications, PubFault>> {
+fn publications_of(alloc: Global, configured: &str) -> Result<Result<Publications, PubFault>> {
+    let (tables, text) = configured.split_once('|').context("gives no publications")?;
     let catalog = Catalog::from_toml(alloc, tables)?;
     Ok(Publications::from_toml(alloc, text, &catalog))
 }
@@ -43,9 +49,27 @@ fn add_selected(
     answer: &mut String,
 ) -> Result<()> {
     let names = named(alloc, names)?;
-    match publications.select(names.as_slice()) {
+    add_named(alloc, publications, names.as_slice(), bodies, answer)
+}
+
+fn named(alloc: Global, names: &str) -> Result<Vec<Text>, AllocError> {
+    let mut named = Vec::new(alloc);
+    for name in names.split(',') {
+        named.push(Text::copy_of(alloc, name)?)?;
+    }
+    Ok(named)
+}
+
+fn add_named(
+    alloc: Global,
+    publications: &Publications,
+    names: &[Text],
+    bodies: &str,
+    answer: &mut String,
+) -> Result<()> {
+    match publications.select(names) {
         Ok(selection) => add_published(alloc, &selection, bodies, answer),
-        Err(fault) => Ok(write!(answer, "! {fault}")?),
+        Err(fault) => Ok(tell_fault(answer, &fault)?),
     }
 }
 
@@ -62,25 +86,12 @@ fn add_published(
     Ok(())
 }
 
-fn named(alloc: Global, names: &str) -> Result<Vec<Text>, AllocError> {
-    let mut named = Vec::new(alloc);
-    for name in names.split(',') {
-        named.push(Text::copy_of(alloc, name)?)?;
-    }
-    Ok(named)
-}
-
-fn add_relations(selection: &Selection, answer: &mut String) -> Result<(), AllocError> {
-    write!(answer, "=")?;
+fn add_relations(selection: &Selection, answer: &mut String) -> Result<()> {
+    answer.push('=')?;
     for oid in selection.oids() {
-        add_relation(selection, *oid, answer)?;
+        add_value(answer, &selection.relation(*oid)?)?;
     }
     Ok(())
-}
-
-fn add_relation(selection: &Selection, oid: u32, answer: &mut String) -> Result<(), AllocError> {
-    let relation = selection.relation(oid)?;
-    write!(answer, " {relation:?}")
 }
 
 fn add_message(
@@ -90,86 +101,101 @@ fn add_message(
     answer: &mut String,
 ) -> Result<()> {
     let bytes = bytes_of(alloc, body)?;
-    add_both(alloc, selection, bytes.as_slice(), answer)
+    add_projected(alloc, selection, bytes.as_slice(), answer)
 }
 
-fn add_both(alloc: Global, selection: &Selection, body: &[u8], answer: &mut String) -> Result<()> {
+fn add_projected(
+    alloc: Global,
+    selection: &Selection,
+    body: &[u8],
+    answer: &mut String,
+) -> Result<()> {
     let projected = projected(alloc, selection, body)?;
-    add_put(alloc, selection, body, projected.as_str(), answer)
+    add_put(alloc, selection, body, &projected, answer)
 }
 
 fn add_put(
     alloc: Global,
     selection: &Selection,
     body: &[u8],
-    projected: &str,
+    projected: &Projected,
     answer: &mut String,
 ) -> Result<()> {
     let put = put(alloc, selection, body)?;
-    Ok(add_texts(projected, put.as_str(), answer)?)
+    Ok(add_both(projected, &put, answer)?)
 }
 
-fn add_texts(projected: &str, put: &str, answer: &mut String) -> Result<(), AllocError> {
-    write!(answer, " {projected}")?;
-    if put != projected {
-        write!(answer, " but is put as {put}")?;
+fn add_both(projected: &Projected, put: &Projected, answer: &mut String) -> Result<(), AllocError> {
+    write!(answer, " {projected:?}")?;
+    if are_same(projected, put) {
+        return Ok(());
     }
-    Ok(())
+    write!(answer, " but is put as {put:?}")
+}
+
+fn are_same(projected: &Projected, put: &Projected) -> bool {
+    match (projected, put) {
+        (Projected::Nothing, Projected::Nothing) => true,
+        (Projected::Message(projected), Projected::Message(put)) => projected == put,
+        _ => false,
+    }
 }
 
 /// The message that is made of a change.
-fn projected(alloc: Global, selection: &Selection, body: &[u8]) -> Result<String> {
+fn projected(alloc: Global, selection: &Selection, body: &[u8]) -> Result<Projected> {
     let change = read_body(alloc, body)?;
-    Ok(projected_of(alloc, selection, &change)?)
+    projected_of(selection, &change)
 }
 
-fn projected_of(
-    alloc: Global,
-    selection: &Selection,
-    change: &Change,
-) -> Result<String, AllocError> {
-    let message = selection.project(POSITION, change)?;
-    told(alloc, &message)
+fn projected_of(selection: &Selection, change: &Change) -> Result<Projected> {
+    Ok(selection.project(POSITION, change)?)
 }
 
 /// The message that is written straight from its body.
-fn put(alloc: Global, selection: &Selection, body: &[u8]) -> Result<String> {
+fn put(alloc: Global, selection: &Selection, body: &[u8]) -> Result<Projected> {
     let mut out = [0; MAX_MESSAGE_LENGTH];
-    let Some(count) = selection.put(POSITION, body, &mut out) else {
-        return Ok(told(alloc, &Projected::Nothing)?);
-    };
-    let (message, _) = out.split_at_checked(count).context("is put past its room")?;
-    read_put(alloc, message)
+    match selection.put(POSITION, body, &mut out) {
+        Some(length) => read_put(alloc, out.get(..length)),
+        None => Ok(Projected::Nothing),
+    }
 }
 
-fn read_put(alloc: Global, message: &[u8]) -> Result<String> {
-    let message = Projected::Message(read_logical(alloc, message)?);
-    Ok(told(alloc, &message)?)
-}
-
-fn told(alloc: Global, message: &Projected) -> Result<String, AllocError> {
-    let mut text = String::new(alloc);
-    write!(text, "{message:?}")?;
-    Ok(text)
+fn read_put(alloc: Global, message: Option<&[u8]>) -> Result<Projected> {
+    let message = message.context("is put past its room")?;
+    Ok(Projected::Message(read_logical(alloc, message)?))
 }
 
 /// `TABLES|PUBLICATIONS`: the same for whoever wrote a text that is refused.
 pub fn answer_explained(alloc: Global, given: &str, answer: &mut String) -> Result<()> {
     let (tables, text) = given.split_once('|').context("gives no publications")?;
     let catalog = Catalog::from_toml(alloc, tables)?;
+    add_read(alloc, &catalog, text, answer)
+}
+
+fn add_read(alloc: Global, catalog: &Catalog, text: &str, answer: &mut String) -> Result<()> {
     let document = read_document(alloc, text)?;
-    add_explained(alloc, &document, &catalog, answer)
+    add_explained(alloc, catalog, &document, answer)
 }
 
 fn add_explained(
     alloc: Global,
-    document: &Value,
     catalog: &Catalog,
+    document: &Value,
     answer: &mut String,
 ) -> Result<()> {
-    let Err(fault) = Publications::of_document(alloc, document, catalog) else {
-        bail!("is no refusal");
-    };
+    match Publications::of_document(alloc, document, catalog) {
+        Ok(_) => bail!("is no refusal"),
+        Err(fault) => add_lines(alloc, catalog, document, fault, answer),
+    }
+}
+
+fn add_lines(
+    alloc: Global,
+    catalog: &Catalog,
+    document: &Value,
+    fault: PubFault,
+    answer: &mut String,
+) -> Result<()> {
     let lines = explained(alloc, document, catalog, fault)?;
     Ok(write!(answer, "= {lines:?}")?)
 }

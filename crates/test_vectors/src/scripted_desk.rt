@@ -106,9 +106,9 @@ impl Desk for ScriptedDesk {
 }
 
 fn answer_of(slot: &str) -> Result<(), DeskFault> {
-    for (name, fault) in REFUSED {
-        if name == slot {
-            return Err(fault);
+    for (name, fault) in &REFUSED {
+        if *name == slot {
+            return Err(*fault);
         }
     }
     Ok(())

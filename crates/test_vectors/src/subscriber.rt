@@ -1,6 +1,6 @@
 //! A subscriber: what it takes of a stream, and what it shows and tells.
 
-use crate::answer::bytes_of;
+use crate::answer::{add_value, bytes_of};
 use anyhow::{Context, Result};
 use client::{Applied, Applier, ClientFault, render};
 use pgoutput::{Begin, Commit, Logical, read_logical};
@@ -9,7 +9,17 @@ use std::alloc::{AllocError, Global};
 /// Pieces of a stream in digits, a comma behind each; a dot among them begins another connection. Adds what each piece was answered,
 /// and then the position and the lines of what was applied.
 pub fn answer_applied(alloc: Global, given: &str, answer: &mut String) -> Result<()> {
-    add_pieces(alloc, &mut Applier::new(alloc), given, answer)
+    add_stream(alloc, &mut Applier::new(alloc), given, answer)
+}
+
+fn add_stream(
+    alloc: Global,
+    applier: &mut Applier,
+    given: &str,
+    answer: &mut String,
+) -> Result<()> {
+    add_pieces(alloc, applier, given, answer)?;
+    Ok(add_all(alloc, applier, answer)?)
 }
 
 fn add_pieces(
@@ -18,37 +28,32 @@ fn add_pieces(
     given: &str,
     answer: &mut String,
 ) -> Result<()> {
-    write!(answer, "=")?;
+    answer.push('=')?;
     for piece in given.split_terminator(',') {
         add_piece(alloc, applier, piece, answer)?;
     }
-    write!(answer, " {}", applier.position())?;
-    Ok(add_all(alloc, applier.applied(), answer)?)
+    Ok(())
 }
 
 fn add_piece(alloc: Global, applier: &mut Applier, piece: &str, answer: &mut String) -> Result<()> {
     if piece == "." {
         applier.reconnect();
-        return Ok(write!(answer, " reconnect")?);
+        return Ok(answer.push_str(" reconnect")?);
     }
     let bytes = bytes_of(alloc, piece)?;
-    let came = applier.take(bytes.as_slice());
-    Ok(add_taken(alloc, came, answer)?)
+    add_taken(alloc, applier.take(bytes.as_slice()), answer)
 }
 
-fn add_taken(
-    alloc: Global,
-    came: Result<(), ClientFault>,
-    answer: &mut String,
-) -> Result<(), AllocError> {
+fn add_taken(alloc: Global, came: Result<(), ClientFault>, answer: &mut String) -> Result<()> {
     match came {
-        Ok(()) => write!(answer, " taken"),
-        Err(fault) => write!(answer, " {:?}", fault.to_string(alloc)?),
+        Ok(()) => Ok(answer.push_str(" taken")?),
+        Err(fault) => Ok(add_value(answer, &fault.to_string(alloc)?)?),
     }
 }
 
-fn add_all(alloc: Global, all: &[Applied], answer: &mut String) -> Result<(), AllocError> {
-    for applied in all {
+fn add_all(alloc: Global, applier: &Applier, answer: &mut String) -> Result<(), AllocError> {
+    write!(answer, " {}", applier.position())?;
+    for applied in applier.applied() {
         add_applied(alloc, applied, answer)?;
     }
     Ok(())
@@ -56,11 +61,16 @@ fn add_all(alloc: Global, all: &[Applied], answer: &mut String) -> Result<(), Al
 
 fn add_applied(alloc: Global, applied: &Applied, answer: &mut String) -> Result<(), AllocError> {
     write!(answer, " Applied({:?}", rendered_begin(alloc, applied)?)?;
+    add_changes(alloc, applied, answer)?;
+    write!(answer, ", {:?})", rendered_commit(alloc, applied)?)
+}
+
+fn add_changes(alloc: Global, applied: &Applied, answer: &mut String) -> Result<(), AllocError> {
     for change in applied.changes.as_slice() {
         let line = render(alloc, &change.message)?;
         write!(answer, ", {}, {line:?}", change.position)?;
     }
-    write!(answer, ", {:?})", rendered_commit(alloc, applied)?)
+    Ok(())
 }
 
 fn rendered_begin(alloc: Global, applied: &Applied) -> Result<String, AllocError> {
@@ -88,12 +98,12 @@ fn rendered_commit(alloc: Global, applied: &Applied) -> Result<String, AllocErro
 /// The line of the message that the bytes spell.
 pub fn answer_render(alloc: Global, bytes: &[u8], answer: &mut String) -> Result<()> {
     let message = read_logical(alloc, bytes)?;
-    Ok(add_line(alloc, &message, answer)?)
+    add_line(alloc, &message, answer)
 }
 
-fn add_line(alloc: Global, message: &Logical, answer: &mut String) -> Result<(), AllocError> {
+fn add_line(alloc: Global, message: &Logical, answer: &mut String) -> Result<()> {
     let line = render(alloc, message)?;
-    write!(answer, "= {line}")
+    Ok(write!(answer, "= {line}")?)
 }
 
 /// The frame of a status: `STREAM CLOCK asks`, or `silent` in place of `asks`.
@@ -101,12 +111,22 @@ pub fn answer_status(alloc: Global, given: &str, answer: &mut String) -> Result<
     let (stream, rest) = given.split_once(' ').context("gives no clock")?;
     let (clock, asks) = rest.split_once(' ').context("says not whether it asks")?;
     let clock = clock.parse::<i64>().context("reading the clock")?;
+    add_status_behind(alloc, stream, clock, asks == "asks", answer)
+}
+
+fn add_status_behind(
+    alloc: Global,
+    stream: &str,
+    clock: i64,
+    ask: bool,
+    answer: &mut String,
+) -> Result<()> {
     let bytes = bytes_of(alloc, stream)?;
     add_status(
         &mut Applier::new(alloc),
         bytes.as_slice(),
         clock,
-        asks == "asks",
+        ask,
         answer,
     )
 }

@@ -5,7 +5,7 @@ use crate::scripted_desk::ScriptedDesk;
 use anyhow::{Context, Result};
 use bytes::BytesMut;
 use server::{ConnFault, Connection, Phase};
-use std::alloc::Global;
+use std::alloc::{AllocError, Global};
 
 /// A connection, its desk, and what was said to its client.
 #[derive(Drop)]
@@ -23,19 +23,27 @@ pub fn answer_talk(alloc: Global, given: &str, answer: &mut String) -> Result<()
         connection: Connection::new(alloc, 1),
         said: BytesMut::new(alloc),
     };
-    talk.add_pieces(alloc, given, answer)
+    talk.add_all(alloc, given, answer)
 }
 
 impl Talk {
-    fn add_pieces(&mut self, alloc: Global, given: &str, answer: &mut String) -> Result<()> {
-        write!(answer, "=")?;
-        for piece in given.split_terminator(',') {
-            let came = self.take(alloc, piece)?;
-            write!(answer, " {came:?} {:?}", self.connection.phase())?;
-        }
+    fn add_all(&mut self, alloc: Global, given: &str, answer: &mut String) -> Result<()> {
+        self.add_pieces(alloc, given, answer)?;
         let asked = self.desk.asked().context("is not told whole")?;
-        let said = self.said.as_slice();
-        Ok(write!(answer, " {:?} [{asked}] {said:?}", self.connection.phase())?)
+        Ok(self.add_end(asked, answer)?)
+    }
+
+    fn add_pieces(&mut self, alloc: Global, given: &str, answer: &mut String) -> Result<()> {
+        answer.push('=')?;
+        for piece in given.split_terminator(',') {
+            self.add_piece(alloc, piece, answer)?;
+        }
+        Ok(())
+    }
+
+    fn add_piece(&mut self, alloc: Global, piece: &str, answer: &mut String) -> Result<()> {
+        let came = self.take(alloc, piece)?;
+        Ok(write!(answer, " {came:?} {:?}", self.connection.phase())?)
     }
 
     fn take(&mut self, alloc: Global, piece: &str) -> Result<Result<Phase, ConnFault>> {
@@ -55,5 +63,10 @@ impl Talk {
         } else {
             Ok(self.connection.phase())
         }
+    }
+
+    fn add_end(&self, asked: &str, answer: &mut String) -> Result<(), AllocError> {
+        let said = self.said.as_slice();
+        write!(answer, " {:?} [{asked}] {said:?}", self.connection.phase())
     }
 }
