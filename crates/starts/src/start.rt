@@ -87,13 +87,7 @@ impl<L: LogName> Start<L> {
     pub fn is_open_for(&self, connection: &Text) -> bool
         ensures { result ≡ is_open_for connection.now (start_state self.now) }
     {
-        self.connection.as_str() == connection.as_str() && self.is_open()
-    }
-
-    fn is_open(&self) -> bool
-        ensures { result ≡ is_open self.now.stage }
-    {
-        matches!(&self.stage, Stage::Open(_))
+        self.connection.as_str() == connection.as_str() && matches!(&self.stage, Stage::Open(_))
     }
 
     /// Does what a line asks of the sender. It is open; where it is cut, its reader goes back to the others.

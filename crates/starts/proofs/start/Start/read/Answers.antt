@@ -1,6 +1,11 @@
 use Rattle.std.proofs.Common.{◌≡◌, sym, subst}
 use Rattle.std.specs.Int.{w64}
 use Rattle.std.proofs.lemmas.Int.{to_z-of_z}
+use Rattle.schedule.specs.declared.fault.WorldFault.TheVariants as worlds
+use Rattle.shared_log.specs.declared.fault.ReadFault.{ReadFault}
+use Rattle.shared_log.specs.Fronts.{settled_records}
+use Rattle.shared_log.specs.Readers.{HasSeen, seen_of}
+use Rattle.shared_log.proofs.Prefixes.{begins_longer}
 use Rattle.sender.specs.Sending.{SenderState}
 use Rattle.walsender.specs.Serving.{IsServing}
 use Rattle.starts.specs.declared.action.Action.TheVariants as actions
@@ -9,6 +14,24 @@ use Rattle.starts.specs.Acting.{Acts, answer_of}
 use Rattle.starts.specs.Starts.{IsServedBy, open_state, state_with}
 use Rattle.starts.proofs.Sections.{read_acts}
 use Rattle.starts.proofs.start.Start.read.Goals as goal
+
+pub returns-in-Ok-clause-served : goal.returns-in-Ok-clause-served
+returns-in-Ok-clause-served g c =
+    let P : Stage _ → Type 0 = λ o. IsServedBy c.args.publisher.now.log c.args.self.now.produced.items o in
+    c.read_on.ensures.serves c.args.self.now.produced.items (subst P c.in-Open.is c.requires.served)
+
+pub returns-in-Err-clause-served : goal.returns-in-Err-clause-served
+returns-in-Err-clause-served g c =
+    let P : Stage _ → Type 0 = λ o. IsServedBy c.args.publisher.now.log c.args.self.now.produced.items o in
+    c.read_on.ensures.serves c.args.self.now.produced.items (subst P c.in-Open.is c.requires.served)
+
+pub returns-in-Err-clause-memory : goal.returns-in-Err-clause-memory
+returns-in-Err-clause-memory g c = λ is.
+    let refused : c.fault_of.result ≡ worlds.Memory = cc in
+    let new = c.read_on.new.walsender.reader in
+    let Seen : ReadFault → Type 0 = λ f. HasSeen f c.in-Open.walsender.reader new in
+    let seen = subst Seen (c.fault_of.ensures.memory refused) c.in-Err.ensures.why in
+    begins_longer c.args.publisher.now.log (settled_records new.told) (seen_of new) c.read_on.ensures.told seen.0
 
 pub returns-in-Ok-clause-acts : goal.returns-in-Ok-clause-acts
 returns-in-Ok-clause-acts g c =
