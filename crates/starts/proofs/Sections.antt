@@ -1,10 +1,12 @@
 -- What calls of a walsender make of a start, in the world's words.
 use Rattle.std.proofs.Common.{◌≡◌, ◌<◌, ◌≤◌, ℕ, ℤ, Bool, true, false, List, ◌++◌, length, take, drop, refl, sym, ap, subst, ◌∙◌}
-use Rattle.std.specs.Prelude.{◌↔◌, Result, Ok, Err}
+use Rattle.std.specs.Prelude.{◌↔◌, Result, Ok, Err, OnErr, OnOk}
 use Rattle.std.proofs.lemmas.Bool.{false_from_ne_true}
 use Rattle.wal.specs.declared.record.TheConstants.{FIRST_POSITION}
 use Rattle.wal.specs.declared.record.Record.{Record}
 use Rattle.wal.specs.Log.{IsWellFormedLog, end_of}
+use Rattle.stream.specs.Words.{word_bytes}
+use Rattle.stream.specs.Items.{keepalive_word}
 use Rattle.sender.specs.declared.fault.SendFault.{SendFault}
 use Rattle.sender.specs.declared.fault.SendFault.TheVariants as sends
 use Rattle.sender.specs.Published.{published_from, published_transactions}
@@ -20,7 +22,7 @@ use Rattle.starts.specs.declared.start.Stage.{Stage}
 use Rattle.starts.specs.declared.start.Stage.TheVariants as stages
 use Rattle.starts.specs.State.{StartState}
 use Rattle.starts.specs.Acting.{read_by}
-use Rattle.starts.specs.Acting.{unread_records, after_action, after_reading, BreaksDown, Acts}
+use Rattle.starts.specs.Acting.{unread_records, after_action, after_reading, answer_of, BreaksDown, Acts}
 use Rattle.starts.specs.Starts.{IsServedBy, open_state}
 use Rattle.starts.proofs.Positions.{read_by_place, unread_place}
 
@@ -67,10 +69,6 @@ broken_acts log place max clock name produced s new good serving running fed =
       is = rw fed.failed (ap (λ (l : StartState). record l { failed = true }) (same ∙ ap (λ l. after_reading log clock (take fed.count l) (open_state name produced s)) section_is));
     }
 
-abbrev pub answer_of : Result (Unit {0}) SendFault → Answer
-answer_of (Ok done) = answers.Done
-answer_of (Err fault) = answers.Sender fault
-
 pub read_acts : (log : List Record) (place max : ℕ) (clock : ℤ) (name produced : List ℕ) (s new : SenderState) (r : Result (Unit {0}) SendFault) → IsWellFormedLog log → IsServing log place produced s
     → Reads clock s new (next_records max place log) r → Acts log (actions.Read max clock) (open_state name produced s) (answer_of r) (open_state name produced new)
 read_acts log place max clock name produced s new (Ok done) good serving reads = (reads.0, fed_acts log place max clock name produced s new good serving reads.0 reads.2 reads.1)
@@ -79,7 +77,7 @@ read_acts log place max clock name produced s new (Err sends.Memory) good servin
 read_acts log place max clock name produced s new (Err sends.Failed) good serving reads = (refl, reads.0, ap (λ (t : SenderState). open_state name produced t) reads.1)
 read_acts log place max clock name produced s new (Err sends.Gap) good serving reads = absurd (no_gap log place max produced s good serving reads.0 reads.1)
 
--- ---- a refused keepalive
+-- ---- a keepalive
 
 -- a sender that answered anything but Failed was running
 pub was_running : (s : SenderState) (r : Result (Unit {0}) SendFault) → (r ≡ Err sends.Failed) ↔ (s.failed ≡ true) → (r ≡ Err sends.Failed → ⊥) → s.failed ≡ false
@@ -98,6 +96,11 @@ refused_keepalive log clock name produced s new r sends.Memory is failed gap ful
     differ e = cc
 refused_keepalive log clock name produced s new r sends.Failed is failed gap full same = (refl, failed.0 is, ap (λ (t : SenderState). open_state name produced t) same)
 refused_keepalive log clock name produced s new r sends.Gap is failed gap full same = absurd (gap is)
+
+pub keepalive_acts : (log : List Record) (clock : ℤ) (name produced : List ℕ) (s new : SenderState) (r : Result (Unit {0}) SendFault) → (r ≡ Err sends.Failed) ↔ (s.failed ≡ true) → (r ≡ Err sends.Gap → ⊥) → (r ≡ Err sends.ArenaFull → ⊥)
+    → OnOk r (new ≡ record s { held = s.held ++ word_bytes (keepalive_word s.position clock false) }) → OnErr r (new ≡ s) → Acts log (actions.Keepalive clock) (open_state name produced s) (answer_of r) (open_state name produced new)
+keepalive_acts log clock name produced s new (Ok done) failed gap full told same = (was_running s (Ok done) failed (λ other. cc), ap (λ (t : SenderState). open_state name produced t) told)
+keepalive_acts log clock name produced s new (Err fault) failed gap full told same = refused_keepalive log clock name produced s new (Err fault) fault refl failed gap full same
 
 -- ---- a longer log
 

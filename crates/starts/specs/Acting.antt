@@ -1,10 +1,11 @@
 -- What a connection's line does to its sender.
-use Rattle.std.specs.Prelude.{◌≡◌, ◌<◌, ℕ, ℤ, true, false, List, [], ◌∷◌, ◌++◌, length, take, drop, nat_le, if◌then◌else◌, Bool, ◌&&◌}
+use Rattle.std.specs.Prelude.{◌≡◌, ◌<◌, ℕ, ℤ, true, false, List, [], ◌∷◌, ◌++◌, length, take, drop, nat_le, if◌then◌else◌, Bool, ◌&&◌, Result, Ok, Err}
 use Rattle.wal.specs.declared.record.Record.{Record}
 use Rattle.wal.specs.Log.{end_of}
 use Rattle.publication.specs.Publications.{PublicationSet}
 use Rattle.stream.specs.Words.{word_bytes}
 use Rattle.stream.specs.Items.{keepalive_word}
+use Rattle.sender.specs.declared.fault.SendFault.{SendFault}
 use Rattle.sender.specs.declared.fault.SendFault.TheVariants as sends
 use Rattle.sender.specs.Published.{published_from, published_transactions}
 use Rattle.sender.specs.Sending.{published_bytes}
@@ -76,6 +77,11 @@ LacksMemory log action old new = ⊥
 abbrev pub LacksRoom : List Record → Action → StartState → StartState → Type 0
 LacksRoom log (actions.Read max clock) old new = BreaksDown log max clock old new
 LacksRoom log action old new = ⊥
+
+-- what a sender made of a line, as the line's answer
+abbrev pub answer_of : Result (Unit {0}) SendFault → Answer
+answer_of (Ok done) = answers.Done
+answer_of (Err fault) = answers.Sender fault
 
 -- Done, or G1 or G2 by a sender that had not failed, or G3 by one that had. What a line reads always follows, so G4 doesn't come.
 abbrev pub Acts : List Record → Action → StartState → Answer → StartState → Type 0

@@ -5,7 +5,7 @@ ghost use mathlib.Core.List.{IsPrefix};
 ghost use Rattle.wal.specs.declared.record.Record.{Record};
 ghost use Rattle.walsender.specs.Serving.{BeginsAt};
 ghost use Rattle.starts.specs.State.{is_open_for, running_count};
-ghost use Rattle.starts.specs.Acting.{Acts, is_read, new_start, takes_memory};
+ghost use Rattle.starts.specs.Acting.{Acts, answer_of, is_read, new_start, takes_memory};
 ghost use Rattle.starts.specs.Starts.{IsServed, is_open, seen_at, start_state};
 
 use crate::action::Action;
@@ -15,7 +15,7 @@ use chgarena::Arena;
 use pqformat::Text;
 use publication::Selection;
 use schedule::{Answer, WorldFault};
-use sender::Ended;
+use sender::{Ended, SendFault};
 use shared_log::{LogName, LogReader, ReadFault};
 use std::alloc::Global;
 use std::mem;
@@ -87,13 +87,7 @@ impl<L: LogName> Start<L> {
     pub fn is_open_for(&self, connection: &Text) -> bool
         ensures { result ≡ is_open_for connection.now (start_state self.now) }
     {
-        self.connection.as_str() == connection.as_str() && self.is_open()
-    }
-
-    fn is_open(&self) -> bool
-        ensures { result ≡ is_open self.now.stage }
-    {
-        matches!(&self.stage, Stage::Open(_))
+        self.connection.as_str() == connection.as_str() && matches!(&self.stage, Stage::Open(_))
     }
 
     /// Does what a line asks of the sender. It is open; where it is cut, its reader goes back to the others.
@@ -151,10 +145,8 @@ impl<L: LogName> Start<L> {
             unreachable!();
         };
         match read_on(alloc, publisher, walsender, max as usize, clock) {
-            Ok(Ok(())) => return Ok(Answer::Done),
-            Ok(Err(fault)) => return Ok(Answer::Sender(fault)),
-            Err(ReadFault::NoEntry | ReadFault::Stale) => return Err(WorldFault::NoEntry),
-            Err(ReadFault::Memory) => return Err(WorldFault::Memory),
+            Ok(fed) => Ok(answer_of(fed)),
+            Err(fault) => Err(fault_of(fault)),
         }
     }
 
@@ -169,10 +161,7 @@ impl<L: LogName> Start<L> {
         let Stage::Open(walsender) = &mut self.stage else {
             unreachable!();
         };
-        match walsender.keepalive(clock, false) {
-            Ok(()) => return Answer::Done,
-            Err(fault) => return Answer::Sender(fault),
-        }
+        answer_of(walsender.keepalive(clock, false))
     }
 
     fn drain(&mut self, publisher: &Publisher<L>, max: u32) -> Result<Answer, WorldFault>
@@ -211,13 +200,35 @@ impl<L: LogName> Start<L> {
         ensures readers { vec_len readers.new ≡ vec_len readers.old + 1 }
         ensures capacity { vec_capacity readers.new ≡ vec_capacity readers.old }
     {
-        let Stage::Open(walsender) = mem::replace(&mut self.stage, nothing(alloc)) else {
-            unreachable!();
+        let walsender = match mem::replace(&mut self.stage, nothing(alloc)) {
+            Stage::Open(walsender) => walsender,
+            Stage::Cut(_) => unreachable!(),
         };
         let (ended, reader) = walsender.end();
         readers.push_reserved(reader);
-        self.stage = Stage::Cut(ended);
+        drop(mem::replace(&mut self.stage, Stage::Cut(ended)));
         Answer::Done
+    }
+}
+
+/// What the sender made of a line.
+fn answer_of(made: Result<(), SendFault>) -> Answer
+    ensures { result ≡ answer_of made }
+{
+    match made {
+        Ok(()) => Answer::Done,
+        Err(fault) => Answer::Sender(fault),
+    }
+}
+
+/// Why a line didn't happen that the log gave no records for.
+fn fault_of(fault: ReadFault) -> WorldFault
+    ensures happens { result ≢ WorldFault.BadEvent }
+    ensures memory { result ≡ WorldFault.Memory → fault ≡ ReadFault.Memory }
+{
+    match fault {
+        ReadFault::NoEntry | ReadFault::Stale => WorldFault::NoEntry,
+        ReadFault::Memory => WorldFault::Memory,
     }
 }
 
