@@ -50,11 +50,9 @@ fn see_again(alloc: Global, message: &Logical) -> Result<()>
     requires short { IsShort message.now }
 {
     let again = written_and_read(alloc, message)?;
-    see_same(&again, message)
-}
-
-fn see_same(again: &Logical, message: &Logical) -> Result<()> {
-    ensure!(again == message, "is another message when it is read again");
+    let is_same = again == *message;
+    drop(again);
+    ensure!(is_same, "is another message when it is read again");
     Ok(())
 }
 

@@ -4,7 +4,7 @@ use crate::answer::{add_value, bytes_of};
 use anyhow::{Context, Result, bail};
 use catalog::Catalog;
 use rowfilter::{Filter, FilterFault, fault_at, parse};
-use std::alloc::Global;
+use std::alloc::{AllocError, Global};
 use tables::{Change, Table, read_body};
 
 /// `TABLES|INSERTS|FILTER`: a configuration of one table, and the bodies of inserts, between commas. Adds what the filter is of
@@ -77,8 +77,15 @@ fn add_truth(alloc: Global, filter: &Filter, insert: &str, answer: &mut String) 
 }
 
 fn add_truth_of(alloc: Global, filter: &Filter, body: &[u8], answer: &mut String) -> Result<()> {
-    match &read_body(alloc, body)? {
-        Change::Insert(_, row) => Ok(add_value(answer, &filter.truth(row))?),
+    let change = read_body(alloc, body)?;
+    let added = add_truth_in(filter, &change, answer);
+    drop(change);
+    Ok(added?)
+}
+
+fn add_truth_in(filter: &Filter, change: &Change, answer: &mut String) -> Result<(), AllocError> {
+    match change {
+        Change::Insert(_, row) => add_value(answer, &filter.truth(row)),
         _ => Ok(()),
     }
 }

@@ -86,12 +86,19 @@ fn add_published(
     Ok(())
 }
 
-fn add_relations(selection: &Selection, answer: &mut String) -> Result<()> {
+fn add_relations(selection: &Selection, answer: &mut String) -> Result<(), AllocError> {
     answer.push('=')?;
     for oid in selection.oids() {
-        add_value(answer, &selection.relation(*oid)?)?;
+        add_relation(selection, *oid, answer)?;
     }
     Ok(())
+}
+
+fn add_relation(selection: &Selection, oid: u32, answer: &mut String) -> Result<(), AllocError> {
+    let relation = selection.relation(oid)?;
+    let added = add_value(answer, &relation);
+    drop(relation);
+    added
 }
 
 fn add_message(
@@ -111,7 +118,9 @@ fn add_projected(
     answer: &mut String,
 ) -> Result<()> {
     let projected = projected(alloc, selection, body)?;
-    add_put(alloc, selection, body, &projected, answer)
+    let added = add_put(alloc, selection, body, &projected, answer);
+    drop(projected);
+    added
 }
 
 fn add_put(
@@ -122,7 +131,9 @@ fn add_put(
     answer: &mut String,
 ) -> Result<()> {
     let put = put(alloc, selection, body)?;
-    Ok(add_both(projected, &put, answer)?)
+    let added = add_both(projected, &put, answer);
+    drop(put);
+    Ok(added?)
 }
 
 fn add_both(projected: &Projected, put: &Projected, answer: &mut String) -> Result<(), AllocError> {

@@ -60,9 +60,23 @@ fn add_all(alloc: Global, applier: &Applier, answer: &mut String) -> Result<(), 
 }
 
 fn add_applied(alloc: Global, applied: &Applied, answer: &mut String) -> Result<(), AllocError> {
-    write!(answer, " Applied({:?}", rendered_begin(alloc, applied)?)?;
+    let begin = Begin {
+        position: applied.start,
+        time: applied.time,
+        xid: applied.xid,
+    };
+    let commit = Commit {
+        position: applied.start,
+        end: applied.end,
+        time: applied.time,
+    };
+    write!(
+        answer,
+        " Applied({:?}",
+        line_of(alloc, Logical::Begin(begin))?
+    )?;
     add_changes(alloc, applied, answer)?;
-    write!(answer, ", {:?})", rendered_commit(alloc, applied)?)
+    write!(answer, ", {:?})", line_of(alloc, Logical::Commit(commit))?)
 }
 
 fn add_changes(alloc: Global, applied: &Applied, answer: &mut String) -> Result<(), AllocError> {
@@ -73,37 +87,16 @@ fn add_changes(alloc: Global, applied: &Applied, answer: &mut String) -> Result<
     Ok(())
 }
 
-fn rendered_begin(alloc: Global, applied: &Applied) -> Result<String, AllocError> {
-    render(
-        alloc,
-        &Logical::Begin(Begin {
-            position: applied.start,
-            time: applied.time,
-            xid: applied.xid,
-        }),
-    )
-}
-
-fn rendered_commit(alloc: Global, applied: &Applied) -> Result<String, AllocError> {
-    render(
-        alloc,
-        &Logical::Commit(Commit {
-            position: applied.start,
-            end: applied.end,
-            time: applied.time,
-        }),
-    )
-}
-
 /// The line of the message that the bytes spell.
 pub fn answer_render(alloc: Global, bytes: &[u8], answer: &mut String) -> Result<()> {
-    let message = read_logical(alloc, bytes)?;
-    add_line(alloc, &message, answer)
+    let line = line_of(alloc, read_logical(alloc, bytes)?)?;
+    Ok(write!(answer, "= {line}")?)
 }
 
-fn add_line(alloc: Global, message: &Logical, answer: &mut String) -> Result<()> {
-    let line = render(alloc, message)?;
-    Ok(write!(answer, "= {line}")?)
+fn line_of(alloc: Global, message: Logical) -> Result<String, AllocError> {
+    let line = render(alloc, &message);
+    drop(message);
+    line
 }
 
 /// The frame of a status: `STREAM CLOCK asks`, or `silent` in place of `asks`.
