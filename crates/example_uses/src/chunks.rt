@@ -17,23 +17,39 @@ pub fn work_on_arena(alloc: Global, words: &[String]) -> Result<()> {
     let [chunks, len, turns, work] = words else {
         bail!("arena CHUNKS LENGTH TURNS push|copy");
     };
-    let (chunks, len) = (number(chunks)? as usize, number(len)? as usize);
+    let (chunks, len) = (number(chunks)?, number(len)? as usize);
     if len > CHUNK - LINE {
         bail!("an entry has at most 16380 bytes");
     }
-    let count = chunks.saturating_mul(CHUNK / (len + LINE));
     let entry = Vec::from_elem(alloc, 7, len)?;
-    match work.as_str() {
-        "push" => {
-            let mut arena = Arena::new(alloc, chunks)?;
-            for _ in 0..number(turns)? {
-                fill(&mut arena, entry.as_slice(), count);
-            }
-            Ok(())
-        }
-        "copy" => copy_often(alloc, entry.as_slice(), count, number(turns)?),
+    work_on_entry(alloc, chunks, entry.as_slice(), turns, work.as_str())
+}
+
+fn work_on_entry(alloc: Global, chunks: u32, entry: &[u8], turns: &String, work: &str) -> Result<()>
+    requires { length entry.now ≤ 16380 }
+{
+    let count = (chunks as usize).saturating_mul(CHUNK / (entry.len() + LINE));
+    match work {
+        "push" => push_often(alloc, chunks, entry, count, turns),
+        "copy" => copy_often(alloc, entry, count, number(turns)?),
         _ => bail!("no work is called {work}"),
     }
+}
+
+fn push_often(alloc: Global, chunks: u32, entry: &[u8], count: usize, turns: &String) -> Result<()>
+    requires { length entry.now ≤ 16380 }
+{
+    let mut arena = Arena::new(alloc, chunks as usize)?;
+    fill_often(&mut arena, entry, count, turns)
+}
+
+fn fill_often(arena: &mut Arena, entry: &[u8], count: usize, turns: &String) -> Result<()>
+    requires { length entry.now ≤ 16380 }
+{
+    for _ in 0..number(turns)? {
+        fill(arena, entry, count);
+    }
+    Ok(())
 }
 
 /// Pushes so many entries to a strand, as far as there is room, and gives it back.

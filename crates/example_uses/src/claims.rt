@@ -2,12 +2,12 @@
 //! times (`slots`), or exchange a word of its own twice as often, where the words stand side by side (`words`) or far apart
 //! (`apart`).
 
-ghost use Rattle.std.specs.Prelude.{◌≡◌, ◌<◌};
+ghost use Rattle.std.specs.Prelude.{◌≡◌, ◌≤◌};
 
 use crate::number;
 use anyhow::{Result, bail};
 use slots::{OpenedSlots, PLACES, SlotFault, SlotName, SlotSeat, SlotTable};
-use std::alloc::Global;
+use std::alloc::{AllocError, Global};
 use std::marker::Brand;
 use std::sync::atomic::{AtomicU64, Ordering};
 use std::thread::{Threads, map_indices, map_vec};
@@ -30,6 +30,9 @@ pub fn work_on_slots<R: Threads + Sync>(rt: &R, alloc: Global, words: &[String])
 }
 
 fn on_slots<R: Threads + Sync>(rt: &R, alloc: Global, threads: usize, turns: u32) -> Result<()> {
+    if threads == 0 {
+        bail!("THREADS is at least 1");
+    }
     let opened = OpenedSlots::new(alloc)?;
     over_table::<Brand, R>(rt, alloc, opened, threads, turns)
 }
@@ -64,15 +67,29 @@ fn over_table<L: SlotName + Send + Sync, R: Threads + Sync>(
     threads: usize,
     turns: u32,
 ) -> Result<()>
-    requires { opened.first.table_id ≡ L.table }
+    requires name { opened.first.table_id ≡ L.table }
+    requires threads { 1 ≤ threads }
 {
-    if threads == 0 {
-        bail!("THREADS is at least 1");
-    }
     let (table, seats) = opened.open::<L>(threads)?;
-    let users = users(alloc, &table, seats)?;
-    for worked in map_vec(rt, users, &|user: User<L>| user.work(&table, turns))? {
-        worked?;
+    side_by_side(rt, alloc, &table, seats, turns)
+}
+
+/// Each seat has a thread and a slot of its own.
+fn side_by_side<L: SlotName + Send + Sync, R: Threads + Sync>(
+    rt: &R,
+    alloc: Global,
+    table: &SlotTable<L>,
+    seats: Vec<SlotSeat<L>>,
+    turns: u32,
+) -> Result<()> {
+    let users = users(alloc, table, seats)?;
+    let worked = map_vec(rt, users, &|user: User<L>| user.work(table, turns))?;
+    Ok(all(worked.as_slice())?)
+}
+
+fn all(worked: &[Result<(), SlotFault>]) -> Result<(), SlotFault> {
+    for one in worked {
+        (*one)?;
     }
     Ok(())
 }
@@ -83,11 +100,15 @@ fn users<L: SlotName>(
     seats: Vec<SlotSeat<L>>,
 ) -> Result<Vec<User<L>>> {
     let mut users = Vec::new(alloc);
-    for mut seat in seats {
-        let place = table.create(&mut seat, 0)?;
-        users.push(User { seat, place })?;
+    for seat in seats {
+        users.push(user_at(table, seat)?)?;
     }
     Ok(users)
+}
+
+fn user_at<L: SlotName>(table: &SlotTable<L>, mut seat: SlotSeat<L>) -> Result<User<L>, SlotFault> {
+    let place = table.create(&mut seat, 0)?;
+    Ok(User { seat, place })
 }
 
 /// Each thread's word is so many words behind the one before it.
@@ -98,18 +119,18 @@ fn on_words<R: Threads + Sync>(
     turns: u32,
     gap: usize,
 ) -> Result<()> {
+    let words = words(alloc, threads.saturating_mul(gap))?;
+    let words = words.as_slice();
+    let work = |i: usize| exchange(words, i.saturating_mul(gap), turns);
+    Ok(map_indices(rt, alloc, threads, &work).map(drop)?)
+}
+
+fn words(alloc: Global, count: usize) -> Result<Vec<AtomicU64>, AllocError> {
     let mut words = Vec::new(alloc);
-    for _ in 0..threads.saturating_mul(gap) {
+    for _ in 0..count {
         words.push(AtomicU64::new(0))?;
     }
-    let words = words.as_slice();
-    map_indices(
-        rt,
-        alloc,
-        threads,
-        &|i: usize| exchange(words, i.saturating_mul(gap), turns),
-    )?;
-    Ok(())
+    Ok(words)
 }
 
 /// Exchanges the word of this number, twice in each turn.

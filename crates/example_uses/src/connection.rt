@@ -6,8 +6,8 @@
 ghost use Rattle.std.specs.Prelude.{◌≤◌};
 
 use crate::desk::EmptyDesk;
-use crate::number;
-use anyhow::{Context, Result, bail, ensure};
+use crate::{in_pieces, print_bytes};
+use anyhow::{Context, Result};
 use bytes::BytesMut;
 use server::Connection;
 use std::alloc::Global;
@@ -16,47 +16,58 @@ use std::io::Print;
 /// A session of user `u` on database `app` begins.
 const STARTUP: &[u8] = b"\0\0\0\x32\0\x03\0\0user\0u\0database\0app\0replication\0database\0\0";
 
+const COMMAND: &[u8] = b"IDENTIFY_SYSTEM";
+
 /// Where a log without records ends.
 const END: u64 = 0x100_0000;
 
 pub fn hold_conversations<R: Print>(rt: &R, alloc: Global, words: &[String]) -> Result<()> {
-    let [times, length, piece] = words else {
-        bail!("wants TIMES LENGTH PIECE");
-    };
-    let times = number(times)?;
-    let piece = number(piece)? as usize;
-    ensure!(1 <= piece, "a piece has a byte at least");
-    let sent = sent_by_client(alloc, number(length)? as usize)?;
-    let said = last_answers(alloc, times, sent.as_slice(), piece)?;
-    println!(rt; "{}", hex::encode(alloc, said.as_slice())?)?;
-    Ok(())
+    let (times, length, piece) = in_pieces(words, "wants TIMES LENGTH PIECE")?;
+    let sent = sent_by_client(alloc, length)?;
+    print_last(rt, alloc, times, sent.as_slice(), piece)
 }
 
-/// Holds the conversation so many times; what the server says in the last one.
-fn last_answers(alloc: Global, times: u32, sent: &[u8], piece: usize) -> Result<BytesMut>
+fn print_last<R: Print>(rt: &R, alloc: Global, times: u32, sent: &[u8], piece: usize) -> Result<()>
     requires { 1 ≤ piece }
 {
     let mut said = BytesMut::new(alloc);
+    hold_often(alloc, times, sent, piece, &mut said)?;
+    print_bytes(rt, alloc, said.as_slice())
+}
+
+/// Holds the conversation so many times, and keeps what the server says in the last one.
+fn hold_often(
+    alloc: Global,
+    times: u32,
+    sent: &[u8],
+    piece: usize,
+    said: &mut BytesMut,
+) -> Result<()>
+    requires { 1 ≤ piece }
+{
     for _ in 0..times {
         said.clear();
-        hold(alloc, sent, piece, &mut said)?;
+        hold(alloc, sent, piece, said)?;
     }
-    Ok(said)
+    Ok(())
 }
 
 /// The startup of a session, and a query with blanks behind its command.
 fn sent_by_client(alloc: Global, length: usize) -> Result<Vec<u8>> {
-    let mut text = Vec::from_slice(alloc, b"IDENTIFY_SYSTEM")?;
-    for _ in text.len()..length {
-        text.push(b' ')?;
-    }
-    text.push(0)?;
-    let length = u32::try_from(text.len().saturating_add(4)).context("is too long for a frame")?;
     let mut sent = Vec::from_slice(alloc, STARTUP)?;
-    sent.push(b'Q')?;
-    sent.extend_from_slice(&length.to_be_bytes())?;
-    sent.extend_from_slice(text.as_slice())?;
+    put_query(&mut sent, length.max(COMMAND.len()))?;
     Ok(sent)
+}
+
+/// The query's frame, whose text has so many bytes.
+fn put_query(sent: &mut Vec<u8>, length: usize) -> Result<()> {
+    let framed = u32::try_from(length.saturating_add(5)).context("is too long for a frame")?;
+    let end = sent.len().saturating_add(5).saturating_add(length);
+    sent.push(b'Q')?;
+    sent.extend_from_slice(&framed.to_be_bytes())?;
+    sent.extend_from_slice(COMMAND)?;
+    sent.resize(end, b' ')?;
+    Ok(sent.push(0)?)
 }
 
 /// Holds a conversation: the connection is given the client's bytes as they come.

@@ -1,25 +1,14 @@
 //! A row filter of ten comparisons beside the same test written by hand: `filter TURNS WORK` makes a thousand rows, and in each turn
 //! asks of each whether it passes the filter (`filter`) or the test (`hand`).
 
+use crate::items::{ITEM, configured, item};
 use crate::number;
 use anyhow::{Context, Result, bail};
 use catalog::Catalog;
-use pqformat::Text;
 use rowfilter::{Filter, parse};
 use std::alloc::Global;
 use std::io::Print;
 use tables::{Row, RowRef, Value};
-
-pub const ITEM: u32 = 16384;
-
-pub const ITEM_TABLE: &str = "\
-[[table]]
-oid = 16384
-schema = 'public'
-name = 'item'
-key = ['id']
-columns = [['id', 'int4'], ['name', 'text'], ['qty', 'int8']]
-";
 
 const ROWS: i32 = 1000;
 
@@ -37,34 +26,24 @@ pub fn work_on_filters(rt: &impl Print, alloc: Global, words: &[String]) -> Resu
 }
 
 fn passed(alloc: Global, turns: u32, work: &str) -> Result<u64> {
-    let rows = rows(alloc)?;
+    let mut rows = Vec::new(alloc);
+    for id in 0..ROWS {
+        let name = if id % 2 == 0 { "even" } else { "odd" };
+        rows.push(item(alloc, id, name, i64::from(id))?)?;
+    }
+    passed_by(alloc, turns, work, rows.as_slice())
+}
+
+fn passed_by(alloc: Global, turns: u32, work: &str, rows: &[Row]) -> Result<u64> {
     match work {
-        "filter" => turns_by_filter(alloc, turns, rows.as_slice()),
-        "hand" => Ok(turns_by_hand(turns, rows.as_slice())),
+        "filter" => turns_by_filter(alloc, turns, rows),
+        "hand" => Ok(turns_by_hand(turns, rows)),
         _ => bail!("no work is called {work}"),
     }
 }
 
-fn rows(alloc: Global) -> Result<Vec<Row>> {
-    let mut rows = Vec::new(alloc);
-    for id in 0..ROWS {
-        let name = if id % 2 == 0 { "even" } else { "odd" };
-        rows.push(row(alloc, id, Text::copy_of(alloc, name)?)?)?;
-    }
-    Ok(rows)
-}
-
-pub fn row(alloc: Global, id: i32, name: Text) -> Result<Row> {
-    let values = vec![in alloc;
-        Value::Int4(id),
-        Value::Text(name),
-        Value::Int8(i64::from(id)),
-    ]?;
-    Ok(Row::new(values))
-}
-
 pub fn filter(alloc: Global) -> Result<Filter> {
-    filter_over(alloc, &Catalog::from_toml(alloc, ITEM_TABLE)?)
+    filter_over(alloc, &configured(alloc)?)
 }
 
 fn filter_over(alloc: Global, catalog: &Catalog) -> Result<Filter> {

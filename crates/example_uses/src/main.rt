@@ -3,21 +3,25 @@
 //! there are.
 #![tactic(auto)]
 
+ghost use Rattle.std.specs.Prelude.{◌≤◌, IfOk};
+
 mod chunks;
 mod claims;
 mod connection;
 mod desk;
 mod filters;
+mod items;
+mod own_log;
 mod sending;
 mod subscriber;
 mod without_memory;
 
-use anyhow::{Context, Result, bail};
+use anyhow::{Context, Error, Result, ensure};
 use chunks::work_on_arena;
 use claims::work_on_slots;
 use connection::hold_conversations;
 use filters::work_on_filters;
-use sending::bytes_sent;
+use sending::print_stream;
 use std::alloc::Global;
 use std::env;
 use std::io::Print;
@@ -52,17 +56,17 @@ where
     R: Threads + Wait + Print + Sync,
 {
     let [name, words @ ..] = words else {
-        bail!("{USAGE}");
+        return Err(Error::msg(USAGE));
     };
     match name.as_str() {
-        "stream" => println!(rt; "{}", bytes_sent(rt, alloc)?).map_err(Into::into),
+        "stream" => print_stream(rt, alloc),
         "connection" => hold_conversations(rt, alloc, words),
         "subscriber" => follow_stream(rt, alloc, words),
         "filter" => work_on_filters(rt, alloc, words),
         "slots" => work_on_slots(rt, alloc, words),
         "arena" => work_on_arena(alloc, words),
         "without-memory" => call_without_memory(rt, alloc, words),
-        _ => bail!("{USAGE}"),
+        _ => Err(Error::msg(USAGE)),
     }
 }
 
@@ -70,4 +74,24 @@ fn number(word: &String) -> Result<u32> {
     word.as_str()
         .parse::<u32>()
         .context("a word that has to be a number is none")
+}
+
+/// TIMES, another number and PIECE, of a use that wants these words.
+fn in_pieces(words: &[String], wanted: &'static str) -> Result<(u32, usize, usize)>
+    ensures { IfOk result (λ given. 1 ≤ given.2) }
+{
+    let [times, length, piece] = words else {
+        return Err(Error::msg(wanted));
+    };
+    let times = number(times)?;
+    let piece = number(piece)? as usize;
+    ensure!(1 <= piece, "a piece has a byte at least");
+    Ok((times, number(length)? as usize, piece))
+}
+
+/// Prints the bytes in hexadecimal digits.
+fn print_bytes<R: Print>(rt: &R, alloc: Global, bytes: &[u8]) -> Result<()> {
+    let text = hex::encode(alloc, bytes)?;
+    println!(rt; "{text}")?;
+    Ok(())
 }

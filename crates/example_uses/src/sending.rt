@@ -1,77 +1,38 @@
 //! The shortest use of the crates: a session writes the log, and a sender makes the bytes that a subscriber gets of it.
 
-ghost use Rattle.std.specs.Prelude.{◌≡◌};
-
-use anyhow::{Result, bail};
+use crate::items::{ITEM, item, selection_of_p};
+use crate::own_log::{Work, work_on_log};
+use crate::print_bytes;
+use anyhow::Result;
 use bytes::BytesMut;
 use catalog::Catalog;
 use chgarena::Arena;
-use pqformat::Text;
-use publication::Selection;
-use publications::Publications;
 use sender::Sender;
 use shared_log::{LogName, LogReader};
 use std::alloc::Global;
-use std::marker::Brand;
+use std::io::Print;
 use std::sync::Wait;
-use tables::{Row, Value};
-use txlog::{Opened, Publisher, SessionFault, Tx};
+use txlog::{Publisher, SessionFault, Tx};
 use wal::FIRST_POSITION;
 
 /// The chunks of the arena in which the sender keeps changes.
 const CHUNKS: usize = 64;
 
-/// One table, and a publication of it.
-pub const CONFIGURATION: &str = "\
-[[table]]
-oid = 16384
-schema = 'public'
-name = 'item'
-key = ['id']
-columns = [['id', 'int4'], ['name', 'text'], ['qty', 'int8']]
-[[publication]]
-name = 'p'
-tables = [{ name = 'public.item' }]
-";
-
-/// What a subscriber gets, in hexadecimal digits, of a publisher of the configured table, whose log has room for 1,000 records.
-pub fn bytes_sent<R: Wait>(rt: &R, alloc: Global) -> Result<String> {
-    let catalog = Catalog::from_toml(alloc, CONFIGURATION)?;
-    let opened = Opened::new(alloc, catalog, 1000, 1)?;
-    let bytes = written::<Brand, R>(rt, alloc, opened)?;
-    Ok(hex::encode(alloc, bytes.as_slice())?)
+/// Prints what a subscriber gets of a publisher of the configured table, whose log has room for 1,000 records.
+pub fn print_stream<R: Wait + Print>(rt: &R, alloc: Global) -> Result<()> {
+    work_on_log(rt, alloc, 1000, &Work::Print)
 }
 
-/// The log is named by the call. A publisher must be closed, so whatever may fail stands in calls that borrow it.
-fn written<L: LogName, R: Wait>(rt: &R, alloc: Global, opened: Opened) -> Result<BytesMut>
-    requires { opened.history.seen.book ≡ L.book }
-{
-    let (mut publisher, readers) = Publisher::<L>::open(rt, opened)?;
-    let bytes = session_sent(rt, alloc, &mut publisher, readers);
-    publisher.close(rt);
-    bytes
-}
-
-fn session_sent<L: LogName, R: Wait>(
-    rt: &R,
-    alloc: Global,
-    publisher: &mut Publisher<L>,
-    mut readers: Vec<LogReader<L>>,
-) -> Result<BytesMut> {
-    match readers.pop() {
-        Some(mut reader) => reader_sent(rt, alloc, publisher, &mut reader),
-        None => bail!("a log has a reader"),
-    }
-}
-
-fn reader_sent<L: LogName, R: Wait>(
+pub fn print_session<L: LogName, R: Wait + Print>(
     rt: &R,
     alloc: Global,
     publisher: &mut Publisher<L>,
     reader: &mut LogReader<L>,
-) -> Result<BytesMut> {
+) -> Result<()> {
     run_session(rt, alloc, publisher)?;
-    sent(alloc, publisher, reader)
+    let mut sender = sender_of_p(alloc, publisher.catalog())?;
+    publisher.tell(reader);
+    print_sent(rt, alloc, reader, &mut sender)
 }
 
 /// A sender of what the publication `p` publishes, from the beginning of the log on.
@@ -81,41 +42,19 @@ pub fn sender_of_p(alloc: Global, catalog: &Catalog) -> Result<Sender> {
     Ok(Sender::start(alloc, selection, 0, FIRST_POSITION, arena)?)
 }
 
-pub fn selection_of_p(alloc: Global, catalog: &Catalog) -> Result<Selection> {
-    let publications = Publications::from_toml(alloc, CONFIGURATION, catalog)?;
-    p_of(alloc, &publications)
-}
-
-fn p_of(alloc: Global, publications: &Publications) -> Result<Selection> {
-    let name = Text::copy_of(alloc, "p")?;
-    Ok(publications.select(&[name])?)
-}
-
-/// The bytes that a sender makes of the log.
-fn sent<L: LogName>(
-    alloc: Global,
-    publisher: &mut Publisher<L>,
-    reader: &mut LogReader<L>,
-) -> Result<BytesMut> {
-    let mut sender = sender_of_p(alloc, publisher.catalog())?;
-    publisher.tell(reader);
-    let bytes = send(alloc, reader, &mut sender);
-    drop(sender);
-    bytes
-}
-
 /// The sender reads the log under clock 9, and tells how far it has read. The reader was told of the whole log.
-fn send<L: LogName>(
+fn print_sent<L: LogName, R: Print>(
+    rt: &R,
     alloc: Global,
     reader: &mut LogReader<L>,
     sender: &mut Sender,
-) -> Result<BytesMut> {
+) -> Result<()> {
     feed(alloc, reader, sender)?;
     sender.keepalive(9, false)?;
     // All that is held; for a socket, `drain` takes as much as a buffer has room for.
     let mut bytes = BytesMut::new(alloc);
     sender.drain_into(usize::MAX, &mut bytes)?;
-    Ok(bytes)
+    print_bytes(rt, alloc, bytes.as_slice())
 }
 
 pub fn feed<L: LogName>(
@@ -153,14 +92,8 @@ fn write<L: LogName, R: Wait>(
     publisher: &mut Publisher<L>,
     tx: &mut Tx,
 ) -> Result<(), SessionFault> {
-    publisher.insert(rt, tx, 16384, item(alloc, 1, "ab", 7)?)?;
+    publisher.insert(rt, tx, ITEM, item(alloc, 1, "ab", 7)?)?;
     let depth = publisher.savepoint(rt, tx)?;
-    publisher.insert(rt, tx, 16384, item(alloc, 2, "cd", 8)?)?;
+    publisher.insert(rt, tx, ITEM, item(alloc, 2, "cd", 8)?)?;
     publisher.rollback_to(rt, tx, depth)
-}
-
-/// A row of the table public.item.
-pub fn item(alloc: Global, id: i32, name: &str, qty: i64) -> Result<Row, SessionFault> {
-    let name = Value::Text(Text::copy_of(alloc, name)?);
-    Ok(Row::new(vec![in alloc; Value::Int4(id), name, Value::Int8(qty)]?))
 }

@@ -7,8 +7,8 @@
 
 ghost use Rattle.std.specs.Prelude.{◌≤◌};
 
-use crate::number;
-use anyhow::{Result, bail, ensure};
+use crate::{in_pieces, print_bytes};
+use anyhow::Result;
 use client::Applier;
 use std::alloc::Global;
 use std::io::Print;
@@ -30,15 +30,17 @@ const COMMIT: &str =
     "6400000037770000000001000050000000000100005000000000000000094300000000000100003000000000010000500000000000000005";
 
 pub fn follow_stream<R: Print>(rt: &R, alloc: Global, words: &[String]) -> Result<()> {
-    let [times, inserts, piece] = words else {
-        bail!("wants TIMES INSERTS PIECE");
-    };
-    let times = number(times)?;
-    let piece = number(piece)? as usize;
-    ensure!(1 <= piece, "a piece has a byte at least");
-    let stream = stream_of(alloc, number(inserts)? as usize)?;
+    let (times, inserts, piece) = in_pieces(words, "wants TIMES INSERTS PIECE")?;
+    let mut stream = Vec::new(alloc);
+    put_stream(alloc, inserts, &mut stream)?;
+    apply(rt, alloc, times, stream.as_slice(), piece)
+}
+
+fn apply<R: Print>(rt: &R, alloc: Global, times: u32, stream: &[u8], piece: usize) -> Result<()>
+    requires { 1 ≤ piece }
+{
     let mut applier = Applier::new(alloc);
-    take_often(&mut applier, times, stream.as_slice(), piece)?;
+    take_often(&mut applier, times, stream, piece)?;
     print(rt, alloc, &applier)
 }
 
@@ -52,15 +54,20 @@ fn take_often(applier: &mut Applier, times: u32, stream: &[u8], piece: usize) ->
 }
 
 /// One transaction of so many inserts.
-fn stream_of(alloc: Global, inserts: usize) -> Result<Vec<u8>> {
-    let insert = hex::decode(alloc, INSERT)?;
-    let mut stream = hex::decode(alloc, BEGIN)?;
-    stream.extend_from_slice(hex::decode(alloc, RELATION)?.as_slice())?;
-    for _ in 0..inserts {
-        stream.extend_from_slice(insert.as_slice())?;
+fn put_stream(alloc: Global, inserts: usize, stream: &mut Vec<u8>) -> Result<()> {
+    put(alloc, BEGIN, 1, stream)?;
+    put(alloc, RELATION, 1, stream)?;
+    put(alloc, INSERT, inserts, stream)?;
+    put(alloc, COMMIT, 1, stream)
+}
+
+/// The bytes of these digits so many times.
+fn put(alloc: Global, digits: &str, times: usize, stream: &mut Vec<u8>) -> Result<()> {
+    let bytes = hex::decode(alloc, digits)?;
+    for _ in 0..times {
+        stream.extend_from_slice(bytes.as_slice())?;
     }
-    stream.extend_from_slice(hex::decode(alloc, COMMIT)?.as_slice())?;
-    Ok(stream)
+    Ok(())
 }
 
 /// The applier is given the stream as it comes.
@@ -83,6 +90,5 @@ fn print<R: Print>(rt: &R, alloc: Global, applier: &Applier) -> Result<()> {
     }
     let transactions = applier.applied().len();
     println!(rt; "{upper:X}/{lower:X} {transactions} {changes}")?;
-    println!(rt; "{}", hex::encode(alloc, &applier.status(9, false))?)?;
-    Ok(())
+    print_bytes(rt, alloc, &applier.status(9, false))
 }

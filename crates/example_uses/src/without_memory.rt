@@ -8,11 +8,14 @@ mod places;
 mod strands;
 mod wire;
 
-use anyhow::{Result, bail};
+use crate::own_log::{Work, work_on_log};
+use anyhow::{Result, bail, ensure};
+pub use log::call_of_log;
 use std::alloc::Global;
+use std::io::Print;
 use std::sync::Wait;
 
-pub fn call_without_memory<R: Wait>(rt: &R, alloc: Global, words: &[String]) -> Result<()> {
+pub fn call_without_memory<R: Wait + Print>(rt: &R, alloc: Global, words: &[String]) -> Result<()> {
     let [part, work] = words else {
         bail!("without-memory PART made|called");
     };
@@ -25,10 +28,16 @@ pub fn call_without_memory<R: Wait>(rt: &R, alloc: Global, words: &[String]) -> 
         "arena" => strands::work(alloc, is_called),
         "store" => changes::work(alloc, is_called),
         "slots" => places::work(alloc, is_called),
-        "log" => log::work(rt, alloc, is_called),
+        "log" => work_on_log(rt, alloc, 100, &Work::Call(is_called)),
         "wire" => wire::work(alloc, is_called),
         "filter" => judged::judge(alloc, is_called),
         "message" => judged::put(alloc, is_called),
         part => bail!("no part is called {part}"),
     }
+}
+
+/// What it says where calls don't answer as they should.
+fn answered(is_right: bool, otherwise: &'static str) -> Result<()> {
+    ensure!(is_right, "{otherwise}");
+    Ok(())
 }

@@ -1,9 +1,8 @@
 //! A store: changes undone and forgotten.
 
-use crate::filters::{ITEM, ITEM_TABLE, row};
-use anyhow::{Result, ensure};
-use catalog::Catalog;
-use pqformat::Text;
+use crate::items::{ITEM, configured, item};
+use crate::without_memory::answered;
+use anyhow::Result;
 use std::alloc::Global;
 use store::Store;
 
@@ -11,7 +10,7 @@ use store::Store;
 const TOP: u32 = 700;
 
 pub fn work(alloc: Global, is_called: bool) -> Result<()> {
-    let mut store = Store::new(alloc, Catalog::from_toml(alloc, ITEM_TABLE)?);
+    let mut store = Store::new(alloc, configured(alloc)?);
     with_store(&mut store, alloc, is_called)
 }
 
@@ -19,12 +18,11 @@ fn with_store(store: &mut Store, alloc: Global, is_called: bool) -> Result<()> {
     insert(store, alloc, 1)?;
     insert(store, alloc, 2)?;
     let is_right = !is_called || is_undone(store);
-    ensure!(is_right, "a store's calls answer otherwise");
-    Ok(())
+    answered(is_right, "a store's calls answer otherwise")
 }
 
 fn insert(store: &mut Store, alloc: Global, id: i32) -> Result<()> {
-    let row = row(alloc, id, Text::copy_of(alloc, "name")?)?;
+    let row = item(alloc, id, "name", i64::from(id))?;
     store.insert(TOP, ITEM, row)?;
     Ok(())
 }

@@ -3,11 +3,10 @@
 ghost use Rattle.std.specs.Prelude.{◌≤◌, length};
 ghost use Rattle.row_messages.specs.declared.room.TheConstants.{MAX_MESSAGE_LENGTH};
 
-use crate::filters::{filter, row};
-use crate::sending::{CONFIGURATION, selection_of_p};
-use anyhow::{Result, ensure};
-use catalog::Catalog;
-use pqformat::Text;
+use crate::filters::filter;
+use crate::items::{configured, item, selection_of_p};
+use crate::without_memory::answered;
+use anyhow::Result;
 use publication::{MAX_MESSAGE_LENGTH, Selection};
 use rowfilter::Truth;
 use std::alloc::Global;
@@ -22,24 +21,21 @@ const POSITION: u64 = 0;
 const INSERT: &[u8] = b"I\0\0\x40\0N\0\x03t\0\0\0\x0220t\0\0\0\x02abt\0\0\0\x017";
 
 pub fn judge(alloc: Global, is_called: bool) -> Result<()> {
+    let row = item(alloc, 20, "even", 20)?;
     let filter = filter(alloc)?;
-    let row = row(alloc, 20, Text::copy_of(alloc, "even")?)?;
     let is_right = !is_called || filter.truth(&row) == Truth::True;
-    drop(row);
-    drop(filter);
-    ensure!(is_right, "a filter answers otherwise");
-    Ok(())
+    answered(is_right, "a filter answers otherwise")
 }
 
 pub fn put(alloc: Global, is_called: bool) -> Result<()> {
     let mut out = Vec::from_elem(alloc, 0, MAX_MESSAGE_LENGTH)?;
-    let catalog = Catalog::from_toml(alloc, CONFIGURATION)?;
-    let selection = selection_of_p(alloc, &catalog)?;
+    let selection = selection(alloc)?;
     let is_right = !is_called || is_put(&selection, out.as_mut_slice());
-    drop(selection);
-    drop(catalog);
-    ensure!(is_right, "a selection puts otherwise");
-    Ok(())
+    answered(is_right, "a selection puts otherwise")
+}
+
+fn selection(alloc: Global) -> Result<Selection> {
+    selection_of_p(alloc, &configured(alloc)?)
 }
 
 fn is_put(selection: &Selection, out: &mut [u8]) -> bool

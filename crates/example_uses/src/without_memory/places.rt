@@ -2,7 +2,8 @@
 
 ghost use Rattle.std.specs.Prelude.{◌≡◌};
 
-use anyhow::{Result, bail, ensure};
+use crate::without_memory::answered;
+use anyhow::{Result, bail};
 use slots::{Directory, OpenedSlots, SlotFault, SlotName, SlotSeat, SlotTable};
 use std::alloc::Global;
 use std::marker::Brand;
@@ -19,10 +20,10 @@ fn over_table<L: SlotName>(alloc: Global, opened: OpenedSlots, is_called: bool) 
     requires { opened.first.table_id ≡ L.table }
 {
     let (table, mut seats) = opened.open::<L>(1)?;
-    match seats.pop() {
-        Some(mut seat) => with_seat(alloc, &table, &mut seat, is_called),
-        None => bail!("a table has a seat"),
-    }
+    let [seat] = seats.as_mut_slice() else {
+        bail!("a table has a seat");
+    };
+    with_seat(alloc, &table, seat, is_called)
 }
 
 fn with_seat<L: SlotName>(
@@ -34,8 +35,7 @@ fn with_seat<L: SlotName>(
     let mut names = Directory::new(alloc);
     names.add(NAME, 0)?;
     let is_right = !is_called || is_used(table, seat)? && is_named(&mut names);
-    ensure!(is_right, "a slot's calls answer otherwise");
-    Ok(())
+    answered(is_right, "a slot's calls answer otherwise")
 }
 
 fn is_used<L: SlotName>(table: &SlotTable<L>, seat: &mut SlotSeat<L>) -> Result<bool, SlotFault> {

@@ -2,7 +2,8 @@
 
 ghost use Rattle.chgarena.specs.Strands.{IsOf};
 
-use anyhow::{Result, ensure};
+use crate::without_memory::answered;
+use anyhow::Result;
 use chgarena::{Arena, Full, Strand};
 use std::alloc::Global;
 
@@ -13,8 +14,7 @@ const ENTRY: [u8; 5] = *b"entry";
 pub fn work(alloc: Global, is_called: bool) -> Result<()> {
     let mut arena = Arena::new(alloc, CHUNKS)?;
     let is_right = !is_called || is_used(&mut arena);
-    ensure!(is_right, "an arena's calls answer otherwise");
-    Ok(())
+    answered(is_right, "an arena's calls answer otherwise")
 }
 
 fn is_used(arena: &mut Arena) -> bool {

@@ -1,6 +1,7 @@
 //! What stands between bytes and values: a cursor, the bodies of copy-both messages, and a subscriber's status.
 
-use anyhow::{Result, ensure};
+use crate::without_memory::answered;
+use anyhow::Result;
 use client::Applier;
 use copyboth::{ServerBody, read_client, read_server};
 use pqformat::Cursor;
@@ -15,8 +16,7 @@ const HEAD: usize = 5;
 pub fn work(alloc: Global, is_called: bool) -> Result<()> {
     let applier = Applier::new(alloc);
     let is_right = !is_called || is_walked() && is_read() && is_told(&applier);
-    ensure!(is_right, "calls on bytes answer otherwise");
-    Ok(())
+    answered(is_right, "calls on bytes answer otherwise")
 }
 
 fn is_walked() -> bool {
