@@ -206,6 +206,7 @@ impl<L: LogName> Start<L> {
         };
         let (ended, reader) = walsender.end();
         readers.push_reserved(reader);
+        // (an assignment does the same, and takes longer to prove)
         drop(mem::replace(&mut self.stage, Stage::Cut(ended)));
         Answer::Done
     }
