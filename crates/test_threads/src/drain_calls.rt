@@ -5,7 +5,7 @@ use crate::turn_calls::{FIRST_BLOCK, LENGTH};
 use crate::work::{Work, do_work};
 use sender::Sender;
 use shared_log::{LogName, LogReader};
-use std::alloc::Global;
+use std::alloc::{AllocError, Global};
 use std::process::Abort;
 use std::sync::{Mutex, Wait};
 use std::test::Fail;
@@ -24,14 +24,10 @@ pub fn drain_by_bytes<L: LogName, R: Wait + Abort>(
     rt: &R,
     alloc: Global,
     desk: &Mutex<Publisher<L>>,
-    readers: Vec<LogReader<L>>,
+    reader: &mut LogReader<L>,
 ) -> Result<(), Fail> {
     commit_under_lock(rt, alloc, desk, 1, "ab", 7)?;
-    let mut readers = readers;
-    match readers.pop() {
-        Some(mut reader) => feed_and_drain(rt, alloc, &mut reader),
-        None => Err(Fail::from("a reader")),
-    }
+    feed_and_drain(rt, alloc, reader)
 }
 
 fn feed_and_drain<L: LogName, R: Abort>(
@@ -40,20 +36,22 @@ fn feed_and_drain<L: LogName, R: Abort>(
     reader: &mut LogReader<L>,
 ) -> Result<(), Fail> {
     let mut sender = sender_of_p(alloc)?;
-    let drained = feed_and_drain_to(rt, alloc, reader, &mut sender);
-    drop(sender);
-    drained
+    feed(alloc, reader, &mut sender)?;
+    drain_all(rt, alloc, &mut sender)
 }
 
-fn feed_and_drain_to<L: LogName, R: Abort>(
-    rt: &R,
+fn feed<L: LogName>(
     alloc: Global,
     reader: &mut LogReader<L>,
     sender: &mut Sender,
 ) -> Result<(), Fail> {
     let records = reader.fetch(alloc, 100)?;
-    sender.feed(records.as_slice(), 9)?;
-    let bytes = drain_all(rt, alloc, sender)?;
+    Ok(sender.feed(records.as_slice(), 9)?)
+}
+
+fn drain_all<R: Abort>(rt: &R, alloc: Global, sender: &mut Sender) -> Result<(), Fail> {
+    let mut bytes = Vec::with_capacity(alloc, LENGTH)?;
+    drain_each(rt, sender, &mut bytes)?;
     let text = hex::encode(alloc, bytes.as_slice())?;
     assert!(rt; text.as_str() == FIRST_BLOCK);
     assert!(rt; !sender.holds_bytes() && sender.free_chunks() == CHUNKS);
@@ -61,15 +59,17 @@ fn feed_and_drain_to<L: LogName, R: Abort>(
 }
 
 /// All bytes of the block. Its chunk comes back between the end of its change's frame and that of its Commit's.
-fn drain_all<R: Abort>(rt: &R, alloc: Global, sender: &mut Sender) -> Result<Vec<u8>, Fail> {
-    let mut bytes = Vec::with_capacity(alloc, LENGTH)?;
+fn drain_each<R: Abort>(
+    rt: &R,
+    sender: &mut Sender,
+    bytes: &mut Vec<u8>,
+) -> Result<(), AllocError> {
     let mut byte = [0];
     for moved in 0..LENGTH {
         let lacks_one = sender.free_chunks() == CHUNKS - 1;
-        assert!(rt; lacks_one || moved > WITH_CHANGE);
         let count = sender.drain(&mut byte);
-        assert!(rt; count == 1);
+        assert!(rt; count == 1 && (lacks_one || moved > WITH_CHANGE));
         bytes.push(byte[0])?;
     }
-    Ok(bytes)
+    Ok(())
 }

@@ -1,4 +1,4 @@
-//! A reader of a log, and what it fetched.
+//! What a reader of a log fetches bit by bit.
 
 use shared_log::{LogName, LogReader, ReadFault};
 use std::alloc::Global;
@@ -6,37 +6,26 @@ use std::sync::Arc;
 use txlog::Receipt;
 use wal::Record;
 
-/// A reader, and what it fetched.
-#[derive(Drop)]
-pub struct Follower<L: LogName> {
-    reader: LogReader<L>,
-    records: Vec<Arc<Record>>,
+/// Fetches up to so many records behind those that it fetched before.
+pub fn fetch_more<L: LogName>(
+    alloc: Global,
+    reader: &mut LogReader<L>,
+    fetched: &mut Vec<Arc<Record>>,
+    max: usize,
+) -> Result<(), ReadFault> {
+    let mut records = reader.fetch(alloc, max)?;
+    fetched.append(&mut records).map_err(|_| ReadFault::Memory)
 }
 
-impl<L: LogName> Follower<L> {
-    pub fn new(alloc: Global, reader: LogReader<L>) -> Self {
-        let records = Vec::new(alloc);
-        Follower { reader, records }
+/// Learns of the receipts, and fetches the rest of the log.
+pub fn fetch_rest<L: LogName>(
+    alloc: Global,
+    reader: &mut LogReader<L>,
+    fetched: &mut Vec<Arc<Record>>,
+    receipts: &[Receipt<L>],
+) -> Result<(), ReadFault> {
+    for receipt in receipts {
+        reader.learn(receipt.told());
     }
-
-    /// Fetches up to so many records more.
-    pub fn fetch(&mut self, alloc: Global, max: usize) -> Result<(), ReadFault> {
-        for record in self.reader.fetch(alloc, max)? {
-            self.records.push(record).map_err(|_| ReadFault::Memory)?;
-        }
-        Ok(())
-    }
-
-    /// Learns of the receipts, and fetches the rest of the log: all that it fetched.
-    pub fn finish(
-        mut self,
-        alloc: Global,
-        receipts: &[Receipt<L>],
-    ) -> Result<Vec<Arc<Record>>, ReadFault> {
-        for receipt in receipts {
-            self.reader.learn(receipt.told());
-        }
-        self.fetch(alloc, usize::MAX)?;
-        Ok(self.records)
-    }
+    fetch_more(alloc, reader, fetched, usize::MAX)
 }

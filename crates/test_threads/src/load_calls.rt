@@ -1,17 +1,18 @@
 //! Sessions and a reader of one log, side by side.
 
-use crate::follower::Follower;
-use crate::log_fixture::{all_of, commit_under_lock, ends_of, has_commit_of, log_of};
+use crate::follower::{fetch_more, fetch_rest};
+use crate::log_fixture::{commit_under_lock, has_commit_of, log_of};
 use crate::work::{Work, do_work};
 use shared_log::{LogName, LogReader, ReadFault};
-use std::alloc::{AllocError, Global};
+use std::alloc::Global;
 use std::process::Abort;
 use std::sync::atomic::{AtomicBool, Ordering};
-use std::sync::{Mutex, Wait};
+use std::sync::{Arc, Mutex, Wait};
 use std::test::Fail;
 use std::thread;
 use std::thread::{Threads, join, map_indices};
 use txlog::{Publisher, Receipt, SessionFault};
+use wal::Record;
 
 const SESSIONS: usize = 2;
 
@@ -31,49 +32,62 @@ pub fn run_load<L: LogName + Send + Sync, R: Threads + Wait + Abort + Sync>(
     rt: &R,
     alloc: Global,
     desk: &Mutex<Publisher<L>>,
-    readers: Vec<LogReader<L>>,
+    reader: &mut LogReader<L>,
+    last: &mut LogReader<L>,
 ) -> Result<(), Fail> {
-    let mut readers = readers;
-    let mut last = readers.pop().ok_or("a reader")?;
-    let follower = Follower::new(alloc, readers.pop().ok_or("a second reader")?);
-    let (receipts, follower) = beside(rt, alloc, desk, follower)?;
-    see_whole(rt, alloc, desk, &mut last, follower, receipts.as_slice())
+    let mut fetched = Vec::new(alloc);
+    let receipts = beside(rt, alloc, desk, reader, &mut fetched)?;
+    fetch_rest(alloc, reader, &mut fetched, receipts.as_slice())?;
+    see_whole(
+        rt,
+        alloc,
+        desk,
+        last,
+        fetched.as_slice(),
+        receipts.as_slice(),
+    )
 }
 
-/// The receipts of the sessions, and what was read beside them.
+/// The receipts of the sessions. What was read beside them is put behind what was fetched.
 fn beside<L: LogName + Send + Sync, R: Threads + Wait + Sync>(
     rt: &R,
     alloc: Global,
     desk: &Mutex<Publisher<L>>,
-    follower: Follower<L>,
-) -> Result<(Vec<Receipt<L>>, Follower<L>), Fail> {
+    reader: &mut LogReader<L>,
+    fetched: &mut Vec<Arc<Record>>,
+) -> Result<Vec<Receipt<L>>, Fail> {
     let is_done = AtomicBool::new(false);
     let (written, followed) = join(
         rt,
-        || {
-            let written = map_indices(
-                rt,
-                alloc,
-                SESSIONS,
-                &|number| run_session(rt, alloc, desk, number),
-            );
-            is_done.store(true, Ordering::SeqCst);
-            written
-        },
-        || follow(alloc, follower, &is_done),
+        || run_sessions(rt, alloc, desk, &is_done),
+        || follow(alloc, reader, fetched, &is_done),
     );
-    Ok((joined(alloc, all_of(alloc, written?)?)?, followed?))
+    let receipts = written?;
+    match followed {
+        Ok(()) => Ok(receipts),
+        Err(fault) => Err(Fail::from(fault)),
+    }
+}
+
+fn run_sessions<L: LogName + Send + Sync, R: Threads + Wait + Sync>(
+    rt: &R,
+    alloc: Global,
+    desk: &Mutex<Publisher<L>>,
+    is_done: &AtomicBool,
+) -> Result<Vec<Receipt<L>>, SessionFault> {
+    let session = |number: usize| run_session(rt, alloc, desk, number);
+    let sessions = map_indices(rt, alloc, SESSIONS, &session);
+    is_done.store(true, Ordering::SeqCst);
+    joined(alloc, sessions?)
 }
 
 fn joined<L: LogName>(
     alloc: Global,
-    sessions: Vec<Vec<Receipt<L>>>,
-) -> Result<Vec<Receipt<L>>, AllocError> {
+    sessions: Vec<Result<Vec<Receipt<L>>, SessionFault>>,
+) -> Result<Vec<Receipt<L>>, SessionFault> {
     let mut receipts = Vec::new(alloc);
     for session in sessions {
-        for receipt in session {
-            receipts.push(receipt)?;
-        }
+        receipts.append(&mut session?)?;
     }
     Ok(receipts)
 }
@@ -96,33 +110,51 @@ fn run_session<L: LogName, R: Wait>(
 /// Fetches beside the sessions, now more records at once and now fewer.
 fn follow<L: LogName>(
     alloc: Global,
-    mut follower: Follower<L>,
+    reader: &mut LogReader<L>,
+    fetched: &mut Vec<Arc<Record>>,
     is_done: &AtomicBool,
-) -> Result<Follower<L>, ReadFault> {
+) -> Result<(), ReadFault> {
     for turn in 0..FETCHES {
         if is_done.load(Ordering::SeqCst) {
             break;
         }
-        follower.fetch(alloc, turn % 20)?;
+        fetch_more(alloc, reader, fetched, turn % 20)?;
         thread::yield_now();
     }
-    Ok(follower)
+    Ok(())
 }
 
-/// The whole log has the Commit of each receipt at its place; a follower has it too, once it has learnt of the receipts.
+/// The whole log has the Commit of each receipt at its place; a reader that has learnt of the receipts has fetched it too.
 fn see_whole<L: LogName, R: Wait + Abort>(
     rt: &R,
     alloc: Global,
     desk: &Mutex<Publisher<L>>,
     last: &mut LogReader<L>,
-    follower: Follower<L>,
+    fetched: &[Arc<Record>],
     receipts: &[Receipt<L>],
 ) -> Result<(), Fail> {
     let log = log_of(rt, alloc, desk, last)?;
     let log = log.as_slice();
     assert!(rt; log.len() == 2 * SESSIONS * TRANSACTIONS);
-    assert!(rt; receipts.iter().all(|receipt| has_commit_of(log, receipt)));
-    let seen = follower.finish(alloc, receipts)?;
-    assert!(rt; ends_of(alloc, seen.as_slice())?.as_slice() == ends_of(alloc, log)?.as_slice());
+    assert!(rt; have_commits(log, receipts) && have_same_ends(log, fetched));
     Ok(())
+}
+
+fn have_commits<L: LogName>(log: &[Arc<Record>], receipts: &[Receipt<L>]) -> bool {
+    for receipt in receipts {
+        if !has_commit_of(log, receipt) {
+            return false;
+        }
+    }
+    true
+}
+
+/// Whether as many records start and end where those of the log do.
+fn have_same_ends(log: &[Arc<Record>], records: &[Arc<Record>]) -> bool {
+    for (one, other) in log.iter().zip(records) {
+        if one.start != other.start || one.end != other.end {
+            return false;
+        }
+    }
+    log.len() == records.len()
 }

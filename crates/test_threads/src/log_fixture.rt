@@ -8,7 +8,6 @@ use publications::Publications;
 use sender::Sender;
 use shared_log::{LogName, LogReader, ReadFault};
 use std::alloc::{AllocError, Global};
-use std::fmt::Debug;
 use std::sync::{Arc, Mutex, MutexGuard, Wait};
 use std::test::Fail;
 use std::thread::{Threads, join};
@@ -127,27 +126,6 @@ pub fn has_commit_of<L: LogName>(log: &[Arc<Record>], receipt: &Receipt<L>) -> b
 
 fn is_commit_of(body: &Body, top: u32) -> bool {
     matches!(body, Body::Commit(xid, time) if *xid == top && *time == TIME)
-}
-
-/// Where the records start and end.
-pub fn ends_of(alloc: Global, records: &[Arc<Record>]) -> Result<Vec<(u64, u64)>, AllocError> {
-    let mut ends = Vec::new(alloc);
-    for record in records {
-        ends.push((record.start, record.end))?;
-    }
-    Ok(ends)
-}
-
-/// What the threads answered, if none was refused.
-pub fn all_of<T: Drop, E: Debug + Drop>(
-    alloc: Global,
-    answers: Vec<Result<T, E>>,
-) -> Result<Vec<T>, Fail> {
-    let mut all = Vec::new(alloc);
-    for answer in answers {
-        all.push(answer?)?;
-    }
-    Ok(all)
 }
 
 /// The whole log, by a reader that is told of it.

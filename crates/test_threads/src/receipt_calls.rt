@@ -21,19 +21,6 @@ pub fn learn_elsewhere<L: LogName + Send + Sync, R: Threads + Wait + Abort + Syn
     rt: &R,
     alloc: Global,
     desk: &Mutex<Publisher<L>>,
-    readers: Vec<LogReader<L>>,
-) -> Result<(), Fail> {
-    let mut readers = readers;
-    match readers.pop() {
-        Some(mut reader) => learn_by(rt, alloc, desk, &mut reader),
-        None => Err(Fail::from("a reader")),
-    }
-}
-
-fn learn_by<L: LogName + Send + Sync, R: Threads + Wait + Abort + Sync>(
-    rt: &R,
-    alloc: Global,
-    desk: &Mutex<Publisher<L>>,
     reader: &mut LogReader<L>,
 ) -> Result<(), Fail> {
     let receipt = commit_elsewhere(rt, alloc, desk, (1, "ab", 7))?;

@@ -2,7 +2,7 @@
 
 ghost use Rattle.std.specs.Prelude.{Some};
 
-use crate::log_fixture::{TIME, commit_elsewhere, commit_under_lock, ends_of, sender_of_p};
+use crate::log_fixture::{TIME, commit_elsewhere, commit_under_lock, sender_of_p};
 use crate::work::{Work, do_work};
 use sender::{Sender, TurnFault, turn};
 use shared_log::{LogName, LogReader};
@@ -55,56 +55,9 @@ const SECOND: Sample = Sample {
     block: SECOND_BLOCK,
 };
 
-/// A reader, and another one from which a sender is fed.
-#[derive(Drop)]
-struct Subscriber<L: LogName> {
-    plain: LogReader<L>,
-    fed: LogReader<L>,
-    sender: Sender,
-}
-
-/// What a subscriber gets at once.
-#[derive(Drop)]
-struct Got {
-    records: Vec<Arc<Record>>,
-    turned: usize,
-    bytes: Vec<u8>,
-}
-
-impl<L: LogName> Subscriber<L> {
-    fn look(&mut self, alloc: Global) -> Result<Got, TurnFault> {
-        let records = self.plain.fetch(alloc, 100)?;
-        let mut bytes = Vec::new(alloc);
-        let turned = turn(alloc, &mut self.sender, &mut self.fed, 9, &mut bytes)?;
-        Ok(Got {
-            records,
-            turned,
-            bytes,
-        })
-    }
-}
-
 #[test]
 fn readers_that_were_told_nothing(rt: HostRuntime) -> Result<(), Fail> {
     do_work(&rt, rt.alloc(), Work::LookTwice)
-}
-
-/// A subscriber of the two readers.
-fn subscriber_of<L: LogName>(
-    alloc: Global,
-    readers: Vec<LogReader<L>>,
-) -> Result<Subscriber<L>, Fail> {
-    let sender = sender_of_p(alloc)?;
-    match last_two(readers) {
-        Some((plain, fed)) => Ok(Subscriber { plain, fed, sender }),
-        None => Err(Fail::from("two readers")),
-    }
-}
-
-fn last_two<L: LogName>(readers: Vec<LogReader<L>>) -> Option<(LogReader<L>, LogReader<L>)> {
-    let mut readers = readers;
-    let last = readers.pop()?;
-    Some((readers.pop()?, last))
 }
 
 /// A transaction on one thread, and what this one gets once the other is joined; and the same once more.
@@ -112,50 +65,69 @@ pub fn look_twice<L: LogName + Send + Sync, R: Threads + Wait + Abort + Sync>(
     rt: &R,
     alloc: Global,
     desk: &Mutex<Publisher<L>>,
-    readers: Vec<LogReader<L>>,
+    plain: &mut LogReader<L>,
+    fed: &mut LogReader<L>,
 ) -> Result<(), Fail> {
-    let mut subscriber = subscriber_of(alloc, readers)?;
-    look_behind_both(rt, alloc, desk, &mut subscriber)
+    let mut sender = sender_of_p(alloc)?;
+    look_at_both(rt, alloc, desk, plain, fed, &mut sender)
 }
 
-fn look_behind_both<L: LogName + Send + Sync, R: Threads + Wait + Abort + Sync>(
+fn look_at_both<L: LogName + Send + Sync, R: Threads + Wait + Abort + Sync>(
     rt: &R,
     alloc: Global,
     desk: &Mutex<Publisher<L>>,
-    subscriber: &mut Subscriber<L>,
+    plain: &mut LogReader<L>,
+    fed: &mut LogReader<L>,
+    sender: &mut Sender,
 ) -> Result<(), Fail> {
-    look_behind(rt, alloc, desk, subscriber, &FIRST)?;
-    look_behind(rt, alloc, desk, subscriber, &SECOND)
-}
-
-fn look_behind<L: LogName + Send + Sync, R: Threads + Wait + Abort + Sync>(
-    rt: &R,
-    alloc: Global,
-    desk: &Mutex<Publisher<L>>,
-    subscriber: &mut Subscriber<L>,
-    sample: &Sample,
-) -> Result<(), Fail> {
-    commit_elsewhere(rt, alloc, desk, sample.row)?;
-    let got = subscriber.look(alloc)?;
-    see_got(rt, alloc, &got, sample)
-}
-
-/// The records of the sample, with a Commit as the last, and its block.
-fn see_got<R: Abort>(rt: &R, alloc: Global, got: &Got, sample: &Sample) -> Result<(), Fail> {
-    let records = got.records.as_slice();
-    assert!(rt; got.turned == 2 && ends_with_commit(records));
-    let ends = ends_of(alloc, records)?;
-    assert!(rt; ends.as_slice() == sample.ends.as_slice());
-    let text = hex::encode(alloc, got.bytes.as_slice())?;
-    assert!(rt; text.as_str() == sample.block);
+    for sample in &[FIRST, SECOND] {
+        commit_elsewhere(rt, alloc, desk, sample.row)?;
+        see_records(rt, alloc, plain, sample)?;
+        see_block(rt, alloc, fed, sender, sample)?;
+    }
     Ok(())
 }
 
-fn ends_with_commit(records: &[Arc<Record>]) -> bool {
-    match records.last() {
-        Some(last) => matches!(last.body, Body::Commit(_, TIME)),
-        None => false,
+/// A reader gets the records of the sample, with a Commit as the last.
+fn see_records<L: LogName, R: Abort>(
+    rt: &R,
+    alloc: Global,
+    reader: &mut LogReader<L>,
+    sample: &Sample,
+) -> Result<(), Fail> {
+    let records = reader.fetch(alloc, 100)?;
+    assert!(rt; are_of(records.as_slice(), sample));
+    Ok(())
+}
+
+fn are_of(records: &[Arc<Record>], sample: &Sample) -> bool {
+    match records {
+        [change, commit] => {
+            let first = sample.ends[0];
+            let second = sample.ends[1];
+            change.start == first.0
+                && change.end == first.1
+                && commit.start == second.0
+                && commit.end == second.1
+                && matches!(commit.body, Body::Commit(_, TIME))
+        }
+        _ => false,
     }
+}
+
+/// A sender that is fed from a reader sends the block of the sample.
+fn see_block<L: LogName, R: Abort>(
+    rt: &R,
+    alloc: Global,
+    reader: &mut LogReader<L>,
+    sender: &mut Sender,
+    sample: &Sample,
+) -> Result<(), Fail> {
+    let mut bytes = Vec::new(alloc);
+    let turned = turn(alloc, sender, reader, 9, &mut bytes)?;
+    let text = hex::encode(alloc, bytes.as_slice())?;
+    assert!(rt; turned == 2 && text.as_str() == sample.block);
+    Ok(())
 }
 
 /// Takes so many bytes, some at once, and then fails, or takes none.
@@ -195,14 +167,10 @@ pub fn turn_narrowly<L: LogName, R: Wait + Abort>(
     rt: &R,
     alloc: Global,
     desk: &Mutex<Publisher<L>>,
-    readers: Vec<LogReader<L>>,
+    reader: &mut LogReader<L>,
 ) -> Result<(), Fail> {
     commit_under_lock(rt, alloc, desk, 1, "ab", 7)?;
-    let mut readers = readers;
-    match readers.pop() {
-        Some(mut reader) => turn_to_each(rt, alloc, &mut reader),
-        None => Err(Fail::from("a reader")),
-    }
+    turn_to_each(rt, alloc, reader)
 }
 
 fn turn_to_each<L: LogName, R: Abort>(
@@ -211,19 +179,10 @@ fn turn_to_each<L: LogName, R: Abort>(
     reader: &mut LogReader<L>,
 ) -> Result<(), Fail> {
     for left in 0..LENGTH + 1 {
-        turn_to(rt, alloc, reader, left)?;
+        turn_by(rt, alloc, reader, left, 100, true)?;
+        turn_by(rt, alloc, reader, left, 1, false)?;
     }
     Ok(())
-}
-
-fn turn_to<L: LogName, R: Abort>(
-    rt: &R,
-    alloc: Global,
-    reader: &mut LogReader<L>,
-    left: usize,
-) -> Result<(), Fail> {
-    turn_by(rt, alloc, reader, left, 100, true)?;
-    turn_by(rt, alloc, reader, left, 1, false)
 }
 
 fn turn_by<L: LogName, R: Abort>(
@@ -234,13 +193,13 @@ fn turn_by<L: LogName, R: Abort>(
     at_once: usize,
     fails: bool,
 ) -> Result<(), Fail> {
+    let mut sender = sender_of_p(alloc)?;
     let mut out = Narrow {
         left,
         at_once,
         fails,
         taken: Vec::new(alloc),
     };
-    let mut sender = sender_of_p(alloc)?;
     turn_into(rt, alloc, &mut sender, reader, &mut out)
 }
 

@@ -53,9 +53,9 @@ fn with_opened<L: LogName + Send + Sync, R: Threads + Wait + Abort + Sync>(
 ) -> Result<(), Fail>
     requires name { opened.history.seen.book ≡ L.book }
 {
-    let (publisher, readers) = Publisher::<L>::open(rt, opened)?;
+    let (publisher, mut readers) = Publisher::<L>::open(rt, opened)?;
     let desk = Mutex::new(publisher);
-    let done = with_log(rt, alloc, &desk, readers, work);
+    let done = with_log(rt, alloc, &desk, readers.as_mut_slice(), work);
     desk.into_inner().close(rt);
     done
 }
@@ -64,14 +64,15 @@ fn with_log<L: LogName + Send + Sync, R: Threads + Wait + Abort + Sync>(
     rt: &R,
     alloc: Global,
     desk: &Mutex<Publisher<L>>,
-    readers: Vec<LogReader<L>>,
+    readers: &mut [LogReader<L>],
     work: Work,
 ) -> Result<(), Fail> {
-    match work {
-        Work::LearnElsewhere => learn_elsewhere(rt, alloc, desk, readers),
-        Work::LookTwice => look_twice(rt, alloc, desk, readers),
-        Work::TurnNarrowly => turn_narrowly(rt, alloc, desk, readers),
-        Work::DrainByBytes => drain_by_bytes(rt, alloc, desk, readers),
-        Work::Load => run_load(rt, alloc, desk, readers),
+    match (work, readers) {
+        (Work::LearnElsewhere, [reader]) => learn_elsewhere(rt, alloc, desk, reader),
+        (Work::LookTwice, [plain, fed]) => look_twice(rt, alloc, desk, plain, fed),
+        (Work::TurnNarrowly, [reader]) => turn_narrowly(rt, alloc, desk, reader),
+        (Work::DrainByBytes, [reader]) => drain_by_bytes(rt, alloc, desk, reader),
+        (Work::Load, [reader, last]) => run_load(rt, alloc, desk, reader, last),
+        _ => Err(Fail::from("as many readers")),
     }
 }

@@ -28,12 +28,13 @@ struct Racer<L: SlotName> {
 }
 
 impl<L: SlotName> Racer<L> {
-    fn run(mut self, table: &SlotTable<L>, gate: &Gate) -> Result<Self, Wrong> {
+    /// The greatest position that it confirmed.
+    fn run(mut self, table: &SlotTable<L>, gate: &Gate) -> Result<u64, Wrong> {
         gate.pass();
         for round in 0..TRIES {
             self.try_once(table, round)?;
         }
-        Ok(self)
+        Ok(self.greatest)
     }
 
     /// A position that no other racer confirms. Those of even numbers go up, the others down.
@@ -100,12 +101,13 @@ fn race_at<L: SlotName + Send + Sync, R: Threads + Abort + Sync>(
     seat: &mut SlotSeat<L>,
     seats: Vec<SlotSeat<L>>,
 ) -> Result<(), Fail> {
-    assert_eq!(rt; table.create(seat, 0)?, PLACE);
+    let place = table.create(seat, 0)?;
+    assert!(rt; place == PLACE);
     let greatest = raced(rt, alloc, table, seats)?;
     let lease = table.claim(seat, PLACE)?;
     let confirmed = table.confirmed(seat, &lease);
     table.release(seat, lease);
-    assert_eq!(rt; confirmed, greatest);
+    assert!(rt; confirmed == greatest);
     Ok(())
 }
 
@@ -117,14 +119,15 @@ fn raced<L: SlotName + Send + Sync, R: Threads + Sync>(
     seats: Vec<SlotSeat<L>>,
 ) -> Result<u64, Fail> {
     let gate = Gate::new(RACERS);
-    let raced = map_vec(
-        rt,
-        racers(alloc, seats)?,
-        &|racer: Racer<L>| racer.run(table, &gate),
-    )?;
+    let racers = racers(alloc, seats)?;
+    let raced = map_vec(rt, racers, &|racer: Racer<L>| racer.run(table, &gate))?;
+    Ok(greatest_of(raced.as_slice())?)
+}
+
+fn greatest_of(raced: &[Result<u64, Wrong>]) -> Result<u64, Wrong> {
     let mut greatest = 0;
-    for racer in raced {
-        greatest = racer?.greatest.max(greatest);
+    for confirmed in raced {
+        greatest = (*confirmed)?.max(greatest);
     }
     Ok(greatest)
 }
