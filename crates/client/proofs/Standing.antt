@@ -4,8 +4,8 @@ use Rattle.std.specs.Prelude.{◌⊎◌}
 use Rattle.std.specs.List.{AllByRecursion}
 use Rattle.std.proofs.lemmas.List.{append-nil}
 use Rattle.pqformat.specs.Steps.{◌>>=◌}
-use Rattle.pgoutput.specs.declared.logical.Logical.{Logical}
-use Rattle.pgoutput.specs.declared.logical.Logical.TheVariants as logical
+use Rattle.logical.specs.declared.logical.Logical.{Logical}
+use Rattle.logical.specs.declared.logical.Logical.TheVariants as logical
 use Rattle.pgoutput.specs.declared.relation.Relation.{Relation}
 use Rattle.stream.specs.declared.word.Word.{Word}
 use Rattle.stream.specs.declared.word.Word.TheVariants as words

@@ -1,7 +1,7 @@
 -- Worked streams by which the definitions were checked: one transaction with one insert, and what is out of order.
 use Rattle.std.specs.Prelude.{◌≡◌, ℕ, pos, negsuc, codes, Bool, true, false, List, [], ◌∷◌, None, Result, Ok, Err, refl}
-use Rattle.pgoutput.specs.declared.logical.Logical.{Logical}
-use Rattle.pgoutput.specs.declared.logical.Logical.TheVariants as logical
+use Rattle.logical.specs.declared.logical.Logical.{Logical}
+use Rattle.logical.specs.declared.logical.Logical.TheVariants as logical
 use Rattle.pgoutput.specs.declared.relation.Relation.{Relation}
 use Rattle.pgoutput.specs.declared.relation.Identity.TheVariants as identities
 use Rattle.pgoutput.specs.declared.tuple.Cell.TheVariants as cells

@@ -3,7 +3,8 @@
 ghost use Rattle.std.specs.Prelude.{◌≡◌, [], OnErr, OnOk};
 ghost use Rattle.client.specs.Subscriber.{transaction_of, with_change};
 
-use pgoutput::{Begin, Commit, Logical};
+use logical::Logical;
+use pgoutput::{Begin, Commit};
 use pqformat::Items;
 use std::alloc::{AllocError, Global};
 use std::marker::Model;

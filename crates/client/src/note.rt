@@ -3,7 +3,8 @@
 ghost use Rattle.std.specs.Prelude.{◌≡◌, IfOk};
 ghost use Rattle.client.specs.Subscriber.{note_of};
 
-use pgoutput::{Logical, Message};
+use logical::Logical;
+use pgoutput::Message;
 use pqformat::Items;
 use std::alloc::{AllocError, Global};
 use stream::{Published, PublishedChange};

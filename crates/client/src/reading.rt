@@ -6,7 +6,8 @@ ghost use Rattle.client.specs.Words.{Reads, ReadsBody, ReadsFrame, ReadsMessage,
 use crate::fault::ClientFault;
 use copyboth::{ServerBody, read_server};
 use frames::{Back, FrameFault, read_back};
-use pgoutput::{Logical, OutFault, read_logical};
+use logical::{Logical, read_logical};
+use pgoutput::OutFault;
 use std::alloc::Global;
 use stream::{Keepalive, Word, XLogData};
 

@@ -1,10 +1,8 @@
 //! Messages as lines of text, for people to read.
 
 use crate::cells::{Cells, Hex, Name, Quoted, old_letter};
-use pgoutput::{
-    Begin, Column, Commit, Delete, Identity, Insert, Logical, Message, NOT_TRANSACTIONAL, Relation,
-    TRANSACTIONAL, Truncate, TruncateOptions, Update,
-};
+use logical::Logical;
+use pgoutput::{Begin, Column, Commit, Delete, Identity, Insert, Message, NOT_TRANSACTIONAL, Relation, TRANSACTIONAL, Truncate, TruncateOptions, Update};
 use replcmd::write_position;
 use std::alloc::{AllocError, Global};
 

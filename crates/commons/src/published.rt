@@ -7,7 +7,7 @@ ghost use Rattle.commons.specs.Published.{is_publication, tables_in, tables_told
 
 use crate::refusals::of_publications;
 use answers::{DeskFault, TableName};
-use pgoutput::Logical;
+use logical::Logical;
 use pqformat::{Items, Text};
 use publication::Selection;
 use publications::{PubFault, Publications};

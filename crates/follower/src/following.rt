@@ -11,7 +11,7 @@ use crate::streamed::{body_in, carried, message_in, print_lines};
 use client::{Applier, ClientFault, render};
 use copyboth::ServerBody;
 use frames::{Back, Front};
-use pgoutput::Logical;
+use logical::Logical;
 use std::alloc::{AllocError, Global};
 use std::io::{Read, Write};
 use std::sync::Wait;

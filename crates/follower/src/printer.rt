@@ -6,7 +6,8 @@ use crate::json_transcript::JsonTranscript;
 use crate::kept::Kept;
 use crate::transcript::Transcript;
 use client::Applied;
-use pgoutput::{Logical, Relation};
+use logical::Logical;
+use pgoutput::Relation;
 use std::alloc::{AllocError, Global};
 
 /// What makes lines of transactions.

@@ -4,7 +4,8 @@ use crate::fault::{FollowFault, told};
 use client::{Applied, ClientFault};
 use copyboth::{ServerBody, read_server};
 use frames::{Back, CopyData};
-use pgoutput::{Begin, Commit, Logical, OutFault, read_logical};
+use logical::{Logical, read_logical};
+use pgoutput::{Begin, Commit, OutFault};
 use std::alloc::Global;
 use std::io::Write;
 

@@ -3,7 +3,7 @@
 use crate::streamed::{begin_of, commit_of};
 use client::{Applied, render};
 use indexmap::IndexMap;
-use pgoutput::Logical;
+use logical::Logical;
 use std::alloc::{AllocError, Global};
 
 /// What was told of tables, over all connections, and whether it is printed already: the Relation of a table stands once in front

@@ -2,12 +2,3 @@ pub mod Loops
 pub mod Writing
 pub mod Engine
 pub mod Plain
-pub mod Wires
-pub mod Whole
-pub mod Stopping
-pub mod StoppingLists
-pub mod StoppingFields
-pub mod StoppingTexts
-pub mod Stopped
-pub mod StoppedRows
-pub mod Lost

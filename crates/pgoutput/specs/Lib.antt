@@ -9,5 +9,3 @@ pub mod Update
 pub mod Delete
 pub mod Truncate
 pub mod Message
-pub mod Logical
-pub mod Layout

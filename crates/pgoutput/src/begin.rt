@@ -29,8 +29,9 @@ pub struct Begin {
     pub xid: u32,
 }
 
+/// The fields of Begin, which stand behind its kind byte, or the fault at which they stop.
 #[tactic(auto, unfolding(crate::specs::Begin::begin_at))]
-pub(crate) fn begin_of(cursor: &mut Cursor<'_>) -> Result<Begin, OutFault>
+pub fn begin_of(cursor: &mut Cursor<'_>) -> Result<Begin, OutFault>
     ensures exact { Gives result cursor.new (begin_at cursor.old) }
     ensures steady { result ≢ Err OutFault.Memory }
 {
@@ -41,8 +42,9 @@ pub(crate) fn begin_of(cursor: &mut Cursor<'_>) -> Result<Begin, OutFault>
     })
 }
 
+/// Adds the fields of Begin, behind its kind byte. Where memory is refused, some of them may have been added.
 #[tactic(auto, using(pqformat::proofs::Putting::in_place))]
-pub(crate) fn put_begin(out: &mut BytesMut, message: &Begin) -> Result<(), AllocError>
+pub fn put_begin(out: &mut BytesMut, message: &Begin) -> Result<(), AllocError>
     ensures { Puts result out.old.items out.new.items (begin message.now) }
 {
     put_int64(out, message.position)?;

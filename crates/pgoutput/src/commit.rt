@@ -32,8 +32,9 @@ pub struct Commit {
     pub time: i64,
 }
 
+/// The fields of Commit, which stand behind its kind byte, or the fault at which they stop.
 #[tactic(auto, unfolding(crate::specs::Commit::commit_at))]
-pub(crate) fn commit_of(cursor: &mut Cursor<'_>) -> Result<Commit, OutFault>
+pub fn commit_of(cursor: &mut Cursor<'_>) -> Result<Commit, OutFault>
     ensures exact { Gives result cursor.new (commit_at cursor.old) }
     ensures steady { result ≢ Err OutFault.Memory }
 {
@@ -45,8 +46,9 @@ pub(crate) fn commit_of(cursor: &mut Cursor<'_>) -> Result<Commit, OutFault>
     })
 }
 
+/// Adds the fields of Commit, behind its kind byte. Where memory is refused, some of them may have been added.
 #[tactic(auto, using(pqformat::proofs::Putting::in_place))]
-pub(crate) fn put_commit(out: &mut BytesMut, message: &Commit) -> Result<(), AllocError>
+pub fn put_commit(out: &mut BytesMut, message: &Commit) -> Result<(), AllocError>
     ensures { Puts result out.old.items out.new.items (commit message.now) }
 {
     put_byte(out, COMMIT_FLAGS)?;

@@ -27,8 +27,9 @@ pub struct Delete {
     pub old: OldTuple,
 }
 
+/// The fields of Delete, which stand behind its kind byte, or the fault at which they stop.
 #[tactic(auto, unfolding(crate::specs::Delete::delete_at))]
-pub(crate) fn delete_of(alloc: Global, cursor: &mut Cursor<'_>) -> Result<Delete, OutFault>
+pub fn delete_of(alloc: Global, cursor: &mut Cursor<'_>) -> Result<Delete, OutFault>
     ensures { Gives result cursor.new (delete_at cursor.old) }
 {
     let oid = number32_of(cursor)?;
@@ -36,8 +37,9 @@ pub(crate) fn delete_of(alloc: Global, cursor: &mut Cursor<'_>) -> Result<Delete
     Ok(Delete { oid, old })
 }
 
+/// Adds the fields of Delete, behind its kind byte. Where memory is refused, some of them may have been added.
 #[tactic(auto, using(pqformat::proofs::Putting::in_place))]
-pub(crate) fn put_delete(out: &mut BytesMut, message: &Delete) -> Result<(), AllocError>
+pub fn put_delete(out: &mut BytesMut, message: &Delete) -> Result<(), AllocError>
     requires { IsShortDelete message.now }
     ensures { Puts result out.old.items out.new.items (delete message.now) }
 {

@@ -31,8 +31,9 @@ pub struct Insert {
     pub new: Items<Cell>,
 }
 
+/// The fields of Insert, which stand behind its kind byte, or the fault at which they stop.
 #[tactic(auto, unfolding(crate::specs::Insert::insert_at))]
-pub(crate) fn insert_of(alloc: Global, cursor: &mut Cursor<'_>) -> Result<Insert, OutFault>
+pub fn insert_of(alloc: Global, cursor: &mut Cursor<'_>) -> Result<Insert, OutFault>
     ensures { Gives result cursor.new (insert_at cursor.old) }
 {
     let oid = number32_of(cursor)?;
@@ -41,8 +42,9 @@ pub(crate) fn insert_of(alloc: Global, cursor: &mut Cursor<'_>) -> Result<Insert
     Ok(Insert { oid, new })
 }
 
+/// Adds the fields of Insert, behind its kind byte. Where memory is refused, some of them may have been added.
 #[tactic(auto, using(pqformat::proofs::Putting::in_place))]
-pub(crate) fn put_insert(out: &mut BytesMut, message: &Insert) -> Result<(), AllocError>
+pub fn put_insert(out: &mut BytesMut, message: &Insert) -> Result<(), AllocError>
     requires { IsShortInsert message.now }
     ensures { Puts result out.old.items out.new.items (insert message.now) }
 {

@@ -36,8 +36,9 @@ pub struct Message {
     pub content: Items<u8>,
 }
 
+/// The fields of Message, which stand behind its kind byte, or the fault at which they stop.
 #[tactic(auto, unfolding(crate::specs::Message::message_at))]
-pub(crate) fn message_of(alloc: Global, cursor: &mut Cursor<'_>) -> Result<Message, OutFault>
+pub fn message_of(alloc: Global, cursor: &mut Cursor<'_>) -> Result<Message, OutFault>
     ensures { Gives result cursor.new (message_at cursor.old) }
 {
     let is_transactional = told_of::<bool>(cursor)?;
@@ -62,8 +63,9 @@ fn content_of(alloc: Global, cursor: &mut Cursor<'_>) -> Result<Items<u8>, OutFa
     Ok(Items::new(Vec::from_slice(alloc, bytes)?))
 }
 
+/// Adds the fields of Message, behind its kind byte. Where memory is refused, some of them may have been added.
 #[tactic(auto, using(pqformat::proofs::Putting::in_place))]
-pub(crate) fn put_message(out: &mut BytesMut, told: &Message) -> Result<(), AllocError>
+pub fn put_message(out: &mut BytesMut, told: &Message) -> Result<(), AllocError>
     requires { HasShortContent told.now }
     ensures { Puts result out.old.items out.new.items (message told.now) }
 {

@@ -67,8 +67,9 @@ pub struct Column {
     pub modifier: i32,
 }
 
+/// The fields of Relation, which stand behind its kind byte, or the fault at which they stop.
 #[tactic(auto, unfolding(crate::specs::Relation::relation_at))]
-pub(crate) fn relation_of(alloc: Global, cursor: &mut Cursor<'_>) -> Result<Relation, OutFault>
+pub fn relation_of(alloc: Global, cursor: &mut Cursor<'_>) -> Result<Relation, OutFault>
     ensures { Gives result cursor.new (relation_at cursor.old) }
 {
     let oid = number32_of(cursor)?;
@@ -125,8 +126,9 @@ fn column_of(alloc: Global, cursor: &mut Cursor<'_>) -> Result<Column, OutFault>
     })
 }
 
+/// Adds the fields of Relation, behind its kind byte. Where memory is refused, some of them may have been added.
 #[tactic(auto, using(pqformat::proofs::Putting::in_place))]
-pub(crate) fn put_relation(out: &mut BytesMut, message: &Relation) -> Result<(), AllocError>
+pub fn put_relation(out: &mut BytesMut, message: &Relation) -> Result<(), AllocError>
     requires { IsShortRelation message.now }
     ensures { Puts result out.old.items out.new.items (relation message.now) }
 {

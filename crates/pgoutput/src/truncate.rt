@@ -46,8 +46,9 @@ pub struct TruncateOptions {
     pub restart_identity: bool,
 }
 
+/// The fields of Truncate, which stand behind its kind byte, or the fault at which they stop.
 #[tactic(auto, unfolding(crate::specs::Truncate::truncate_at))]
-pub(crate) fn truncate_of(alloc: Global, cursor: &mut Cursor<'_>) -> Result<Truncate, OutFault>
+pub fn truncate_of(alloc: Global, cursor: &mut Cursor<'_>) -> Result<Truncate, OutFault>
     ensures { Gives result cursor.new (truncate_at cursor.old) }
 {
     let count = count32_of(cursor)?;
@@ -87,8 +88,9 @@ fn letter_of(options: TruncateOptions) -> u8
     }
 }
 
+/// Adds the fields of Truncate, behind its kind byte. Where memory is refused, some of them may have been added.
 #[tactic(auto, using(pqformat::proofs::Putting::in_place))]
-pub(crate) fn put_truncate(out: &mut BytesMut, message: &Truncate) -> Result<(), AllocError>
+pub fn put_truncate(out: &mut BytesMut, message: &Truncate) -> Result<(), AllocError>
     requires { IsShortTruncate message.now }
     ensures { Puts result out.old.items out.new.items (truncate message.now) }
 {

@@ -33,8 +33,9 @@ pub struct Update {
     pub new: Items<Cell>,
 }
 
+/// The fields of Update, which stand behind its kind byte, or the fault at which they stop.
 #[tactic(auto, unfolding(crate::specs::Update::update_at))]
-pub(crate) fn update_of(alloc: Global, cursor: &mut Cursor<'_>) -> Result<Update, OutFault>
+pub fn update_of(alloc: Global, cursor: &mut Cursor<'_>) -> Result<Update, OutFault>
     ensures { Gives result cursor.new (update_at cursor.old) }
 {
     let oid = number32_of(cursor)?;
@@ -75,8 +76,9 @@ fn tuples_of(alloc: Global, cursor: &mut Cursor<'_>) -> Result<(Items<Cell>, Ite
     Ok((old, new))
 }
 
+/// Adds the fields of Update, behind its kind byte. Where memory is refused, some of them may have been added.
 #[tactic(auto, using(pqformat::proofs::Putting::in_place))]
-pub(crate) fn put_update(out: &mut BytesMut, message: &Update) -> Result<(), AllocError>
+pub fn put_update(out: &mut BytesMut, message: &Update) -> Result<(), AllocError>
     requires { IsShortUpdate message.now }
     ensures { Puts result out.old.items out.new.items (update message.now) }
 {

@@ -6,7 +6,7 @@ use Rattle.std.specs.Option.{option_and_then, option_map}
 use Rattle.std.proofs.lemmas.Bool.{le-leb}
 use Rattle.pqformat.specs.Fields.{number_at}
 use Rattle.pqformat.specs.Steps.{◌>>=◌}
-use Rattle.pgoutput.specs.declared.logical.Logical.{Logical}
+use Rattle.logical.specs.declared.logical.Logical.{Logical}
 use Rattle.tables.specs.declared.change.Change.TheVariants as changes
 use Rattle.tables.specs.declared.change_body.TheConstants.{MAX_TRUNCATED}
 use Rattle.tables.specs.declared.fault.BodyFault.{BodyFault}

@@ -6,8 +6,8 @@ use Rattle.std.proofs.lemmas.Bool.{leb-true}
 use Rattle.std.proofs.lemmas.List.{length-append}
 use Rattle.pqformat.specs.Fields.{int32, int64, string}
 use Rattle.pqformat.proofs.Numbers.{length-int32, length-int64}
-use Rattle.pgoutput.specs.declared.logical.Logical.{Logical}
-use Rattle.pgoutput.specs.Logical.{FitsLogical, spell_logical}
+use Rattle.logical.specs.declared.logical.Logical.{Logical}
+use Rattle.logical.specs.Logical.{FitsLogical, spell_logical}
 use Rattle.pgoutput.specs.Message.{content}
 use Rattle.stream.specs.Items.{IsShortMessage}
 use Rattle.tables.specs.declared.message.TheConstants.{MAX_PREFIX_LENGTH, MAX_CONTENT_LENGTH}

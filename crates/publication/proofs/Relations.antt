@@ -10,9 +10,9 @@ use Rattle.std.proofs.lemmas.List.{length-append, length-map}
 use Rattle.std.proofs.lemmas.List.Concat.{flat_map-cons}
 use Rattle.pqformat.specs.Fields.{int16, int32, string}
 use Rattle.pqformat.proofs.Numbers.{length-int16, length-int32}
-use Rattle.pgoutput.specs.declared.logical.Logical.TheVariants as logical
+use Rattle.logical.specs.declared.logical.Logical.TheVariants as logical
 use Rattle.pgoutput.specs.Relation.{column, identity_letter, FitsName, FitsColumn}
-use Rattle.pgoutput.specs.Logical.{FitsLogical}
+use Rattle.logical.specs.Logical.{FitsLogical}
 use Rattle.tables.specs.declared.identity.Identity.{Identity}
 use Rattle.tables.specs.declared.column.Column.{Column}
 use Rattle.tables.specs.declared.table.Table.{Table}

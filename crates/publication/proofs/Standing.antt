@@ -7,15 +7,15 @@ use Rattle.std.proofs.lemmas.List.{length-append}
 use Rattle.pqformat.specs.Fields.{int32}
 use Rattle.pqformat.proofs.Numbers.{length-int32}
 use Rattle.std.specs.Option.{option_map}
-use Rattle.pgoutput.specs.declared.logical.Logical.{Logical}
-use Rattle.pgoutput.specs.declared.logical.Logical.TheVariants as logical
+use Rattle.logical.specs.declared.logical.Logical.{Logical}
+use Rattle.logical.specs.declared.logical.Logical.TheVariants as logical
 use Rattle.pgoutput.specs.declared.old_tuple.OldTuple.{OldTuple}
 use Rattle.pgoutput.specs.declared.old_tuple.OldTuple.TheVariants.{Key, Full}
 use Rattle.pgoutput.specs.OldTuple.{old_tuple}
 use Rattle.pgoutput.specs.Update.{old_if_any}
 use Rattle.tables.specs.declared.identity.Identity.{Identity}
 use Rattle.tables.specs.declared.identity.Identity.TheVariants as identities
-use Rattle.pgoutput.specs.Logical.{spell_logical}
+use Rattle.logical.specs.Logical.{spell_logical}
 use Rattle.pgoutput.specs.Tuple.{tuple}
 use Rattle.tables.specs.declared.row.TheConstants.{MAX_ROW_LENGTH}
 use Rattle.tables.specs.declared.table.Table.{Table}

@@ -3,8 +3,8 @@ use Rattle.std.proofs.Common.{◌≡◌, ℕ, pos, true, false, List, [], ◌∷
 use Rattle.std.specs.Prelude.{codes, map, option_to_list}
 use Rattle.std.specs.Fmt.{digits}
 use Rattle.pqformat.specs.Fields.{int16, int32, int64}
-use Rattle.pgoutput.specs.declared.logical.Logical.{Logical}
-use Rattle.pgoutput.specs.declared.logical.Logical.TheVariants as logical
+use Rattle.logical.specs.declared.logical.Logical.{Logical}
+use Rattle.logical.specs.declared.logical.Logical.TheVariants as logical
 use Rattle.pgoutput.specs.declared.tuple.Cell.{Cell}
 use Rattle.pgoutput.specs.declared.tuple.Cell.TheVariants.{Null, Text}
 use Rattle.pgoutput.specs.declared.old_tuple.OldTuple.{OldTuple}

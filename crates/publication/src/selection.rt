@@ -3,8 +3,8 @@
 ghost use Rattle.std.specs.Prelude.{◌≡◌, ◌++◌, ◌==◌, [], IfOk, IfSome, OnSome, option_map, true, false, filter, drop, is_some, length};
 ghost use Rattle.std.specs.Option.{option_copied};
 ghost use Rattle.std.specs.List.{AllByRecursion, list_all, list_any};
-ghost use Rattle.pgoutput.specs.declared.logical.Logical.TheVariants as logical;
-ghost use Rattle.pgoutput.specs.Logical.{FitsLogical};
+ghost use Rattle.logical.specs.declared.logical.Logical.TheVariants as logical;
+ghost use Rattle.logical.specs.Logical.{FitsLogical};
 ghost use Rattle.tables.specs.Kinds.{IsValue};
 ghost use Rattle.tables.specs.Tables.{table_of, oids_of, repeats};
 ghost use Rattle.tables.specs.declared.change.Change.{Change};
@@ -20,7 +20,7 @@ ghost use Rattle.publication.specs.Projection.{is_published, may_be_emptied, mes
 use crate::messages::{truncation, update};
 use crate::passing::passes;
 use crate::projection::Projected;
-use pgoutput::Logical;
+use logical::Logical;
 use pqformat::Items;
 use published_tables::{Operation, Publication};
 use row_messages::{deletion, insertion, relation_message};

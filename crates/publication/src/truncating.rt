@@ -4,8 +4,8 @@
 ghost use Rattle.std.specs.Prelude.{◌≡◌, ◌+◌, ◌*◌, ◌≤◌, ◌<◌, ◌^◌, [], ℕ, List, Ok, IfSome, false, filter, length, take};
 ghost use Rattle.std.specs.List.{flat_map};
 ghost use Rattle.pqformat.specs.Fields.{int32};
-ghost use Rattle.pgoutput.specs.Logical.{spell_logical};
-ghost use Rattle.pgoutput.specs.declared.logical.Logical.TheVariants as logical;
+ghost use Rattle.logical.specs.Logical.{spell_logical};
+ghost use Rattle.logical.specs.declared.logical.Logical.TheVariants as logical;
 ghost use Rattle.tables.specs.Reading.{oids_at};
 ghost use Rattle.tables.specs.declared.change.Change.{Change as Changed};
 ghost use Rattle.published_tables.specs.declared.operations.Operation.{Operation};

@@ -3,7 +3,8 @@
 use client::render;
 use copyboth::{ServerBody, read_server};
 use frames::{Back, FrameFault, read_back};
-use pgoutput::{OutFault, read_logical};
+use logical::read_logical;
+use pgoutput::OutFault;
 use replcmd::write_position;
 use std::alloc::Global;
 use std::io;

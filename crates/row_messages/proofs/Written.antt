@@ -13,10 +13,10 @@ use Rattle.row_messages.specs.Tuples.{changes_key, old_by}
 use Rattle.std.specs.Option.{option_map}
 use Rattle.tables.specs.declared.table.Table.{Table}
 use Rattle.pgoutput.specs.declared.delete.TheConstants.{DELETE}
-use Rattle.pgoutput.specs.declared.logical.Logical.{Logical}
-use Rattle.pgoutput.specs.declared.logical.Logical.TheVariants as logical
+use Rattle.logical.specs.declared.logical.Logical.{Logical}
+use Rattle.logical.specs.declared.logical.Logical.TheVariants as logical
 use Rattle.pgoutput.specs.declared.old_tuple.OldTuple.{OldTuple}
-use Rattle.pgoutput.specs.Logical.{spell_logical}
+use Rattle.logical.specs.Logical.{spell_logical}
 use Rattle.pgoutput.specs.OldTuple.{old_tuple}
 use Rattle.row_messages.specs.Messages.{delete_message}
 use Rattle.pqformat.specs.Fields.{int16, int32}

@@ -4,9 +4,9 @@
 ghost use Rattle.std.specs.Prelude.{◌≡◌, ◌+◌, ◌*◌, ◌<◌, ◌≤◌, ◌^◌, [], length, map};
 ghost use Rattle.std.specs.List.{AllByRecursion, flat_map};
 ghost use Rattle.pqformat.specs.Fields.{string};
-ghost use Rattle.pgoutput.specs.Logical.{spell_logical};
+ghost use Rattle.logical.specs.Logical.{spell_logical};
 ghost use Rattle.pgoutput.specs.Relation.{column, identity_letter, key_flag};
-ghost use Rattle.pgoutput.specs.declared.logical.Logical.TheVariants as logical;
+ghost use Rattle.logical.specs.declared.logical.Logical.TheVariants as logical;
 ghost use Rattle.published_tables.specs.Published.{is_identity};
 ghost use Rattle.row_messages.specs.Relations.{FitsTable, identity_of, listed_items, relation_column, relation_of, table_as_published};
 ghost use Rattle.pqformat.specs.Writing.{Writes};

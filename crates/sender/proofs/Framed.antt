@@ -14,10 +14,10 @@ use Rattle.frames.specs.Frame.{frame}
 use Rattle.frames.specs.declared.copy_data.TheConstants.{COPY_DATA}
 use Rattle.copyboth.specs.XLogData.{xlogdata}
 use Rattle.copyboth.specs.declared.xlogdata.TheConstants.{XLOGDATA}
-use Rattle.pgoutput.specs.declared.logical.Logical.{Logical}
-use Rattle.pgoutput.specs.declared.logical.Logical.TheVariants as logical
+use Rattle.logical.specs.declared.logical.Logical.{Logical}
+use Rattle.logical.specs.declared.logical.Logical.TheVariants as logical
 use Rattle.pgoutput.specs.declared.relation.Relation.{Relation}
-use Rattle.pgoutput.specs.Logical.{spell_logical}
+use Rattle.logical.specs.Logical.{spell_logical}
 use Rattle.publication.specs.Publications.{PublicationSet}
 use Rattle.publication.specs.Selection.{relation}
 use Rattle.stream.specs.declared.published.PublishedChange.{PublishedChange}

@@ -10,8 +10,8 @@ use Rattle.pqformat.proofs.Numbers.{length-int32, length-int64}
 use Rattle.frames.specs.Frame.{frame}
 use Rattle.copyboth.specs.XLogData.{xlogdata}
 use Rattle.copyboth.specs.Keepalive.{keepalive, ask_byte}
-use Rattle.pgoutput.specs.declared.logical.Logical.{Logical}
-use Rattle.pgoutput.specs.Logical.{spell_logical}
+use Rattle.logical.specs.declared.logical.Logical.{Logical}
+use Rattle.logical.specs.Logical.{spell_logical}
 use Rattle.pgoutput.specs.declared.relation.Relation.{Relation}
 use Rattle.stream.specs.declared.word.Word.{Word}
 use Rattle.stream.specs.declared.published.Published.{Published}

@@ -1,8 +1,8 @@
 -- A note comes behind what is held.
 use Rattle.std.proofs.Common.{◌≡◌, ℕ, ℤ, List, [], ◌∷◌, ◌++◌, Option, Some, None, Result, Ok, Err, take, refl, sym, ap, ◌∙◌}
 use Rattle.std.specs.declared.alloc.AllocError.{AllocError}
-use Rattle.pgoutput.specs.declared.logical.Logical.{Logical}
-use Rattle.pgoutput.specs.Logical.{spell_logical}
+use Rattle.logical.specs.declared.logical.Logical.{Logical}
+use Rattle.logical.specs.Logical.{spell_logical}
 use Rattle.frames.specs.Frame.{frame}
 use Rattle.frames.specs.declared.copy_data.TheConstants.{COPY_DATA}
 use Rattle.copyboth.specs.XLogData.{xlogdata}

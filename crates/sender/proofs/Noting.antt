@@ -2,8 +2,8 @@
 use Rattle.std.proofs.Common.{◌≡◌, ℕ, ◌<◌, ◌^◌, List, [], ◌∷◌, ◌++◌, Option, Some, None, Result, Ok, Err, filter, refl, ap, subst, arith}
 use Rattle.std.specs.Prelude.{pos, true, OnErr, OnOk}
 use Rattle.std.specs.List.{AllByRecursion}
-use Rattle.pgoutput.specs.declared.logical.Logical.{Logical}
-use Rattle.pgoutput.specs.Logical.{FitsLogical}
+use Rattle.logical.specs.declared.logical.Logical.{Logical}
+use Rattle.logical.specs.Logical.{FitsLogical}
 use Rattle.tables.specs.declared.change.Change.{Change}
 use Rattle.publication.specs.Publications.{PublicationSet}
 use Rattle.publication.specs.Logged.{IsNoteAt, note_message}

@@ -1,7 +1,7 @@
 -- The published transactions of a log: those that commit at the start position or later, each change replaced by its position
 -- and its message, without the changes that have none and without the transactions that have none left.
 use Rattle.std.specs.Prelude.{ℕ, ◌==◌, ◌<◌, ◌^◌, Bool, true, false, not, List, [], ◌∷◌, ◌++◌, length, map, filter, Option, Some, None}
-use Rattle.pgoutput.specs.declared.logical.Logical.{Logical}
+use Rattle.logical.specs.declared.logical.Logical.{Logical}
 use Rattle.publication.specs.Publications.{PublicationSet}
 use Rattle.wal.specs.declared.record.Record.{Record}
 use Rattle.tables.specs.declared.change.Change.{Change}

@@ -7,10 +7,10 @@ use Rattle.std.proofs.lemmas.List.{length-append}
 use Rattle.pqformat.specs.Fields.{int32, int64}
 use Rattle.pqformat.proofs.Numbers.{length-int32, length-int64}
 use Rattle.copyboth.specs.Keepalive.{ask_byte}
-use Rattle.pgoutput.specs.declared.logical.Logical.{Logical}
-use Rattle.pgoutput.specs.declared.logical.Logical.TheVariants as logical
+use Rattle.logical.specs.declared.logical.Logical.{Logical}
+use Rattle.logical.specs.declared.logical.Logical.TheVariants as logical
 use Rattle.pgoutput.specs.declared.relation.Relation.{Relation}
-use Rattle.pgoutput.specs.Logical.{spell_logical, FitsLogical}
+use Rattle.logical.specs.Logical.{spell_logical, FitsLogical}
 use Rattle.stream.specs.declared.word.Word.{Word}
 use Rattle.stream.specs.declared.word.Word.TheVariants as words
 use Rattle.stream.specs.declared.word.Keepalive.{Keepalive}

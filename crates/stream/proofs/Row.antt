@@ -1,8 +1,8 @@
 -- A worked row: one transaction with one insert, read under clock 9, block by block against the bytes of the protocol.
 use Rattle.std.specs.Prelude.{◌≡◌, ℕ, pos, negsuc, codes, true, false, List, [], ◌∷◌, ◌++◌, refl}
 use Rattle.pqformat.specs.Fields.{int16, int32, int64}
-use Rattle.pgoutput.specs.declared.logical.Logical.{Logical}
-use Rattle.pgoutput.specs.declared.logical.Logical.TheVariants as logical
+use Rattle.logical.specs.declared.logical.Logical.{Logical}
+use Rattle.logical.specs.declared.logical.Logical.TheVariants as logical
 use Rattle.pgoutput.specs.declared.relation.Relation.{Relation}
 use Rattle.pgoutput.specs.declared.relation.Identity.TheVariants as identities
 use Rattle.pgoutput.specs.declared.tuple.Cell.TheVariants as cells

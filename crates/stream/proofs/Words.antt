@@ -17,8 +17,8 @@ use Rattle.pqformat.proofs.Codec.{done, ok_is}
 use Rattle.pqformat.proofs.Numbers.{number64}
 use Rattle.frames.proofs.Frames.{frame_begins}
 use Rattle.copyboth.specs.Keepalive.{ask_byte}
-use Rattle.pgoutput.specs.declared.logical.Logical.{Logical}
-use Rattle.pgoutput.specs.Logical.{spell_logical, FitsLogical}
+use Rattle.logical.specs.declared.logical.Logical.{Logical}
+use Rattle.logical.specs.Logical.{spell_logical, FitsLogical}
 use Rattle.stream.specs.declared.word.Word.{Word}
 use Rattle.stream.specs.declared.word.Word.TheVariants as words
 use Rattle.stream.specs.declared.word.Keepalive.{Keepalive}

@@ -8,7 +8,7 @@ use Rattle.frames.specs.declared.copy_data.TheConstants.{COPY_DATA}
 use Rattle.frames.specs.declared.frame.TheConstants.{FRAME_LIMIT}
 use Rattle.copyboth.specs.Keepalive.{keepalive}
 use Rattle.copyboth.specs.XLogData.{xlogdata}
-use Rattle.pgoutput.specs.Logical.{spell_logical, FitsLogical}
+use Rattle.logical.specs.Logical.{spell_logical, FitsLogical}
 use Rattle.stream.specs.declared.word.Word.{Word}
 use Rattle.stream.specs.declared.word.Word.TheVariants as words
 

@@ -1,6 +1,6 @@
 //! A published transaction or note, what a subscriber is to apply: its place in the log, its time, and its changes as messages.
 
-use pgoutput::Logical;
+use logical::Logical;
 use pqformat::Items;
 
 /// A transaction as it is published; or a note, a message of the log outside of all transactions.

@@ -1,6 +1,6 @@
 //! A word, what one frame of the stream says: a keepalive, or a logical message in its XLogData.
 
-use pgoutput::Logical;
+use logical::Logical;
 
 /// What one CopyData frame of the stream says (PostgreSQL 15, 55.4).
 #[derive(Debug, Drop)]

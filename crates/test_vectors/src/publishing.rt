@@ -3,7 +3,7 @@
 use crate::answer::{add_value, bytes_of, tell_fault};
 use anyhow::{Context, Result, bail};
 use catalog::{Catalog, read_document};
-use pgoutput::read_logical;
+use logical::read_logical;
 use pqformat::Text;
 use publication::{MAX_MESSAGE_LENGTH, Projected, Selection};
 use publications::{PubFault, Publications, explained};

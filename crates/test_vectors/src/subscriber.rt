@@ -3,7 +3,8 @@
 use crate::answer::{add_value, bytes_of};
 use anyhow::{Context, Result};
 use client::{Applied, Applier, ClientFault, render};
-use pgoutput::{Begin, Commit, Logical, read_logical};
+use logical::{Logical, read_logical};
+use pgoutput::{Begin, Commit};
 use std::alloc::{AllocError, Global};
 
 /// Pieces of a stream in digits, a comma behind each; a dot among them begins another connection. Adds what each piece was answered,

@@ -1,5 +1,5 @@
 use Rattle.std.proofs.Common.{ℕ, List, [], ◌++◌, ap}
-use Rattle.pgoutput.proofs.Whole.{two_spellings}
+use Rattle.logical.proofs.Whole.{two_spellings}
 use Rattle.stream.proofs.OneReading.{one_reading}
 use Rattle.stream.proofs.reading.a_stream_has_one_reading.Goals as goal
 

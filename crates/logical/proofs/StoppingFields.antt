@@ -14,12 +14,12 @@ use Rattle.pqformat.proofs.Numbers.{IsWide, wide32, wide64, length-int16, length
 use Rattle.pgoutput.specs.declared.fault.OutFault.{OutFault}
 use Rattle.pgoutput.specs.declared.fault.OutFault.TheVariants.{Short, UnknownKind, BadMark, BadText, Trailing, Memory}
 use Rattle.pgoutput.specs.Reading.{short, count16_at, count32_at, signed32_at, signed64_at}
-use Rattle.pgoutput.specs.Layout.{Field, spell_field, spell_fields, IsAtFault, Stops}
-use Rattle.pgoutput.specs.Layout.Field.{Number, Count16, Count32}
+use Rattle.logical.specs.Layout.{Field, spell_field, spell_fields, IsAtFault, Stops}
+use Rattle.logical.specs.Layout.Field.{Number, Count16, Count32}
 use Rattle.pgoutput.proofs.Engine.{Wire, bind_err}
 use Rattle.pgoutput.proofs.Plain as plain
-use Rattle.pgoutput.proofs.Stopping.{Told, InRange, counted, spell-cons, none_in}
-use Rattle.pgoutput.proofs.StoppingLists.{repeated}
+use Rattle.logical.proofs.Stopping.{Told, InRange, counted, spell-cons, none_in}
+use Rattle.logical.proofs.StoppingLists.{repeated}
 
 -- ---- one field
 

@@ -22,15 +22,15 @@ use Rattle.pgoutput.specs.Tuple.{cell, FitsCell, cell_at, FitsSentCell, sent_cel
 use Rattle.pgoutput.specs.Insert.{insert, FitsInsert, insert_at}
 use Rattle.pgoutput.specs.Truncate.{options_letter, options_of, options}
 use Rattle.pgoutput.specs.Message.{is_transactional_of, message_flags}
-use Rattle.pgoutput.specs.Layout as layout
-use Rattle.pgoutput.specs.Layout.{Field, spell_field, spell_fields, IsAtFault, mark, flags, identities, cell_letters, row_letters, old_letters, begin_fields, commit_fields, column_fields, relation_fields, cell_fields, tuple_fields, sent_letters, sent_cell_fields, sent_fields, insert_fields, row_fields, update_fields, old_fields, delete_fields, truncate_fields, oid_field, transactional_flags}
-use Rattle.pgoutput.specs.Layout.Field.{Letter, Count16, Count32, Name, Text}
-use Rattle.pgoutput.proofs.Wires as wires
-use Rattle.pgoutput.proofs.Wires.{FitRows, FitTuples, Rows, Tuples, rows, tuples}
-use Rattle.pgoutput.proofs.Stopping.{Told, field, last_field, free_field, told_of, spell-cons}
-use Rattle.pgoutput.proofs.StoppingLists.{no_choice, choice, chosen_stands, letter_stands, choice_told, none_of_two, none_of_three}
-use Rattle.pgoutput.proofs.StoppingFields.{number32, number64, signed32, signed64, list}
-use Rattle.pgoutput.proofs.StoppingTexts.{name, text, letter, one_letter, nothing}
+use Rattle.logical.specs.Layout as layout
+use Rattle.logical.specs.Layout.{Field, spell_field, spell_fields, IsAtFault, mark, flags, identities, cell_letters, row_letters, old_letters, begin_fields, commit_fields, column_fields, relation_fields, cell_fields, tuple_fields, sent_letters, sent_cell_fields, sent_fields, insert_fields, row_fields, update_fields, old_fields, delete_fields, truncate_fields, oid_field, transactional_flags}
+use Rattle.logical.specs.Layout.Field.{Letter, Count16, Count32, Name, Text}
+use Rattle.logical.proofs.Wires as wires
+use Rattle.logical.proofs.Wires.{FitRows, FitTuples, Rows, Tuples, rows, tuples}
+use Rattle.logical.proofs.Stopping.{Told, field, last_field, free_field, told_of, spell-cons}
+use Rattle.logical.proofs.StoppingLists.{no_choice, choice, chosen_stands, letter_stands, choice_told, none_of_two, none_of_three}
+use Rattle.logical.proofs.StoppingFields.{number32, number64, signed32, signed64, list}
+use Rattle.logical.proofs.StoppingTexts.{name, text, letter, one_letter, nothing}
 
 pub begin_told : Told begin_at begin FitsBegin begin_fields
 unfolding begin_at

@@ -5,13 +5,13 @@ use Rattle.std.proofs.lemmas.List.{append-nil, take_at, length-append}
 use Rattle.pqformat.proofs.Codec.{IsBytes, bind_ok, ok_is}
 use Rattle.pgoutput.specs.declared.fault.OutFault.{OutFault}
 use Rattle.pgoutput.specs.declared.fault.OutFault.TheVariants.{Short, UnknownKind, BadMark, BadText, Trailing, Memory}
-use Rattle.pgoutput.specs.declared.logical.Logical.{Logical}
+use Rattle.logical.specs.declared.logical.Logical.{Logical}
 use Rattle.pgoutput.specs.Reading.{Answers}
-use Rattle.pgoutput.specs.Logical.{logical_at, alone, whole_of, spell_logical, FitsLogical, SpellsLogical, Stands}
-use Rattle.pgoutput.specs.Layout.{StopsIn}
+use Rattle.logical.specs.Logical.{logical_at, alone, whole_of, spell_logical, FitsLogical, SpellsLogical, Stands}
+use Rattle.logical.specs.Layout.{StopsIn}
 use Rattle.pgoutput.proofs.Engine.{bind_err, IsFieldFault}
-use Rattle.pgoutput.proofs.Wires.{logical_chosen, logical_codec, logical_ends}
-use Rattle.pgoutput.proofs.StoppedRows.{logical_stops, logical_stands}
+use Rattle.logical.proofs.Wires.{logical_chosen, logical_codec, logical_ends}
+use Rattle.logical.proofs.StoppedRows.{logical_stops, logical_stands}
 
 -- ---- what is read and what is spelled
 

@@ -13,8 +13,8 @@ use Rattle.pgoutput.specs.declared.tuple.Cell.TheVariants as cells
 use Rattle.pgoutput.specs.declared.tuple.TheConstants.{NULL, UNCHANGED, TEXT}
 use Rattle.pgoutput.specs.declared.relation.Identity.{Identity}
 use Rattle.pgoutput.specs.declared.relation.Identity.TheVariants.{Default, Nothing, Full, Index}
-use Rattle.pgoutput.specs.declared.logical.Logical.{Logical}
-use Rattle.pgoutput.specs.declared.logical.Logical.TheVariants as logical
+use Rattle.logical.specs.declared.logical.Logical.{Logical}
+use Rattle.logical.specs.declared.logical.Logical.TheVariants as logical
 use Rattle.pgoutput.specs.declared.begin.TheConstants.{BEGIN}
 use Rattle.pgoutput.specs.declared.commit.TheConstants.{COMMIT, COMMIT_FLAGS}
 use Rattle.pgoutput.specs.declared.relation.TheConstants.{RELATION}
@@ -36,7 +36,7 @@ use Rattle.pgoutput.specs.Update.{old_if_any, update, FitsIfAny, FitsUpdate, tup
 use Rattle.pgoutput.specs.Delete.{delete, FitsDelete, delete_at}
 use Rattle.pgoutput.specs.Truncate.{letter_of, options, options_letter, options_of, oid_at, truncate, FitsTruncate, truncate_at}
 use Rattle.pgoutput.specs.Message.{content, content_at, is_transactional_of, message, message_at, message_flags, FitsContent, FitsMessage}
-use Rattle.pgoutput.specs.Logical.{logical_at, fields_at, is_kind, spell_logical, FitsLogical}
+use Rattle.logical.specs.Logical.{logical_at, fields_at, is_kind, spell_logical, FitsLogical}
 use Rattle.pqformat.proofs.Codec.{Codec, choice_codec}
 use Rattle.pgoutput.proofs.Engine.{Wire, field, last_field, free_field, wire_of, with_range, counted, repeated, Chosen, choice, no_choice, choice_wire, choice_cut}
 use Rattle.pgoutput.proofs.Plain.{number32, number64, count32, signed32, signed64, bytes_of, name_wire, text_wire, list_wire, letter_wire, expected_wire, nothing}

@@ -1,22 +1,19 @@
 //! A logical message, one kind byte and the fields of its kind: the enum over them, its reader and its writer.
 
 ghost use Rattle.std.specs.Prelude.{◌≡◌, ◌≢◌, ◌⊎◌, ℕ, List, [], ◌++◌, Ok, Err, IfOk, IfErr, OnOk, OnErr, true};
+ghost use Rattle.pqformat.specs.Fields.{byte_at};
 ghost use Rattle.pqformat.specs.Putting.{Puts};
-ghost use Rattle.pgoutput.specs.Reading.{Gives, Answers};
-ghost use Rattle.pgoutput.specs.Layout.{StopsIn, fields_of, spell_fields};
-ghost use Rattle.pgoutput.specs.Logical.{SpellsLogical, FitsLogical, IsShort, Stands, spell_logical, form_of, kind_byte, logical_at, fields_at, needs_memory, whole_of};
+ghost use Rattle.pgoutput.specs.Reading.{Gives, Answers, short};
+ghost use Rattle.logical.specs.Layout.{StopsIn, fields_of, spell_fields};
+ghost use Rattle.logical.specs.Logical.{SpellsLogical, FitsLogical, IsShort, Stands, spell_logical, form_of, kind_byte, logical_at, fields_at, needs_memory, whole_of};
 
-use crate::begin::{BEGIN, Begin, begin_of, put_begin};
-use crate::commit::{COMMIT, Commit, commit_of, put_commit};
-use crate::delete::{DELETE, Delete, delete_of, put_delete};
-use crate::fault::OutFault;
-use crate::fields::byte_of;
-use crate::insert::{INSERT, Insert, insert_of, put_insert};
-use crate::message::{MESSAGE, Message, message_of, put_message};
-use crate::relation::{RELATION, Relation, put_relation, relation_of};
-use crate::truncate::{TRUNCATE, Truncate, put_truncate, truncate_of};
-use crate::update::{UPDATE, Update, put_update, update_of};
 use bytes::BytesMut;
+use pgoutput::{
+    BEGIN, Begin, COMMIT, Commit, DELETE, Delete, INSERT, Insert, MESSAGE, Message, OutFault,
+    RELATION, Relation, TRUNCATE, Truncate, UPDATE, Update, begin_of, commit_of, delete_of,
+    insert_of, message_of, put_begin, put_commit, put_delete, put_insert, put_message,
+    put_relation, put_truncate, put_update, relation_of, truncate_of, update_of,
+};
 use pqformat::{Cursor, put_byte, whole_or_nothing};
 use std::alloc::{AllocError, Global};
 
@@ -86,8 +83,15 @@ fn logical_of(alloc: Global, cursor: &mut Cursor<'_>) -> Result<Logical, OutFaul
     ensures exact { Gives result cursor.new (logical_at cursor.old) }
     ensures memory { result ≡ Err OutFault.Memory → Stands OutFault.Memory cursor.old }
 {
-    let kind = byte_of(cursor)?;
+    let kind = next_kind(cursor)?;
     fields_of(alloc, kind, cursor)
+}
+
+fn next_kind(cursor: &mut Cursor<'_>) -> Result<u8, OutFault>
+    ensures exact { Gives result cursor.new (short (byte_at cursor.old)) }
+    ensures steady { result ≢ Err OutFault.Memory }
+{
+    cursor.u8().ok_or(OutFault::Short)
 }
 
 /// The fields behind a kind byte.

@@ -27,12 +27,12 @@ use Rattle.pgoutput.specs.declared.truncate.Truncate.{Truncate}
 use Rattle.pgoutput.specs.declared.truncate.TheConstants.{NO_OPTIONS, CASCADE, RESTART_IDENTITY, CASCADE_AND_RESTART_IDENTITY}
 use Rattle.pgoutput.specs.declared.message.Message.{Message}
 use Rattle.pgoutput.specs.declared.message.TheConstants.{TRANSACTIONAL, NOT_TRANSACTIONAL}
-use Rattle.pgoutput.specs.declared.logical.Logical.{Logical}
-use Rattle.pgoutput.specs.declared.logical.Logical.TheVariants as logical
+use Rattle.logical.specs.declared.logical.Logical.{Logical}
+use Rattle.logical.specs.declared.logical.Logical.TheVariants as logical
 use Rattle.pgoutput.specs.Relation.{identity_letter, key_flag}
 use Rattle.pgoutput.specs.Truncate.{options_letter}
 use Rattle.pgoutput.specs.Message.{message_flags}
-use Rattle.pgoutput.specs.Logical.{kind_byte, FitsLogical}
+use Rattle.logical.specs.Logical.{kind_byte, FitsLogical}
 
 -- a number, of which any bytes are one; a letter or a flag, one of those that may stand there; a count or a length with no top
 -- bit; a name, that a zero byte ends; a text, or any bytes, as many as the length before

@@ -1,7 +1,7 @@
 use Rattle.std.proofs.Common.{[], ◌∷◌}
-use Rattle.pgoutput.specs.Logical.{form_of, kind_byte}
+use Rattle.logical.specs.Logical.{form_of, kind_byte}
 use Rattle.pgoutput.proofs.Writing.{puts_behind}
-use Rattle.pgoutput.proofs.logical.put_logical.Goals as goal
+use Rattle.logical.proofs.logical.put_logical.Goals as goal
 
 pub returns : goal.returns
 returns c =

@@ -7,8 +7,8 @@ use Rattle.pqformat.proofs.Codec.{IsBytes, IsBytes-rest}
 use Rattle.pgoutput.specs.declared.fault.OutFault.{OutFault}
 use Rattle.pgoutput.specs.declared.fault.OutFault.TheVariants.{Short, UnknownKind, BadMark}
 use Rattle.pgoutput.specs.declared.tuple.Cell.{Cell}
-use Rattle.pgoutput.specs.declared.logical.Logical.{Logical}
-use Rattle.pgoutput.specs.declared.logical.Logical.TheVariants as logical
+use Rattle.logical.specs.declared.logical.Logical.{Logical}
+use Rattle.logical.specs.declared.logical.Logical.TheVariants as logical
 use Rattle.pgoutput.specs.declared.begin.TheConstants.{BEGIN}
 use Rattle.pgoutput.specs.declared.commit.TheConstants.{COMMIT}
 use Rattle.pgoutput.specs.declared.relation.TheConstants.{RELATION}
@@ -25,17 +25,17 @@ use Rattle.pgoutput.specs.Update.{update, FitsUpdate, tuples_at, rows_at, update
 use Rattle.pgoutput.specs.Delete.{delete, FitsDelete, delete_at}
 use Rattle.pgoutput.specs.Truncate.{options_letter, truncate, FitsTruncate, truncate_at}
 use Rattle.pgoutput.specs.Message.{message, message_at, FitsMessage}
-use Rattle.pgoutput.specs.Logical.{logical_at, fields_at, is_kind, spell_logical, FitsLogical}
-use Rattle.pgoutput.specs.Layout as layout
-use Rattle.pgoutput.specs.Layout.{Field, spell_field, spell_fields, IsAtFault, Stops, StopsIn, mark, row_letters, old_letters, tuple_fields, row_fields, update_fields, old_fields, delete_fields, truncate_fields, oid_field, message_fields, fields_behind, fields_of}
-use Rattle.pgoutput.specs.Layout.Field.{Number, Letter, Count32}
-use Rattle.pgoutput.proofs.Wires as wires
-use Rattle.pgoutput.proofs.Wires.{FitRows, FitTuples, Rows, Tuples, rows, tuples, logical_chosen, logical_codec}
-use Rattle.pgoutput.proofs.Stopping.{Told, field, last_field, free_field, told_of, counted, spell-cons}
-use Rattle.pgoutput.proofs.StoppingLists.{ChosenTold, repeated, no_choice, choice, chosen_stands, letter_stands, choice_told, none_of_two, none_of_three}
-use Rattle.pgoutput.proofs.StoppingFields.{number32, number64, number_at_fault, count32}
-use Rattle.pgoutput.proofs.StoppingTexts.{name, content_told, one_letter}
-use Rattle.pgoutput.proofs.Stopped.{begin_told, commit_told, relation_told, tuple_told, insert_told, truncate_options, is_transactional}
+use Rattle.logical.specs.Logical.{logical_at, fields_at, is_kind, spell_logical, FitsLogical}
+use Rattle.logical.specs.Layout as layout
+use Rattle.logical.specs.Layout.{Field, spell_field, spell_fields, IsAtFault, Stops, StopsIn, mark, row_letters, old_letters, tuple_fields, row_fields, update_fields, old_fields, delete_fields, truncate_fields, oid_field, message_fields, fields_behind, fields_of}
+use Rattle.logical.specs.Layout.Field.{Number, Letter, Count32}
+use Rattle.logical.proofs.Wires as wires
+use Rattle.logical.proofs.Wires.{FitRows, FitTuples, Rows, Tuples, rows, tuples, logical_chosen, logical_codec}
+use Rattle.logical.proofs.Stopping.{Told, field, last_field, free_field, told_of, counted, spell-cons}
+use Rattle.logical.proofs.StoppingLists.{ChosenTold, repeated, no_choice, choice, chosen_stands, letter_stands, choice_told, none_of_two, none_of_three}
+use Rattle.logical.proofs.StoppingFields.{number32, number64, number_at_fault, count32}
+use Rattle.logical.proofs.StoppingTexts.{name, content_told, one_letter}
+use Rattle.logical.proofs.Stopped.{begin_told, commit_told, relation_told, tuple_told, insert_told, truncate_options, is_transactional}
 
 -- ---- old rows
 

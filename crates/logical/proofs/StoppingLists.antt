@@ -10,11 +10,11 @@ use Rattle.pqformat.specs.Steps.{◌>>=◌, repeat_at}
 use Rattle.pqformat.proofs.Codec.{IsBytes, IsBytes-rest}
 use Rattle.pgoutput.specs.declared.fault.OutFault.{OutFault}
 use Rattle.pgoutput.specs.declared.fault.OutFault.TheVariants.{Short, UnknownKind, BadMark, BadText, Trailing, Memory}
-use Rattle.pgoutput.specs.Layout.{Field, spell_field, spell_fields, IsAtFault, Stops}
-use Rattle.pgoutput.specs.Layout.Field.{Letter}
+use Rattle.logical.specs.Layout.{Field, spell_field, spell_fields, IsAtFault, Stops}
+use Rattle.logical.specs.Layout.Field.{Letter}
 use Rattle.pgoutput.proofs.Engine as engine
 use Rattle.pgoutput.proofs.Engine.{Wire, bind_err, by_first}
-use Rattle.pgoutput.proofs.Stopping.{Told, InRange, parted, none_in, spell-append, spell-cons, with_behind, with_front, behind_front}
+use Rattle.logical.proofs.Stopping.{Told, InRange, parted, none_in, spell-append, spell-cons, with_behind, with_front, behind_front}
 
 -- ---- n of them, one behind the other
 

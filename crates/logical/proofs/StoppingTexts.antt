@@ -18,15 +18,15 @@ use Rattle.pgoutput.specs.Reading.{short, as_text, expected_letter, one_of, name
 use Rattle.pgoutput.specs.Relation.{FitsName}
 use Rattle.pgoutput.specs.Tuple.{counted_text, FitsText}
 use Rattle.pgoutput.specs.Message.{content, content_at, FitsContent}
-use Rattle.pgoutput.specs.Layout.{mark, IsAtFault}
-use Rattle.pgoutput.specs.Layout.Field.{Letter, Count32, Name, Text, Bytes}
+use Rattle.logical.specs.Layout.{mark, IsAtFault}
+use Rattle.logical.specs.Layout.Field.{Letter, Count32, Name, Text, Bytes}
 use Rattle.pgoutput.proofs.Engine.{Wire, bind_err, tested}
 use Rattle.pgoutput.proofs.Plain as plain
 use Rattle.pgoutput.proofs.Plain.{before_zero-is, none_there, zero_free, bytes_of, ended_by_zero}
-use Rattle.pgoutput.proofs.Wires.{NoMore, bytes_wire, counted_wire, content_wire}
-use Rattle.pgoutput.proofs.Stopping.{Told, counted, with_range, none_in}
-use Rattle.pgoutput.proofs.StoppingLists.{letter_stands}
-use Rattle.pgoutput.proofs.StoppingFields.{AtOne, one_told, missing, is_missing, count32}
+use Rattle.logical.proofs.Wires.{NoMore, bytes_wire, counted_wire, content_wire}
+use Rattle.logical.proofs.Stopping.{Told, counted, with_range, none_in}
+use Rattle.logical.proofs.StoppingLists.{letter_stands}
+use Rattle.logical.proofs.StoppingFields.{AtOne, one_told, missing, is_missing, count32}
 
 -- a whole text that isn't UTF-8
 no_text : (b : Bool) (found : List ℕ × List ℕ) (e : OutFault) → cond b (Ok found) (Err BadText) ≡ Err e → (e ≡ BadText) × (b ≡ false)

@@ -1,12 +1,12 @@
 //! A message that is written and read again.
 
 ghost use Rattle.std.specs.Prelude.{◌≡◌, Ok, Err, IfOk, IfErr};
-ghost use Rattle.pgoutput.specs.Logical.{FitsLogical, IsShort};
+ghost use Rattle.logical.specs.Logical.{FitsLogical, IsShort};
 ghost use Rattle.pgoutput.specs.Reading.{Answers};
 
-use crate::fault::OutFault;
 use crate::logical::{Logical, read_logical, write_logical};
 use bytes::BytesMut;
+use pgoutput::OutFault;
 use std::alloc::Global;
 
 /// The message again, by its spelling alone; or O6, out of memory.

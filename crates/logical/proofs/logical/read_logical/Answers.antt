@@ -1,7 +1,7 @@
 use Rattle.std.proofs.Common.{arith}
 use Rattle.pgoutput.specs.declared.fault.OutFault.TheVariants.{Short, BadMark, BadText}
-use Rattle.pgoutput.proofs.Whole.{is_found, is_only, is_fault, is_refused, is_cut, is_at_fault, is_stopped}
-use Rattle.pgoutput.proofs.logical.read_logical.Goals as goal
+use Rattle.logical.proofs.Whole.{is_found, is_only, is_fault, is_refused, is_cut, is_at_fault, is_stopped}
+use Rattle.logical.proofs.logical.read_logical.Goals as goal
 
 pub returns-clause-found : goal.returns-clause-found
 returns-clause-found c = is_found c.args.bytes.now c.whole.result (λ i. omega (arith, c.type_inv.bytes i)) c.whole.ensures.exact

@@ -7,7 +7,7 @@ use Rattle.std.proofs.lemmas.List.Concat.{flat_map-cons}
 use Rattle.pqformat.specs.Steps.{◌>>=◌}
 use Rattle.pqformat.proofs.Codec.{IsBytes}
 use Rattle.pgoutput.specs.declared.fault.OutFault.{OutFault}
-use Rattle.pgoutput.specs.Layout.{Field, spell_field, spell_fields, Stops}
+use Rattle.logical.specs.Layout.{Field, spell_field, spell_fields, Stops}
 use Rattle.pgoutput.proofs.Engine.{Wire, bind_err}
 
 -- ---- lists of fields

@@ -4,12 +4,12 @@ use Rattle.std.proofs.lemmas.List.{append-nil}
 use Rattle.pqformat.specs.Fields.{int16, int32, string}
 use Rattle.pgoutput.specs.declared.fault.OutFault.{OutFault}
 use Rattle.pgoutput.specs.declared.fault.OutFault.TheVariants.{Short, UnknownKind, BadMark, BadText, Trailing, Memory}
-use Rattle.pgoutput.specs.declared.logical.Logical.{Logical}
-use Rattle.pgoutput.specs.Logical.{FitsLogical, logical_at, spell_logical}
-use Rattle.pgoutput.specs.Layout.{Field, spell_fields, IsAtFault, IsNoText, IsOther, StopsIn}
-use Rattle.pgoutput.specs.Layout.Field.{Number, Letter, Count16, Count32, Name, Text, Bytes}
-use Rattle.pgoutput.proofs.StoppedRows.{logical_stands}
-use Rattle.pgoutput.proofs.Wires.{logical_codec}
+use Rattle.logical.specs.declared.logical.Logical.{Logical}
+use Rattle.logical.specs.Logical.{FitsLogical, logical_at, spell_logical}
+use Rattle.logical.specs.Layout.{Field, spell_fields, IsAtFault, IsNoText, IsOther, StopsIn}
+use Rattle.logical.specs.Layout.Field.{Number, Letter, Count16, Count32, Name, Text, Bytes}
+use Rattle.logical.proofs.StoppedRows.{logical_stands}
+use Rattle.logical.proofs.Wires.{logical_codec}
 
 still_other : (next : Field) (rest more : List ℕ) → IsOther next rest → IsOther next (rest ++ more)
 still_other (Letter letters letter) rest more at = (at.0, at.1 ++ more, ap (λ (l : List ℕ). l ++ more) at.2, at.3)

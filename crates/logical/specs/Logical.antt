@@ -6,8 +6,8 @@ use Rattle.pqformat.specs.Steps.{◌>>=◌}
 use Rattle.pgoutput.specs.Reading.{short}
 use Rattle.pgoutput.specs.declared.fault.OutFault.{OutFault}
 use Rattle.pgoutput.specs.declared.fault.OutFault.TheVariants.{UnknownKind, Trailing, Memory}
-use Rattle.pgoutput.specs.declared.logical.Logical.{Logical}
-use Rattle.pgoutput.specs.declared.logical.Logical.TheVariants as logical
+use Rattle.logical.specs.declared.logical.Logical.{Logical}
+use Rattle.logical.specs.declared.logical.Logical.TheVariants as logical
 use Rattle.pgoutput.specs.declared.begin.TheConstants.{BEGIN}
 use Rattle.pgoutput.specs.declared.commit.TheConstants.{COMMIT}
 use Rattle.pgoutput.specs.declared.relation.TheConstants.{RELATION}
