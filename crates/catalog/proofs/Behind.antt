@@ -1,5 +1,5 @@
 -- One value of a list after the other.
-use Rattle.std.proofs.Common.{◌≡◌, ℕ, ◌+◌, ◌<◌, ◌≤◌, List, [], ◌∷◌, ◌++◌, length, get_or, drop, Some, Ok, sym, ap, ◌∙◌}
+use Rattle.std.proofs.Common.{◌≡◌, ℕ, ◌+◌, ◌<◌, ◌≤◌, List, [], ◌∷◌, ◌++◌, length, get_or, drop, Some, Result, Ok, Err, sym, ap, ◌∙◌}
 use Rattle.std.specs.List.{AllByRecursion}
 use Rattle.std.proofs.lemmas.List.{at_drop_more, at_drop_all}
 use Rattle.pqformat.specs.Steps.{◌>>=◌}
@@ -8,7 +8,10 @@ use Rattle.toml.specs.View.{view, items_view}
 use Rattle.toml.specs.declared.value.Value.{Value}
 use Rattle.tables.specs.declared.column.Column.{Column}
 use Rattle.tables.specs.declared.table.Table.{Table}
-use Rattle.catalog.specs.Config.{and_then, another_name, names_behind, next_column, columns_behind, next_table, tables_behind}
+use Rattle.catalog.specs.declared.config_fault.Misfit.{Misfit}
+use Rattle.catalog.specs.declared.config_fault.CatalogFault.{CatalogFault}
+use Rattle.catalog.specs.declared.config_fault.CatalogFault.TheVariants as faults
+use Rattle.catalog.specs.Config.{ReadsTables, and_then, another_name, names_behind, next_column, columns_behind, next_table, tables_behind}
 
 pub item_next : {R : Type 0} (behind : Items → R) (values : List Value) (i : ℕ) (value : Value) →
     i < length values → value ≡ get_or values i value →
@@ -24,6 +27,13 @@ no_more_items behind values i all = at_drop_all (λ vs. behind (items_view vs)) 
 pub table_read : (tables : List Table) (d : Data) (ds : Items) (t : Table) →
     next_table tables d ≡ Ok t → tables_behind tables (item d ds) ≡ tables_behind (tables ++ t ∷ []) ds
 table_read tables d ds t read = ap (λ r. r >>= λ t. tables_behind (tables ++ t ∷ []) ds) read
+
+-- what keeps the next table from being read keeps them all
+pub table_refused : (tables : List Table) (d : Data) (ds : Items) (fault : CatalogFault) (total : Result (List Table) Misfit) →
+    ReadsTables {X = Table} (Err fault) (next_table tables d) → tables_behind tables (item d ds) ≡ total → ReadsTables {X = List Table} (Err fault) total
+table_refused tables d ds (faults.BadTables misfit) total refused so_far = sym so_far ∙ ap (λ r. r >>= λ t. tables_behind (tables ++ t ∷ []) ds) refused
+table_refused tables d ds (faults.NotToml line) total refused so_far = absurd refused
+table_refused tables d ds faults.Memory total refused so_far = tt
 
 pub column_read : (key : List (List ℕ)) (columns : List Column) (d : Data) (ds : Items) (column : Column) →
     next_column key columns d ≡ Some column → columns_behind key columns (item d ds) ≡ columns_behind key (columns ++ column ∷ []) ds

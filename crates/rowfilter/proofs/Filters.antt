@@ -16,7 +16,7 @@ use Rattle.conditions.specs.Kinds.{are_known, sort_of_kind, sort_of, are_compare
 use Rattle.conditions.specs.declared.sort.Sort.{Sort}
 use Rattle.conditions.specs.declared.sort.Sort.TheVariants.{Truths}
 use Rattle.conditions.specs.Parts.{Grown, grown}
-use Rattle.rowfilter.specs.Readings.{GivesFilter, IsUnread, expression_of, tree_expression}
+use Rattle.rowfilter.specs.Readings.{GivesFilter, IsJudged, IsUnread, expression_of, tree_expression}
 use Rattle.conditions.specs.declared.part.Part.{Part}
 use Rattle.conditions.specs.declared.part.Tree.{Tree}
 use Rattle.conditions.specs.Views.{GivesPart, seen_tree}
@@ -160,3 +160,20 @@ pub only_given : (table : Table) (text : List ℕ) (result : Result Condition Fi
     → (c : Condition) → SpellsFilter table text c → GivesFilter result c
 only_given table text (Ok f) found c filter = spelled_filter table text f c found filter
 only_given table text (Err fault) refused c filter = subst (λ (e : FilterFault). GivesFilter (Err e) c) (sym (refused_filter table text c fault filter refused)) tt
+
+-- a text that means no condition spells no filter
+pub unread_refused : (table : Table) (text : List ℕ) (fault : FilterFault) → IsUnread text fault → IsRefused table text fault
+unread_refused table text Syntax unread = unread
+unread_refused table text NumberRange unread = unread
+unread_refused table text TooDeep unread = unread
+unread_refused table text Memory unread = tt
+unread_refused table text UnknownColumn unread = absurd unread
+unread_refused table text TypeMismatch unread = absurd unread
+
+pub judged_refused : (table : Table) (text : List ℕ) (c : Condition) (fault : FilterFault) → SpellsCondition table.columns text c → IsJudged table.columns c (Err fault) → IsRefused table text fault
+judged_refused table text c UnknownColumn means judged = record { condition = c; means = means; unknown = judged }
+judged_refused table text c TypeMismatch means judged = record { condition = c; means = means; known = judged.0; unfit = judged.1 }
+judged_refused table text c Syntax means judged = absurd judged
+judged_refused table text c NumberRange means judged = absurd judged
+judged_refused table text c TooDeep means judged = absurd judged
+judged_refused table text c Memory means judged = absurd judged
