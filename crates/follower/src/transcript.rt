@@ -1,10 +1,11 @@
 //! Transactions as lines of text, and the tables that were told before them.
 
 use crate::streamed::{begin_of, commit_of};
-use client::{Applied, render};
+use client::Applied;
 use indexmap::IndexMap;
 use logical::Logical;
 use std::alloc::{AllocError, Global};
+use text_lines::render;
 
 /// What was told of tables, over all connections, and whether it is printed already: the Relation of a table stands once in front
 /// of its first change, though each connection tells it again.

@@ -1,8 +1,11 @@
-//! Messages as lines of text, for people to read.
+//! A message as a line of text.
 
 use crate::cells::{Cells, Hex, Name, Quoted, old_letter};
 use logical::Logical;
-use pgoutput::{Begin, Column, Commit, Delete, Identity, Insert, Message, NOT_TRANSACTIONAL, Relation, TRANSACTIONAL, Truncate, TruncateOptions, Update};
+use pgoutput::{
+    Begin, Column, Commit, Delete, Identity, Insert, Message, NOT_TRANSACTIONAL, Relation,
+    TRANSACTIONAL, Truncate, TruncateOptions, Update,
+};
 use replcmd::write_position;
 use std::alloc::{AllocError, Global};
 
