@@ -84,7 +84,9 @@ fn end_of(
 {
     let mut rest = text;
     while let Some((token, tail)) = token_of(alloc, rest)? {
-        if search.ends_at(alloc, &token, columns)? {
+        let ends = search.ends_at(alloc, &token, columns);
+        drop(token);
+        if ends? {
             return Ok(text.len().saturating_sub(behind_blanks(rest).len()));
         }
         rest = tail;
@@ -119,7 +121,7 @@ impl Search {
     fn ends_behind(&mut self, alloc: Global, word: Word) -> Result<bool, AllocError> {
         let place = mem::replace(&mut self.place, Place::Wanting);
         match place.next(alloc, &mut self.pending, word) {
-            Ok(next) => self.place = next,
+            Ok(next) => drop(mem::replace(&mut self.place, next)),
             Err(FilterFault::Memory) => return Err(AllocError),
             Err(_) => return Ok(true),
         }
