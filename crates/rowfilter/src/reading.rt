@@ -41,7 +41,10 @@ fn filter_of(alloc: Global, text: &str, table: &Table) -> Result<Filter, FilterF
 {
     let columns = table.columns.as_slice();
     let expression = condition_of(alloc, text, columns)?;
-    judge(&expression, columns)?;
+    if let Err(fault) = judge(&expression, columns) {
+        drop(expression);
+        return Err(fault);
+    }
     Ok(Filter::new(alloc, expression)?)
 }
 

@@ -11,10 +11,8 @@ returns-in_err-expression c =
     let err = err_from_is_err_and c.from_residual.result c.from_residual.ensures.1 in
     rw (err.1, err.2) (unread_refused c.args.table.now c.args.text.now c.in_err-expression.field-0.0 c.in_err-expression.ensures)
 
-pub returns-in_err-judge : goal.returns-in_err-judge
-returns-in_err-judge c =
-    let err = err_from_is_err_and c.from_residual-in_err-judge.result c.from_residual-in_err-judge.ensures.1 in
-    rw (err.1, err.2)
-    (judged_refused c.args.table.now c.args.text.now (shape c.in_ok-expression.expression) c.in_err-judge.field-0.0
+pub returns-in-Err : goal.returns-in-Err
+returns-in-Err c =
+    judged_refused c.args.table.now c.args.text.now (shape c.in_ok-expression.expression) c.in-Err.fault
     (rw c.as_slice-columns.ensures at c.in_ok-expression.ensures)
-    (subst (λ (columns : List Column). IsJudged columns (shape c.in_ok-expression.expression) (Err c.in_err-judge.field-0.0)) c.as_slice-columns.ensures c.in_err-judge.ensures))
+    (subst (λ (columns : List Column). IsJudged columns (shape c.in_ok-expression.expression) (Err c.in-Err.fault)) c.as_slice-columns.ensures c.in-Err.ensures)
