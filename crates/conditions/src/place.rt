@@ -38,7 +38,7 @@ impl Place {
         match self {
             Place::Wanting => begun(pending, word),
             Place::Having(part) => followed(alloc, pending, part, word),
-            Place::Asking(part, is_negated) => answered(alloc, part, is_negated, word),
+            Place::Asking(part, is_negated) => answered(alloc, part, is_negated, &word),
         }
     }
 }
@@ -137,15 +137,15 @@ fn closed_by(item: Pending, inner: Part) -> Result<Place, FilterFault>
 }
 
 /// A word behind IS or IS NOT.
-fn answered(alloc: Global, part: Part, is_negated: bool, word: Word) -> Result<Place, FilterFault>
+fn answered(alloc: Global, part: Part, is_negated: bool, word: &Word) -> Result<Place, FilterFault>
     ensures { (items : List Item) →
         Moves result items
-        (step parts (Asking (stack_of items) (seen_part part) is_negated) (seen_word word)) }
+        (step parts (Asking (stack_of items) (seen_part part) is_negated) (seen_word word.now)) }
 {
     match word {
         Word::Not if !is_negated => Ok(Place::Asking(part, true)),
         Word::Operand(_, Some(question)) => {
-            Ok(Place::Having(part.asked(alloc, question, is_negated)?))
+            Ok(Place::Having(part.asked(alloc, *question, is_negated)?))
         }
         _ => Err(FilterFault::Syntax),
     }
