@@ -340,8 +340,10 @@ fn uuid_in(cursor: &mut Cursor<'_>) -> Result<u128, BodyFault>
     ensures no_memory { result ≢ Err Memory }
 {
     let bytes = cursor.take(16).ok_or(BodyFault::Short)?;
-    let uuid = Uuid::from_slice(bytes).map_err(|_| BodyFault::Short)?;
-    Ok(uuid.as_u128())
+    match Uuid::from_slice(bytes) {
+        Ok(uuid) => Ok(uuid.as_u128()),
+        Err(_) => Err(BodyFault::Short),
+    }
 }
 
 fn halves_of_uuid(n: u128) -> (u64, u64)
