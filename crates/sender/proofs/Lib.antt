@@ -8,6 +8,7 @@ pub mod Turns
 pub mod Fitting
 pub mod Spelled
 pub mod Queueing
+pub mod Refusing
 pub mod Lasting
 pub mod Frames
 pub mod Placing
