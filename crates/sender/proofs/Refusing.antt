@@ -4,7 +4,7 @@ use Rattle.std.specs.Prelude.{IfOk, OnOk}
 use Rattle.std.specs.declared.io.Error.{Error}
 use Rattle.std.proofs.lemmas.Bool.{false≢true, false_from_ne_true}
 use Rattle.std.proofs.lemmas.List.{length-map}
-use Rattle.std.specs.Result.{IsErrAnd}
+use Rattle.std.specs.Result.{IsErr, IsErrAnd}
 use Rattle.std.proofs.lemmas.Result.{err_from_is_err_and}
 use Rattle.wal.specs.declared.record.Record.{Record}
 use Rattle.wal.specs.Log.{follows}
@@ -98,3 +98,8 @@ refused_is clock old new rs fetched fed s is same full memory failed gap unchang
     by_fault sends.Memory is = (false_from_ne_true old.failed (λ t. let e = failed.1 t in let never : sends.Memory ≡ sends.Failed = cc in cc), memory is)
     by_fault sends.Failed is = (failed.0 is, unchanged (failed.0 is))
     by_fault sends.Gap is = let g = gap.0 is in (g.0, g.1, unread is)
+
+-- an error has no value
+pub no_value : {A E : Type 0} (r : Result A E) (P : A → Type 0) → IsErr r → IfOk r P
+no_value (Ok x) P is = absurd (false≢true is)
+no_value (Err e) P is = tt
