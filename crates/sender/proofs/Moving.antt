@@ -4,7 +4,7 @@ use Rattle.std.specs.Prelude.{MatchBool, min, reverse}
 use Rattle.std.specs.Io.KnownBytes.{Appends}
 use Rattle.std.proofs.KnownBytes.{Appends-trans}
 use Rattle.std.proofs.Math.Seq.{take-add, take-append-add}
-use Rattle.std.proofs.lemmas.List.{drop-drop, drop-take, drop-append-le, drop_at, take-append-le, length-append, length-drop, length-take-le, drop_all}
+use Rattle.std.proofs.lemmas.List.{drop-drop, drop-take, drop-append-le, drop_at, take-append-le, length-append, length-drop, length-take, length-take-le, drop_all}
 use borrow.Rule.Slice.PartMut.{put_mid}
 use Rattle.publication.specs.Publications.{PublicationSet}
 use Rattle.reorder.specs.Taking.{ReorderState}
@@ -237,3 +237,28 @@ falls selection s s' o o' false good same some only =
     let low = behind_waits selection s o o good some in
     let all = ap (length {A = ℕ}) only in
     omega (arith, low, all)
+
+-- ---- what is held still
+
+length_held : (selection : PublicationSet) (s : ReorderState) (o : Outgoing) → length (held_of selection s o) ≡ length o.front.items + (length (frames_left o) + length (held_behind selection s o))
+length_held selection s o = length-append o.front.items (frames_left o ++ held_behind selection s o) ∙ ap (λ (n : ℕ). length o.front.items + n) (length-append (frames_left o) (held_behind selection s o))
+
+pub front_held : (selection : PublicationSet) (s : ReorderState) (o : Outgoing) → 0 < length o.front.items → 0 < length (held_of selection s o)
+front_held selection s o some = let size = length_held selection s o in omega (arith, size, some)
+
+-- where not all that is left of the frames was taken
+pub frames_held : (selection : PublicationSet) (s : ReorderState) (o : Outgoing) (n : ℕ) → n < length (frames_left o) → 0 < length (held_of selection s (record o { from = o.from + n }))
+frames_held selection s o n some =
+    let size = length_held selection s (record o { from = o.from + n }) in
+    omega (arith, some, size, length-take (o.to - o.from) (drop o.from o.frames.items), length-drop o.from o.frames.items, length-take (o.to - (o.from + n)) (drop (o.from + n) o.frames.items), length-drop (o.from + n) o.frames.items)
+
+-- where all of it was, and there was some
+pub held_falls : (selection : PublicationSet) (s s' : ReorderState) (o o' : Outgoing) (n : ℕ) → HoldsSame selection s s' o o' → o'.from < o'.to → n ≡ length (frames_left o') → length (held_of selection s' (record o' { from = o'.from + n })) < length (held_of selection s o)
+held_falls selection s s' o o' n same some all =
+    let o'' : Outgoing = record o' { from = o'.from + n } in
+    let before = length_held selection s' o' in
+    let after = length_held selection s' o'' in
+    let left : length (frames_left o'') ≡ 0 = (let low = length-take (o'.to - (o'.from + n)) (drop (o'.from + n) o'.frames.items) in let l = length_left selection s' o' o' same.good in omega (arith, low, l, all)) in
+    let more : 0 < length (frames_left o') = (let l = length_left selection s' o' o' same.good in omega (arith, l, some)) in
+    let held = ap (length {A = ℕ}) same.held in
+    omega (arith, before, after, left, more, held)

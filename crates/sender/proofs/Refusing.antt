@@ -103,3 +103,7 @@ refused_is clock old new rs fetched fed s is same full memory failed gap unchang
 pub no_value : {A E : Type 0} (r : Result A E) (P : A → Type 0) → IsErr r → IfOk r P
 no_value (Ok x) P is = absurd (false≢true is)
 no_value (Err e) P is = tt
+
+pub not_ok : {A E : Type 0} (r : Result A E) (P : Type 0) → IsErr r → OnOk r P
+not_ok (Ok x) P is = absurd (false≢true is)
+not_ok (Err e) P is = tt
