@@ -6,7 +6,7 @@ use Rattle.std.proofs.lemmas.List.{with_items_is}
 use borrow.Rule.Slice.PartMut.{put_mid}
 use Rattle.publication.specs.Publications.{PublicationSet}
 use Rattle.reorder.specs.Taking.{ReorderState}
-use Rattle.sender.specs.Outgoing.{HoldsSame, IsOutgoing}
+use Rattle.sender.specs.Outgoing.{HoldsSame, IsFilled, IsOutgoing}
 use Rattle.sender.specs.Waiting.{AreSelected, Makes, left_of}
 use Rattle.sender.specs.declared.outgoing.Outgoing.{Outgoing}
 use Rattle.sender.specs.declared.outgoing.TheConstants.{FRAMES_LENGTH}
@@ -63,3 +63,10 @@ module _ (selection : PublicationSet) (s : ReorderState) (o o' : Outgoing) (w w'
       let sent' = reverse o'.relations_sent.items in
       let told = subst (λ (x : Waiting). Makes selection w.clock (left_of selection s.strands.pool w) (left_of selection s.strands.pool x) sent sent' (take count out)) moves makes in
       frame_made selection s o o' w ws w'.next (take count out) good none room comes is (is'.waiting ∙ ap (λ (y : Waiting). y ∷ ws) moves) (ap (λ (b : _). b.items) is'.made) is'.placed told selected capacity
+
+  -- and frames came behind those that there were
+  pub filled_in_place : IsFilled o o'
+  filled_in_place = record { front = is'.front; from = is'.from; low = comes.low; high = comes.high; size = full }
+
+pub same_first : (x y : Waiting) (xs ys : List Waiting) → x ∷ xs ≡ y ∷ ys → x ≡ y
+same_first x y xs ys is = cc
