@@ -8,6 +8,7 @@ use Rattle.std.proofs.lemmas.List.{drop-drop, drop-take, drop-append-le, drop_at
 use borrow.Rule.Slice.PartMut.{put_mid}
 use Rattle.publication.specs.Publications.{PublicationSet}
 use Rattle.reorder.specs.Taking.{ReorderState}
+use Rattle.sender.proofs.Emptied.{empty_is}
 use Rattle.sender.specs.Waiting.{bytes_behind}
 use Rattle.sender.specs.Outgoing.{HoldsSame, IsOutgoing, MovesOut, frames_left, held_behind, held_of, lent_of}
 use Rattle.sender.specs.declared.outgoing.Outgoing.{Outgoing}
@@ -262,3 +263,12 @@ held_falls selection s s' o o' n same some all =
     let more : 0 < length (frames_left o') = (let l = length_left selection s' o' o' same.good in omega (arith, l, some)) in
     let held = ap (length {A = ℕ}) same.held in
     omega (arith, before, after, left, more, held)
+
+-- where the front is all that is held, it is so without its first bytes
+pub only_front : (selection : PublicationSet) (s : ReorderState) (o o' : Outgoing) (n : ℕ) → held_of selection s o ≡ o.front.items → frames_left o' ++ held_behind selection s o' ≡ frames_left o ++ held_behind selection s o → o'.front.items ≡ drop n o.front.items → held_of selection s o' ≡ drop n (held_of selection s o)
+only_front selection s o o' n only rest is =
+    let behind = frames_left o ++ held_behind selection s o in
+    let size = length-append o.front.items behind in
+    let all = ap (length {A = ℕ}) only in
+    let none : behind ≡ [] = empty_is behind (omega (arith, size, all)) in
+    ap (λ (l : List ℕ). l ++ (frames_left o' ++ held_behind selection s o')) is ∙ ap (λ (l : List ℕ). drop n o.front.items ++ l) (rest ∙ none) ∙ append-nil (drop n o.front.items) ∙ ap (drop n) (sym only)
