@@ -30,6 +30,10 @@ where
     R: Net<Listener = TcpListener, Stream = TcpStream> + Threads + Wait + Clock + Print + Sync,
 {
     let followed = served::<Brand, R>(rt, alloc, opened(alloc)?)?;
+    print_both(rt, &followed)
+}
+
+fn print_both<R: Print>(rt: &R, followed: &Followed) -> Result<()> {
     println!(rt; "all tables:")?;
     print!(rt; "{}", str::from_utf8(followed.all.as_slice())?)?;
     println!(rt; "large orders:")?;
@@ -39,9 +43,9 @@ where
 
 /// A hub of the shop's tables, whose log has room for 1,000 records.
 fn opened(alloc: Global) -> Result<OpenedHub> {
+    let systemid = Text::copy_of(alloc, "shop")?;
     let catalog = Catalog::from_toml(alloc, CONFIGURATION)?;
     let publications = Publications::from_toml(alloc, CONFIGURATION, &catalog)?;
-    let systemid = Text::copy_of(alloc, "shop")?;
     Ok(OpenedHub::new(alloc, catalog, publications, systemid, 1000)?)
 }
 

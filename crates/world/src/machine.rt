@@ -63,8 +63,12 @@ impl<L: LogName + SlotName> Machine<L> {
         ensures err { IfErr result (λ e. e ≡ WorldFault.Memory) }
         ensures machine { IfOk result IsMachine }
     {
+        let Ok(slots) = HeldSlots::open(alloc, table) else {
+            drop(config);
+            drop(history);
+            return Err(WorldFault::Memory);
+        };
         let (catalog, publications, server) = config.into_parts();
-        let slots = HeldSlots::open(alloc, table)?;
         match publisher_of(rt, alloc, history, catalog, server.records) {
             Ok((publisher, readers)) => {
                 return Ok(Machine {
@@ -82,6 +86,7 @@ impl<L: LogName + SlotName> Machine<L> {
             }
             Err(_) => {
                 slots.close();
+                drop(publications);
                 return Err(WorldFault::Memory);
             }
         }
